@@ -212,6 +212,7 @@ untouched_agrees = agrees_on_lane to_nobody (10 ∷ 11 ∷ []) (10 ∷ 11 ∷ []
   left = refl;
 })
   where
+    -- the parts of `AgreesOnLane` for this report, whose one consumer has no note and no claim
     taken : (c j : ℕ) → c < 1 → HasTaken c 0 j nobody_came ↔ (to_nobody 0 j ≡ Some c)
     taken zero j less = ((λ h. absurd (let e = h.1 in cc)), (λ e. absurd (cc)))
     taken (suc c) j less = absurd (omega (arith, less))

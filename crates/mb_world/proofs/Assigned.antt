@@ -44,14 +44,17 @@ module _ (n : ℕ) (r : ReportView) (right : AreNotesRight n r) where
   given_to : (c p j : ℕ) → HasTaken c p j r → taker p j ≡ Some c
   given_to c p j taken = found.1 ∙ ap Some same
     where
+      -- the item goes to some consumer, as c has taken it
       found : (d : ℕ) × (taker p j ≡ Some d)
       found =
           last_below-some n (λ d. is_took (note d p j r)) c (right.below c p j (Took taken.0) taken.1) (rw taken.1 refl)
 
+      -- that consumer has taken the item
       theirs : HasTaken found.0 p j r
       theirs =
           is_took-at (note found.0 p j r) (last_below-at n (λ d. is_took (note d p j r)) found.0 found.1).1
 
+      -- two takers of one item are one
       same : found.0 ≡ c
       same = right.one found.0 c p j (Took theirs.0) (Took taken.0) found.0 c theirs.1 taken.1 refl refl
 
@@ -63,6 +66,7 @@ module _ (n : ℕ) (r : ReportView) (right : AreNotesRight n r) where
   share_test : (c p j : ℕ) → is_consumer c (taker p j) ≡ is_took (note c p j r)
   share_test c p j = at_taker (taker p j) refl (is_took (note c p j r)) refl
     where
+      -- by what the assignment has, and by whether c's note says that it took the item
       at_taker : (o : Option ℕ) → taker p j ≡ o → (b : Bool) → is_took (note c p j r) ≡ b → is_consumer c o ≡ b
       at_taker None o true b = absurd (let q = given_to c p j (is_took-at (note c p j r) b) in cc)
       at_taker None o false b = refl
@@ -72,6 +76,7 @@ module _ (n : ℕ) (r : ReportView) (right : AreNotesRight n r) where
           eq-eqb d c same
       at_taker (Some d) o false b = false_from_ne_true (nat_eq d c) (λ t. other (eqb-true d c t))
         where
+          -- another consumer took the item, so c is not the one to which it goes
           other : d ≡ c → ⊥
           other same =
               let q = has_taken c p j (o ∙ ap Some same) in
@@ -87,6 +92,7 @@ module _ (n : ℕ) (r : ReportView) (right : AreNotesRight n r) where
     given = whose (taker p j) refl;
   }
     where
+      -- the item goes to the winner w, or to nobody
       whose : (o : Option ℕ) → taker p j ≡ o → (o ≡ Some w) ⊎ (o ≡ None)
       whose None o = inr refl
       whose (Some d) o =

@@ -135,6 +135,7 @@ module _ (plan : Plan) (h : WorldHistory) (lawful : IsWorldLawful plan h)
   paths : (d q : ℕ) → d < consumers_of plan → q < plan.lanes → IsOnPath plan d q (a ∷ h)
   paths d q ds qs = by (cases_eq d c) (cases_eq q p)
     where
+      -- a part to which the access adds nothing is on its path still
       same : ((d ≡ c) → (q ≡ p) → ⊥) → IsOnPath plan d q (a ∷ h)
       same other =
           let y = lawful.consumers d q ds qs in

@@ -62,6 +62,7 @@ other_access : (b : PoolAccess) (d : History) (w : Word) → ((u : ℕ) → b.wo
 other_access b d w other (inl h) = inl (older_read b d w h)
 other_access b d w other (inr n) = inr (λ u h. none u h.0 h.1 h.2 h.3)
   where
+    -- no access is a load of the word, neither the new one nor an older one
     none : (u : ℕ) (a : PoolAccess) → Has (b ∷ d) a → a.word ≡ w → a.act ≡ Load u → ⊥
     none u a (inl e) ew ea = other u (ap (λ (y : PoolAccess). y.word) e ∙ ew) (ap (λ (y : PoolAccess). y.act) e ∙ ea)
     none u a (inr m) ew ea = n u (a, m, ew, ea)
@@ -79,6 +80,7 @@ pub read_or_not : (d : History) (w : Word) → IsTold w d
 read_or_not [] w = inr (λ v h. h.1)
 read_or_not (b ∷ d) w = by_word (cases_Bool (is_same_word b.word w)) (read_or_not d w)
   where
+    -- by whether the access is to the word
     by_word : (is_same_word b.word w ≡ true) ⊎ (is_same_word b.word w ≡ false) → IsTold w d → IsTold w (b ∷ d)
     by_word (inl same) rest = by_act d b w b.act (word_is b.word w same) refl rest
     by_word (inr other) rest = other_access b d w (λ u e _. differs e) rest

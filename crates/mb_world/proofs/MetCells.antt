@@ -45,6 +45,7 @@ met_cells q p (a ∷ older) own =
     by (cases_Bool (is_same_word a.word (place_past p (cells_met p older))))
     (met_more q p older (a ∷ older) (cells_met p older) (λ b m. inr m) (met_cells q p older (λ b m. own b (inr m))))
   where
+    -- if the load gave a cell, the cell comes after those met before
     by_given : (o : Option ℕ) → cell_given a.act ≡ o → a.word ≡ place_past p (cells_met p older)
         → HasMet q p (cells_met p older) (a ∷ older) → HasMet q p (push_if o (cells_met p older)) (a ∷ older)
     by_given None e at older_met = older_met

@@ -94,6 +94,7 @@ module _ (plan : Plan) (h : WorldHistory) (lawful : IsWorldLawful plan h) (known
       → (ks ≡ linked_cells p (pool_accesses h)) × (has_ended p (pool_accesses h) ≡ false)
   all_met ks (later, start) zero = by (with_last later)
     where
+      -- if the link past all cells holds 0, it has no end mark
       by_end : (b : Bool) → has_ended p (pool_accesses h) ≡ b → cond b END 0 ≡ 0 → has_ended p (pool_accesses h) ≡ false
       by_end true e f = absurd (cc)
       by_end false e f = e
@@ -174,6 +175,7 @@ module _ (plan : Plan) (h : WorldHistory) (lawful : IsWorldLawful plan h) (known
         let one = one_place was.cells was.notes was.held path (linked_cells p (pool_accesses h)) f.notes f.path in
         by leads one.0 one.2
       where
+        -- a load of the link past all cells finds 0
         zero_there : (ks : List ℕ) (v : ℕ) → x ≡ link_load c p ks v → ks ≡ linked_cells p (pool_accesses h) → v ≡ 0
         zero_there ks v e same =
             loaded x longer ks v e

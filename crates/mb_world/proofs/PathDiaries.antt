@@ -51,6 +51,7 @@ module _ (cs : Claims) (c : ℕ)
       → Tracks cs c done (k ∷ qs) ns (Some xs) → (n : Note) → EndsIn cs c done k n → ⊥
   open_end done k qs ns xs once y n e = by y.is_open.0 y.is_open.1 y.is_open.2 n e
     where
+      -- the claim has one stage, by the path and by the steps made
       same : (s r : Stage) → IsClaimPrefix cs c xs s → IsClaimPrefix cs c (claim_part c k (claim_accesses done)) r
           → s ≡ r
       same s r q w = one_stage c xs s r q (subst (λ zs. IsClaimPrefix cs c zs r) y.is_held w)
@@ -100,6 +101,7 @@ module _ (cs : Claims) (c : ℕ)
   open_begun done [] ns (Some xs) y k z = absurd z.0
   open_begun done (q ∷ qs) ns (Some xs) y k z = by z.0
     where
+      -- a claim with an access is begun
       begun : (zs : List ObjectTurn) → claim_part c q (claim_accesses done) ≡ zs → q ≡ k → has_begun (Some zs) ≡ true
       begun [] e same = absurd (z.1 (subst (λ i. claim_part c i (claim_accesses done) ≡ []) same e))
       begun (x ∷ zs) e same = refl

@@ -133,6 +133,7 @@ module _ (plan : Plan) (h : WorldHistory) (known : EventKnown plan h) (p : ℕ) 
       lane : (l : Lane) × IsLaneOf plan p l h
       lane = known.place p
 
+      -- a push stores what the producer's place has to store
       pushes : (y : Word) (z : ℕ) (c : WorldAccess) → IsPushed y z → c ≡ ToCells (store p y z)
           → IsWorldLawful plan (c ∷ h)
           → push_store p lane.0 ≡ stored y z
@@ -180,6 +181,7 @@ module _ (plan : Plan) (h : WorldHistory) (known : EventKnown plan h) (p : ℕ) 
       lane : (l : Lane) × IsLaneOf plan p l h
       lane = known.place p
 
+      -- a store of the end mark is in the lane's next link
       marked : (y : Word) (c : WorldAccess) → IsLinkWord y → c ≡ ToCells (store p y END) → IsWorldLawful plan (c ∷ h)
           → y ≡ next_link p lane.0
       marked y c link e l =

@@ -61,6 +61,7 @@ module _ (plan : Plan) (h : WorldHistory) (lawful : IsWorldLawful plan h)
   new_cell : (k : ℕ) → link_of a.word a.act ≡ Some k → (q : ℕ) → Has (linked_cells q (pool_accesses h)) k → ⊥
   new_cell k is q has = by (cases_eq q p)
     where
+      -- lane p has the new cell first
       own : linked_cells p (a ∷ pool_accesses h) ≡ k ∷ linked_cells p (pool_accesses h)
       own = linked_own p a (pool_accesses h) maker
           ∙ ap (λ (o : Option ℕ). push_if o (linked_cells p (pool_accesses h))) is
@@ -101,6 +102,7 @@ module _ (plan : Plan) (h : WorldHistory) (lawful : IsWorldLawful plan h)
           ap (λ (b : Bool). is_same_process (Reader c) x.process && b)
           (word_same q k (linked_cells q (pool_accesses h)) x.word (apart y.lane here))
         where
+          -- an access of a consumer on a lane is not to a word of the new cell
           apart : (l : ℕ) → is_of_lane l (linked_cells l (pool_accesses h)) x.word ≡ true → (j : ℕ)
               → (x.word ≡ Link j) ⊎ (x.word ≡ Item j) → k ≡ j → ⊥
           apart l here j (inl w) f =
@@ -121,6 +123,7 @@ module _ (plan : Plan) (h : WorldHistory) (lawful : IsWorldLawful plan h)
       (is_on_none d q p (linked_cells q (a ∷ pool_accesses h)) a maker)
       ∙ by (cases_eq q p)
     where
+      -- by the cell that the access links, if it links one
       by_link : (o : Option ℕ) → link_of a.word a.act ≡ o
           → filter (is_on d q (push_if o (linked_cells q (pool_accesses h)))) h ≡ lane_part d q h
       by_link None is = refl
@@ -155,6 +158,7 @@ module _ (plan : Plan) (h : WorldHistory) (lawful : IsWorldLawful plan h)
     no_others = λ d x has by_d. on_some_lane d x has by_d;
   }
     where
+      -- an access on a lane is on it with more cells linked, too
       lane_more : (q : ℕ) (ls ms : List ℕ) → ((k : ℕ) → Has ls k → Has ms k) → (d : ℕ) (x : WorldAccess)
           → is_on d q ls x ≡ true → is_on d q ms x ≡ true
       lane_more q ls ms more d (ToClaims x) on =
@@ -164,12 +168,14 @@ module _ (plan : Plan) (h : WorldHistory) (lawful : IsWorldLawful plan h)
           let y = and_parts (is_same_process (Reader d) x.process) (is_of_lane q ls x.word) on in
           rw (y.0, word_more x.word y.1) refl
         where
+          -- a word of the lane is one with more cells linked, too
           word_more : (w : Word) → is_of_lane q ls w ≡ true → is_of_lane q ms w ≡ true
           word_more Counter e = e
           word_more (Head i) e = e
           word_more (Link k) e = has_cell-true ms k (more k (cell-of_true ls k e))
           word_more (Item k) e = has_cell-true ms k (more k (cell-of_true ls k e))
 
+      -- each access of a consumer is on some lane still
       on_some_lane : (d : ℕ) (x : WorldAccess) → Has (ToCells a ∷ h) x → IsBy d x → IsOnLane plan d x (ToCells a ∷ h)
       on_some_lane d x (inl e) by_d =
           let f : a.process ≡ Reader d = subst (IsBy d) (sym e) by_d in

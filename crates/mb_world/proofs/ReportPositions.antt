@@ -33,6 +33,7 @@ module _ (plan : Plan) (hs : Histories) (r : ReportView) (is : IsReportOf plan h
       beyond : length r.diaries ≤ c * length r.lanes + p
       beyond = rw (is.lanes_count, is.diaries_count) (omega (arith, size))
 
+      -- past the end of the diaries there is none, whatever the test of the lane says
       by_lane : (b : Bool) → cond b (slice_get r.diaries (c * length r.lanes + p)) None ≡ None
       by_lane true = slice_get_past r.diaries (c * length r.lanes + p) beyond
       by_lane false = refl
@@ -64,6 +65,7 @@ module _ (plan : Plan) (hs : Histories) (r : ReportView) (is : IsReportOf plan h
   pub inside : (c p : ℕ) → (diary c p r ≡ None → ⊥) → IsInside plan c p
   inside c p some = by_cases (cases_lt c (consumers_of plan)) (cases_lt p plan.lanes)
     where
+      -- by whether there is such a consumer, and such a lane
       by_cases : (c < consumers_of plan) ⊎ (consumers_of plan ≤ c) → (p < plan.lanes) ⊎ (plan.lanes ≤ p)
           → IsInside plan c p
       by_cases (inl cs) (inl ps) = (cs, ps)

@@ -39,6 +39,7 @@ module _ (cs : Claims) where
       pub item_loads : (d j u : ℕ) → HasItem loaded d j u → HasItem h d j u ⊎ ((d ≡ c) × (w ≡ Item j) × (v ≡ u))
       item_loads d j u read = by (cases_eq d c)
         where
+          -- the load found the item's value, or an older one did
           newest : (a : PoolAccess) → Has (load c w v ∷ part (Reader c) (pool_accesses h)) a → a.word ≡ Item j
               → a.act ≡ Load u → HasItem h c j u ⊎ ((w ≡ Item j) × (v ≡ u))
           newest a (inl e) is_word is_act =

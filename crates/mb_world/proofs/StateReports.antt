@@ -167,6 +167,7 @@ module _ (s : WorldState) (h : WorldHistory) (is : IsWorldAfter h s) (known : Wo
     end_some : (c k : ℕ) (n : Note) → c < consumers_of plan → Ends c k n → claim_part c k (claim_accesses h) ≢ []
     end_some c k n cs e none = by n e
       where
+        -- the claim would go on, as it has no access
         same : (z : _) → IsClaimPrefix plan.claims c (claim_part c k (claim_accesses h)) z → stage.Going ≡ z
         same z w =
             known.stage c [] stage.Going z (fresh c cs) (subst (λ xs. IsClaimPrefix plan.claims c xs z) none w)

@@ -99,6 +99,7 @@ module _ (s : WorldState) (h : WorldHistory) (is : IsWorldAfter h s) where
         all_kept (consumers_of plan) plan.lanes (λ e q x. IsPlaceAfter s.setup e q h x)
         (λ e q x. IsPlaceAfter s.setup e q (a ∷ h) x) s.places is.place keeps
       where
+        -- each place is right after the access: that of consumer c on lane p, and the others, which stay
         keeps : (e q : ℕ) (x : Place) → e < consumers_of plan → q < plan.lanes
             → slice_get s.places (place_position e q) ≡ Some x → IsPlaceAfter s.setup e q h x
             → IsPlaceAfter s.setup e q (a ∷ h) x
@@ -154,6 +155,7 @@ module _ (s : WorldState) (h : WorldHistory) (is : IsWorldAfter h s) where
           (λ e j o. IsNoteAfter s.setup e j (a ∷ h) o) s.notes is.note c k cs ks is.notes_count (Some n) written
           (λ e j o _ _ other old. note_kept e j o (λ m. same e j m other) old)
         where
+          -- the note that is written is the end of the claim
           written : IsNoteAfter s.setup c k (a ∷ h) (Some n)
           written m = (
             λ e. let one : n ≡ m = cc in subst (λ (x : Note). Ends plan.claims (a ∷ h) c k x) one now,

@@ -82,6 +82,7 @@ module _ (plan : Plan) (h : WorldHistory) (lawful : IsWorldLawful plan h) (known
           | inr n ↦ absurd (some (sym same ∙ y.none k n))
         ])
       where
+        -- a cell that was given by the part on a lane was given by all loads
         gave : (p : ℕ) → Gave k (pool_accesses (lane_part c p h)) → Gave k (loads plan h lawful c)
         gave p g =
             gave-filter (of_lane plan h lawful p) (loads plan h lawful c) k

@@ -64,6 +64,7 @@ module _ (p : ℕ) (ls : List ℕ) where
             | inr f ↦ f
           ])))
         where
+          -- the link past cells of the lane is a word of the lane
           on_past : is_same_word a.word (place_past p (cells_met p older)) ≡ true → test a ≡ true
           on_past t =
               subst (λ w. is_of_lane p ls w ≡ true) (sym (word_is a.word (place_past p (cells_met p older)) t))
@@ -100,12 +101,14 @@ module _ (plan : Plan) (h : WorldHistory) (lawful : IsWorldLawful plan h) (known
     follows_all c older (λ b has. among b (inr has)) (λ p ps. older_links p a older (lanes p ps)),
   )
     where
+      -- the load is on some lane
       on : IsOnLane plan c (ToCells a) h
       on = load_lane plan h lawful c a (among a (inl refl))
 
       here : of_lane plan h lawful on.lane a ≡ true
       here = on_word plan h lawful c a on
 
+      -- on that lane these loads follow the links
       links : IsOnLinks on.lane (a ∷ older)
       links = lanes on.lane on.below
 
@@ -114,6 +117,7 @@ module _ (plan : Plan) (h : WorldHistory) (lawful : IsWorldLawful plan h) (known
           subst (λ b. FollowsLane on.lane (cond b (a ∷ filter (of_lane plan h lawful on.lane) older)
           (filter (of_lane plan h lawful on.lane) older))) here links.follows
 
+      -- so the load is of the link past the cells met there
       follows : IsLinkWord a.word → a.word ≡ place_past on.lane (cells_met on.lane older)
       follows link =
           first.0 link
@@ -124,6 +128,7 @@ module _ (plan : Plan) (h : WorldHistory) (lawful : IsWorldLawful plan h) (known
   pub follows : (c : ℕ) → c < consumers_of plan → FollowsLinks (loads plan h lawful c)
   follows c cs = follows_all c (loads plan h lawful c) (λ a has. has) on_links
     where
+      -- on each lane the consumer's loads follow the links, by its path there
       on_links : (p : ℕ) → p < plan.lanes → IsOnLinks p (loads plan h lawful c)
       on_links p ps = record {
         follows = subst (FollowsLane p) (loads_on plan h lawful c p) (path_follows plan.claims c y.path);
