@@ -66,7 +66,7 @@ module _ (n : ℕ) (r : ReportView) (right : AreNotesRight n r) where
   share_test : (c p j : ℕ) → is_consumer c (taker p j) ≡ is_took (note c p j r)
   share_test c p j = at_taker (taker p j) refl (is_took (note c p j r)) refl
     where
-      -- by what the assignment has, and by whether c's note says that it took the item
+      -- this holds whatever the assignment has, and whether c's note says that it took the item or not
       at_taker : (o : Option ℕ) → taker p j ≡ o → (b : Bool) → is_took (note c p j r) ≡ b → is_consumer c o ≡ b
       at_taker None o true b = absurd (let q = given_to c p j (is_took-at (note c p j r) b) in cc)
       at_taker None o false b = refl
@@ -83,7 +83,7 @@ module _ (n : ℕ) (r : ReportView) (right : AreNotesRight n r) where
               let t : is_took (note c p j r) ≡ true = rw q.1 refl in
               cc
 
-  -- a loss says of the winner what it has to
+  -- each loss says of the winner what `IsLossTo` asks
   loss : (c w p j : ℕ) → HasLostTo c w p j r → IsLossTo taker c w p j r
   loss c w p j lost = record {
     another = (right.lost c w p j lost).0;

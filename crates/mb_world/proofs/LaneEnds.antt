@@ -54,7 +54,7 @@ module _ (plan : Plan) (hs : Histories) (known : Known plan hs) where
           met : HasMet q p (k ∷ chain.1.0) hs.pool
           met = subst (λ (i : ℕ). HasMet q i (k ∷ chain.1.0) hs.pool) same chain.1.1
 
-      -- by the word from which the end mark was loaded
+      -- this holds for each word from which the end mark was loaded
       by_word : (w : Word) → IsLinkWord w → is_of_lane p (linked_cells p hs.pool) w ≡ true → HasLoaded q w END hs.pool
           → HasMetLane q p
       by_word Counter link on loaded = absurd link

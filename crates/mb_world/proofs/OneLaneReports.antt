@@ -82,7 +82,7 @@ module _ (t : Assignment) (xs ys : List ℕ) (ds : List DiaryView) where
         by (suc q) (inl here) f = absurd (let e = here.0 in cc)
         by q (inr out) f = absurd (out.1 j f)
 
-    -- a loss says of the winner what it has to
+    -- each loss says of the winner what `IsLossTo` asks
     losses : (c w p j : ℕ) → HasLostTo c w p j r → IsLossTo t c w p j r
     losses c w p j h = by p (inside_or_not c p) h
       where

@@ -65,7 +65,7 @@ module _ (plan : Plan) (hs : Histories) (r : ReportView) (is : IsReportOf plan h
   pub inside : (c p : ℕ) → (diary c p r ≡ None → ⊥) → IsInside plan c p
   inside c p some = by_cases (cases_lt c (consumers_of plan)) (cases_lt p plan.lanes)
     where
-      -- by whether there is such a consumer, and such a lane
+      -- if there is no such consumer, or no such lane, there is no diary
       by_cases : (c < consumers_of plan) ⊎ (consumers_of plan ≤ c) → (p < plan.lanes) ⊎ (plan.lanes ≤ p)
           → IsInside plan c p
       by_cases (inl cs) (inl ps) = (cs, ps)

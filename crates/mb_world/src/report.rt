@@ -40,7 +40,7 @@ pub struct Diary<A: Allocator + Drop> {
 /// The whole report.
 #[derive(Drop)]
 pub struct Report<A: Allocator + Drop> {
-    /// What it has of each lane, in the order of the lanes.
+    /// What the report has of each lane, in the order of the lanes.
     pub lanes: Vec<LaneReport<A>, A>,
     /// A diary for each consumer and lane. That of consumer `c` on lane `p` is at `c * lanes.len() + p`.
     pub diaries: Vec<Diary<A>, A>,
