@@ -199,7 +199,7 @@ module _ (s : WorldState) (h : WorldHistory) (is : IsWorldAfter h s) (p : ℕ) (
   pushed z meets =
       let m = meets (pool_accesses h) lane_here is.pool at in by lane_here.stage refl m.0 m.1
     where
-      -- if the push made a store
+      -- if the push made a store, the history with that store leaves the state
       stores : (w : Word) (v : ℕ) → IsPush w v z → IsAfter (store p w v ∷ pool_accesses h) pool
           → EventAdds (event.Push p) (answer.Pushed z) (with_pool pool s) h
       stores w v is_push later = record {
@@ -208,7 +208,7 @@ module _ (s : WorldState) (h : WorldHistory) (is : IsWorldAfter h s) (p : ℕ) (
         left = after_access (store p w v) refl later;
       }
 
-      -- if the push made none
+      -- if the push made no store, the same history leaves the state
       rests : push_store p lane_here ≡ None → z ≡ push.Idle → IsAfter (pool_accesses h) pool
           → EventAdds (event.Push p) (answer.Pushed z) (with_pool pool s) h
       rests idle t later = record {

@@ -38,7 +38,7 @@ any_below-same zero f g same = refl
 any_below-same (suc n) f g same =
     rw (same n (omega arith), any_below-same n f g (λ c less. same c (omega (arith, less)))) refl
 
--- the list of notes of one cell that has a note
+-- the notes along one cell that has a note are that note
 one_noted : (f : ℕ → Option Note) (q : ℕ) (n : Note) → f q ≡ Some n → filter_map f (q ∷ []) ≡ n ∷ []
 one_noted f q n e = rw e refl
 
