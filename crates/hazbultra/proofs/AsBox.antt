@@ -1,4 +1,4 @@
--- A block that leads to a thing, and the parts of a box of one, own what the box owns.
+-- A box of a thing, its parts, and a block that may lead to it, as the walks of this crate take them.
 use mathlib.Core.List.{[]}
 use mathlib.Core.Path.{◌≡◌, refl}
 use mir.Syntax.{impl, tnil, dnil}
@@ -37,12 +37,12 @@ parts_slot = plain (λ _. parts.the_row thing.the_row heap_row.the_row ghosts)
 abbrev pub block_slot : Slot 0
 block_slot = plain (λ _. block.the_row)
 
--- what is there, if something is
+-- a value that is there
 pub the_some : {X : Type 0} (o : Option X) → IsSome o → (x : X) × (o ≡ Some x)
 the_some None nothing = absurd (cc)
 the_some (Some x) _ = (x, refl)
 
--- a truth beside true
+-- what holds, holds beside true
 pub and_true : (b : Bool) → T b → T (b && true)
 and_true true holds = holds
 and_true false never = elim never [ ]

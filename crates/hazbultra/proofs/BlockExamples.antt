@@ -7,12 +7,12 @@ use Rattle.std.specs.Global.{Global}
 use Rattle.hazbultra.specs.Blocks.{block_owns, maybe_thing_coded}
 use Rattle.hazbultra.specs.contracts.thing.Thing.{the_row}
 
--- the formula says that nothing is owned
+-- the formula is the one of owning nothing
 abbrev IsNothing : Fml → Type 0
 IsNothing ftrue = Unit {0}
 IsNothing _ = ⊥
 
--- there is something
+-- there is a value
 abbrev IsThere : {X : Type 0} → Option X → Type 0
 IsThere None = ⊥
 IsThere (Some x) = Unit {0}
@@ -26,12 +26,12 @@ pub some_owns_something
     : (alloc : Global) (at : Ptr) (x : the_row.Denot) → block_owns alloc at (Some x) ≡ ftrue → ⊥
 some_owns_something alloc at x same = subst IsNothing (sym same) tt
 
--- one thing has one code
+-- equal things have one code
 pub same_has_one_code
     : (x y : the_row.Denot) → x ≡ y → maybe_thing_coded.code (Some x) ≡ maybe_thing_coded.code (Some y)
 same_has_one_code x y same = ap (λ z. maybe_thing_coded.code (Some z)) same
 
--- nothing has another code than a thing
+-- a thing has another code than nothing has
 pub nothing_has_its_own_code
     : (x : the_row.Denot) → maybe_thing_coded.code (Some x) ≡ maybe_thing_coded.code None → ⊥
 nothing_has_its_own_code x same = subst IsThere (maybe_thing_coded.inj (Some x) None same) tt

@@ -1,4 +1,4 @@
--- How many consumers a report tells of.
+-- How many consumers a report tells of, by the counts of its diaries and lanes.
 use Rattle.std.proofs.Common.{◌≡◌, ◌∙◌, ◌+◌, ◌*◌, ◌/◌, ◌<◌, ℕ, Option, None, Some, ap, arith, sym}
 use Rattle.std.proofs.Common.{length}
 use Rattle.std.proofs.lemmas.Nat.{div-mul-add}
@@ -7,7 +7,7 @@ use Rattle.std.specs.Option.{unwrap_or}
 use Rattle.mb_world.specs.Report.{ReportView}
 use Rattle.hazbultra.specs.Reports.{HasConsumers}
 
--- a share that there is
+-- if the count is not 0, the share is there, and it is the quotient
 share_of : (share : Option ℕ) (all count : ℕ) → 0 < count → SomeIff share (0 < count) (all / count)
     → unwrap_or share 0 ≡ all / count
 share_of None all count some is = absurd (is some)

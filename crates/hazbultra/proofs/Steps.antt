@@ -1,4 +1,4 @@
--- The words of the walks of this crate.
+-- The names that the walks of this crate use, from the kit's libraries.
 pub use mathlib.Core.Path.{◌≡◌, refl, sym, subst, ap, ◌∙◌}
 pub use mathlib.Core.List.{List, [], ◌∷◌, ◌++◌}
 pub use lib.Dec.{T}

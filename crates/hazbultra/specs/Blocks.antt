@@ -14,6 +14,6 @@ abbrev pub block_owns : Global → Ptr → Option the_row.Denot → Fml
 block_owns alloc at None = ftrue
 block_owns alloc at (Some x) = box_owns (ghosts.dealloc_token alloc) the_row at x
 
--- the code of a thing that may be there
+-- how a thing that may be there is coded
 abbrev pub maybe_thing_coded : Coded (Option the_row.Denot)
 maybe_thing_coded = coded_option the_row.coded

@@ -37,38 +37,38 @@ IsReport (Some (OfReport r)) = Unit {0}
 IsReport _ = ⊥
 
 -- ---- what handles lead to before a call and after it
--- a handle led to a hub, and leads to a hub, for which R holds
+-- the handle led to a hub before and leads to a hub after, and R holds of the two
 abbrev pub HubWent : (BoundHubView → BoundHubView → Type 0) → Option Thing → Option Thing → Type 0
 HubWent R (Some (OfHub h)) (Some (OfHub k)) = R h k
 HubWent R _ _ = ⊥
 
--- a handle led to a producer, and leads to one of the same mailbox, for which R holds
+-- the handle led to a producer before and leads to one of the same mailbox after, and R holds of the two
 abbrev pub ProducerWent
     : (BoundProducerView → BoundProducerView → Type 0) → Option Thing → Option Thing → Type 0
 ProducerWent R (Some (OfProducer p)) (Some (OfProducer q)) =
     (q.id ≡ p.id) × (q.mailbox ≡ p.mailbox) × R p q
 ProducerWent R _ _ = ⊥
 
--- a handle led to a consumer, and leads to one of the same mailbox, for which R holds
+-- the handle led to a consumer before and leads to one of the same mailbox after, and R holds of the two
 abbrev pub ConsumerWent
     : (SeededConsumer → SeededConsumer → Type 0) → Option Thing → Option Thing → Type 0
 ConsumerWent R (Some (OfConsumer c)) (Some (OfConsumer d)) =
     (d.consumer.id ≡ c.consumer.id) × (d.consumer.mailbox ≡ c.consumer.mailbox) × R c d
 ConsumerWent R _ _ = ⊥
 
--- a handle led to a hub, and another leads to a producer, for which R holds
+-- the one handle led to a hub before and the other leads to a producer after, and R holds of the two
 abbrev pub HubGave
     : (BoundHubView → BoundProducerView → Type 0) → Option Thing → Option Thing → Type 0
 HubGave R (Some (OfHub h)) (Some (OfProducer p)) = R h p
 HubGave R _ _ = ⊥
 
--- a handle led to a hub, and another leads to a consumer, for which R holds
+-- the one handle led to a hub before and the other leads to a consumer after, and R holds of the two
 abbrev pub HubGaveConsumer
     : (BoundHubView → SeededConsumer → Type 0) → Option Thing → Option Thing → Type 0
 HubGaveConsumer R (Some (OfHub h)) (Some (OfConsumer c)) = R h c
 HubGaveConsumer R _ _ = ⊥
 
--- a handle led to a hub, and another leads to a report, for which R holds
+-- the one handle led to a hub before and the other leads to a report after, and R holds of the two
 abbrev pub HubTold : (BoundHubView → ReportView → Type 0) → Option Thing → Option Thing → Type 0
 HubTold R (Some (OfHub h)) (Some (OfReport r)) = R h r
 HubTold R _ _ = ⊥
@@ -93,7 +93,7 @@ abbrev pub ReportHas : (ReportView → Type 0) → Option Thing → Type 0
 ReportHas R (Some (OfReport r)) = R r
 ReportHas R _ = ⊥
 
--- the hub has taken back what a handle led to, and the number of that was out
+-- hub h has become hub k by taking back what a handle led to: a producer or consumer of its mailbox that was out
 abbrev pub HasTakenBack : BoundHubView → Option Thing → BoundHubView → Type 0
 HasTakenBack h (Some (OfProducer p)) k =
     (h.id ≡ p.id) × (slice_get h.hub.puts p.producer.seat.lane ≡ Some None)
@@ -110,7 +110,7 @@ abbrev pub words_of_generator : ChaCha → Stream
 words_of_generator rng = stream_of (steps_u32 (next_word 4)) rng
 
 -- ---- what numbers mean to C
--- the quorum table of this number
+-- the quorum table that C names by this number, if it names one
 abbrev pub table_numbered : ℕ → Option TableName
 table_numbered n =
     if nat_eq n 0 then Some Unary
@@ -118,7 +118,7 @@ table_numbered n =
     else if nat_eq n 2 then Some Middle
     else None
 
--- the answer of a poll, by its code and its value
+-- the answer of a poll that C is told by this code and this value, if the code is one of an answer
 abbrev pub answer_told : ℕ → ℕ → Option Poll
 answer_told n x =
     if nat_eq n 1 then Some (poll.Took x)

@@ -5,7 +5,7 @@ use Rattle.mb_world.specs.declared.report.Note.{Note}
 use Rattle.mb_world.specs.declared.report.Note.TheVariants as note
 use Rattle.hazbultra.specs.declared.boundary.NoteOut.{NoteOut}
 
--- a report has lanes, and each of `consumers` consumers has a diary on each of them
+-- the report has lanes, and as many diaries as that number of consumers has on all of them
 pub record HasConsumers (consumers : ℕ) (r : ReportView) : Type 0 where
   pub some : 0 < length r.lanes
   pub diaries : length r.diaries ≡ consumers * length r.lanes

@@ -16,9 +16,9 @@ pub struct SetupIn {
     pub pairs: u64,
     /// The number of a quorum table: unary 0, bits 1, middle 2.
     pub table: u32,
-    /// Two ratifiers come first.
+    /// Whether two ratifiers come first on each cell.
     pub fast: bool,
-    /// An object that always decides comes last.
+    /// Whether an object that always decides comes last on each cell.
     pub last: bool,
 }
 
@@ -28,7 +28,7 @@ pub struct SetupIn {
 pub struct LaneOut {
     /// How many items were put.
     pub put: u64,
-    /// How many of them nobody took.
+    /// How many of the items put nobody took.
     pub left: u64,
     /// Whether the end mark was stored.
     pub ended: bool,
@@ -40,11 +40,11 @@ pub struct LaneOut {
 pub struct DiaryOut {
     /// How many notes there are.
     pub notes: u64,
-    /// Whether the claim on the next item has made an access.
+    /// Whether the consumer's claim on the next item, which has no note yet, has made an access.
     pub begun: bool,
 }
 
-/// A note: its kind, and the item or the consumer.
+/// A note: its kind, and the item that was taken or the consumer to which it is lost.
 #[repr(C)]
 #[derive(Clone, Copy)]
 pub struct NoteOut {
@@ -62,6 +62,7 @@ pub struct MissingOut {
     pub consumers: u32,
 }
 
+// A note becomes its kind and its value, as C has them.
 impl From<Note> for NoteOut {
     ghost use Rattle.std.specs.Prelude.{◌≡◌};
     ghost use Rattle.hazbultra.specs.Reports.{note_out};

@@ -20,8 +20,8 @@ use crate::thing::Thing;
 use mb_cells::Finish;
 use mb_mailbox::{Poll, Put};
 
-/// Puts an item. It returns `LINKED`, `FULL` if there was no cell for the item, `CLOSED` if the lane has ended, and
-/// `BAD_HANDLE` if the handle leads to no producer.
+/// Puts an item. The call returns `LINKED`, `FULL` if there was no cell for the item, `CLOSED` if the lane has ended,
+/// and `BAD_HANDLE` if the handle leads to no producer.
 #[unsafe(no_mangle)]
 pub extern "C" fn hz_put(producer: &mut Handle, item: u64) -> u32
     ensures linked { result ≡ LINKED
@@ -57,8 +57,8 @@ pub extern "C" fn hz_put(producer: &mut Handle, item: u64) -> u32
     code
 }
 
-/// Ends the lane. It returns `DONE`, `CLOSED` if the lane has ended before, and `BAD_HANDLE` if the handle leads to no
-/// producer.
+/// Ends the lane. The call returns `DONE`, `CLOSED` if the lane has ended before, and `BAD_HANDLE` if the handle leads
+/// to no producer.
 #[unsafe(no_mangle)]
 pub extern "C" fn hz_finish(producer: &mut Handle) -> u32
     ensures done { result ≡ DONE → ProducerWent (λ p q. IsEndOfLane p.producer q.producer)
@@ -88,8 +88,8 @@ pub extern "C" fn hz_finish(producer: &mut Handle) -> u32
 }
 
 /// Polls a lane, with at most `budget` accesses. `value` becomes the item taken, or the number of the consumer to which
-/// it is lost. It is not written otherwise. The code is that of the answer, or `BAD_HANDLE` if the handle leads to no
-/// consumer.
+/// the item is lost. Else `value` is not written. The code is that of the answer, or `BAD_HANDLE` if the handle leads
+/// to no consumer.
 #[unsafe(no_mangle)]
 pub extern "C" fn hz_poll(consumer: &mut Handle, lane: u64, budget: u64, value: &mut u64) -> u32
     // The answer is that of the poll, with the next words of the consumer's source.

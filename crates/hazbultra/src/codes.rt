@@ -53,7 +53,7 @@ pub(crate) const BAD_CELLS: u32 = 35;
 
 pub(crate) const BAD_PAIRS: u32 = 36;
 
-/// The quorum table of this number.
+/// The quorum table that this number names, if it names one.
 pub(crate) fn table_of(number: u32) -> Option<TableName>
     ensures { result ≡ table_numbered number }
 {
@@ -65,6 +65,7 @@ pub(crate) fn table_of(number: u32) -> Option<TableName>
     }
 }
 
+/// The code of a fault of a setup.
 pub(crate) fn code_of_setup(why: SetupFault) -> u32
     ensures { result ≡ setup_code why }
 {
@@ -76,6 +77,7 @@ pub(crate) fn code_of_setup(why: SetupFault) -> u32
     }
 }
 
+/// The code for a hub that gave nothing.
 pub(crate) fn code_of_hub(why: HubFault) -> u32
     ensures all_given { (result ≡ ALL_GIVEN) ↔ (why ≡ hub.AllGiven) }
     ensures codes { (result ≡ ALL_GIVEN) ⊎ (result ≡ NO_MEMORY) }

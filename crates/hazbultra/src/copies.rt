@@ -1,4 +1,4 @@
-//! What the calls on a report compute: places, and copies into what C lends.
+//! What the calls on a report compute: positions in lists, and copies into what C lends.
 ghost use Rattle.std.specs.Prelude.{◌≡◌, ◌+◌, ◌*◌, ◌^◌, ◌++◌, ◌<◌, ◌≤◌, ◌⊎◌, MatchOption};
 ghost use Rattle.std.specs.Prelude.{drop, length, map, min, take};
 ghost use Rattle.hazbultra.specs.Reports.{note_out};
@@ -6,7 +6,7 @@ ghost use Rattle.hazbultra.specs.Reports.{note_out};
 use crate::boundary::NoteOut;
 use mb_world::Note;
 
-/// What the list has from the place `from` on.
+/// What the list has from position `from` on.
 pub(crate) fn past<T>(all: &[T], from: u64) -> &[T]
     ensures { result.now ≡ drop from all.now }
 {
@@ -40,8 +40,8 @@ pub(crate) fn copy_notes(from: &[Note], to: &mut [NoteOut]) -> u64
     count as u64
 }
 
-/// The place of the diary of this consumer on this lane, or none if the report has no such lane or the place is no
-/// `u64`.
+/// The position in a report of the diary of this consumer on this lane. It is none if the report has no such lane, or
+/// if the position is no `u64`.
 pub(crate) fn place_of(lanes: usize, consumer: u64, lane: u64) -> Option<u64>
     ensures { MatchOption result ((lanes ≤ lane) ⊎ (2 ^ 64 ≤ consumer * lanes + lane))
         (λ at. (lane < lanes) × (at ≡ consumer * lanes + lane)) }

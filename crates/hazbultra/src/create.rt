@@ -56,9 +56,9 @@ fn setup_of(wanted: &SetupIn) -> Result<Setup, u32>
     }
 }
 
-/// Makes a mailbox of this setup, and its hub. No other mailbox of the process may have the number `id`. It returns
-/// `BAD_HANDLE` if `hub` leads to something already, and else the code of the first fault of the setup. If there is
-/// none, it returns `NO_MEMORY` if memory ran out. After each of these nothing has changed.
+/// Makes a mailbox of this setup, and its hub. No other mailbox of the process may have the number `id`. The call
+/// returns `BAD_HANDLE` if `hub` leads to something already, and else the code of the first fault of the setup. If
+/// there is none, it returns `NO_MEMORY` if memory ran out. After each of these nothing has changed.
 #[unsafe(no_mangle)]
 pub extern "C" fn hz_mailbox_new(alloc: Global, id: u64, setup: &SetupIn, hub: &mut Handle) -> u32
     ensures made { result ≡ DONE → (name : TableName) → table_numbered setup.now.table ≡ Some name
@@ -90,8 +90,9 @@ pub extern "C" fn hz_mailbox_new(alloc: Global, id: u64, setup: &SetupIn, hub: &
     DONE
 }
 
-/// Makes the producer of the next lane. It returns `BAD_HANDLE` if `hub` leads to no hub or `producer` to something
-/// already, `ALL_GIVEN` if each lane's producer was given, and `NO_MEMORY` if memory ran out. Then nothing changes.
+/// Makes the producer of the next lane. The call returns `BAD_HANDLE` if `hub` leads to no hub or `producer` to
+/// something already, `ALL_GIVEN` if each lane's producer was given, and `NO_MEMORY` if memory ran out. After each of
+/// these nothing has changed.
 #[unsafe(no_mangle)]
 pub extern "C" fn hz_producer_new(alloc: Global, hub: &mut Handle, producer: &mut Handle) -> u32
     ensures given { result ≡ DONE
@@ -127,7 +128,8 @@ pub extern "C" fn hz_producer_new(alloc: Global, hub: &mut Handle, producer: &mu
     code
 }
 
-/// The same for an opened hub. It makes the box first, so that no number is lost if memory runs out.
+/// What [`hz_producer_new`] does, for an opened hub. The box is made first, so that no number is lost if memory runs
+/// out.
 fn give_producer(alloc: Global, hub: &mut BoundHub<Global>, producer: &mut Handle) -> u32
     ensures given { result ≡ DONE → ProducerMade (λ p. p ≡ record {
       id = hub.old.id;
@@ -157,9 +159,9 @@ fn give_producer(alloc: Global, hub: &mut BoundHub<Global>, producer: &mut Handl
     }
 }
 
-/// Makes the consumer of the next number, with the random words of ChaCha8 from this seed and stream. It returns
+/// Makes the consumer of the next number, with the random words of ChaCha8 from this seed and stream. The call returns
 /// `BAD_HANDLE` if `hub` leads to no hub or `consumer` to something already, `ALL_GIVEN` if all consumers were given,
-/// and `NO_MEMORY` if memory ran out. Then nothing changes.
+/// and `NO_MEMORY` if memory ran out. After each of these nothing has changed.
 #[unsafe(no_mangle)]
 pub extern "C" fn hz_consumer_new(
     alloc: Global,
@@ -202,7 +204,8 @@ pub extern "C" fn hz_consumer_new(
     code
 }
 
-/// The same for an opened hub. It makes the box first, so that no number is lost if memory runs out.
+/// What [`hz_consumer_new`] does, for an opened hub. The box is made first, so that no number is lost if memory runs
+/// out.
 fn give_consumer(
     alloc: Global,
     hub: &mut BoundHub<Global>,

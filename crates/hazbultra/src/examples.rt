@@ -18,23 +18,23 @@ ghost use Rattle.hazbultra.specs.declared.thing.Thing.TheVariants.{OfHub, OfNoth
 
 pub mod parts;
 
-/// What a handle gives, and what a call does to what it leads to.
+/// What a handle gives, and what a call does to what a handle leads to.
 pub fn handles_lead_to_things()
     ensures nothing { holds {X = ℕ} {A = ℕ} None None }
     ensures lost { holds {X = ℕ} {A = ℕ} None (Some 7) → ⊥ }
     ensures hub { (h : BoundHubView) → IsHub (Some (OfHub h)) }
     ensures no_hub { IsHub (Some OfNothing) → ⊥ }
 
-    // A hub that goes on as it is, and one that is gone.
+    // A hub that stays as it is has gone on so, and one that is gone has not.
     ensures stays { (h : BoundHubView) → HubWent (λ h k. k ≡ h) (Some (OfHub h)) (Some (OfHub h)) }
     ensures gone { (h : BoundHubView) → HubWent (λ h k. k ≡ h) (Some (OfHub h)) None → ⊥ }
 
-    // A producer that belongs to another mailbox afterwards.
+    // A producer that belongs to another mailbox after the call has not gone on.
     ensures moved { (p q : BoundProducerView) → q.id ≢ p.id
         → ProducerWent (λ p q. q.producer ≡ p.producer) (Some (OfProducer p)) (Some (OfProducer q))
         → ⊥ }
 
-    // A handle that leads to nothing is no producer given, and a hub is no report.
+    // A hub gave no producer if the other handle leads to nothing, and told no report if it leads to a hub.
     ensures not_given { (h : BoundHubView) → HubGave (λ h p. p.id ≡ h.id) (Some (OfHub h)) None
         → ⊥ }
     ensures not_told { (h : BoundHubView)
@@ -61,7 +61,7 @@ pub fn hubs_take_their_own_back()
     ensures no_hub { (part : Option Thing) → AreApart None part }
 {}
 
-/// The numbers of C.
+/// The numbers by which C names tables, answers of polls and refusals of setups.
 pub fn numbers_are_those_of_the_header()
     ensures table { table_numbered 1 ≡ Some Bits }
     ensures no_table { table_numbered 3 ≡ None }

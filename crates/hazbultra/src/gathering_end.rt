@@ -20,8 +20,8 @@ use mb_mailbox::GatherFault;
 use std::alloc::Global;
 use std::mem;
 
-/// Takes a producer or a consumer back. Its handle leads to nothing then. It returns `BAD_HANDLE` if a handle leads to
-/// something else, and `OTHER_MAILBOX` if the two mailboxes have different numbers. Then nothing changes.
+/// Takes a producer or a consumer back. Its handle leads to nothing then. The call returns `BAD_HANDLE` if a handle
+/// leads to something else, and `OTHER_MAILBOX` if the two mailboxes have different numbers. Then nothing changes.
 #[unsafe(no_mangle)]
 pub extern "C" fn hz_take_back(hub: &mut Handle, part: &mut Handle) -> u32
     requires { AreApart hub.old.block.thing part.old.block.thing }
@@ -47,7 +47,7 @@ pub extern "C" fn hz_take_back(hub: &mut Handle, part: &mut Handle) -> u32
     code
 }
 
-/// Takes back what the handle leads to, with the same codes.
+/// Takes back what the handle leads to, with the codes of [`hz_take_back`].
 fn take_back(hub: &mut BoundHub<Global>, part: &mut Handle) -> u32
     requires { IsApartFrom hub.old part.old.block.thing }
     ensures taken { result ≡ DONE → HasTakenBack hub.old part.old.block.thing hub.new }
@@ -82,9 +82,9 @@ fn take_back(hub: &mut BoundHub<Global>, part: &mut Handle) -> u32
     code
 }
 
-/// Ends the mailbox. The report takes over the box of its hub. It returns `BAD_HANDLE` if `hub` leads to no hub or
-/// `report` to something already. It returns `MISSING`, and writes the counts, if something is still out, and
-/// `NO_MEMORY` if memory ran out. Then the hub stays as it was.
+/// Ends the mailbox. The report takes over the box of its hub. The call returns `BAD_HANDLE` if `hub` leads to no hub
+/// or `report` to something already. It returns `MISSING`, and writes the counts, if something is still out, and
+/// `NO_MEMORY` if memory ran out. After each of these the hub is as it was.
 #[unsafe(no_mangle)]
 pub extern "C" fn hz_gather(
     alloc: Global,

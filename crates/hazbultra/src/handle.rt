@@ -41,21 +41,21 @@ impl Handle {
         }
     }
 
-    /// Makes it lead to what is in the box. What it led to before is freed.
+    /// Makes the handle lead to what is in the box. What the handle led to before is freed.
     pub fn give(&mut self, thing: Box<Thing, Global>)
         ensures { self.new.block.thing ≡ Some thing.value }
     {
         *self = Handle::of(self.alloc, thing);
     }
 
-    /// Whether it leads to nothing.
+    /// Whether the handle leads to nothing.
     pub fn is_none(&self) -> bool
         ensures { result ≡ not (is_some self.now.block.thing) }
     {
         !self.full
     }
 
-    /// The box that it leads to, if any. The box is the caller's then, and the handle leads to nothing.
+    /// The box that the handle leads to, if any. The box is the caller's then, and the handle leads to nothing.
     pub fn take(&mut self) -> Option<Box<Thing, Global>>
         ensures none { self.new.block.thing ≡ None }
         ensures box_back { holds result self.old.block.thing }
@@ -63,6 +63,7 @@ impl Handle {
         mem::replace(self, Handle::none(self.alloc)).into_box()
     }
 
+    /// The box that the handle leads to, if any. The handle is used up.
     fn into_box(self) -> Option<Box<Thing, Global>>
         ensures { holds result self.block.thing }
     {
@@ -75,6 +76,7 @@ impl Handle {
     }
 }
 
+// A handle that is dropped frees what it leads to.
 impl Drop for Handle {
     fn drop(self) {
         drop(self.into_box());

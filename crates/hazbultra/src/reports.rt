@@ -1,5 +1,5 @@
 //! The calls that read a report. They return `BAD_HANDLE` exactly if the handle leads to no report, and `NOT_THERE` if
-//! the report has no such lane or diary. Then nothing is written.
+//! the report has no such lane or diary. After both nothing is written.
 ghost use Rattle.std.specs.Prelude.{ℕ, ◌≡◌, ◌≢◌, ◌↔◌, ◌⊎◌, ◌++◌, ◌≤◌, MatchOption, None, Some};
 ghost use Rattle.std.specs.Prelude.{drop, length, map, min, slice_get, take};
 ghost use Rattle.mb_world.specs.Report.{DiaryView, LaneView, diary};
@@ -124,8 +124,8 @@ pub extern "C" fn hz_report_diary(
     code
 }
 
-/// Copies items of a lane from the place `from` on, as many as there is room for: those left if `left` is true, and
-/// else those put.
+/// Copies items of a lane from position `from` on, as many as there is room for: those left if `left` is true, and else
+/// those put.
 #[unsafe(no_mangle)]
 pub extern "C" fn hz_report_items(
     report: &mut Handle,
@@ -165,7 +165,7 @@ pub extern "C" fn hz_report_items(
     code
 }
 
-/// Copies notes of a diary from the place `from` on, as many as there is room for.
+/// Copies notes of a diary from position `from` on, as many as there is room for.
 #[unsafe(no_mangle)]
 pub extern "C" fn hz_report_notes(
     report: &mut Handle,

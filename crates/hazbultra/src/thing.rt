@@ -24,6 +24,7 @@ pub enum Thing {
     OfNothing,
 }
 
+/// Takes each type that may go from thread to thread.
 fn crosses_threads<T: Send>() {}
 
 /// A thing may go from thread to thread. The proof is that this function is accepted.

@@ -5,7 +5,7 @@ use std::alloc::Allocator;
 use std::marker::Model;
 use std::sync::Arc;
 
-/// A consumer with its mailbox. It has no source of random words, so each poll is given one.
+/// A consumer with its mailbox. A consumer has no source of random words, so each poll is given one.
 #[derive(Drop)]
 pub struct BoundConsumer<A: Allocator + Drop> {
     pub(crate) id: u64,
@@ -13,6 +13,7 @@ pub struct BoundConsumer<A: Allocator + Drop> {
     pub(crate) consumer: Consumer<A>,
 }
 
+// The invariant is that the consumer belongs to the mailbox.
 impl<A: Allocator + Drop> Model for BoundConsumer<A> {
     ghost use Rattle.std.specs.Arc.{arc_value};
     ghost use Rattle.mb_bound.specs.Bound.{BoundConsumerView};
@@ -36,14 +37,14 @@ impl<A: Allocator + Drop> BoundConsumer<A> {
     ghost use Rattle.mb_mailbox.specs.Consumers.{IsConsumerOf};
     ghost use Rattle.mb_mailbox.specs.Steps.{AnswerTells, IsPollOf, outcome};
 
-    /// The number of its mailbox.
+    /// The number of the consumer's mailbox.
     pub fn id(&self) -> u64
         ensures { result ≡ self.now.id }
     {
         self.id
     }
 
-    /// A law: it is a consumer of its mailbox.
+    /// A law: the consumer is one of the mailbox that it is kept with.
     pub fn is_bound(&self)
         ensures { IsConsumerOf self.now.mailbox self.now.consumer }
     {

@@ -3,7 +3,7 @@ ghost use Rattle.std.specs.Prelude.{◌≢◌};
 ghost use Rattle.mb_bound.specs.Bound.{AreNamedApart};
 ghost use Rattle.mb_mailbox.specs.Mailboxes.{MailboxView};
 
-/// Mailboxes with two numbers are always named apart. With one number they have to be one mailbox.
+/// Two mailboxes with different numbers are always named apart. Mailboxes with one number have to be one mailbox.
 pub fn numbers_name_mailboxes()
     ensures two_numbers { (m n : MailboxView) → AreNamedApart 1 m 2 n }
     ensures one_mailbox { (m : MailboxView) → AreNamedApart 1 m 1 m }

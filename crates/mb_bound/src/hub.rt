@@ -16,6 +16,7 @@ pub struct BoundHub<A: Allocator + Drop> {
     pub(crate) hub: Hub<A>,
 }
 
+// The invariant is that the hub belongs to the mailbox.
 impl<A: Allocator + Drop> Model for BoundHub<A> {
     ghost use Rattle.std.specs.Arc.{arc_value};
     ghost use Rattle.mb_bound.specs.Bound.{BoundHubView};
@@ -58,7 +59,7 @@ impl<A: Allocator + Drop> BoundHub<A> {
         consumers_left(&self.mailbox, &self.hub)
     }
 
-    /// A law: it is the hub of its mailbox.
+    /// A law: the hub is that of the mailbox that it is kept with.
     pub fn is_bound(&self)
         ensures { IsHubOf self.now.mailbox self.now.hub }
     {
@@ -93,8 +94,8 @@ impl<A: Allocator + Drop> BoundHub<A> {
         })
     }
 
-    /// Takes a producer back, as [`Hub::take_producer`] does. If its mailbox has another number, it is returned as the
-    /// error.
+    /// Takes a producer back, as [`Hub::take_producer`] does. If its mailbox has another number, the producer is
+    /// returned as the error.
     pub fn take_producer(&mut self, producer: BoundProducer<A>) -> Result<(), BoundProducer<A>>
         requires { AreNamedApart self.old.id self.old.mailbox producer.id producer.mailbox }
         ensures taken { IsOk result ↔ (self.old.id ≡ producer.id) }
@@ -118,8 +119,8 @@ impl<A: Allocator + Drop> BoundHub<A> {
         Ok(())
     }
 
-    /// Takes a consumer back, as [`Hub::take_consumer`] does. If its mailbox has another number, it is returned as the
-    /// error.
+    /// Takes a consumer back, as [`Hub::take_consumer`] does. If its mailbox has another number, the consumer is
+    /// returned as the error.
     pub fn take_consumer(&mut self, consumer: BoundConsumer<A>) -> Result<(), BoundConsumer<A>>
         requires { AreNamedApart self.old.id self.old.mailbox consumer.id consumer.mailbox }
         ensures taken { IsOk result ↔ (self.old.id ≡ consumer.id) }

@@ -19,9 +19,10 @@ pub use hub::BoundHub;
 pub use producer::BoundProducer;
 use std::alloc::Allocator;
 
+/// Takes each type that may go from thread to thread.
 fn crosses_threads<T: Send>() {}
 
-/// The three may go from thread to thread. The proof is that this function is accepted.
+/// The three types may go from thread to thread. The proof is that this function is accepted.
 pub fn all_cross_threads<A: Allocator + Drop + Send + Sync>() {
     crosses_threads::<BoundHub<A>>();
     crosses_threads::<BoundProducer<A>>();

@@ -13,6 +13,7 @@ pub struct BoundProducer<A: Allocator + Drop> {
     pub(crate) producer: Producer<A>,
 }
 
+// The invariant is that the producer belongs to the mailbox.
 impl<A: Allocator + Drop> Model for BoundProducer<A> {
     ghost use Rattle.std.specs.Arc.{arc_value};
     ghost use Rattle.mb_bound.specs.Bound.{BoundProducerView};
@@ -36,14 +37,14 @@ impl<A: Allocator + Drop> BoundProducer<A> {
     ghost use Rattle.mb_mailbox.specs.Producers.{FoundNoCell, HasNoCellFor, IsEndOfLane};
     ghost use Rattle.mb_mailbox.specs.Producers.{IsProducerOf, IsPutInto, IsSameLane, is_over};
 
-    /// The number of its mailbox.
+    /// The number of the producer's mailbox.
     pub fn id(&self) -> u64
         ensures { result ≡ self.now.id }
     {
         self.id
     }
 
-    /// A law: it is a producer of its mailbox.
+    /// A law: the producer is one of the mailbox that it is kept with.
     pub fn is_bound(&self)
         ensures { IsProducerOf self.now.mailbox self.now.producer }
     {
@@ -68,7 +69,7 @@ impl<A: Allocator + Drop> BoundProducer<A> {
         self.producer.put(&self.mailbox, x)
     }
 
-    /// Ends the lane, as [`Producer::finish`] does. It is never `Busy`.
+    /// Ends the lane, as [`Producer::finish`] does. The answer is never `Busy`.
     pub fn finish(&mut self) -> Finish
         ensures ended { result ≡ finish.Ended
             → IsEndOfLane self.old.producer self.new.producer }

@@ -48,7 +48,7 @@ pub sum_both : (n : ℕ) (f g : ℕ → ℕ) → sum_below n (λ k. f k + g k) �
 sum_both zero f g = refl
 sum_both (suc n) f g = let t = sum_both n f g in omega (arith, t)
 
--- rows first or columns first
+-- a sum of sums may be taken rows first or columns first
 pub sum_swap : (n m : ℕ) (f : ℕ → ℕ → ℕ) → sum_below n (λ c. sum_below m (f c))
     ≡ sum_below m (λ p. sum_below n (λ c. f c p))
 sum_swap n zero f = sum_none n
@@ -76,7 +76,7 @@ sum_more (suc n) (suc d) f g v low here others =
 
 -- ---- items that an assignment gives out
 module _ (x n : ℕ) where
-  -- how often x is given to one of the first n
+  -- how often x is given to one of the first n consumers
   abbrev pub shares : (ℕ → Option ℕ) → List ℕ → ℕ
   shares t items = sum_below n (λ c. times x (items_where (λ j. is_consumer c (t j)) items))
 
@@ -84,7 +84,7 @@ module _ (x n : ℕ) where
   abbrev pub rests : (ℕ → Option ℕ) → List ℕ → ℕ
   rests t items = times x (items_where (λ j. is_none (t j)) items)
 
-  -- a first item that nobody is given is among those left
+  -- if the first item is given to nobody, it is among those left
   first_left : (t : ℕ → Option ℕ) (y : ℕ) (ys : List ℕ) → t 0 ≡ None
       → (shares t (y ∷ ys) ≡ shares (λ j. t (suc j)) ys) × (rests t (y ∷ ys) ≡ one x y + rests (λ j. t (suc j)) ys)
   first_left t y ys e =
@@ -95,7 +95,7 @@ module _ (x n : ℕ) where
         ap (λ (z : Option ℕ). times x (if is_none z then y ∷ left else left)) e ∙ times_first x y left,
       )
 
-  -- a first item that is given is among the shares
+  -- if the first item is given to one of these consumers, it is among the shares
   first_given : (t : ℕ → Option ℕ) (y : ℕ) (ys : List ℕ) (d : ℕ) → t 0 ≡ Some d → d < n
       → (shares t (y ∷ ys) ≡ one x y + shares (λ j. t (suc j)) ys) × (rests t (y ∷ ys) ≡ rests (λ j. t (suc j)) ys)
   first_given t y ys d e known =
@@ -109,7 +109,7 @@ module _ (x n : ℕ) where
         ap (λ (z : Option ℕ). times x (if is_none z then y ∷ left else left)) e,
       )
 
-  -- both together are how often x is there, if nobody else is given any
+  -- the shares and those left together are how often x is there, if only these consumers are given items
   pub given_and_left : (t : ℕ → Option ℕ) (items : List ℕ) → ((j c : ℕ) → j < length items → t j ≡ Some c → c < n)
       → shares t items + rests t items ≡ times x items
   given_and_left t [] few = let z = sum_none n in omega (arith, z)

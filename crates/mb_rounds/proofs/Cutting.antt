@@ -6,7 +6,7 @@ use Rattle.std.specs.List.{concat}
 use Rattle.mb_mailbox.specs.Worked.{lists_in}
 use Rattle.mb_rounds.proofs.Whole.{concat_push}
 
--- the lists with one more at the end
+-- the lists of vectors with one more at the end are those before, and then that of the last vector
 pub lists_push : {Z : Type 0} (vs : List (Vec ℕ Z)) (v : Vec ℕ Z) → lists_in (vs ++ v ∷ [])
     ≡ lists_in vs ++ v.items ∷ []
 lists_push [] v = refl

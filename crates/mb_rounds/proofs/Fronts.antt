@@ -10,7 +10,7 @@ use Rattle.mb_mailbox.specs.Worked.{LaneLeft, ended_list}
 use Rattle.mb_world.specs.Report.{LaneView, ReportView}
 use Rattle.mb_rounds.specs.Round.{IsPutOf}
 
--- lists side by side are of one length
+-- two lists whose elements are related side by side have one length
 pub zip_length : {A B : Type 0} (R : A → B → Type 0) (xs : List A) (ys : List B) → AllZip R xs ys
     → length xs ≡ length ys
 zip_length R [] [] z = refl
@@ -18,27 +18,27 @@ zip_length R [] (y ∷ ys) z = absurd z
 zip_length R (x ∷ xs) [] z = absurd z
 zip_length R (x ∷ xs) (y ∷ ys) z = let t = zip_length R xs ys z.1 in omega (arith, t)
 
--- what is made of the elements stands at their places
+-- what a function makes of the elements stands at their positions
 pub get_map : {A B : Type 0} (f : A → B) (xs : List A) (i : ℕ) (x : A) → slice_get xs i ≡ Some x
     → slice_get (map f xs) i ≡ Some (f x)
 get_map f [] i x e = absurd (cc)
 get_map f (y ∷ xs) zero x e = let f_same : y ≡ x = cc in ap (λ z. Some (f z)) f_same
 get_map f (y ∷ xs) (suc i) x e = get_map f xs i x e
 
--- what is made of the element at a place stands there
+-- what a function makes of the element at a position stands there
 pub get_map_at : {A B : Type 0} (f : A → B) (xs : List A) (i : ℕ) (x : A) → i < length xs → get_or xs i x ≡ x
     → slice_get (map f xs) i ≡ Some (f x)
 get_map_at f [] i x low e = absurd (omega arith)
 get_map_at f (y ∷ xs) zero x low e = ap (λ z. Some (f z)) e
 get_map_at f (y ∷ xs) (suc i) x low e = get_map_at f xs i x (omega arith) e
 
--- a place with an element is in the list
+-- a position with an element is in the list
 get_below : {X : Type 0} (xs : List X) (i : ℕ) (x : X) → slice_get xs i ≡ Some x → i < length xs
 get_below [] i x e = absurd (cc)
 get_below (y ∷ xs) zero x e = omega arith
 get_below (y ∷ xs) (suc i) x e = let t = get_below xs i x e in omega (arith, t)
 
--- place by place the lanes of the report have what the workers put
+-- position by position, the lanes of the report have what the workers put
 zip_put : (lists : List (List ℕ)) (ls : List LaneLeft) (vs : List LaneView)
     → AllZip (λ list l. IsFront l.put list) lists ls
     → length vs ≡ length ls

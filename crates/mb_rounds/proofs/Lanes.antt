@@ -20,13 +20,13 @@ get_none [] i far = refl
 get_none (x ∷ xs) zero far = absurd (omega arith)
 get_none (x ∷ xs) (suc i) far = get_none xs i (omega arith)
 
--- a place with an element is in the list
+-- a position with an element is in the list
 get_below : {X : Type 0} (xs : List X) (i : ℕ) (x : X) → slice_get xs i ≡ Some x → i < length xs
 get_below [] i x e = absurd (cc)
 get_below (y ∷ xs) zero x e = omega arith
 get_below (y ∷ xs) (suc i) x e = let t = get_below xs i x e in omega (arith, t)
 
--- a choice between no value and no value
+-- a choice between no value and no value is no value
 chosen_none : {X : Type 0} (b : Bool) (o : Option X) → o ≡ None → (if b then o else None) ≡ None
 chosen_none true o e = e
 chosen_none false o e = refl
@@ -37,7 +37,7 @@ module _ {may_stop may_pass : Who → ℕ → Type 0} (terms : Terms) (lists : L
   abbrev plan : Plan
   plan = terms.plan
 
-  -- a number of no consumer has no diary
+  -- a number that no consumer has is that of no diary
   no_diary : (c p : ℕ) → consumers_of plan ≤ c → diary c p r ≡ None
   no_diary c p far =
       chosen_none (nat_lt p (length r.lanes)) (slice_get r.diaries (c * length r.lanes + p))

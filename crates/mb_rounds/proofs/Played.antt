@@ -18,7 +18,7 @@ use Rattle.mb_mailbox.specs.ReportedRuns.{Terms}
 use Rattle.mb_rounds.specs.Round.{IsPlayed}
 use Rattle.mb_rounds.proofs.Fronts.{fronts_told}
 
--- one source for each generator
+-- there is one source of random words for each generator
 pub count_sources : {X : Type 0} (stream : X → Stream) (rngs : List X) → length rngs ≡ length (map stream rngs)
 count_sources stream rngs = sym (length-map rngs stream)
 

@@ -5,7 +5,7 @@ use Rattle.mb_rounds.specs.Carried.{times}
 use Rattle.mb_rounds.specs.Turns.{AreCarriedAfter, Gave, HandedIn, Turn, given_out, handed_in}
 use Rattle.mb_rounds.proofs.Counts.{times_both}
 
--- each value is as often handed in as it is given out and carried
+-- each value is handed in as often as it is given out and is carried now
 pub all_there : (x : ℕ) (turns : List Turn) (now : List ℕ) → AreCarriedAfter turns now
     → times x (handed_in turns) ≡ times x (given_out turns) + times x now
 all_there x [] now e = let t = ap (times x) e in omega (arith, t)

@@ -13,7 +13,7 @@ use Rattle.mb_rounds.specs.Round.{IsPutOf, IsRound, ledgers_of, staying, taken_b
 use Rattle.mb_rounds.proofs.Counts.{sum_below, sum_first, sum_same, sum_swap, times_both}
 use Rattle.mb_rounds.proofs.Lanes.{lane_adds_up}
 
--- the lists joined, with one more at the end
+-- lists joined, with one more at the end, are those before joined, and then the last one
 pub concat_push : (lists : List (List ℕ)) (list : List ℕ) → concat (lists ++ list ∷ []) ≡ concat lists ++ list
 concat_push [] list = append_nothing list
   where
@@ -22,7 +22,7 @@ concat_push [] list = append_nothing list
     append_nothing (x ∷ xs) = ap (λ l. x ∷ l) (append_nothing xs)
 concat_push (l ∷ lists) list = ap (λ z. l ++ z) (concat_push lists list) ∙ sym (append_assoc l (concat lists) list)
 
--- what a consumer took is what it took of each lane
+-- a consumer took x as often as it did from each lane, added up
 taken_adds_up : (x n c : ℕ) (r : ReportView) → times x (taken_below n c r) ≡ sum_below n (λ p. times x (ledger c p r))
 taken_adds_up x zero c r = refl
 taken_adds_up x (suc n) c r =
@@ -30,7 +30,7 @@ taken_adds_up x (suc n) c r =
     let b = times_both x (taken_below n c r) (ledger c n r) in
     omega (arith, t, b)
 
--- what consumers took is what each of them took
+-- consumers took x as often as each of them did, added up
 ledgers_add_up : (x n : ℕ) (r : ReportView)
     → times x (concat (ledgers_of n r)) ≡ sum_below n (λ c. times x (taken_below (length r.lanes) c r))
 ledgers_add_up x zero r = refl
@@ -40,7 +40,7 @@ ledgers_add_up x (suc n) r =
     let b = ap (times x) (concat_push (ledgers_of n r) own) ∙ times_both x (concat (ledgers_of n r)) own in
     omega (arith, t, b)
 
--- lane by lane: what is given out of it, what is left there, and what was not put of its list
+-- what is given out of each lane, what is left there, and what was not put of its list make up the lists
 lanes_add_up : (x : ℕ) (given : ℕ → ℕ) (lists : List (List ℕ)) (lanes : List LaneView) → AllZip IsPutOf lists lanes
     → ((p : ℕ) (l : LaneView) → slice_get lanes p ≡ Some l → given p + times x l.left ≡ times x l.put)
     → sum_below (length lanes) given + times x (staying lists lanes) ≡ times x (concat lists)

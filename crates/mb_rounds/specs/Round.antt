@@ -26,7 +26,7 @@ pub record IsPlayed (may_stop may_pass : Who → ℕ → Type 0) (terms : Terms)
   pub report : IsReportOf terms.plan histories r
   -- one assignment of items to consumers agrees with the whole report
   pub honest : IsHonest terms.plan histories r
-  -- it was done by a producer for each list and a consumer for each source, which go on until they are done or stopped
+  -- a producer for each list and a consumer for each source did this, and went on until they were done or stopped
   pub run : IsReportedRun may_stop may_pass terms lists histories r
 
 -- the items that notes say were taken
@@ -43,7 +43,7 @@ abbrev pub ledgers_of : ℕ → ReportView → List (List ℕ)
 ledgers_of zero r = []
 ledgers_of (suc n) r = ledgers_of n r ++ taken_below (length r.lanes) n r ∷ []
 
--- the items that stay: for each lane those that nobody took, and then those of its list that were not put
+-- the items that stay, lane by lane: those put that nobody took, and then those of the lane's list that were not put
 abbrev pub staying : List (List ℕ) → List LaneView → List ℕ
 staying [] _ = []
 staying _ [] = []
@@ -55,6 +55,7 @@ staying (list ∷ lists) (lane ∷ lanes) = (lane.left ++ drop (length lane.put)
 pub record IsRound (may_stop may_pass : Who → ℕ → Type 0) (terms : Terms) (was : List ℕ)
     (taken : List (List ℕ)) (r : ReportView)
     (now : List ℕ) : Type 0 where
+  -- the lists dealt to the producers, and the items that were not dealt
   pub lists : List (List ℕ)
   pub behind : List ℕ
   pub dealt : concat lists ++ behind ≡ was

@@ -25,11 +25,11 @@ pub fn rounds_play_what_was_dealt()
     ensures other_item { (terms : Terms)
         → IsPlayed at_each_call at_each_call terms ((7 ∷ []) ∷ []) (one_lane (8 ∷ [])) → ⊥ }
 
-    // There is a cell for it, no gate stops its producer, and it was not put.
+    // The item 7 was not put, although there is a cell for it and no gate stops its producer.
     ensures not_put { (terms : Terms) → terms.plan.claims.cells ≡ 1
         → IsPlayed at_no_call at_each_call terms ((7 ∷ []) ∷ []) (one_lane []) → ⊥ }
 
-    // The item is neither given out nor carried, or it is both.
+    // The item 7 is neither given out nor carried, or it is both.
     ensures lost { (terms : Terms) (r : ReportView)
         → IsRound at_each_call at_each_call terms (7 ∷ []) ([] ∷ []) r [] → ⊥ }
     ensures twice { (terms : Terms) (r : ReportView)

@@ -14,8 +14,8 @@ fn after_first(items: &[u64], count: usize) -> &[u64]
     rest
 }
 
-/// For each list the items put that nobody took, and then those that were not put. The items `behind`, which were not
-/// dealt, come after all of these.
+/// The items that stay after a round: for each list those put that nobody took, and then those that were not put. The
+/// items `behind`, which were not dealt, come after all of these.
 pub(crate) fn stay<A: Allocator + Clone + Drop>(
     alloc: &A,
     lists: &[Vec<u64, A>],

@@ -15,7 +15,7 @@ use std::alloc::{AllocError, Allocator};
 use std::sync::Wait;
 use std::thread::Threads;
 
-/// What the consumers of a round get.
+/// What the consumers of a round get: a source of random words for each that works, and the budget of its polls.
 #[derive(Drop)]
 pub(crate) struct Means<R: Drop, A: Allocator + Drop> {
     pub(crate) sources: Vec<R, A>,

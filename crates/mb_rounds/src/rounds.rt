@@ -51,6 +51,7 @@ pub struct Rounds<A: Allocator + Drop> {
     carried: Vec<u64, A>,
 }
 
+// Clauses see the setup, and the items carried as a plain list.
 impl<A: Allocator + Drop> Model for Rounds<A> {
     ghost use Rattle.mb_rounds.specs.Carried.{RoundsView};
 

@@ -10,13 +10,16 @@ use Rattle.mb_world.proofs.ReportLists.{no_diary, not_noted}
 use Rattle.mb_world.proofs.OneLaneReports.{agrees_on_lane}
 
 -- ---- consumer 0 has taken the item, and consumer 1 has lost it
+-- the diaries of the report `taken_and_lost`. The lemmas below are the parts of `AgreesOnLane` for it
 abbrev taken_diaries : List DiaryView
 taken_diaries = diary_of 0 (Took 5 ∷ []) false ∷ diary_of 1 (Lost 0 ∷ []) false ∷ []
 
+-- only consumers of the report are given an item
 taken_known : (c j : ℕ) → first_to 0 0 j ≡ Some c → c < 2
 taken_known c zero e = let f : 0 ≡ c = cc in omega (arith, f)
 taken_known c (suc j) e = absurd (cc)
 
+-- an item is taken exactly by the consumer to which it is given
 taken_taken : (c j : ℕ) → c < 2 → HasTaken c 0 j taken_and_lost ↔ (first_to 0 0 j ≡ Some c)
 taken_taken zero zero less = ((λ h. refl), (λ e. (5, refl)))
 taken_taken zero (suc j) less = ((λ h. absurd (let e = h.1 in cc)), (λ e. absurd (cc)))
@@ -24,11 +27,13 @@ taken_taken (suc zero) zero less = ((λ h. absurd (let e = h.1 in cc)), (λ e. a
 taken_taken (suc zero) (suc j) less = ((λ h. absurd (let e = h.1 in cc)), (λ e. absurd (cc)))
 taken_taken (suc (suc c)) j less = absurd (omega (arith, less))
 
+-- only the item is given, and only to a consumer that competed for it
 taken_competitors : (c j : ℕ) → c < 2 → first_to 0 0 j ≡ Some c → (j < 1) × HasCompeted c 0 j taken_and_lost
 taken_competitors zero zero less e = (omega arith, inl (omega arith))
 taken_competitors (suc c) zero less e = absurd (cc)
 taken_competitors c (suc j) less e = absurd (cc)
 
+-- each loss of the item names consumer 0
 taken_loser : (d v : ℕ) → HasLostTo d v 0 0 taken_and_lost → v ≡ 0
 taken_loser zero v e = absurd (cc)
 taken_loser (suc zero) v e = cc
@@ -36,6 +41,7 @@ taken_loser (suc (suc d)) v e =
     absurd (not_noted (suc (suc d)) 0 0 taken_and_lost (Lost v)
     (no_diary (suc (suc d)) (5 ∷ []) [] taken_diaries (omega arith)) e)
 
+-- each loss says of the winner what `IsLossTo` asks
 taken_losses : (c w j : ℕ) → c < 2 → HasLostTo c w 0 j taken_and_lost → IsLossTo (first_to 0) c w 0 j taken_and_lost
 taken_losses zero w zero less e = absurd (cc)
 taken_losses zero w (suc j) less e = absurd (cc)
@@ -49,21 +55,25 @@ taken_losses (suc zero) (suc w) zero less e = absurd (cc)
 taken_losses (suc zero) w (suc j) less e = absurd (cc)
 taken_losses (suc (suc c)) w j less e = absurd (omega (arith, less))
 
+-- each ledger is the share of its consumer
 taken_ledgers : (c : ℕ) → c < 2 → ledger c 0 taken_and_lost ≡ share (first_to 0) c 0 taken_and_lost
 taken_ledgers zero less = refl
 taken_ledgers (suc zero) less = refl
 taken_ledgers (suc (suc c)) less = absurd (omega (arith, less))
 
+-- no consumer has more notes than items were put
 taken_within : (c : ℕ) → c < 2 → length (notes c 0 taken_and_lost) ≤ 1
 taken_within zero less = omega arith
 taken_within (suc zero) less = omega arith
 taken_within (suc (suc c)) less = absurd (omega (arith, less))
 
+-- a begun claim is on the item
 taken_begun : (c : ℕ) → c < 2 → is_begun c 0 taken_and_lost ≡ true → length (notes c 0 taken_and_lost) < 1
 taken_begun zero less e = absurd (cc)
 taken_begun (suc zero) less e = absurd (cc)
 taken_begun (suc (suc c)) less e = absurd (omega (arith, less))
 
+-- so the report agrees with the assignment that gives the item to consumer 0
 pub taken_agrees : AgreesWith (first_to 0) taken_and_lost
 taken_agrees = agrees_on_lane (first_to 0) (5 ∷ []) [] taken_diaries (record {
   elsewhere = λ p j. refl;
@@ -78,15 +88,18 @@ taken_agrees = agrees_on_lane (first_to 0) (5 ∷ []) [] taken_diaries (record {
 })
 
 -- ---- consumer 1 has lost the item to 0, which has not loaded it yet
+-- the diaries of the report `won_not_loaded`. The lemmas below are the parts of `AgreesOnLane` for it
 abbrev won_diaries : List DiaryView
 won_diaries = diary_of 0 [] true ∷ diary_of 1 (Lost 0 ∷ []) false ∷ []
 
+-- nobody has taken the item
 won_taken : (c j : ℕ) → c < 2 → HasTaken c 0 j won_not_loaded → ⊥
 won_taken zero j less h = let e = h.1 in cc
 won_taken (suc zero) zero less h = let e = h.1 in cc
 won_taken (suc zero) (suc j) less h = let e = h.1 in cc
 won_taken (suc (suc c)) j less h = omega (arith, less)
 
+-- each loss of the item names consumer 0
 won_loser : (d v : ℕ) → HasLostTo d v 0 0 won_not_loaded → v ≡ 0
 won_loser zero v e = absurd (cc)
 won_loser (suc zero) v e = cc
@@ -94,6 +107,7 @@ won_loser (suc (suc d)) v e =
     absurd (not_noted (suc (suc d)) 0 0 won_not_loaded (Lost v)
     (no_diary (suc (suc d)) (5 ∷ []) (5 ∷ []) won_diaries (omega arith)) e)
 
+-- each loss says of the winner what `IsLossTo` asks, although the item is given to nobody
 won_losses : (c w j : ℕ) → c < 2 → HasLostTo c w 0 j won_not_loaded → IsLossTo to_nobody c w 0 j won_not_loaded
 won_losses zero w j less e = absurd (cc)
 won_losses (suc zero) zero zero less e = record {
@@ -106,21 +120,25 @@ won_losses (suc zero) (suc w) zero less e = absurd (cc)
 won_losses (suc zero) w (suc j) less e = absurd (cc)
 won_losses (suc (suc c)) w j less e = absurd (omega (arith, less))
 
+-- each ledger is the share of its consumer, which is empty
 won_ledgers : (c : ℕ) → c < 2 → ledger c 0 won_not_loaded ≡ share to_nobody c 0 won_not_loaded
 won_ledgers zero less = refl
 won_ledgers (suc zero) less = refl
 won_ledgers (suc (suc c)) less = absurd (omega (arith, less))
 
+-- no consumer has more notes than items were put
 won_within : (c : ℕ) → c < 2 → length (notes c 0 won_not_loaded) ≤ 1
 won_within zero less = omega arith
 won_within (suc zero) less = omega arith
 won_within (suc (suc c)) less = absurd (omega (arith, less))
 
+-- a begun claim is on the item
 won_begun : (c : ℕ) → c < 2 → is_begun c 0 won_not_loaded ≡ true → length (notes c 0 won_not_loaded) < 1
 won_begun zero less e = omega arith
 won_begun (suc zero) less e = absurd (cc)
 won_begun (suc (suc c)) less e = absurd (omega (arith, less))
 
+-- so the report agrees with the assignment that gives nothing
 pub won_agrees : AgreesWith to_nobody won_not_loaded
 won_agrees = agrees_on_lane to_nobody (5 ∷ []) (5 ∷ []) won_diaries (record {
   elsewhere = λ p j. refl;
@@ -135,9 +153,11 @@ won_agrees = agrees_on_lane to_nobody (5 ∷ []) (5 ∷ []) won_diaries (record 
 })
 
 -- ---- both consumers are undecided
+-- the diaries of the report `both_undecided`. The lemmas below are the parts of `AgreesOnLane` for it
 abbrev undecided_diaries : List DiaryView
 undecided_diaries = diary_of 0 (Undecided ∷ []) false ∷ diary_of 1 (Undecided ∷ []) false ∷ []
 
+-- each note of the report is undecided
 undecided_note : (c j : ℕ) (n : Note) → c < 2 → note c 0 j both_undecided ≡ Some n → n ≡ Undecided
 undecided_note zero zero n less e = cc
 undecided_note zero (suc j) n less e = absurd (cc)
@@ -145,21 +165,25 @@ undecided_note (suc zero) zero n less e = cc
 undecided_note (suc zero) (suc j) n less e = absurd (cc)
 undecided_note (suc (suc c)) j n less e = absurd (omega (arith, less))
 
+-- each ledger is the share of its consumer, which is empty
 undecided_ledgers : (c : ℕ) → c < 2 → ledger c 0 both_undecided ≡ share to_nobody c 0 both_undecided
 undecided_ledgers zero less = refl
 undecided_ledgers (suc zero) less = refl
 undecided_ledgers (suc (suc c)) less = absurd (omega (arith, less))
 
+-- no consumer has more notes than items were put
 undecided_within : (c : ℕ) → c < 2 → length (notes c 0 both_undecided) ≤ 1
 undecided_within zero less = omega arith
 undecided_within (suc zero) less = omega arith
 undecided_within (suc (suc c)) less = absurd (omega (arith, less))
 
+-- a begun claim is on the item
 undecided_begun : (c : ℕ) → c < 2 → is_begun c 0 both_undecided ≡ true → length (notes c 0 both_undecided) < 1
 undecided_begun zero less e = absurd (cc)
 undecided_begun (suc zero) less e = absurd (cc)
 undecided_begun (suc (suc c)) less e = absurd (omega (arith, less))
 
+-- so the report agrees with the assignment that gives nothing
 pub undecided_agrees : AgreesWith to_nobody both_undecided
 undecided_agrees = agrees_on_lane to_nobody (5 ∷ []) (5 ∷ []) undecided_diaries (record {
   elsewhere = λ p j. refl;
@@ -174,6 +198,7 @@ undecided_agrees = agrees_on_lane to_nobody (5 ∷ []) (5 ∷ []) undecided_diar
 })
 
 -- ---- nobody came for the items
+-- the report `nobody_came` agrees with the assignment that gives nothing
 pub untouched_agrees : AgreesWith to_nobody nobody_came
 untouched_agrees = agrees_on_lane to_nobody (10 ∷ 11 ∷ []) (10 ∷ 11 ∷ []) (diary_of 0 [] false ∷ []) (record {
   elsewhere = λ p j. refl;
@@ -187,6 +212,7 @@ untouched_agrees = agrees_on_lane to_nobody (10 ∷ 11 ∷ []) (10 ∷ 11 ∷ []
   left = refl;
 })
   where
+    -- the parts of `AgreesOnLane` for this report, whose one consumer has no note and no claim
     taken : (c j : ℕ) → c < 1 → HasTaken c 0 j nobody_came ↔ (to_nobody 0 j ≡ Some c)
     taken zero j less = ((λ h. absurd (let e = h.1 in cc)), (λ e. absurd (cc)))
     taken (suc c) j less = absurd (omega (arith, less))

@@ -12,7 +12,7 @@ use Rattle.mb_world.specs.Agreement.{AgreesWith, HasCompeted, HasLostTo, HasTake
 use Rattle.mb_world.specs.Reporting.{is_taken, is_took}
 use Rattle.mb_world.proofs.Lists.{items_where-same, is_took-at, taken-items_where, last_below, last_below-at, last_below-some, last_below-none}
 
--- the winner that c's note names
+-- the winner that a note of consumer c names: c, if c took the item, or the consumer to which c lost it
 abbrev pub winner_named : ℕ → Note → Option ℕ
 winner_named c (Took x) = Some c
 winner_named c (Lost w) = Some w
@@ -20,13 +20,19 @@ winner_named c Undecided = None
 
 -- what the notes of a report of n consumers must keep so that an assignment agrees with it
 pub record AreNotesRight (n : ℕ) (r : ReportView) : Type 0 where
+  -- a note of an item taken has the value that was put
   pub value : (c p j x : ℕ) → note c p j r ≡ Some (Took x) → slice_get (items_put p r) j ≡ Some x
+  -- there are no more notes than items, and a begun claim is on an item
   pub within : (c p : ℕ) → length (notes c p r) ≤ length (items_put p r)
   pub begun_within : (c p : ℕ) → is_begun c p r ≡ true → length (notes c p r) < length (items_put p r)
+  -- two notes on one item name one winner
   pub one : (c d p j : ℕ) (a b : Note) (v w : ℕ) → note c p j r ≡ Some a → note d p j r ≡ Some b
       → winner_named c a ≡ Some v → winner_named d b ≡ Some w → v ≡ w
+  -- a loss names another consumer, which competed
   pub lost : (c w p j : ℕ) → note c p j r ≡ Some (Lost w) → (w ≢ c) × HasCompeted w p j r
+  -- the items left are those that no note says were taken
   pub left : (p : ℕ) → items_left p r ≡ items_where (λ j. not (is_taken n p j r)) (items_put p r)
+  -- only the first n consumers have notes
   pub below : (c p j : ℕ) (a : Note) → note c p j r ≡ Some a → c < n
 
 module _ (n : ℕ) (r : ReportView) (right : AreNotesRight n r) where
@@ -34,20 +40,25 @@ module _ (n : ℕ) (r : ReportView) (right : AreNotesRight n r) where
   abbrev pub taker : Assignment
   taker p j = last_below n (λ c. is_took (note c p j r))
 
+  -- if consumer c has taken an item, the item goes to c
   given_to : (c p j : ℕ) → HasTaken c p j r → taker p j ≡ Some c
   given_to c p j taken = found.1 ∙ ap Some same
     where
+      -- the item goes to some consumer, as c has taken it
       found : (d : ℕ) × (taker p j ≡ Some d)
       found =
           last_below-some n (λ d. is_took (note d p j r)) c (right.below c p j (Took taken.0) taken.1) (rw taken.1 refl)
 
+      -- that consumer has taken the item
       theirs : HasTaken found.0 p j r
       theirs =
           is_took-at (note found.0 p j r) (last_below-at n (λ d. is_took (note d p j r)) found.0 found.1).1
 
+      -- two takers of one item are one
       same : found.0 ≡ c
       same = right.one found.0 c p j (Took theirs.0) (Took taken.0) found.0 c theirs.1 taken.1 refl refl
 
+  -- if an item goes to consumer c, then c has taken it
   has_taken : (c p j : ℕ) → taker p j ≡ Some c → HasTaken c p j r
   has_taken c p j e = is_took-at (note c p j r) (last_below-at n (λ d. is_took (note d p j r)) c e).1
 
@@ -55,6 +66,7 @@ module _ (n : ℕ) (r : ReportView) (right : AreNotesRight n r) where
   share_test : (c p j : ℕ) → is_consumer c (taker p j) ≡ is_took (note c p j r)
   share_test c p j = at_taker (taker p j) refl (is_took (note c p j r)) refl
     where
+      -- this holds whatever the assignment has, and whether c's note says that it took the item or not
       at_taker : (o : Option ℕ) → taker p j ≡ o → (b : Bool) → is_took (note c p j r) ≡ b → is_consumer c o ≡ b
       at_taker None o true b = absurd (let q = given_to c p j (is_took-at (note c p j r) b) in cc)
       at_taker None o false b = refl
@@ -64,12 +76,14 @@ module _ (n : ℕ) (r : ReportView) (right : AreNotesRight n r) where
           eq-eqb d c same
       at_taker (Some d) o false b = false_from_ne_true (nat_eq d c) (λ t. other (eqb-true d c t))
         where
+          -- another consumer took the item, so c is not the one to which it goes
           other : d ≡ c → ⊥
           other same =
               let q = has_taken c p j (o ∙ ap Some same) in
               let t : is_took (note c p j r) ≡ true = rw q.1 refl in
               cc
 
+  -- each loss says of the winner what `IsLossTo` asks
   loss : (c w p j : ℕ) → HasLostTo c w p j r → IsLossTo taker c w p j r
   loss c w p j lost = record {
     another = (right.lost c w p j lost).0;
@@ -78,12 +92,14 @@ module _ (n : ℕ) (r : ReportView) (right : AreNotesRight n r) where
     given = whose (taker p j) refl;
   }
     where
+      -- the item goes to the winner w, or to nobody
       whose : (o : Option ℕ) → taker p j ≡ o → (o ≡ Some w) ⊎ (o ≡ None)
       whose None o = inr refl
       whose (Some d) o =
           let taken = has_taken d p j o in
           inl (ap Some (right.one d c p j (Took taken.0) (Lost w) d w taken.1 lost refl refl))
 
+  -- so the report agrees with the assignment `taker`
   pub agrees : AgreesWith taker r
   agrees = record {
     given = record {

@@ -50,7 +50,7 @@ place_found s h is c p lanes cs ps lanes_is d reads = record {
       (reads ∙ ap (λ (l : ℕ). get_or s.places (c * l + p) d) lanes_is);
 }
 
--- the claim that is read there is that of the place
+-- if a consumer's place holds a claim, the cell and the claim that are read at its position are those of the place
 pub place_read : (s : WorldState) (c p k cell lanes : ℕ) (claim read : Claim) (d : Place)
     → HasPlace c p (At k claim) s → lanes ≡ (plan_in s.setup).lanes
     → d ≡ get_or s.places (c * lanes + p) d → d ≡ At cell read → (cell ≡ k) × (read ≡ claim)
@@ -65,14 +65,14 @@ module _ {h : WorldHistory} {c p word k object : ℕ} {act : Act} {z : Stage}
     (adds : EventAdds (event.Step c p word) (answer.Claimed k object act (claim_stage now))
     (with_note_if c k (note_of (claim_stage now))
     (with_place c p (place_after k now (claim_stage now)) (with_words words s))) h) where
-  -- the state as the step leaves it, for a stage that equals that of the claim now
+  -- the event leads to the state as the step leaves it, written with a stage that equals that of the claim now
   by_stage : EventAdds (event.Step c p word) (answer.Claimed k object act z)
       (with_note_if c k (note_of z) (with_place c p (place_after k now z) (with_words words s))) h
   by_stage =
       subst (λ (y : Stage). EventAdds (event.Step c p word) (answer.Claimed k object act y)
       (with_note_if c k (note_of y) (with_place c p (place_after k now y) (with_words words s))) h) (sym stage_is) adds
 
-  -- the step's stage gives this note and this place
+  -- the event leads to that state, written with a note and a place that are those of the stage
   by_note : (o : Option Note) (d : Place) → note_of z ≡ o → place_after k now z ≡ d
       → EventAdds (event.Step c p word) (answer.Claimed k object act z)
       (with_note_if c k o (with_place c p d (with_words words s))) h
@@ -82,7 +82,8 @@ module _ {h : WorldHistory} {c p word k object : ℕ} {act : Act} {z : Stage}
       (subst (λ (e : Place). EventAdds (event.Step c p word) (answer.Claimed k object act z)
       (with_note_if c k (note_of z) (with_place c p e (with_words words s))) h) at by_stage)
 
-  -- the claim was changed where it stands, and then left with its note
+  -- if the claim has a note, the event leads to the state that the code writes: the claim at its place, then over it
+  -- the place past the cell, and the note
   pub noted : (cell : ℕ) {lanes cells : ℕ} {o : Option Note} {n : Note} → lanes ≡ (plan_in s.setup).lanes
       → cells ≡ (plan_in s.setup).claims.cells → o ≡ note_of z → o ≡ Some n
       → EventAdds (event.Step c p word) (answer.Claimed k object act z) (record s {
@@ -100,7 +101,7 @@ module _ {h : WorldHistory} {c p word k object : ℕ} {act : Act} {z : Stage}
       )
       (by_note (Some n) (Before (Past k)) note (past_cell k now z n note))
 
-  -- the claim was changed where it stands, and has no note
+  -- if the claim has no note, the event leads to the state that the code writes: the claim at its place, and no more
   pub unnoted : {cell lanes : ℕ} → cell ≡ k → lanes ≡ (plan_in s.setup).lanes
       → (o : Option Note) → o ≡ note_of z → ((n : Note) → o ≡ Some n → ⊥)
       → EventAdds (event.Step c p word) (answer.Claimed k object act z)

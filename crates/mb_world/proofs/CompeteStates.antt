@@ -1,4 +1,4 @@
--- A step of a consumer's claim, on the state of a world.
+-- What a step of a consumer's claim makes of the state of a world.
 use Rattle.std.proofs.Common.{◌≡◌, ◌↔◌, ◌⊎◌, ℕ, ◌+◌, ◌*◌, ◌<◌, List, ◌∷◌, length, Option, Some, None, refl, sym, ◌∙◌, ap, subst, inl, inr}
 use Rattle.std.specs.Prelude.{slice_get, slice_set}
 use Rattle.std.proofs.lemmas.Bool.{cases_eq}
@@ -127,7 +127,7 @@ module _ (s : WorldState) (h : WorldHistory) (is : IsWorldAfter h s) (c p : ℕ)
     pub adds : ConsumerAdds (plan s h is) c p a h
     adds = known.goes a ks ns held truth next
 
-    -- the event adds the state with the consumer's place and these notes
+    -- the event leaves the state with the consumer's place and these notes, if the notes are right after the access
     claim_adds : (notes : List (Option Note)) → length notes ≡ consumers_of (plan s h is) * (plan s h is).claims.cells
         → AreNotes s h is (a ∷ h) notes
         → EventAdds (event.Step c p word) (answer.Claimed k x.object x.turn.act r)

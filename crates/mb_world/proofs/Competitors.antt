@@ -26,7 +26,7 @@ module _ (plan : Plan) (hs : Histories) (known : Known plan hs)
   abbrev d : DiaryView
   d = (is.diary c p cs ps).0
 
-  -- it is the diary of the histories
+  -- the report's diary is that of consumer c on lane p in the histories
   diary : IsDiaryOf plan c p hs d
   diary = (is.diary c p cs ps).2
 
@@ -40,6 +40,7 @@ module _ (plan : Plan) (hs : Histories) (known : Known plan hs)
   not_fresh i s q over none =
       over (known.stage c [] s stage.Going (subst (λ xs. IsClaimPrefix plan.claims c xs s) none q) (fresh c cs))
 
+  -- a claim that has ended with a note has an access
   end_made : (i : ℕ) (n : Note) → EndsAs plan.claims c i n (parts_of c hs) → claim_part c i hs.claims ≢ []
   end_made i (Took v) e = not_fresh i stage.Won e.0 (λ f. cc)
   end_made i (Lost w) e = not_fresh i (stage.Lost w) e (λ f. cc)
@@ -62,7 +63,7 @@ module _ (plan : Plan) (hs : Histories) (known : Known plan hs)
       let there : StandsAt diary.cells j q.0 = subst (λ i. StandsAt diary.cells i q.0) (sym last.0 ∙ next.0) at.1 in
       subst (λ i. claim_part c i hs.claims ≢ []) (cell_at q.0 there) q.2
 
-  -- who competed by its diary has an access there, and the other way round
+  -- consumer c competed for the item by the report exactly if it has an access to the claim on cell k
   pub competes : HasCompeted c p j r ↔ (claim_part c k hs.claims ≢ [])
   competes = (
     λ h. has_access (by h),

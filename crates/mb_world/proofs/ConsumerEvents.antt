@@ -25,6 +25,7 @@ module _ (plan : Plan) (h : WorldHistory) (known : EventKnown plan h) (c p word 
     pub consumer : c < consumers_of plan
     pub lane : p < plan.lanes
 
+  -- if an access for which a step asks keeps the history lawful, there are such a consumer and such a lane
   inside : (a : WorldAccess) → IsStep a → IsWorldLawful plan (a ∷ h) → IsInside a
   inside a made lawful =
       let there = lawful.no_others c a (inl refl) made.0 in
@@ -38,7 +39,7 @@ module _ (plan : Plan) (h : WorldHistory) (known : EventKnown plan h) (c p word 
   step_never_both r a (inl (past, _)) made lawful = let i = inside a made lawful in omega (arith, past, i.lane)
   step_never_both r a (inr (_, past, _)) made lawful = let i = inside a made lawful in omega (arith, past, i.consumer)
 
-  -- a step has one refusal
+  -- a step has at most one answer that refuses it
   pub step_refused_once : (r s : Answer) → IsRefused plan (event.Step c p word) r h
       → IsRefused plan (event.Step c p word) s h
       → r ≡ s
@@ -81,7 +82,7 @@ module _ (plan : Plan) (h : WorldHistory) (known : EventKnown plan h) (c p word 
           (random a made_a.2 k x e ∙ sym (random b made_b.2 k y f)));
     }
 
-    -- so they are one
+    -- so two accesses for which the step asks are one
     pub one_step_access : a ≡ b
     one_step_access =
         let i = inside a made_a la in

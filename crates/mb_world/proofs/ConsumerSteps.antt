@@ -17,7 +17,7 @@ use Rattle.mb_world.proofs.ReaderParts.{reader_is}
 use Rattle.mb_world.proofs.WorldFollows.{past_lane}
 
 -- ---- the next access of a consumer's path is its own, on that lane
--- it is made by the consumer
+-- the next access of a consumer's path is made by the consumer
 next_by : (cs : Claims) (c p : ℕ) (a : WorldAccess) (older : WorldHistory) (ks : List ℕ) (ns : List Note)
     (held : Option (List ObjectTurn))
     → ConsumerPath cs c p (a ∷ older) ks ns held → IsBy c a
@@ -27,7 +27,7 @@ next_by cs c p a older ks ns held (goes z q still s) = refl
 next_by cs c p a older ks ns held (ends z q note s) = refl
 next_by cs c p a older ks ns held (takes q s) = refl
 
--- it is on the lane
+-- the next access of a consumer's path is on the path's lane, if all cells that the path met are linked there
 next_on : (cs : Claims) (c p : ℕ) (a : WorldAccess) (older : WorldHistory) (ks : List ℕ) (ns : List Note)
     (held : Option (List ObjectTurn)) (ls : List ℕ)
     → ((js : List ℕ) (ms : List Note) (g : Option (List ObjectTurn)) → ConsumerPath cs c p older js ms g → (k : ℕ)
@@ -45,7 +45,7 @@ next_on cs c p a older ks ns held ls on (takes {ks = js} {ns = ms} {k = k} {xs =
     rw (eq-eqb c c refl, has_cell-true ls k (on (k ∷ js) ms (Some xs) s k (inl refl))) refl
 
 -- ---- an access has one maker and one lane
--- one lane of an access
+-- an access is on at most one lane
 pub one_lane_of : (h : History) (one : (p q k : ℕ) → Has (linked_cells p h) k → Has (linked_cells q h) k → p ≡ q)
     (c d p q : ℕ) (a : WorldAccess)
     → is_on c p (linked_cells p h) a ≡ true → is_on d q (linked_cells q h) a ≡ true → p ≡ q
@@ -63,7 +63,7 @@ one_lane_of h one c d p q (ToCells a) x y =
     by (Link k) x y = one p q k (cell-of_true (linked_cells p h) k x) (cell-of_true (linked_cells q h) k y)
     by (Item k) x y = one p q k (cell-of_true (linked_cells p h) k x) (cell-of_true (linked_cells q h) k y)
 
--- one maker of an access
+-- an access that consumer c made is on a lane for no other consumer
 one_maker : (c d p : ℕ) (ls : List ℕ) (a : WorldAccess) → IsBy c a → is_on d p ls a ≡ true → d ≡ c
 one_maker c d p ls (ToClaims a) own on =
     sym (eqb-true a.consumer d (and_parts (nat_eq a.consumer d) (has_cell ls a.cell) on).0) ∙ own
@@ -72,7 +72,7 @@ one_maker c d p ls (ToCells a) own on =
     let f : Reader d ≡ Reader c = sym e ∙ own in
     cc
 
--- the same, if both made the access
+-- an access has at most one consumer that made it
 same_maker : (c d : ℕ) (a : WorldAccess) → IsBy c a → IsBy d a → c ≡ d
 same_maker c d (ToClaims a) x y = sym x ∙ y
 same_maker c d (ToCells a) x y = let f : Reader c ≡ Reader d = sym x ∙ y in cc
@@ -94,6 +94,7 @@ made_same c q (ToCells a) h own =
     ap (λ (w : Process). cond (is_same_process (Producer q) w) (a ∷ part (Producer q) (pool_accesses h))
     (part (Producer q) (pool_accesses h))) own
 
+-- ---- what the access adds, and that the history stays lawful with it
 module _ (plan : Plan) (h : WorldHistory) (lawful : IsWorldLawful plan h)
     (one : (p q k : ℕ) → Has (linked_cells p (pool_accesses h)) k → Has (linked_cells q (pool_accesses h)) k → p ≡ q)
     (start : (c p : ℕ) (ks : List ℕ) (ns : List Note) (held : Option (List ObjectTurn))
@@ -130,10 +131,11 @@ module _ (plan : Plan) (h : WorldHistory) (lawful : IsWorldLawful plan h)
           (one_lane_of (pool_accesses h) one d c q p a e on))
       by (inr e) = ap (λ (b : Bool). cond b (a ∷ lane_part d q h) (lane_part d q h)) e
 
-  -- each part of a consumer is on a path still
+  -- each part of a consumer on a lane is on a path still
   paths : (d q : ℕ) → d < consumers_of plan → q < plan.lanes → IsOnPath plan d q (a ∷ h)
   paths d q ds qs = by (cases_eq d c) (cases_eq q p)
     where
+      -- a part to which the access adds nothing is on its path still
       same : ((d ≡ c) → (q ≡ p) → ⊥) → IsOnPath plan d q (a ∷ h)
       same other =
           let y = lawful.consumers d q ds qs in

@@ -33,7 +33,7 @@ value_at p j k pool at =
     ∙ ap (option_map (λ (e : Entry). e.value)) (mapped_at (entry_of (λ i. item_of i pool)) (linked_cells p pool) j k at)
 
 module _ (plan : Plan) (hs : Histories) (known : Known plan hs) where
-  -- the claim of consumer c on cell k has ended so
+  -- the claim of consumer c on cell k has ended as the note says
   abbrev Ends : ℕ → ℕ → Note → Type 0
   Ends c k n = EndsAs plan.claims c k n (parts_of c hs)
 
@@ -62,6 +62,7 @@ module _ (plan : Plan) (hs : Histories) (known : Known plan hs) where
   ended_or_not : (c k : ℕ) → claim_part c k hs.claims ≢ [] → ((n : Note) × Ends c k n) ⊎ ((n : Note) → Ends c k n → ⊥)
   ended_or_not c k some = let q = (known.claimant c k some).1 in by_stage q.0 q.1
     where
+      -- this holds for each stage of the claim, and if it is won, whether the item was loaded or not
       by_stage : (s : Stage) → Comes c k s → ((n : Note) × Ends c k n) ⊎ ((n : Note) → Ends c k n → ⊥)
       by_stage stage.Going q = inr (going_on c k q)
       by_stage stage.Won q = elim (read_or_not (parts_of c hs).reads (Item k)) [
@@ -82,6 +83,7 @@ module _ (plan : Plan) (hs : Histories) (known : Known plan hs) where
       read : HasRead (Link k) v (parts_of c hs).reads
       read = read-loaded (hs.reader_of c) hs.pool (Link k) v loaded
 
+      -- this holds for each stage but that of a claim that goes on
       by_stage : (s : Stage) → Comes c k s → s ≢ stage.Going → (n : Note) × Ends c k n
       by_stage stage.Going q over = absurd (over refl)
       by_stage stage.Won q over = let item = fit.taken k v read q in (Took item.0, (q, item.1))
@@ -89,13 +91,13 @@ module _ (plan : Plan) (hs : Histories) (known : Known plan hs) where
       by_stage stage.Undecided q over = (Undecided, q)
 
   module _ (c p : ℕ) (cs : c < consumers_of plan) (d : DiaryView) (diary : IsDiaryOf plan c p hs d) where
-    -- a cell met stands at its position in the lane
+    -- a cell that the consumer met stands at the same position on the lane
     pub placed : (j k : ℕ) → StandsAt diary.cells j k → StandsAt (linked_cells p hs.pool) j k
     placed j k at =
         let s = known.start (hs.reader_of c) p diary.cells diary.met.met in
         subst (λ (ls : List ℕ). StandsAt ls j k) s.1 (at_start s.0 diary.cells j k at)
 
-    -- and a cell of the lane that was given, at its position among those met
+    -- a cell of the lane that the consumer was given stands at the same position among the cells met
     pub met_at : (j k : ℕ) → StandsAt (linked_cells p hs.pool) j k → Gave k (part (Reader (hs.reader_of c)) hs.pool)
         → StandsAt diary.cells j k
     met_at j k at gave =
@@ -103,12 +105,13 @@ module _ (plan : Plan) (hs : Histories) (known : Known plan hs) where
         subst (λ (i : ℕ). StandsAt diary.cells i k)
         (at_once (linked_cells p hs.pool) has.0 j k (known.once p) (placed has.0 k has.1) at) has.1
 
+    -- no more cells were met than are linked
     cells_within : length diary.cells ≤ length (linked_cells p hs.pool)
     cells_within =
         let s = known.start (hs.reader_of c) p diary.cells diary.met.met in
         omega (arith, ap length s.1, length-append s.0 diary.cells)
 
-    -- what note j says
+    -- note j is the end of the claim on the cell that was met at position j
     pub note_at : (j : ℕ) (n : Note) → slice_get d.notes j ≡ Some n → (k : ℕ) × StandsAt diary.cells j k × Ends c k n
     note_at j n e = let q = diary.notes j n e in (q.0, at_reverse diary.cells j q.0 q.1, q.2)
 
@@ -116,12 +119,12 @@ module _ (plan : Plan) (hs : Histories) (known : Known plan hs) where
     noted : (j k : ℕ) (n : Note) → StandsAt diary.cells j k → Ends c k n → j < length d.notes
     noted j k n at end = diary.all j k n (reverse_at diary.cells j k at) end
 
-    -- past a cell, its claim has a note
+    -- if a cell's link was loaded, the claim there has a note
     pub passed : (j k v : ℕ) → StandsAt diary.cells j k
         → HasLoaded (hs.reader_of c) (Link k) v hs.pool → j < length d.notes
     passed j k v at loaded = let q = ended_past c k v cs loaded in noted j k q.0 at q.1
 
-    -- all cells met but the last have notes
+    -- the claims on all cells met but the last have notes
     before_last : (j : ℕ) → suc j < length diary.cells → j < length d.notes
     before_last j less =
         let q = at_some diary.cells j (omega arith) in
@@ -141,7 +144,7 @@ module _ (plan : Plan) (hs : Histories) (known : Known plan hs) where
             let q = note_at (length diary.cells) n (slice_get-get_or d.notes (length diary.cells) Undecided more) in
             omega (arith, at_within diary.cells (length diary.cells) q.0 q.1)
 
-    -- a claim without an end is the last, and all before it have notes
+    -- a claim without an end is on the last cell met, and the claims on all cells before it have notes
     pub open_last : (j k : ℕ) → StandsAt diary.cells j k → ((n : Note) → Ends c k n → ⊥)
         → (length d.notes ≡ j) × (suc j ≡ length diary.cells)
     open_last j k at none = (omega (arith, not_more, no_less, last), last)
@@ -175,17 +178,18 @@ module _ (plan : Plan) (hs : Histories) (known : Known plan hs) where
       | inr none ↦ inr ((open_last j k at none).0, diary.begun.1 (k, at_has diary.cells j k at, some, none))
     ]
 
-    -- the value of an item taken
+    -- a note of an item taken has the value that was put at its position
     pub value_of : (j x : ℕ) → slice_get d.notes j ≡ Some (Took x) → slice_get (values_put p hs.pool) j ≡ Some x
     value_of j x e =
         let q = note_at j (Took x) e in
         let v = known.item (hs.reader_of c) q.0 x (loaded-read (hs.reader_of c) hs.pool (Item q.0) x q.2.1) in
         value_at p j q.0 hs.pool (placed j q.0 q.1) ∙ ap Some (sym v)
 
-    -- notes and begun claims stay within the lane
+    -- there are no more notes than items put
     pub within : length d.notes ≤ length (values_put p hs.pool)
     within = omega (arith, notes_within, cells_within, values_length p hs.pool)
 
+    -- a begun claim is on an item that was put
     pub begun_within : d.begun ≡ true → length d.notes < length (values_put p hs.pool)
     begun_within begun =
         let q = diary.begun.0 begun in

@@ -14,7 +14,7 @@ use Rattle.mb_world.specs.Replay.{IsLaneOf}
 
 pub record EventKnown (plan : Plan) (h : WorldHistory) : Type 0 where
   pub sized : plan.claims.cells < END
-  -- a producer's place is one, and names its next access
+  -- a producer has one place, which names its next access
   pub place : (p : ℕ) → (lane : Lane) × IsLaneOf plan p lane h
   pub one_place : (p : ℕ) (lane other : Lane) → IsLaneOf plan p lane h → IsLaneOf plan p other h → lane ≡ other
   pub fetches : (p : ℕ) (lane : Lane) (e : Entry) → IsLaneOf plan p lane h
@@ -22,10 +22,10 @@ pub record EventKnown (plan : Plan) (h : WorldHistory) : Type 0 where
   pub stores : (p : ℕ) (lane : Lane) (w : Word) (v : ℕ) → IsLaneOf plan p lane h
       → IsLanePrefix plan.claims.cells p (store p w v ∷ part (Producer p) (pool_accesses h))
       → (push_store p lane ≡ Some (w, v)) ⊎ ((finish_refusal lane ≡ None) × ((w ≡ next_link p lane) × (v ≡ END)))
-  -- cells stand in one lane
+  -- a cell is linked in one lane
   pub one_lane : (p q k : ℕ) → Has (linked_cells p (pool_accesses h)) k → Has (linked_cells q (pool_accesses h)) k
       → p ≡ q
-  -- claims have one stage, and one next access
+  -- a claim has one stage, goes on before each step, and has one next access
   pub one_stage : (c : ℕ) (xs : List ObjectTurn) (s r : Stage) → IsClaimPrefix plan.claims c xs s
       → IsClaimPrefix plan.claims c xs r
       → s ≡ r
@@ -36,7 +36,7 @@ pub record EventKnown (plan : Plan) (h : WorldHistory) : Type 0 where
       → IsClaimLawful plan.claims (b ∷ claim_accesses h) → a.consumer ≡ b.consumer → a.cell ≡ b.cell
       → a.step.turn.word ≡ b.step.turn.word → a ≡ b
 
--- these laws give it for each lawful history
+-- these laws give what is known, for each lawful history
 module _ (plan : Plan)
     (sound : (h : WorldHistory) → IsWorldLawful plan h → AreSound plan (histories_of h))
     (lane : (cells p : ℕ) (done : History) → IsLanePrefix cells p done → (lane : Lane) × IsLaneAfter cells p lane done)

@@ -6,10 +6,11 @@ use Rattle.mb_cells.specs.Place.{Ended, Offered, Open}
 use Rattle.mb_world.specs.Replay.{IsLaneOf}
 use Rattle.mb_world.specs.WorldExamples.{all_done, five, offered, one_put, two_by_two}
 
--- it has a cell, and the item is not stored
+-- producer 0 has a cell for the item 5, and has not stored the item
 abbrev pub busy : Lane
 busy = record { last = None; stage = stage.Offered 0 5 }
 
+-- after `offered` this is the place of producer 0
 pub busy_there : IsLaneOf two_by_two 0 busy offered
 busy_there = record {
   entries = [];
@@ -19,10 +20,11 @@ busy_there = record {
   stage = refl;
 }
 
--- it has linked one cell, and has nothing to store
+-- producer 0 has linked one cell, and has nothing to store
 abbrev pub idle : Lane
 idle = record { last = Some 0; stage = stage.Open }
 
+-- after `one_put` this is the place of producer 0
 pub idle_there : IsLaneOf two_by_two 0 idle one_put
 idle_there = record {
   entries = five ∷ [];
@@ -32,10 +34,11 @@ idle_there = record {
   stage = refl;
 }
 
--- it has ended its lane
+-- producer 0 has ended its lane
 abbrev pub closed : Lane
 closed = record { last = Some 0; stage = stage.Ended false }
 
+-- after `all_done` this is the place of producer 0
 pub closed_there : IsLaneOf two_by_two 0 closed all_done
 closed_there = record {
   entries = five ∷ [];

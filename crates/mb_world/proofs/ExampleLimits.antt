@@ -17,6 +17,7 @@ abbrev word_of : WorldAccess → Word
 word_of (ToCells a) = a.word
 word_of (ToClaims a) = Counter
 
+-- a load of an item is no load of a link
 item_is_no_link : (c p k v u : ℕ) (ks : List ℕ) → item_load c k v ≡ link_load c p ks u → ⊥
 item_is_no_link c p k v u [] e = let f : Item k ≡ Head p = ap word_of e in cc
 item_is_no_link c p k v u (i ∷ ks) e = let f : Item k ≡ Link i = ap word_of e in cc
@@ -39,13 +40,13 @@ module _ (one_stage : (c : ℕ) (xs : List ObjectTurn) (s r : Stage) → IsClaim
       one_place two_cells c p (one_stage c) (going c) (lane_part c p h) from.was was from.path path in
       never now (subst (λ (z : PathEnd). Leads two_cells c p a z now) same from.leads)
 
-  -- from a link no item is loaded
+  -- a consumer that stands at a link loads no item
   pub no_item : (c p k v : ℕ) (ks : List ℕ) (ns : List Note) (now : PathEnd)
       → Leads two_cells c p (item_load c k v) (path_end ks ns None) now → ⊥
   no_item c p k v ks ns now (last.waited js ms u says e) = item_is_no_link c p k v u ks e
   no_item c p k v ks ns now (last.found js ms j ne new e) = item_is_no_link c p k v (j + 1) ks e
 
-  -- from a claim that goes on no item is loaded
+  -- a consumer whose claim goes on loads no item
   pub no_item_yet : (c p k v : ℕ) (ks : List ℕ) (ns : List Note) (xs : List ObjectTurn)
       → IsClaimPrefix two_cells c xs stage.Going → (now : PathEnd)
       → Leads two_cells c p (item_load c k v) (path_end ks ns (Some xs)) now → ⊥
@@ -54,32 +55,33 @@ module _ (one_stage : (c : ℕ) (xs : List ObjectTurn) (s r : Stage) → IsClaim
   no_item_yet c p k v ks ns xs q now (last.took is ms i ys u won e) =
       let f = one_stage c xs stage.Going stage.Won q won in cc
 
-  -- from a link no claim is made
+  -- a consumer that stands at a link makes no step of a claim
   pub no_step : (c p k : ℕ) (x : ObjectTurn) (ks : List ℕ) (ns : List Note) (now : PathEnd)
       → Leads two_cells c p (claim_step c k x) (path_end ks ns None) now → ⊥
   no_step c p k x ks ns now (last.waited js ms u says e) = cc
   no_step c p k x ks ns now (last.found js ms j ne new e) = cc
 
-  -- from a claim no link is loaded
+  -- a consumer that holds a claim loads no link
   pub no_link : (c p k v : ℕ) (ks : List ℕ) (ns : List Note) (xs : List ObjectTurn) (now : PathEnd)
       → Leads two_cells c p (link_load c p (k ∷ ks) v) (path_end (k ∷ ks) ns (Some xs)) now → ⊥
   no_link c p k v ks ns xs now (last.went is ms i ys x s w still e) = cc
   no_link c p k v ks ns xs now (last.ended is ms i ys x n s w note e) = cc
   no_link c p k v ks ns xs now (last.took is ms i ys u won e) = let f : Link k ≡ Item k = ap word_of e in cc
 
--- who is no consumer makes no access
+-- a consumer that the world does not have makes no access
 pub no_stranger : IsWorldLawful two_by_two (stranger ∷ all_done) → ⊥
 no_stranger lawful =
     let on = lawful.no_others 2 stranger (inl refl) refl in
     let known : 2 < 2 = on.known in
     omega (arith, known)
 
+-- the load of that head is on neither of the two lanes
 not_on : (p : ℕ) → p < 2 → is_on 0 p (linked_cells p (pool_accesses (no_lane ∷ all_done))) no_lane ≡ true → ⊥
 not_on zero ps e = cc
 not_on (suc zero) ps e = cc
 not_on (suc (suc p)) ps e = omega (arith, ps)
 
--- no access is to the head of a lane that is not there
+-- no access is to the head of a lane that the world does not have
 pub no_such_lane : IsWorldLawful two_by_two (no_lane ∷ all_done) → ⊥
 no_such_lane lawful =
     let on : IsOnLane two_by_two 0 no_lane (no_lane ∷ all_done) = lawful.no_others 0 no_lane (inl refl) refl in

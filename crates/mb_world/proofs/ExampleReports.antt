@@ -1,4 +1,4 @@
--- The report of the small world of the examples, and diaries and reports that are not its own.
+-- The report of the small world of the examples, and diaries and reports that are not of that world.
 use Rattle.std.proofs.Common.{◌≡◌, ◌+◌, ◌*◌, ◌<◌, ℕ, zero, suc, true, false, List, [], ◌∷◌, Option, Some, None, refl, sym, ap, subst, inl, inr, arith}
 use Rattle.std.specs.Prelude.{slice_get}
 use Rattle.mb_claim.specs.declared.access.Stage.TheVariants as stage
@@ -14,6 +14,7 @@ use Rattle.mb_world.specs.WorldExamples.{loss_taken, lost_steps, nothing_told, r
 use Rattle.mb_world.proofs.Positions.{has_at, reverse_at}
 
 -- ---- the report of the small world
+-- what the report has of each lane is what the histories say of it
 lanes_told : (p : ℕ) → p < 2 → slice_get all_reported.lanes p ≡ Some (lane_view two_by_two p all_histories all_reported)
 lanes_told zero ps = refl
 lanes_told (suc zero) ps = refl
@@ -32,6 +33,7 @@ module _ (took : IsDiaryOf two_by_two 0 0 all_histories (diary_with 0 0 (Took 5 
     (away : IsDiaryOf two_by_two 0 1 all_histories (diary_with 0 1 []))
     (lost : IsDiaryOf two_by_two 1 0 all_histories (diary_with 1 0 (Lost 0 ∷ [])))
     (begun : IsDiaryOf two_by_two 1 1 all_histories begun_there) where
+  -- each diary of the report stands at its position, if each of the four is that of its consumer on its lane
   told : (c p : ℕ) → c < 2 → p < 2 → IsTold c p
   told zero zero cs ps = (diary_with 0 0 (Took 5 ∷ []), refl, took)
   told zero (suc zero) cs ps = (diary_with 0 1 [], refl, away)
@@ -40,15 +42,16 @@ module _ (took : IsDiaryOf two_by_two 0 0 all_histories (diary_with 0 0 (Took 5 
   told c (suc (suc p)) cs ps = absurd (omega (arith, ps))
   told (suc (suc c)) p cs ps = absurd (omega (arith, cs))
 
+  -- so the report is that of the small world
   pub all_told : IsReportOf two_by_two all_histories all_reported
   all_told = record { lanes_count = refl; diaries_count = refl; lane = lanes_told; diary = told }
 
--- ---- diaries that are not its own
+-- ---- diaries that are not of the small world
 -- what consumer 1 has loaded
 abbrev reads : History
 reads = part (Reader 1) all_histories.pool
 
--- it was given the items of both lanes
+-- consumer 1 was given cell 0, and below cell 1
 given_first : Gave 0 reads
 given_first = inr (inr (inl (refl, λ e. cc)))
 
@@ -64,26 +67,29 @@ no_item k v (a, inr (inr (inl e)), w, _) =
     let f : Head 0 ≡ Item k = subst (λ (b : PoolAccess). b.word ≡ Item k) (sym e) w in cc
 no_item k v (a, inr (inr (inr none)), w, _) = none
 
--- so a diary in which it has taken one is not its own
+-- so a diary in which consumer 1 has taken an item is not its diary
 not_taken : (p x : ℕ) → IsNoDiary 1 p (diary_with 1 p (Took x ∷ []))
 not_taken p x d = let n = d.notes 0 (Took x) refl in no_item n.0 x n.2.1
 
+-- so a diary in which consumer 1 took the item 5 is not its diary, nor (below) one with the item 6
 pub no_loss_taken : IsNoDiary 1 0 loss_taken
 no_loss_taken = not_taken 0 5
 
 pub no_unwon_taken : IsNoDiary 1 1 unwon_taken
 no_unwon_taken = not_taken 1 6
 
+-- a diary of consumer 0 is not one of consumer 1
 pub no_other : IsNoDiary 1 0 (diary_with 0 0 (Lost 0 ∷ []))
 no_other d = let e : 0 ≡ 1 = d.consumer in omega (arith, e)
 
+-- the claim of consumer 1 on cell 0 is lost, so its diary on lane 0 has a note
 pub no_silence : IsClaimPrefix two_cells 1 lost_steps (stage.Lost 0) → IsNoDiary 1 0 loss_left_out
 no_silence lost d =
     let at = has_at d.cells 0 (d.met.all 0 given_first (inl refl)) in
     let within : at.0 < 0 = d.all at.0 0 (Lost 0) (reverse_at d.cells at.0 0 at.1) lost in
     omega (arith, within)
 
--- a claim that goes on has no end
+-- the claim of consumer 1 on cell 1 goes on, so it has no end
 no_end : (one_stage : (xs : List ObjectTurn) (s r : Stage) → IsClaimPrefix two_cells 1 xs s
     → IsClaimPrefix two_cells 1 xs r → s ≡ r)
     → IsClaimPrefix two_cells 1 (first_step ∷ []) stage.Going → (n : Note)
@@ -92,6 +98,7 @@ no_end one_stage goes (Took x) end = let e = one_stage (first_step ∷ []) stage
 no_end one_stage goes (Lost w) end = let e = one_stage (first_step ∷ []) stage.Going (stage.Lost w) goes end in cc
 no_end one_stage goes Undecided end = let e = one_stage (first_step ∷ []) stage.Going stage.Undecided goes end in cc
 
+-- that claim has an access and no end, so the diary of consumer 1 on lane 1 says that it is begun
 pub no_rest : (one_stage : (xs : List ObjectTurn) (s r : Stage) → IsClaimPrefix two_cells 1 xs s
     → IsClaimPrefix two_cells 1 xs r → s ≡ r)
     → IsClaimPrefix two_cells 1 (first_step ∷ []) stage.Going → IsNoDiary 1 1 claim_left_out
@@ -100,23 +107,26 @@ no_rest one_stage goes d =
     d.begun.1 (1, d.met.all 1 given_second (inl refl), (λ none. cc), λ n end. no_end one_stage goes n end) in
     cc
 
--- ---- reports that are not its own
+-- ---- reports that are not of the small world
 -- the items left on a lane, if there is such a lane
 abbrev left_of : Option LaneView → List ℕ
 left_of None = []
 left_of (Some l) = l.left
 
+-- a list with an element is not empty
 not_empty : (x : ℕ) (xs : List ℕ) → [] ≡ x ∷ xs → ⊥
 not_empty x xs e = cc
 
+-- the item left on lane 1 may not be left out
 pub no_item_left_out : IsNoReport item_left_out
 no_item_left_out r = not_empty 6 [] (ap left_of (r.lane 1 (omega arith)))
 
--- a diary of a list, or else this one
+-- the diary that was found at a position, or else the other one
 abbrev diary_or : DiaryView → Option DiaryView → DiaryView
 diary_or other None = other
 diary_or other (Some d) = d
 
+-- the note of consumer 1 on the item that it lost may not be left out
 pub no_note_skipped : IsClaimPrefix two_cells 1 lost_steps (stage.Lost 0)
     → IsNoReport (report_with (6 ∷ []) loss_left_out)
 no_note_skipped lost r =
@@ -124,5 +134,6 @@ no_note_skipped lost r =
     let same : loss_left_out ≡ there.0 = ap (diary_or loss_left_out) there.1 in
     no_silence lost (subst (λ (d : DiaryView). IsDiaryOf two_by_two 1 0 all_histories d) (sym same) there.2)
 
+-- the report has two lanes, so it is not empty
 pub not_nothing : IsNoReport nothing_told
 not_nothing r = let e : 0 ≡ 2 = r.lanes_count in omega (arith, e)

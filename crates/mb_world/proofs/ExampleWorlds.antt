@@ -17,7 +17,7 @@ use Rattle.mb_world.specs.ConsumerPath.{ConsumerPath, begins, claim_step, ends, 
 use Rattle.mb_world.specs.PathExamples.{first_step, two_cells, won_last, won_steps}
 use Rattle.mb_world.specs.WorldExamples.{all_done, both_put, first_found, first_lost, first_taken, first_won, five, lost_steps, offered, one_put, second_begun, second_met, six, stores, two_by_two}
 
--- the steps of consumer 1 in the history that leaves both undecided
+-- the steps of consumer 1 in the history of mb_claim's examples that leaves both consumers undecided
 abbrev pub undecided_steps : List ObjectTurn
 undecided_steps = claim_part 1 0 both_undecided
 
@@ -48,12 +48,14 @@ pub record Laws : Type 0 where
   pub undecided : IsClaimPrefix two_cells 1 undecided_steps stage.Undecided
 
 module _ (laws : Laws) where
-  -- the steps of a claim that has no note lead on, one after another
+  -- the steps of a claim on cell k, the newest first, lead on from a history: with them it is lawful, and the path
+  -- holds them
   pub record Claiming (c p k : ℕ) (ks : List ℕ) (ns : List Note) (xs : List ObjectTurn)
       (h : WorldHistory) : Type 0 where
     pub lawful : IsWorldLawful two_by_two (map (claim_step c k) xs ++ h)
     pub path : ConsumerPath two_cells c p (lane_part c p (map (claim_step c k) xs ++ h)) (k ∷ ks) ns (Some xs)
 
+  -- steps lead on if they are true to memory and a prefix of a claim path that has no note
   pub claims_on : (c p k : ℕ) → c < 2 → p < 2 → (ks : List ℕ) (ns : List Note) (h : WorldHistory)
       → IsWorldLawful two_by_two h → ConsumerPath two_cells c p (lane_part c p h) (k ∷ ks) ns (Some [])
       → (xs : List ObjectTurn) (s : Stage) → IsClaimPrefix two_cells c xs s → note_of s ≡ None → AreTrueTo c k xs h
@@ -70,30 +72,34 @@ module _ (laws : Laws) where
             subst (λ (l : WorldHistory). ConsumerPath two_cells c p l (k ∷ ks) ns (Some (x ∷ xs))) (sym adds.own) next;
       }
 
-  -- nothing is a prefix that goes on
+  -- a claim of a consumer goes on before its first step
   none_yet : (c : ℕ) (xs : List ObjectTurn) (s : Stage) → IsClaimPrefix two_cells c xs s → (xs ≡ [] → s ≡ stage.Going)
       → IsClaimPrefix two_cells c [] stage.Going
   none_yet c [] s q is = subst (λ r. IsClaimPrefix two_cells c [] r) (is refl) q
   none_yet c (x ∷ xs) s q is = none_yet c xs stage.Going (laws.going c x xs s q) (λ e. refl)
 
+  -- a claim of consumer 0 goes on before its first step
   pub first_fresh : IsClaimPrefix two_cells 0 [] stage.Going
   first_fresh = none_yet 0 won_steps stage.Won laws.won (λ e. cc)
 
+  -- a claim of consumer 1 goes on before its first step
   pub second_fresh : IsClaimPrefix two_cells 1 [] stage.Going
   second_fresh = none_yet 1 lost_steps (stage.Lost 0) laws.lost (λ e. cc)
 
-  -- the first step of a claim that was made to its end goes on
+  -- if a claim of consumer 1 goes on after some steps, it goes on after the first of them
   first_of : (xs : List ObjectTurn) (x : ObjectTurn) → IsClaimPrefix two_cells 1 (xs ++ x ∷ []) stage.Going
       → IsClaimPrefix two_cells 1 (x ∷ []) stage.Going
   first_of [] x q = q
   first_of (y ∷ xs) x q = first_of xs x (laws.going 1 y (xs ++ x ∷ []) stage.Going q)
 
+  -- a claim of consumer 1 goes on after its first step
   pub second_goes : IsClaimPrefix two_cells 1 (first_step ∷ []) stage.Going
   second_goes =
       first_of (take 5 (drop 1 undecided_steps)) first_step
       (laws.going 1 undecided_last (drop 1 undecided_steps) stage.Undecided laws.undecided)
 
   -- ---- both items are put
+  -- each history below adds one access to the one before, and is lawful with it
   pub taken_lawful : IsWorldLawful two_by_two (ToCells (fetch 0 five) ∷ [])
   taken_lawful =
       let at : LaneIsAt 2 0 [] (Offered five) (fetch 0 five ∷ []) = record {
@@ -104,14 +110,17 @@ module _ (laws : Laws) where
       laws.producer [] 0 (fetch 0 five) laws.empty refl (omega arith) (omega arith, omega arith) refl
       (laws.prefix 0 [] (Offered five) (fetch 0 five ∷ []) at)
 
+  -- consumer 0 waits at the head of lane 0
   waited_path : ConsumerPath two_cells 0 0 (link_load 0 0 [] 0 ∷ []) [] [] None
   waited_path = waits (inl refl) begins
 
+  -- so the history in which consumer 0 found nothing is lawful
   pub offered_lawful : IsWorldLawful two_by_two offered
   offered_lawful =
       (laws.consumer (ToCells (fetch 0 five) ∷ []) 0 0 (link_load 0 0 [] 0) [] [] None taken_lawful (omega arith)
       (omega arith) (omega arith, refl) waited_path).lawful
 
+  -- the history in which the item 5 is stored is lawful
   pub stored_lawful : IsWorldLawful two_by_two (stores 0 (Item 0) 5 ∷ offered)
   stored_lawful =
       let at : LaneIsAt 2 0 [] (Stored five) (store 0 (Item 0) 5 ∷ fetch 0 five ∷ []) =
@@ -119,15 +128,18 @@ module _ (laws : Laws) where
       laws.producer offered 0 (store 0 (Item 0) 5) offered_lawful refl (omega arith) (omega arith) tt
       (laws.prefix 0 [] (Stored five) (store 0 (Item 0) 5 ∷ fetch 0 five ∷ []) at)
 
+  -- what producer 0 did until its item was put
   abbrev first_group : History
   first_group = store 0 (Head 0) 1 ∷ store 0 (Item 0) 5 ∷ fetch 0 five ∷ []
 
+  -- the history in which the item 5 is put is lawful
   pub one_put_lawful : IsWorldLawful two_by_two one_put
   one_put_lawful =
       let at : LaneIsAt 2 0 (five ∷ []) Open first_group = record { below = (omega arith, tt); fits = tt; is = refl } in
       laws.producer (stores 0 (Item 0) 5 ∷ offered) 0 (store 0 (Head 0) 1) stored_lawful refl (omega arith)
       (omega arith) tt (laws.prefix 0 (five ∷ []) Open first_group at)
 
+  -- with a cell for the item 6 the history is lawful
   taken_too : IsWorldLawful two_by_two (ToCells (fetch 1 six) ∷ one_put)
   taken_too =
       let at : LaneIsAt 2 1 [] (Offered six) (fetch 1 six ∷ []) = record {
@@ -138,6 +150,7 @@ module _ (laws : Laws) where
       laws.producer one_put 1 (fetch 1 six) one_put_lawful refl (omega arith) (omega arith, omega arith) refl
       (laws.prefix 1 [] (Offered six) (fetch 1 six ∷ []) at)
 
+  -- with the item 6 stored the history is lawful
   stored_too : IsWorldLawful two_by_two (stores 1 (Item 1) 6 ∷ ToCells (fetch 1 six) ∷ one_put)
   stored_too =
       let at : LaneIsAt 2 1 [] (Stored six) (store 1 (Item 1) 6 ∷ fetch 1 six ∷ []) =
@@ -146,9 +159,11 @@ module _ (laws : Laws) where
       (omega arith) (omega arith) tt
       (laws.prefix 1 [] (Stored six) (store 1 (Item 1) 6 ∷ fetch 1 six ∷ []) at)
 
+  -- what producer 1 did until its item was put
   abbrev second_group : History
   second_group = store 1 (Head 1) 2 ∷ store 1 (Item 1) 6 ∷ fetch 1 six ∷ []
 
+  -- the history in which both items are put is lawful
   pub both_put_lawful : IsWorldLawful two_by_two both_put
   both_put_lawful =
       let at : LaneIsAt 2 1 (six ∷ []) Open second_group = record { below = (omega arith, tt); fits = tt; is = refl } in
@@ -156,14 +171,17 @@ module _ (laws : Laws) where
       (omega arith) (omega arith) tt (laws.prefix 1 (six ∷ []) Open second_group at)
 
   -- ---- consumer 0 wins and takes the item 5
+  -- the path of consumer 0 has found cell 0
   found_path : ConsumerPath two_cells 0 0 (lane_part 0 0 first_found) (0 ∷ []) [] (Some [])
   found_path = finds (λ e. cc) first_fresh waited_path
 
+  -- the history in which consumer 0 found the item 5 is lawful
   pub first_found_lawful : IsWorldLawful two_by_two first_found
   first_found_lawful =
       (laws.consumer both_put 0 0 (link_load 0 0 [] 1) (0 ∷ []) [] (Some []) both_put_lawful (omega arith) (omega arith)
       (omega arith, refl) found_path).lawful
 
+  -- each step of the claim that consumer 0 wins is true to memory
   won_true : AreTrueTo 0 0 won_steps first_found
   won_true =
       let loads : (v : ℕ) → v < 2 ^ 64 → ((v < 2 ^ 64) × Unit {0})
@@ -182,16 +200,20 @@ module _ (laws : Laws) where
         ),
       )
 
+  -- so these steps lead on from the history in which cell 0 was found
   winning : Claiming 0 0 0 [] [] won_steps first_found
   winning = claims_on 0 0 0 (omega arith) (omega arith) [] [] first_found first_found_lawful found_path won_steps
       stage.Won laws.won refl won_true
 
+  -- the history in which consumer 0 won the claim on the item 5 is lawful
   pub first_won_lawful : IsWorldLawful two_by_two first_won
   first_won_lawful = winning.lawful
 
+  -- the path of consumer 0 has taken the item 5
   pub first_path : ConsumerPath two_cells 0 0 (lane_part 0 0 first_taken) (0 ∷ []) (Took 5 ∷ []) None
   first_path = takes laws.won winning.path
 
+  -- the history in which consumer 0 took the item 5 is lawful
   pub first_taken_lawful : IsWorldLawful two_by_two first_taken
   first_taken_lawful =
       (laws.consumer first_won 0 0 (item_load 0 0 5) (0 ∷ []) (Took 5 ∷ []) None
@@ -202,31 +224,38 @@ module _ (laws : Laws) where
   abbrev first_met : WorldHistory
   first_met = link_load 1 0 [] 1 ∷ first_taken
 
+  -- the path of consumer 1 has found cell 0
   first_met_path : ConsumerPath two_cells 1 0 (lane_part 1 0 first_met) (0 ∷ []) [] (Some [])
   first_met_path = finds (λ e. cc) second_fresh begins
 
+  -- with that load of consumer 1 the history is lawful
   first_met_lawful : IsWorldLawful two_by_two first_met
   first_met_lawful =
       (laws.consumer first_taken 1 0 (link_load 1 0 [] 1) (0 ∷ []) [] (Some []) first_taken_lawful (omega arith)
       (omega arith) (omega arith, refl) first_met_path).lawful
 
+  -- the steps of the claim that consumer 1 loses, without the last one
   abbrev almost : List ObjectTurn
   almost = drop 1 lost_steps
 
+  -- each of these steps is true to memory
   almost_true : AreTrueTo 1 0 almost first_met
   almost_true =
       let loads : ((1 < 2 ^ 64) × Unit {0}) × (0 < 2 ^ 64) = ((omega arith, tt), omega arith) in
       let stores : (Unit {0} × (1 < 2 ^ 64)) × (0 < 2 ^ 64) = ((tt, omega arith), omega arith) in
       ((loads, refl), ((stores, tt), ((loads, refl), tt)))
 
+  -- so these steps lead on from the history in which consumer 1 met the item 5
   almost_lost : Claiming 1 0 0 [] [] almost first_met
   almost_lost =
       claims_on 1 0 0 (omega arith) (omega arith) [] [] first_met first_met_lawful first_met_path almost stage.Going
       (laws.going 1 won_last almost (stage.Lost 0) laws.lost) refl almost_true
 
+  -- the path of consumer 1 has a note of its loss, and holds no claim
   lost_path : ConsumerPath two_cells 1 0 (lane_part 1 0 first_lost) (0 ∷ []) (Lost 0 ∷ []) None
   lost_path = ends (stage.Lost 0) laws.lost refl almost_lost.path
 
+  -- the history in which consumer 1 lost the item 5 is lawful
   pub first_lost_lawful : IsWorldLawful two_by_two first_lost
   first_lost_lawful =
       (laws.consumer (map (claim_step 1 0) almost ++ first_met) 1 0 (claim_step 1 0 won_last) (0 ∷ []) (Lost 0 ∷ [])
@@ -236,14 +265,17 @@ module _ (laws : Laws) where
   met_path : ConsumerPath two_cells 1 1 (lane_part 1 1 second_met) (1 ∷ []) [] (Some [])
   met_path = finds (λ e. cc) second_fresh begins
 
+  -- the history in which consumer 1 found the item 6 is lawful
   pub met_lawful : IsWorldLawful two_by_two second_met
   met_lawful =
       (laws.consumer first_lost 1 1 (link_load 1 1 [] 2) (1 ∷ []) [] (Some []) first_lost_lawful (omega arith)
       (omega arith) (omega arith, refl) met_path).lawful
 
+  -- the path of consumer 1 on lane 1 holds a claim with its first step
   pub begun_path : ConsumerPath two_cells 1 1 (lane_part 1 1 second_begun) (1 ∷ []) [] (Some (first_step ∷ []))
   begun_path = goes stage.Going second_goes refl met_path
 
+  -- the history in which consumer 1 began a claim on the item 6 is lawful
   pub second_begun_lawful : IsWorldLawful two_by_two second_begun
   second_begun_lawful =
       (laws.consumer second_met 1 1 (claim_step 1 1 first_step) (1 ∷ []) [] (Some (first_step ∷ []))
@@ -251,9 +283,11 @@ module _ (laws : Laws) where
       (omega arith) (((omega arith, tt), omega arith), refl) begun_path).lawful
 
   -- ---- lane 0 ends
+  -- producer 0 has stored the end mark
   abbrev finished : WorldHistory
   finished = stores 0 (Link 0) END ∷ second_begun
 
+  -- with the end mark the history is lawful
   ended_lawful : IsWorldLawful two_by_two finished
   ended_lawful =
       let at : LaneIsAt 2 0 (five ∷ []) (Ended None) (store 0 (Link 0) END ∷ first_group) =
@@ -261,9 +295,11 @@ module _ (laws : Laws) where
       laws.producer second_begun 0 (store 0 (Link 0) END) second_begun_lawful refl (omega arith) (omega arith) tt
       (laws.prefix 0 (five ∷ []) (Ended None) (store 0 (Link 0) END ∷ first_group) at)
 
+  -- the path of consumer 1 on lane 0 waits past the end mark
   pub ended_path : ConsumerPath two_cells 1 0 (lane_part 1 0 all_done) (0 ∷ []) (Lost 0 ∷ []) None
   ended_path = waits (inr refl) lost_path
 
+  -- what was done in all is lawful
   pub all_done_lawful : IsWorldLawful two_by_two all_done
   all_done_lawful =
       (laws.consumer finished 1 0 (link_load 1 0 (0 ∷ []) END) (0 ∷ []) (Lost 0 ∷ []) None ended_lawful (omega arith)

@@ -31,19 +31,19 @@ module _ (cs : Claims) (c : ℕ) (x : Parts) (f : Fits cs c x) where
     abbrev a : PoolAccess
     a = load q (place_past p (cells_met p x.reads)) v
 
-    -- the consumer is done with a cell past which it looks
+    -- a consumer that looks past a cell is done with the cell
     done_with : (k : ℕ) (ks : List ℕ) → MayLookPast cs c ks x → place_past p ks ≡ Link k → IsDoneWith cs c k x
     done_with k [] m e = absurd (cc)
     done_with k (j ∷ ks) m e = let same : j ≡ k = cc in subst (λ i. IsDoneWith cs c i x) same m
 
-    -- the claims past which the consumer looked have ended
+    -- the claims on the cells past which the consumer has looked have ended
     ended : (k u : ℕ) → HasRead (Link k) u (a ∷ x.reads) → (s : Stage) × HasStageIn cs c k s x × (s ≢ stage.Going)
     ended k u r = elim (read-cases a x.reads (Link k) u r) [
       | inl e ↦ (done_with k (cells_met p x.reads) may e).ended
       | inr old ↦ f.ended k u old
     ]
 
-    -- and if one of these is won, its item was loaded
+    -- if one of these claims is won, the item of its cell was loaded
     taken : (k u : ℕ) → HasRead (Link k) u (a ∷ x.reads) → HasStageIn cs c k stage.Won x
         → (y : ℕ) × HasRead (Item k) y (a ∷ x.reads)
     taken k u r won =
@@ -110,7 +110,7 @@ module _ (cs : Claims) (c : ℕ) (x : Parts) (f : Fits cs c x) where
     there : (j : ℕ) (r : Stage) → (j ≡ k → ⊥) → HasStageIn cs c j r x → HasStageIn cs c j r now
     there j r ne q = subst (λ xs. IsClaimPrefix cs c xs r) (sym (other_cell j ne)) q
 
-    -- those stages are no others than before
+    -- the claims on other cells have no other stages than before
     back : (j : ℕ) (r : Stage) → (j ≡ k → ⊥) → HasStageIn cs c j r now → HasStageIn cs c j r x
     back j r ne q = subst (λ xs. IsClaimPrefix cs c xs r) (other_cell j ne) q
 

@@ -10,6 +10,7 @@ use Rattle.mb_claim.specs.declared.shape.Shape.{Shape}
 use Rattle.mb_claim.specs.Paths.{IsClaimPrefixFrom}
 use Rattle.mb_world.specs.Imports.{Claims, IsClaimPrefix, Kind}
 
+-- a claim on a row with an object goes on before its first access, if a use of each kind of object does
 goes_from : (t : QuorumTable) (kinds : List Kind) (c : ℕ) → kinds ≢ [] → ((kind : Kind) → IsOpen t kind c [])
     → IsClaimPrefixFrom t c kinds 0 c [] stage.Going
 goes_from t [] c some opens = absurd (some refl)
@@ -22,15 +23,17 @@ pub fresh_goes : (cs : Claims) → IsQuorumTable cs.table → ((o : Object) → 
 fresh_goes cs table promises some c known =
     goes_from cs.table cs.kinds c some (λ kind. (promises (object_of cs.table kind (λ i. i)) table).opens c known)
 
--- a row with so many pairs has some objects, with a fast path and without
+-- a row that is not empty stays so with a fast path before it, or without
 some_with : (fast : Bool) (rest : List Kind) → rest ≢ [] → fast_row fast ++ rest ≢ []
 some_with true rest some e = cc
 some_with false rest some e = some e
 
+-- a row that begins with pairs, at least one, is not empty
 some_pairs : (s n : ℕ) (rest : List Kind) → 1 ≤ n → pairs_of s n ++ rest ≢ []
 some_pairs s zero rest less e = omega (arith, less)
 some_pairs s (suc n) rest less e = cc
 
+-- so the row of a shape with at least one pair is not empty
 pub some_row : (shape : Shape) (s n : ℕ) → 1 ≤ n → row_of shape s n ≢ []
 some_row shape s n less =
     some_with shape.fast (pairs_of s n ++ last_row shape.last) (some_pairs s n (last_row shape.last) less)

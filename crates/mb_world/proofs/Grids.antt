@@ -5,11 +5,13 @@ use Rattle.std.proofs.lemmas.Bool.{cases_eq}
 use Rattle.std.proofs.lemmas.Nat.{same_from_place}
 use Rattle.mb_world.proofs.NewWorlds.{position_within}
 
+-- what is set at a position of a list stands there
 pub get_set_same : {X : Type 0} (xs : List X) (i : ℕ) (x : X) → i < length xs → slice_get (slice_set xs i x) i ≡ Some x
 get_set_same [] i x less = absurd (omega arith)
 get_set_same (y ∷ xs) zero x less = refl
 get_set_same (y ∷ xs) (suc i) x less = get_set_same xs i x (omega arith)
 
+-- what stands at any other position stays
 pub get_set_other : {X : Type 0} (xs : List X) (i j : ℕ) (x : X) → (j ≡ i → ⊥)
     → slice_get (slice_set xs i x) j ≡ slice_get xs j
 get_set_other [] i j x other = refl
@@ -19,23 +21,25 @@ get_set_other (y ∷ xs) (suc i) zero x other = refl
 get_set_other (y ∷ xs) (suc i) (suc j) x other = get_set_other xs i j x (λ e. other (ap suc e))
 
 module _ {X : Type 0} (rows columns : ℕ) where
-  -- each element has this at its row and column
+  -- each element of the grid has the property P at its row and its column
   abbrev pub HasAll : (ℕ → ℕ → X → Type 0) → List X → Type 0
   HasAll P xs =
       (c p : ℕ) → c < rows → p < columns → (x : X) × (slice_get xs (c * columns + p) ≡ Some x) × P c p x
 
   module _ (P Q : ℕ → ℕ → X → Type 0) (xs : List X) (all : HasAll P xs) where
-    -- no element changes
+    -- if no element changes, and each that has P has Q, all have Q
     pub all_kept : ((c p : ℕ) (x : X) → c < rows → p < columns → slice_get xs (c * columns + p) ≡ Some x → P c p x
         → Q c p x) → HasAll Q xs
     all_kept keeps c p cs ps = let old = all c p cs ps in (old.0, old.1, keeps c p old.0 cs ps old.1 old.2)
 
-    -- one element changes
+    -- one element changes: that at row c and column p
     module _ (c p : ℕ) (cs : c < rows) (ps : p < columns) (count : length xs ≡ rows * columns) (y : X) (new : Q c p y)
         (keeps : (d q : ℕ) (x : X) → d < rows → q < columns → (d ≡ c → q ≡ p → ⊥) → P d q x → Q d q x) where
+      -- that element stands within the list
       inside : c * columns + p < length xs
       inside = omega (arith, count, position_within c p rows columns cs ps)
 
+      -- if the new element has Q, and each other that has P has Q, all have Q after the change
       pub all_set : HasAll Q (slice_set xs (c * columns + p) y)
       all_set d q ds qs = by (cases_eq (d * columns + q) (c * columns + p))
         where

@@ -1,4 +1,4 @@
--- A consumer that holds a claim, in the state of a world.
+-- What the state of a world says of a consumer that holds a claim.
 use Rattle.std.proofs.Common.{◌≡◌, ℕ, ◌+◌, ◌*◌, ◌<◌, true, List, [], ◌∷◌, Option, Some, None, refl, sym, ◌∙◌, ap, subst, inl}
 use Rattle.std.specs.Prelude.{slice_get}
 use Rattle.mb_claim.specs.declared.access.Stage.TheVariants as stage
@@ -25,7 +25,7 @@ use Rattle.mb_world.proofs.WorldPool.{read_there}
 module _ (s : WorldState) (h : WorldHistory) (is : IsWorldAfter h s) (c p : ℕ) (cs : c < consumers_of (plan s h is))
     (ps : p < (plan s h is).lanes) (known : StepKnown s h c p) (k : ℕ) (claim : Claim)
     (here : slice_get s.places (c * (plan s h is).lanes + p) ≡ Some (At k claim)) where
-  -- a consumer there holds a claim
+  -- the path of a consumer that holds this claim at its place: it has met cell k last, and has made these steps there
   pub record AtCell : Type 0 where
     pub cells : List ℕ
     pub notes : List Note
@@ -34,7 +34,7 @@ module _ (s : WorldState) (h : WorldHistory) (is : IsWorldAfter h s) (c p : ℕ)
     pub own : consumer_of claim ≡ c
     pub is_in : IsClaimIn (layout_of s.setup) claim steps
 
-  -- what the seat says, by the consumer's path
+  -- what the place says, if the consumer's path leads to it
   cell_at : (ks : List ℕ) (ns : List Note) (held : Option (List ObjectTurn))
       → ConsumerPath (plan s h is).claims c p (lane_part c p h) ks ns held
       → IsPlaceAt (layout_of s.setup) c p ks held (At k claim) → AtCell
@@ -51,7 +51,7 @@ module _ (s : WorldState) (h : WorldHistory) (is : IsWorldAfter h s) (c p : ℕ)
     is_in = on.2;
   }
 
-  -- what the seat of this consumer says
+  -- what the place of this consumer says
   pub at_cell : AtCell
   at_cell =
       let y = place_here s h is c p (At k claim) cs ps here in cell_at y.cells y.notes y.held y.path y.is
@@ -65,11 +65,12 @@ module _ (s : WorldState) (h : WorldHistory) (is : IsWorldAfter h s) (c p : ℕ)
     path = at_cell.path;
   }
 
+  -- the steps of the claim are all that the consumer has made on the cell, which is one of the pool's
   held_so : (claim_part c k (claim_accesses h) ≡ at_cell.steps) × (k < (plan s h is).claims.cells)
   held_so =
       held_is (plan s h is) h is.lawful known.world c p k at_cell.cells at_cell.notes at_cell.steps at_cell.path
 
-  -- its steps are all that the consumer has made on the cell
+  -- the steps of the claim are all that the consumer has made on the cell
   pub part_is : claim_part c k (claim_accesses h) ≡ at_cell.steps
   part_is = held_so.0
 
@@ -104,14 +105,14 @@ module _ (s : WorldState) (h : WorldHistory) (is : IsWorldAfter h s) (c p : ℕ)
       (read_there (plan s h is) h is.lawful c p (Item k) v read
       (subst (λ (w : Word). is_of_lane p (linked_cells p (pool_accesses h)) w ≡ true) (sym read.2) there)))
 
-  -- it has not come to its end
+  -- a claim that is held has a stage without a note, so it has not come to its end
   still_open : {done : WorldHistory} {ks : List ℕ} {ns : List Note} (xs : List ObjectTurn)
       → ConsumerPath (plan s h is).claims c p done ks ns (Some xs)
       → (r : Stage) × IsClaimPrefix (plan s h is).claims c xs r × (note_of r ≡ None)
   still_open xs (finds ne fresh path) = (stage.Going, fresh, refl)
   still_open xs (goes r q still path) = (r, q, still)
 
-  -- so it goes on, unless it is won
+  -- so the claim goes on, unless it is won
   pub goes_unless_won : (claim_stage claim ≡ stage.Won → ⊥) → claim_stage claim ≡ stage.Going
   goes_unless_won not_won =
       let o = still_open at_cell.steps at_cell.path in

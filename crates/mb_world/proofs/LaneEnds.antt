@@ -14,14 +14,16 @@ use Rattle.mb_world.proofs.Positions.{StandsAt, at_has, at_some, at_start, at_wi
 use Rattle.mb_world.proofs.ReaderParts.{read-loaded}
 
 module _ (plan : Plan) (hs : Histories) (known : Known plan hs) where
-  -- a reader that has loaded the end mark of a lane has met all of its cells, and has loaded it past the last
+  -- the reader has met all cells of the lane, and has loaded the end mark past the last
   pub record HasMetLane (q p : ℕ) : Type 0 where
     pub all : HasMet q p (linked_cells p hs.pool) hs.pool
     pub last : HasLoaded q (place_past p (linked_cells p hs.pool)) END hs.pool
 
+  -- a reader that has loaded the end mark of a lane has met all of its cells, and loaded the mark past the last
   met_lane : (q p : ℕ) → HasMetEnd q p hs.pool → HasMetLane q p
   met_lane q p end = by_word end.0 end.1 end.2 end.3
     where
+      -- past the cells met, the end mark says that they are all of the lane
       met_all : (ks : List ℕ) → HasMet q p ks hs.pool → HasLoaded q (place_past p ks) END hs.pool → HasMetLane q p
       met_all ks met loaded =
           let all = known.end q p ks met loaded in
@@ -30,6 +32,7 @@ module _ (plan : Plan) (hs : Histories) (known : Known plan hs) where
             last = subst (λ ls. HasLoaded q (place_past p ls) END hs.pool) all loaded;
           }
 
+      -- past a cell of the lane, the reader has met this cell on this lane
       past_cell : (k : ℕ) → Has (linked_cells p hs.pool) k → HasLoaded q (Link k) END hs.pool → HasMetLane q p
       past_cell k here loaded = met_all (k ∷ chain.1.0) met loaded
         where
@@ -51,6 +54,7 @@ module _ (plan : Plan) (hs : Histories) (known : Known plan hs) where
           met : HasMet q p (k ∷ chain.1.0) hs.pool
           met = subst (λ (i : ℕ). HasMet q i (k ∷ chain.1.0) hs.pool) same chain.1.1
 
+      -- this holds for each word from which the end mark was loaded
       by_word : (w : Word) → IsLinkWord w → is_of_lane p (linked_cells p hs.pool) w ≡ true → HasLoaded q w END hs.pool
           → HasMetLane q p
       by_word Counter link on loaded = absurd link
@@ -68,15 +72,18 @@ module _ (plan : Plan) (hs : Histories) (known : Known plan hs) where
         lane : HasMetLane (hs.reader_of c) p
         lane = met_lane (hs.reader_of c) p end
 
+        -- cell x stands at position j of the lane
         here : (x : ℕ) × StandsAt (linked_cells p hs.pool) j x
         here = at_some (linked_cells p hs.pool) j (omega (arith, inside, values_length p hs.pool))
 
+        -- the consumer met that cell at the same position
         there : StandsAt diary.cells j here.0
         there =
             met_at plan hs known c p cs d diary j here.0 here.1
             (met_given (hs.reader_of c) p hs.pool (linked_cells p hs.pool) here.0 lane.all
             (at_has (linked_cells p hs.pool) j here.0 here.1))
 
+        -- if the lane ends at position j, the end mark is in the link of this cell
         last_link : (ls : List ℕ) → StandsAt ls j here.0 → length ls ≤ suc j
             → HasLoaded (hs.reader_of c) (place_past p ls) END hs.pool
             → HasLoaded (hs.reader_of c) (Link here.0) END hs.pool
@@ -85,6 +92,7 @@ module _ (plan : Plan) (hs : Histories) (known : Known plan hs) where
             subst (λ (x : ℕ). HasLoaded (hs.reader_of c) (Link x) END hs.pool) at.1 loaded
         last_link (k ∷ ks) (inr at) low loaded = absurd (omega (arith, low, at_within ks j here.0 at))
 
+        -- if the cell is not the last, the link past it was met, else the end mark is in its link
         noted_there : (suc j < length (linked_cells p hs.pool)) ⊎ (length (linked_cells p hs.pool) ≤ suc j)
             → j < length d.notes
         noted_there (inl more) =

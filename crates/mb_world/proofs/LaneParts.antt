@@ -7,6 +7,7 @@ use Rattle.mb_world.specs.World.{ToCells, ToClaims, WorldHistory, claim_accesses
 use Rattle.mb_world.proofs.Claimed.{part-another, part-elsewhere, part-own}
 
 -- ---- filtered lists
+-- an element that passes the test is in the filtered list
 pub Has-filter : {A : Type 0} (test : A → Bool) (xs : List A) (a : A) → Has xs a → test a ≡ true
     → Has (filter test xs) a
 Has-filter test [] a m e = m
@@ -16,6 +17,7 @@ Has-filter {A} test (b ∷ xs) a (inr m) e =
     cond_both (test b) (b ∷ filter test xs) (filter test xs) (λ (l : List A). Has l a)
     (λ _. inr (Has-filter test xs a m e)) (λ _. Has-filter test xs a m e)
 
+-- an element of the filtered list is in the list
 pub Has-of_filter : {A : Type 0} (test : A → Bool) (xs : List A) (a : A) → Has (filter test xs) a → Has xs a
 Has-of_filter test [] a m = m
 Has-of_filter {A} test (b ∷ xs) a m =
@@ -23,10 +25,12 @@ Has-of_filter {A} test (b ∷ xs) a m =
     (λ _ k. elim k [ inl e ↦ inl e | inr n ↦ inr (Has-of_filter test xs a n) ])
     (λ _ k. inr (Has-of_filter test xs a k)) m
 
+-- if no element passes the test, the filtered list is empty
 pub filter_none : {A : Type 0} (test : A → Bool) (xs : List A) → ((a : A) → test a ≡ false) → filter test xs ≡ []
 filter_none test [] none = refl
 filter_none test (x ∷ xs) none = rw (none x) (filter_none test xs none)
 
+-- a list in which nothing is, is empty
 pub nothing : {A : Type 0} (xs : List A) → ((a : A) → Has xs a → ⊥) → xs ≡ []
 nothing [] none = refl
 nothing (x ∷ xs) none = absurd (none x (inl refl))
@@ -38,6 +42,7 @@ filter_same f g [] same = refl
 filter_same f g (x ∷ xs) same = rw (same x (inl refl), filter_same f g xs (λ y m. same y (inr m))) refl
 
 -- ---- the loads and the claims of a consumer's part on a lane
+-- an access to the cells that a world's history has is among the world's accesses
 pub pool_has : (h : WorldHistory) (a : PoolAccess) → Has (pool_accesses h) a → Has h (ToCells a)
 pool_has [] a has = absurd has
 pool_has (ToCells b ∷ h) a (inl e) = inl (ap ToCells e)
@@ -65,7 +70,7 @@ pool_on c p ks (ToClaims a ∷ h) =
     ≡ filter (λ (x : PoolAccess). is_of_lane p ks x.word) (part (Reader c) (pool_accesses h)))
     (λ _. pool_on c p ks h) (λ _. pool_on c p ks h)
 
--- the steps on a cell of the lane are all of the consumer's there
+-- the steps on a cell of the lane, in the part of consumer c there, are all that c made on the cell
 pub claim_on : (c p : ℕ) (ks : List ℕ) (k : ℕ) (h : WorldHistory) → has_cell ks k ≡ true
     → claim_part c k (claim_accesses (filter (is_on c p ks) h)) ≡ claim_part c k (claim_accesses h)
 claim_on c p ks k [] here = refl
@@ -116,7 +121,7 @@ claim_has c k (ToClaims a ∷ h) some = by (cases_eq a.consumer c) (cases_eq a.c
     by (inr other) cell older =
         let q = older (λ e. some (part-another c k a (claim_accesses h) other ∙ e)) in (q.0, inr q.1, q.2, q.3)
 
--- a cell that some of the accesses gave is given by all
+-- a cell that some of the accesses gave is given by all of them
 pub gave-filter : (test : PoolAccess → Bool) (d : History) (k : ℕ) → Gave k (filter test d) → Gave k d
 gave-filter test [] k gave = gave
 gave-filter test (a ∷ d) k gave =

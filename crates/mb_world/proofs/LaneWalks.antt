@@ -17,42 +17,48 @@ use Rattle.mb_world.proofs.StateNotes.{put_cells}
 use Rattle.mb_world.specs.Reporting.{values_put}
 use Rattle.mb_world.specs.StateReport.{IsWalk, IsWalked}
 
--- the cells and the values of entries of a put list
+-- the cells of entries of a put list
 abbrev pub cells_in : List Entry → List ℕ
 cells_in es = map (λ (e : Entry). e.cell) es
 
+-- the values of entries of a put list
 abbrev pub values_in : List Entry → List ℕ
 values_in es = map (λ (e : Entry). e.value) es
 
--- looks from the cursor on give what is put on the lane past these cells
+-- after a history, looks from the cursor on give what is put on the lane past these cells, whose items the pool holds
 pub record WalksTo (s : PoolState) (p : ℕ) (ks : List ℕ) (at : Cursor) (pool : History) : Type 0 where
   pub rest : List Entry
   pub cells : cells_in (put_list p pool) ≡ ks ++ cells_in rest
   pub values : values_put p pool ≡ map (λ k. item_in k s) ks ++ values_in rest
   pub reads : Reads (λ c. look_in c s) (λ k. item_in k s) at rest (lane_end p pool)
 
--- looks from the cursor on do so after each history that leaves the pool
+-- after each history that leaves the pool, looks from the cursor on give what is put on the lane past these cells
 abbrev pub WalksOn : PoolState → ℕ → List ℕ → Cursor → Type 0
 WalksOn s p ks at = (pool : History) → IsAfter pool s → WalksTo s p ks at pool
 
+-- a walk begins at the head of the lane, past no cell
 pub walk_begins : (s : PoolState) (p : ℕ) → ((pool : History) → IsAfter pool s
     → Reads (λ c. look_in c s) (λ k. item_in k s) (cursor.Head p) (put_list p pool) (lane_end p pool))
     → WalksOn s p [] (cursor.Head p)
 walk_begins s p shows pool after =
     record { rest = put_list p pool; cells = refl; values = refl; reads = shows pool after }
 
+-- an element moves from the second of two joined lists to the end of the first
 append_more : {A : Type 0} (xs : List A) (y : A) (ys : List A) → xs ++ y ∷ ys ≡ (xs ++ y ∷ []) ++ ys
 append_more [] y ys = refl
 append_more (x ∷ xs) y ys = ap (λ zs. x ∷ zs) (append_more xs y ys)
 
+-- a function over a list gives the value of the last element at the end
 map_more : (f : ℕ → ℕ) (xs : List ℕ) (y : ℕ) → map f xs ++ f y ∷ [] ≡ map f (xs ++ y ∷ [])
 map_more f [] y = refl
 map_more f (x ∷ xs) y = ap (λ zs. f x ∷ zs) (map_more f xs y)
 
+-- a look that finds no cell is none that finds cell k
 not_cell : (b : Bool) (k : ℕ) → (if b then look.Ended else look.Nothing) ≡ look.Cell k → ⊥
 not_cell true k e = cc
 not_cell false k e = cc
 
+-- if a look finds cell k, it is the next one of the put list, and the walk goes on past it
 walk_step : (s : PoolState) (p k : ℕ) (ks : List ℕ) (at : Cursor) (pool : History) → look_in at s ≡ look.Cell k
     → (es : List Entry) → cells_in (put_list p pool) ≡ ks ++ cells_in es
     → values_put p pool ≡ map (λ i. item_in i s) ks ++ values_in es
@@ -74,26 +80,30 @@ walk_step s p k ks at pool seen (e ∷ es) cells values reads =
           reads.2;
     }
 
--- if a cell is found, the walk goes on past it
+-- if a look at the cursor finds a cell, the walk goes on past the cell
 pub walk_goes : (s : PoolState) (p k : ℕ) (ks : List ℕ) (at : Cursor) → look_in at s ≡ look.Cell k → WalksOn s p ks at
     → WalksOn s p (ks ++ k ∷ []) (cursor.Past k)
 walk_goes s p k ks at seen walks pool after =
     let w = walks pool after in walk_step s p k ks at pool seen w.rest w.cells w.values w.reads
 
+-- a list to which nothing is joined stays
 append_nil : (xs : List ℕ) → xs ++ [] ≡ xs
 append_nil [] = refl
 append_nil (x ∷ xs) = ap (λ zs. x ∷ zs) (append_nil xs)
 
+-- two looks that find no cell and are equal say the same of the end mark
 end_is : (b e : Bool) → (if e then look.Ended else look.Nothing) ≡ (if b then look.Ended else look.Nothing) → b ≡ e
 end_is true true e = refl
 end_is true false e = absurd (cc)
 end_is false true e = absurd (cc)
 end_is false false e = refl
 
+-- a look that finds cell k is none that finds no cell
 is_cell : (b : Bool) (k : ℕ) → look.Cell k ≡ (if b then look.Ended else look.Nothing) → ⊥
 is_cell true k e = cc
 is_cell false k e = cc
 
+-- if a look finds no cell, these are all cells of the put list, and the look says whether the lane has ended
 walk_end : (s : PoolState) (p : ℕ) (ks : List ℕ) (at : Cursor) (ended : Bool) (pool : History)
     → look_in at s ≡ (if ended then look.Ended else look.Nothing)
     → (es : List Entry) → cells_in (put_list p pool) ≡ ks ++ cells_in es
@@ -107,21 +117,24 @@ walk_end s p ks at ended pool seen [] cells values reads = record {
 }
 walk_end s p ks at ended pool seen (e ∷ es) cells values reads = absurd (is_cell ended e.cell (sym reads.0 ∙ seen))
 
--- if no cell is found, all were met
+-- if a look at the cursor finds no cell, all cells of the lane were met
 pub walk_ends : (s : PoolState) (p : ℕ) (ks : List ℕ) (at : Cursor) (ended : Bool)
     → look_in at s ≡ (if ended then look.Ended else look.Nothing) → WalksOn s p ks at → IsWalked s p ks ended
 walk_ends s p ks at ended seen walks pool after =
     let w = walks pool after in walk_end s p ks at ended pool seen w.rest w.cells w.values w.reads
 
+-- a number that is not in a list differs from each number there
 apart : (x : ℕ) (xs : List ℕ) → (Has xs x → ⊥) → AllByRecursion (λ y. eqb x y ≡ false) xs
 apart x [] none = tt
 apart x (y ∷ ys) none = (ne_eqb x y (λ e. none (inl (sym e))), apart x ys (λ has. none (inr has)))
 
+-- a list that has each number once has distinct numbers
 distinct : (xs : List ℕ) → IsOnceEach xs → IsDistinct eqb xs
 unfolding IsDistinct
 distinct [] once = tt
 distinct (x ∷ xs) once = (apart x xs once.0, distinct xs once.1)
 
+-- a number that a test finds in a list is in the list
 listed : (xs : List ℕ) (q : ℕ) → list_any (eqb q) xs ≡ true → Has xs q
 listed [] q is = absurd (false≢true is)
 listed (x ∷ xs) q is = elim (cases_Bool (eqb q x)) [
@@ -129,7 +142,7 @@ listed (x ∷ xs) q is = elim (cases_Bool (eqb q x)) [
   | inr other ↦ inr (listed xs q (sym (ap (λ b. b || list_any (eqb q) xs) other) ∙ is))
 ]
 
--- if one more is found, fewer than the cells of the pool were met
+-- if one more cell is found, fewer cells were met before than the pool has
 pub walk_fits : (s : PoolState) (p k n : ℕ) (ks : List ℕ) (at : Cursor) → look_in at s ≡ look.Cell k → WalksOn s p ks at
     → (pool : History) → IsAfter pool s → IsOnceEach (linked_cells p pool)
     → ((i : ℕ) → Has (linked_cells p pool) i → i < n) → length ks < n

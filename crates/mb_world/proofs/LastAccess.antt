@@ -7,45 +7,46 @@ use Rattle.mb_world.specs.Imports.{Claims, END, IsClaimPrefix, ObjectTurn, Stage
 use Rattle.mb_world.specs.World.{WorldAccess, WorldHistory}
 use Rattle.mb_world.specs.ConsumerPath.{ConsumerPath, claim_step, ends, finds, goes, item_load, link_load, note_of, takes, waits}
 
--- a place on a lane, as one value
+-- where a path on a lane has led: the cells met, the notes, and the steps of a claim that is held, as one value
 pub record PathEnd : Type 0 where
   pub cells : List ℕ
   pub notes : List Note
   pub held : Option (List ObjectTurn)
 
--- the end of a path with these cells, notes and steps
+-- what a path with these cells, notes and steps has led to
 abbrev pub path_end : List ℕ → List Note → Option (List ObjectTurn) → PathEnd
 path_end ks ns held = record { cells = ks; notes = ns; held = held }
 
 module _ (cs : Claims) (c p : ℕ) where
-  -- the access leads from one place to the next
+  -- the access leads from one place on the lane to the next
   pub data Leads (a : WorldAccess) : PathEnd → PathEnd → Type 0 where
-    -- a load of a link that leads to no cell
+    -- the access is a load of a link that leads to no cell
     waited : (ks : List ℕ) (ns : List Note) (v : ℕ) → (v ≡ 0) ⊎ (v ≡ END) → a ≡ link_load c p ks v
         → Leads a (path_end ks ns None) (path_end ks ns None)
-    -- a load of a link that leads to a cell
+    -- the access is a load of a link that leads to a cell
     found : (ks : List ℕ) (ns : List Note) (k : ℕ) → k + 1 ≢ END → IsClaimPrefix cs c [] stage.Going
         → a ≡ link_load c p ks (k + 1)
         → Leads a (path_end ks ns None) (path_end (k ∷ ks) ns (Some []))
-    -- a step of the claim, which has no note then
+    -- the access is a step of the claim, which then has no note
     went : (ks : List ℕ) (ns : List Note) (k : ℕ) (xs : List ObjectTurn) (x : ObjectTurn) (s : Stage)
         → IsClaimPrefix cs c (x ∷ xs) s → note_of s ≡ None → a ≡ claim_step c k x
         → Leads a (path_end (k ∷ ks) ns (Some xs)) (path_end (k ∷ ks) ns (Some (x ∷ xs)))
-    -- the last step of a claim that has a note then
+    -- the access is the last step of the claim, which then has a note
     ended : (ks : List ℕ) (ns : List Note) (k : ℕ) (xs : List ObjectTurn) (x : ObjectTurn) (n : Note) (s : Stage)
         → IsClaimPrefix cs c (x ∷ xs) s → note_of s ≡ Some n → a ≡ claim_step c k x
         → Leads a (path_end (k ∷ ks) ns (Some xs)) (path_end (k ∷ ks) (n ∷ ns) None)
-    -- the load of the item of a claim that is won
+    -- the access is the load of the item of a claim that is won
     took : (ks : List ℕ) (ns : List Note) (k : ℕ) (xs : List ObjectTurn) (v : ℕ) → IsClaimPrefix cs c xs stage.Won
         → a ≡ item_load c k v
         → Leads a (path_end (k ∷ ks) ns (Some xs)) (path_end (k ∷ ks) (Took v ∷ ns) None)
 
-  -- what was done before the last access led to a place, from which that leads on
+  -- what was done before the last access led to a place, from which the access leads on
   pub record CameFrom (a : WorldAccess) (older : WorldHistory) (now : PathEnd) : Type 0 where
     pub was : PathEnd
     pub path : ConsumerPath cs c p older was.cells was.notes was.held
     pub leads : Leads a was now
 
+  -- a path with an access came from such a place
   pub came_from : {a : WorldAccess} {older : WorldHistory} {ks : List ℕ} {ns : List Note} {held : Option
       (List ObjectTurn)}
       → ConsumerPath cs c p (a ∷ older) ks ns held → CameFrom a older (path_end ks ns held)
@@ -60,7 +61,7 @@ module _ (cs : Claims) (c p : ℕ) where
   came_from (takes {ks = ks} {ns = ns} {k = k} {xs = xs} {v = v} q s) =
       record { was = path_end (k ∷ ks) ns (Some xs); path = s; leads = took ks ns k xs v q refl }
 
-  -- what came before led to a place
+  -- if what was done leads to a place, each older part of it does
   pub older_path : (later older : WorldHistory) (now : PathEnd)
       → ConsumerPath cs c p (later ++ older) now.cells now.notes now.held
       → (was : PathEnd) × ConsumerPath cs c p older was.cells was.notes was.held

@@ -8,17 +8,17 @@ use Rattle.mb_world.specs.Report.{ReportView, items_put, is_begun, note, notes}
 use Rattle.mb_world.specs.Agreement.{AreAllTaken, HasCompeted, HasTaken, IsFinished, IsLeftBesideBegun}
 use Rattle.mb_world.specs.Headline.{IsHonest}
 
--- a report that agrees with one assignment and has no undecided note
+-- the report agrees with one assignment, and has no undecided note
 module _ (plan : Plan) (hs : Histories) (r : ReportView) (honest : IsHonest plan hs r)
     (decided : (c p j : ℕ) → note c p j r ≢ Some Undecided) where
-  -- an unfinished claim has no note
+  -- an unfinished claim on an item that nobody took has no note
   no_note : (d p j : ℕ) → ((e : ℕ) → HasTaken e p j r → ⊥) → (IsFinished d p j r → ⊥) → (n : Note)
       → note d p j r ≡ Some n → ⊥
   no_note d p j none unfinished (Took x) e = none d (x, e)
   no_note d p j none unfinished (Lost w) e = unfinished (inr (w, e))
   no_note d p j none unfinished Undecided e = decided d p j e
 
-  -- so an unfinished claim is begun, and the next of its diary
+  -- so such a claim is begun, and is the one after the notes of its diary
   begun_next : (d p j : ℕ) → ((e : ℕ) → HasTaken e p j r → ⊥) → (IsFinished d p j r → ⊥) → HasCompeted d p j r
       → (length (notes d p r) ≡ j) × (is_begun d p r ≡ true)
   begun_next d p j none unfinished (inl before) =
@@ -26,14 +26,14 @@ module _ (plan : Plan) (hs : Histories) (r : ReportView) (honest : IsHonest plan
       (slice_get-get_or (notes d p r) j Undecided before))
   begun_next d p j none unfinished (inr next) = next
 
-  -- so an item that was competed for and left is left beside a begun claim
+  -- so an item that was competed for and that nobody took is left beside a begun claim
   pub beside : IsLeftBesideBegun r
   beside c p j inside competed none =
       let s = honest.settled c p j inside competed none in
       let next = begun_next s.0 p j none s.2 s.1 in
       (s.0, next.0, next.1)
 
-  -- an item that is given to somebody, or left, on a lane without a begun claim is taken
+  -- on a lane without a begun claim, an item that was competed for is taken, whatever the assignment has for it
   taken_by : (p : ℕ) → ((d : ℕ) → is_begun d p r ≡ true → ⊥) → (c j : ℕ) → j < length (items_put p r)
       → HasCompeted c p j r → (given : Option ℕ) → honest.assignment p j ≡ given → (d : ℕ) × HasTaken d p j r
   taken_by p idle c j inside competed (Some d) e = (d, (honest.given.taken d p j).1 e)

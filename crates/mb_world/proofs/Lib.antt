@@ -12,14 +12,14 @@ pub mod Loads
 pub mod Known
 pub mod Diaries
 pub mod LaneEnds
--- A report has one assignment
+-- A report has one assignment, and what was done has one report
 pub mod Settled
 pub mod Assigned
 pub mod Recorded
 pub mod LastObjects
 pub mod Competitors
 pub mod OneReport
--- The path of one consumer on one lane
+-- The path of one consumer on one lane, and its two parts
 pub mod Claimed
 pub mod Tracks
 pub mod PathLoads
@@ -36,7 +36,7 @@ pub mod WorldFollows
 pub mod WorldFits
 pub mod WorldDiaries
 pub mod MetCells
--- One more access, and one replay
+-- One more access, one replay, and steps that find nothing
 pub mod ConsumerSteps
 pub mod ProducerSteps
 pub mod EventKnown

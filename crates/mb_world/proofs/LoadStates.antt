@@ -1,4 +1,4 @@
--- One more load of a consumer, on the state of a world.
+-- What one more load of a consumer makes of the state of a world.
 use Rattle.std.proofs.Common.{◌≡◌, ℕ, ◌<◌, List, ◌∷◌, length, Option, Some, refl, sym, ◌∙◌, subst}
 use Rattle.mb_cells.specs.Memory.{value_in}
 use Rattle.mb_cells.specs.State.{IsAfter}
@@ -31,7 +31,7 @@ module _ (s : WorldState) (h : WorldHistory) (is : IsWorldAfter h s) (c p : ℕ)
       (record { cells = ks; notes = ns; held = held; path = path })) has
 
   module _ (w : Word) (may : MayRead (plan s h is).lanes w (part (Reader c) (pool_accesses h))) where
-    -- what it finds
+    -- what the load finds
     abbrev pub found : ℕ
     found = value_in w (pool_accesses h)
 
@@ -55,7 +55,8 @@ module _ (s : WorldState) (h : WorldHistory) (is : IsWorldAfter h s) (c p : ℕ)
       pub adds : ConsumerAdds (plan s h is) c p loaded h
       adds = known.goes loaded ks ns held truth next
 
-      -- the event adds the state with these places and notes, and with the pool and the words as they are
+      -- the event leaves the state with these places and notes, if they are right after the load. The pool and the
+      -- words are as before
       pub load_adds : (word : ℕ) (r : Answer) (places : List Place) (notes : List (Option Note))
           → answer_to (plan s h is).claims.cells w (Load found) ≡ Some r
           → length places ≡ length s.places → ArePlaces s h is (loaded ∷ h) places

@@ -15,13 +15,13 @@ gave-link lanes (b ∷ d) a k path (inl e) w =
     inr (subst (λ u. MayRead lanes u d) (ap (λ (x : PoolAccess). x.word) e ∙ w) path.1)
 gave-link lanes (b ∷ d) a k path (inr has) w = inr (gave-link lanes d a k path.2 has w)
 
--- a gift among the accesses is given
+-- a cell is given if one of the accesses gives it
 pub gave-gift : (d : History) (a : PoolAccess) (k : ℕ) → Has d a → IsGift k a.word a.act → Gave k d
 gave-gift [] a k has gift = absurd has
 gave-gift (b ∷ d) a k (inl e) gift = inl (subst (λ (x : PoolAccess). IsGift k x.word x.act) (sym e) gift)
 gave-gift (b ∷ d) a k (inr has) gift = inr (gave-gift d a k has gift)
 
--- the link past cells gives the next one
+-- a load of the link past cells that finds k + 1 gives cell k
 pub gift_past : (p : ℕ) (ks : List ℕ) (k : ℕ) → k + 1 ≢ END → IsGift k (place_past p ks) (Load (k + 1))
 gift_past p [] k ne = (refl, ne)
 gift_past p (j ∷ ks) k ne = (refl, ne)
@@ -47,26 +47,27 @@ met_link q p h (a ∷ b ∷ ks) j k met (inr (inl at)) less =
 met_link q p h (a ∷ b ∷ ks) j k met (inr (inr at)) less =
     met_link q p h (b ∷ ks) j k met.2 (inr at) (omega (arith, at_within ks j k at))
 
--- ---- whether a word was loaded can be told
--- a word was loaded, or it was not
+-- ---- whether a word was loaded
+-- the word was loaded, or it was not
 abbrev pub IsTold : Word → History → Type 0
 IsTold w d = ((v : ℕ) × HasRead w v d) ⊎ ((v : ℕ) → HasRead w v d → ⊥)
 
--- a load among older ones is one
+-- a word that older accesses loaded is loaded after one more
 older_read : (b : PoolAccess) (d : History) (w : Word) → (v : ℕ) × HasRead w v d → (v : ℕ) × HasRead w v (b ∷ d)
 older_read b d w h = (h.0, (h.1.0, inr h.1.1, h.1.2, h.1.3))
 
--- after an access that is no load of the word it can be told still
+-- if it can be told whether the word was loaded, it can be told after one more access that is no load of the word
 other_access : (b : PoolAccess) (d : History) (w : Word) → ((u : ℕ) → b.word ≡ w → b.act ≡ Load u → ⊥) → IsTold w d
     → IsTold w (b ∷ d)
 other_access b d w other (inl h) = inl (older_read b d w h)
 other_access b d w other (inr n) = inr (λ u h. none u h.0 h.1 h.2 h.3)
   where
+    -- no access is a load of the word, neither the new one nor an older one
     none : (u : ℕ) (a : PoolAccess) → Has (b ∷ d) a → a.word ≡ w → a.act ≡ Load u → ⊥
     none u a (inl e) ew ea = other u (ap (λ (y : PoolAccess). y.word) e ∙ ew) (ap (λ (y : PoolAccess). y.act) e ∙ ea)
     none u a (inr m) ew ea = n u (a, m, ew, ea)
 
--- after an access to the word it can be told still
+-- if it can be told whether the word was loaded, it can be told after one more access to the word
 by_act : (d : History) (b : PoolAccess) (w : Word) (x : PoolAct) → b.word ≡ w → b.act ≡ x → IsTold w d
     → IsTold w (b ∷ d)
 by_act d b w (Load v) same is rest = inl (v, (b, inl refl, same, is))
@@ -74,10 +75,12 @@ by_act d b w (Store v) same is rest = other_access b d w (λ u _ e. let f : Stor
 by_act d b w (FetchAdd x i) same is rest =
     other_access b d w (λ u _ e. let f : FetchAdd x i ≡ Load u = sym is ∙ e in cc) rest
 
+-- of each word it can be told whether it was loaded
 pub read_or_not : (d : History) (w : Word) → IsTold w d
 read_or_not [] w = inr (λ v h. h.1)
 read_or_not (b ∷ d) w = by_word (cases_Bool (is_same_word b.word w)) (read_or_not d w)
   where
+    -- this holds whether the access is to the word or not
     by_word : (is_same_word b.word w ≡ true) ⊎ (is_same_word b.word w ≡ false) → IsTold w d → IsTold w (b ∷ d)
     by_word (inl same) rest = by_act d b w b.act (word_is b.word w same) refl rest
     by_word (inr other) rest = other_access b d w (λ u e _. differs e) rest

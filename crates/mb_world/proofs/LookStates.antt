@@ -1,4 +1,4 @@
--- A look of a consumer that holds no claim, on the state of a world.
+-- What a look of a consumer that holds no claim makes of the state of a world.
 use Rattle.std.proofs.Common.{◌≡◌, ◌≢◌, ◌⊎◌, ℕ, ◌+◌, ◌*◌, ◌-◌, ◌<◌, Bool, true, false, cond, List, [], ◌∷◌, Option, Some, None, refl, sym, ◌∙◌, ap, subst, inl, inr, arith}
 use Rattle.std.specs.Prelude.{nat_eq, slice_get, slice_set}
 use Rattle.std.proofs.lemmas.Bool.{eqb-true, eqb-false}
@@ -66,16 +66,18 @@ not_item : (at : Cursor) (k : ℕ) → word_of at ≡ Item k → ⊥
 not_item (cursor.Head q) k e = cc
 not_item (cursor.Past q) k e = cc
 
+-- ---- the state after the look
 module _ (s : WorldState) (h : WorldHistory) (is : IsWorldAfter h s) (c p : ℕ) (cs : c < consumers_of (plan s h is))
     (ps : p < (plan s h is).lanes) (known : StepKnown s h c p) (at : Cursor)
     (here : slice_get s.places (c * (plan s h is).lanes + p) ≡ Some (Before at)) where
-  -- its path holds no claim
+  -- the path of the consumer at this place: it holds no claim, and the cursor is at the link past the cells met
   pub record AtLink : Type 0 where
     pub cells : List ℕ
     pub notes : List Note
     pub path : ConsumerPath (plan s h is).claims c p (lane_part c p h) cells notes None
     pub word : word_of at ≡ place_past p cells
 
+  -- what the place says, if the consumer's path leads to it
   link_at : (ks : List ℕ) (ns : List Note) (held : Option (List ObjectTurn))
       → ConsumerPath (plan s h is).claims c p (lane_part c p h) ks ns held
       → IsPlaceAt (layout_of s.setup) c p ks held (Before at) → AtLink
@@ -83,12 +85,12 @@ module _ (s : WorldState) (h : WorldHistory) (is : IsWorldAfter h s) (c p : ℕ)
   link_at [] ns (Some xs) path on = absurd on
   link_at (k ∷ ks) ns (Some xs) path on = absurd on
 
-  -- what this place says
+  -- what the place of this consumer says
   at_link : AtLink
   at_link =
       let y = place_here s h is c p (Before at) cs ps here in link_at y.cells y.notes y.held y.path y.is
 
-  -- the link is a word of the pool
+  -- the cursor of a consumer whose path holds no claim is within the pool
   within_by : (ks : List ℕ) (ns : List Note) (it : Cursor)
       → ConsumerPath (plan s h is).claims c p (lane_part c p h) ks ns None → word_of it ≡ place_past p ks
       → IsWithin it s.pool
@@ -103,6 +105,7 @@ module _ (s : WorldState) (h : WorldHistory) (is : IsWorldAfter h s) (c p : ℕ)
   within_by [] ns (cursor.Past j) path e = absurd (cc)
   within_by (k ∷ ks) ns (cursor.Head q) path e = absurd (cc)
 
+  -- so this consumer's cursor is within the pool
   pub within : IsWithin at s.pool
   within = within_by at_link.cells at_link.notes at at_link.path at_link.word
 
@@ -126,7 +129,7 @@ module _ (s : WorldState) (h : WorldHistory) (is : IsWorldAfter h s) (c p : ℕ)
   abbrev a : WorldAccess
   a = loaded s h is c p cs ps known (word_of at) may
 
-  -- the load is of the link past the cells met
+  -- a path that goes on with a load of the link past the cells met goes on with this load
   on_link : (held : Option (List ObjectTurn)) (ks : List ℕ) (i : ℕ) → v ≡ i
       → ConsumerPath (plan s h is).claims c p (link_load c p at_link.cells i ∷ lane_part c p h) ks at_link.notes held
       → ConsumerPath (plan s h is).claims c p (a ∷ lane_part c p h) ks at_link.notes held
@@ -145,7 +148,7 @@ module _ (s : WorldState) (h : WorldHistory) (is : IsWorldAfter h s) (c p : ℕ)
       (adds s h is c p cs ps known (word_of at) may ks at_link.notes held next)
       (λ e j n. load_keeps (plan s h is).claims c h (word_of at) v e j n (λ _ f. not_item at j f))
 
-  -- the link leads to cell k
+  -- if the link leads to cell k, the consumer then holds a new claim there
   pub looked_on : (word k : ℕ) (claim : Claim) → look_of v ≡ look.Cell k → consumer_of claim ≡ c
       → claim_stage claim ≡ stage.Going → IsClaimIn (layout_of s.setup) claim []
       → EventAdds (event.Step c p word) (answer.Looked (look.Cell k)) (with_place c p (At k claim) s) h
@@ -165,7 +168,7 @@ module _ (s : WorldState) (h : WorldHistory) (is : IsWorldAfter h s) (c p : ℕ)
       (refl, own, fresh)))
       refl (notes_stay (Some []) (k ∷ at_link.cells) next)
 
-  -- the link leads to no cell
+  -- if the link leads to no cell, the state stays
   pub looked_in_vain : (word : ℕ) (z : Look) → look_of v ≡ z → ((k : ℕ) → z ≡ look.Cell k → ⊥)
       → EventAdds (event.Step c p word) (answer.Looked z) s h
   looked_in_vain word z tells none =

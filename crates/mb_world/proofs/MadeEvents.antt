@@ -19,12 +19,14 @@ module _ (plan : Plan) (h : WorldHistory) (p : ℕ) (ps : p < plan.lanes) (lane 
     (goes : (a : PoolAccess) → a.process ≡ Producer p → ActFits a.act → ReadsLast a.word a.act (pool_accesses h)
     → IsLanePrefix plan.claims.cells p (a ∷ part (Producer p) (pool_accesses h)) → IsWorldLawful plan (ToCells a ∷ h))
   where
+    -- the part of producer p
     abbrev done : History
     done = part (Producer p) (pool_accesses h)
 
     -- ---- an offer that is not refused has an access
     module _ (x : ℕ) (xs : x < 2 ^ 64) (small : value_in Counter (pool_accesses h) < 2 ^ 64)
         (next : (e : Entry) → offer_refusal lane ≡ None → IsLanePrefix plan.claims.cells p (fetch p e ∷ done)) where
+      -- an offer is refused or made, by what the lane's place says
       by_offer : (z : Option _) → offer_refusal lane ≡ z → IsRefusedOrMade plan (event.Offer p x) h
       by_offer (Some why) e = inl (answer.Offered why, inr (ps, (lane, why, here, e, refl)))
       by_offer None e =
@@ -36,6 +38,7 @@ module _ (plan : Plan) (h : WorldHistory) (p : ℕ) (ps : p < plan.lanes) (lane 
             ((n, refl), refl, goes (fetch p entry) refl (xs, small) refl (next entry e)),
           )
 
+      -- so each offer is refused or made
       pub offer_made : IsRefusedOrMade plan (event.Offer p x) h
       offer_made = by_offer (offer_refusal lane) refl
 
@@ -59,6 +62,7 @@ module _ (plan : Plan) (h : WorldHistory) (p : ℕ) (ps : p < plan.lanes) (lane 
       )
       pushed (Item k) v e word = (tt, (answer.Pushed (push.Item k), refl))
 
+      -- a push is refused or made, by what the lane's place says
       by_push : (z : Option (Word × ℕ)) → push_store p lane ≡ z → IsRefusedOrMade plan (event.Push p) h
       by_push None e = inl (answer.Pushed push.Idle, inr (ps, (lane, here, e, refl)))
       by_push (Some (w, v)) e =
@@ -69,6 +73,7 @@ module _ (plan : Plan) (h : WorldHistory) (p : ℕ) (ps : p < plan.lanes) (lane 
             ((w, v, is.0, refl), is.1.1, goes (store p w v) refl (fits w v e) tt (next (w, v) e)),
           )
 
+      -- so each push is refused or made
       pub push_made : IsRefusedOrMade plan (event.Push p) h
       push_made = by_push (push_store p lane) refl
 
@@ -76,11 +81,13 @@ module _ (plan : Plan) (h : WorldHistory) (p : ℕ) (ps : p < plan.lanes) (lane 
     module _ (next : finish_refusal lane ≡ None
         → IsLanePrefix plan.claims.cells p (store p (next_link p lane) END ∷ done))
       where
+        -- the end mark goes to a head or a link, and the store of it has an answer
         link : (last : Option ℕ) → IsLinkWord (link_after p last)
             × (answer_to plan.claims.cells (link_after p last) (Store END) ≡ Some (answer.Finished finish.Ended))
         link None = (tt, refl)
         link (Some k) = (tt, refl)
 
+        -- a finish is refused or made, by what the lane's place says
         by_finish : (z : Option _) → finish_refusal lane ≡ z → IsRefusedOrMade plan (event.Finish p) h
         by_finish (Some why) e = inl (answer.Finished why, inr (ps, (lane, why, here, e, refl)))
         by_finish None e =
@@ -95,5 +102,6 @@ module _ (plan : Plan) (h : WorldHistory) (p : ℕ) (ps : p < plan.lanes) (lane 
               ),
             )
 
+        -- so each finish is refused or made
         pub finish_made : IsRefusedOrMade plan (event.Finish p) h
         finish_made = by_finish (finish_refusal lane) refl

@@ -38,13 +38,14 @@ gift_link (Link j) (Store v) k g = absurd g
 gift_link (Link j) (FetchAdd x n) k g = absurd g
 gift_link (Item j) act k g = absurd g
 
--- the cells that these loads of a reader met were met
+-- the cells that these loads of a reader met are cells that the reader met in the history of the loads alone
 met_cells : (q p : ℕ) (d : History) → ((a : PoolAccess) → Has d a → a.process ≡ Reader q) → HasMet q p (cells_met p d) d
 met_cells q p [] own = tt
 met_cells q p (a ∷ older) own =
     by (cases_Bool (is_same_word a.word (place_past p (cells_met p older))))
     (met_more q p older (a ∷ older) (cells_met p older) (λ b m. inr m) (met_cells q p older (λ b m. own b (inr m))))
   where
+    -- if the load gave a cell, the cell comes after those met before
     by_given : (o : Option ℕ) → cell_given a.act ≡ o → a.word ≡ place_past p (cells_met p older)
         → HasMet q p (cells_met p older) (a ∷ older) → HasMet q p (push_if o (cells_met p older)) (a ∷ older)
     by_given None e at older_met = older_met
@@ -85,7 +86,7 @@ met_in q p h =
     met_more q p (part (Reader q) h) h (cells_met p (part (Reader q) h)) (λ a m. (of_part q h a m).0)
     (met_cells q p (part (Reader q) h) (λ a m. (of_part q h a m).1))
 
--- what stands once each in a list does so in its end
+-- if each cell stands once in a list, each stands once in what the list was before `later` came in front
 once_start : (later ks : List ℕ) → IsOnceEach (later ++ ks) → IsOnceEach ks
 once_start [] ks once = once
 once_start (j ∷ later) ks once = once_start later ks once.1
@@ -93,7 +94,7 @@ once_start (j ∷ later) ks once = once_start later ks once.1
 module _ (q : ℕ) (h : History)
     (start : (p : ℕ) (ks : List ℕ) → HasMet q p ks h → IsStart ks (linked_cells p h))
     (one_lane : (p r k : ℕ) → Has (linked_cells p h) k → Has (linked_cells r h) k → p ≡ r) where
-  -- they are cells of the lane
+  -- the cells that the reader's part met on a lane are cells of the lane
   pub on_lane_in : (p k : ℕ) → Has (cells_met p (part (Reader q) h)) k → Has (linked_cells p h) k
   on_lane_in p k has =
       let s = start p (cells_met p (part (Reader q) h)) (met_in q p h) in
@@ -102,13 +103,13 @@ module _ (q : ℕ) (h : History)
       (at_has (s.0 ++ cells_met p (part (Reader q) h)) at.0 k
       (at_start s.0 (cells_met p (part (Reader q) h)) at.0 k at.1))
 
-  -- they stand there once each
+  -- the reader's part met each of these cells once
   pub once_in : (p : ℕ) → IsOnceEach (linked_cells p h) → IsOnceEach (cells_met p (part (Reader q) h))
   once_in p once =
       let s = start p (cells_met p (part (Reader q) h)) (met_in q p h) in
       once_start s.0 (cells_met p (part (Reader q) h)) (subst IsOnceEach (sym s.1) once)
 
-  -- they are all that the reader met on the lane, if its loads follow the links
+  -- the cells that the part met on a lane are all that the reader met there, if its loads follow the links
   pub all_met_in : (p : ℕ) → FollowsLinks (part (Reader q) h) → HasMetAll q p (cells_met p (part (Reader q) h)) h
   all_met_in p follows = record {
     met = met_in q p h;
@@ -118,18 +119,19 @@ module _ (q : ℕ) (h : History)
         subst (λ (r : ℕ). Has (cells_met r (part (Reader q) h)) k) same there.1;
   }
 
+-- ---- the cells met by a consumer's own loads
 module _ (plan : Plan) (hs : Histories) (known : Known plan hs) (c p : ℕ) (cs : c < consumers_of plan) where
   -- the loads of consumer c
   abbrev reads : History
   reads = (parts_of c hs).reads
 
-  -- the cells that they met on a lane were met in the history
+  -- the cells that these loads met on a lane were met in the history
   met_on : (q : ℕ) → HasMet (hs.reader_of c) q (cells_met q reads) hs.pool
   met_on q =
       met_more (hs.reader_of c) q reads hs.pool (cells_met q reads) (λ a m. (of_part (hs.reader_of c) hs.pool a m).0)
       (met_cells (hs.reader_of c) q reads (λ a m. (of_part (hs.reader_of c) hs.pool a m).1))
 
-  -- they are cells of the lane
+  -- the cells that these loads met on a lane are cells of the lane
   on_lane : (q k : ℕ) → Has (cells_met q reads) k → Has (linked_cells q hs.pool) k
   on_lane q k has =
       let s = known.start (hs.reader_of c) q (cells_met q reads) (met_on q) in
@@ -137,7 +139,7 @@ module _ (plan : Plan) (hs : Histories) (known : Known plan hs) (c p : ℕ) (cs 
       subst (λ (ls : List ℕ). Has ls k) s.1
       (at_has (s.0 ++ cells_met q reads) at.0 k (at_start s.0 (cells_met q reads) at.0 k at.1))
 
-  -- they are all that the consumer met on lane p
+  -- the cells that these loads met on lane p are all that the consumer met there
   pub all_met : HasMetAll (hs.reader_of c) p (cells_met p reads) hs.pool
   all_met = record {
     met = met_on p;

@@ -21,13 +21,13 @@ use Rattle.mb_world.specs.Worlds.{IsWorldLawful}
 use Rattle.mb_world.specs.Places.{AreAtHeads}
 use Rattle.mb_world.specs.WorldState.{IsPlaceAt, IsWorldAfter}
 
--- a position in a list of equal elements
+-- in a list of equal elements this element stands at each position
 get-replicate : {X : Type 0} (n i : ℕ) (x : X) → i < n → slice_get (replicate n x) i ≡ Some x
 get-replicate zero i x less = absurd (omega (arith, less))
 get-replicate (suc n) zero x less = refl
 get-replicate (suc n) (suc i) x less = get-replicate n i x (omega (arith, less))
 
--- what is like nothing alone is nothing
+-- if no value has the property, what has it is None
 pub none_alone : {X : Type 0} (P : Option X → Type 0) → ((x : X) → P (Some x) → ⊥) → (y : Option X) → P y → y ≡ None
 none_alone P never None h = refl
 none_alone P never (Some x) h = absurd (never x h)

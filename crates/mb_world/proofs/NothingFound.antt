@@ -1,4 +1,4 @@
--- A step of a consumer finds nothing exactly if it has met all cells and the lane goes on.
+-- A step of a consumer finds nothing exactly if the consumer has met all cells and the lane goes on.
 use Rattle.std.proofs.Common.{◌≡◌, ◌⊎◌, ℕ, ◌+◌, ◌-◌, ◌<◌, Bool, true, false, cond, List, [], ◌∷◌, ◌++◌, Option, Some, None, refl, sym, ◌∙◌, ap, subst, inl, inr, arith}
 use Rattle.std.specs.Prelude.{filter, nat_eq}
 use Rattle.std.proofs.lemmas.Bool.{eqb-true}
@@ -94,6 +94,7 @@ module _ (plan : Plan) (h : WorldHistory) (lawful : IsWorldLawful plan h) (known
       → (ks ≡ linked_cells p (pool_accesses h)) × (has_ended p (pool_accesses h) ≡ false)
   all_met ks (later, start) zero = by (with_last later)
     where
+      -- if the link past all cells holds 0, it has no end mark
       by_end : (b : Bool) → has_ended p (pool_accesses h) ≡ b → cond b END 0 ≡ 0 → has_ended p (pool_accesses h) ≡ false
       by_end true e f = absurd (cc)
       by_end false e f = e
@@ -174,6 +175,7 @@ module _ (plan : Plan) (h : WorldHistory) (lawful : IsWorldLawful plan h) (known
         let one = one_place was.cells was.notes was.held path (linked_cells p (pool_accesses h)) f.notes f.path in
         by leads one.0 one.2
       where
+        -- a load of the link past all cells finds 0
         zero_there : (ks : List ℕ) (v : ℕ) → x ≡ link_load c p ks v → ks ≡ linked_cells p (pool_accesses h) → v ≡ 0
         zero_there ks v e same =
             loaded x longer ks v e

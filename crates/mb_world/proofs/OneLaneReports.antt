@@ -16,7 +16,7 @@ module _ (t : Assignment) (xs ys : List ℕ) (ds : List DiaryView) where
   abbrev r : ReportView
   r = report_of xs ys ds
 
-  -- it agrees as far as the one lane and the consumers of the report go
+  -- the report agrees with the assignment, as far as its one lane and its consumers go
   pub record AgreesOnLane : Type 0 where
     pub elsewhere : (p j : ℕ) → t (suc p) j ≡ None
     pub known : (c j : ℕ) → t 0 j ≡ Some c → c < length ds
@@ -33,6 +33,7 @@ module _ (t : Assignment) (xs ys : List ℕ) (ds : List DiaryView) where
     abbrev IsOutside : ℕ → ℕ → Type 0
     IsOutside c p = (diary c p r ≡ None) × ((j : ℕ) → t p j ≡ Some c → ⊥)
 
+    -- either p is the one lane and c has a diary, or consumer c is outside there
     inside_or_not : (c p : ℕ) → ((p ≡ 0) × (c < length ds)) ⊎ IsOutside c p
     inside_or_not c zero = elim (cases_lt c (length ds)) [
       | inl here ↦ inl (refl, here)
@@ -41,9 +42,11 @@ module _ (t : Assignment) (xs ys : List ℕ) (ds : List DiaryView) where
     inside_or_not c (suc p) =
         inr (no_lane c p xs ys ds, (λ j e. let f = y.elsewhere p j in let g : None ≡ Some c = sym f ∙ e in cc))
 
+    -- a consumer without a diary on a lane has no notes there
     no_notes : (c p : ℕ) → diary c p r ≡ None → notes c p r ≡ []
     no_notes c p none = ap (λ (o : Option DiaryView). option_map_or (λ d. d.notes) o []) none
 
+    -- below stand the parts of `AgreesWith` for all consumers and lanes, each for those inside and those outside
     taken : (c p j : ℕ) → HasTaken c p j r ↔ (t p j ≡ Some c)
     taken c p j = by p (inside_or_not c p)
       where
@@ -52,10 +55,12 @@ module _ (t : Assignment) (xs ys : List ℕ) (ds : List DiaryView) where
         by (suc q) (inl here) = absurd (let e = here.0 in cc)
         by q (inr out) = ((λ h. absurd (not_noted c q j r (Took h.0) out.0 h.1)), (λ e. absurd (out.1 j e)))
 
+    -- a consumer that is not given an item fails the test of its share
     not_given : (o : Option ℕ) (c : ℕ) → (o ≡ Some c → ⊥) → is_consumer c o ≡ false
     not_given None c none = refl
     not_given (Some d) c none = ne_eqb d c (λ e. none (ap Some e))
 
+    -- each ledger is the share of its consumer
     ledgers : (c p : ℕ) → ledger c p r ≡ share t c p r
     ledgers c p = by p (inside_or_not c p)
       where
@@ -67,6 +72,7 @@ module _ (t : Assignment) (xs ys : List ℕ) (ds : List DiaryView) where
             ∙ sym (items_where-none (λ j. is_consumer c (t 0 j)) xs (λ j. not_given (t 0 j) c (out.1 j)))
         by (suc q) (inr out) = ap (filter_map item_taken) (no_notes c (suc q) out.0)
 
+    -- an item is given only to a consumer that competed for it
     competitors : (c p j : ℕ) → t p j ≡ Some c → (j < length (items_put p r)) × HasCompeted c p j r
     competitors c p j e = by p (inside_or_not c p) e
       where
@@ -76,6 +82,7 @@ module _ (t : Assignment) (xs ys : List ℕ) (ds : List DiaryView) where
         by (suc q) (inl here) f = absurd (let e = here.0 in cc)
         by q (inr out) f = absurd (out.1 j f)
 
+    -- each loss says of the winner what `IsLossTo` asks
     losses : (c w p j : ℕ) → HasLostTo c w p j r → IsLossTo t c w p j r
     losses c w p j h = by p (inside_or_not c p) h
       where
@@ -84,6 +91,7 @@ module _ (t : Assignment) (xs ys : List ℕ) (ds : List DiaryView) where
         by (suc q) (inl here) l = absurd (let e = here.0 in cc)
         by q (inr out) l = absurd (not_noted c q j r (Lost w) out.0 l)
 
+    -- there are no more notes than items
     within : (c p : ℕ) → length (notes c p r) ≤ length (items_put p r)
     within c p = by p (inside_or_not c p)
       where
@@ -92,6 +100,7 @@ module _ (t : Assignment) (xs ys : List ℕ) (ds : List DiaryView) where
         by (suc q) (inl here) = absurd (let e = here.0 in cc)
         by q (inr out) = rw (no_notes c q out.0) (omega arith)
 
+    -- a begun claim is on an item
     begun_within : (c p : ℕ) → is_begun c p r ≡ true → length (notes c p r) < length (items_put p r)
     begun_within c p b = by p (inside_or_not c p) b
       where
@@ -102,11 +111,12 @@ module _ (t : Assignment) (xs ys : List ℕ) (ds : List DiaryView) where
         by q (inr out) e =
             absurd (false≢true (sym (ap (λ (o : Option DiaryView). option_map_or (λ d. d.begun) o false) out.0) ∙ e))
 
+    -- the items left are those given to nobody
     left : (p : ℕ) → items_left p r ≡ rest t p r
     left zero = y.left
     left (suc p) = refl
 
-    -- a report that agrees so far agrees with the assignment
+    -- so the report agrees with the assignment
     pub agrees_on_lane : AgreesWith t r
     agrees_on_lane = record {
       given = record {

@@ -20,7 +20,8 @@ value_of (ToCells a) = act_value a.act
 value_of (ToClaims a) = 0
 
 module _ (cs : Claims) (c p : ℕ) where
-  -- two accesses of one consumer are alike: as loads of one word they give one value, as steps on one cell they are one
+  -- two accesses of consumer c are alike: as loads of one word they find one value, as steps on one cell they are one
+  -- step
   pub record AreAlike (a b : WorldAccess) : Type 0 where
     pub loads : (w : Word) (v u : ℕ) → a ≡ ToCells (load c w v) → b ≡ ToCells (load c w u) → v ≡ u
     pub steps : (k : ℕ) (x y : ObjectTurn) → a ≡ claim_step c k x → b ≡ claim_step c k y → x ≡ y
@@ -29,6 +30,7 @@ module _ (cs : Claims) (c p : ℕ) where
       → s ≡ r)
       (going : (x : ObjectTurn) (xs : List ObjectTurn) (s : Stage) → IsClaimPrefix cs c (x ∷ xs) s
       → IsClaimPrefix cs c xs stage.Going) where
+    -- a value that leads to no cell is not that of a link to cell k
     not_cell : (v k : ℕ) → (v ≡ 0) ⊎ (v ≡ END) → k + 1 ≢ END → v ≡ k + 1 → ⊥
     not_cell v k (inl e) ne f = absurd (omega (arith, e, f))
     not_cell v k (inr e) ne f = ne (sym f ∙ e)
@@ -38,12 +40,12 @@ module _ (cs : Claims) (c p : ℕ) where
         → IsClaimPrefix cs c xs stage.Won → ⊥
     ended_won x xs s q won = let e = one_stage xs stage.Going stage.Won (going x xs s q) won in cc
 
-    -- after the same steps a claim has a note or none
+    -- after the same steps a claim does not both have a note and have none
     noted_once : (xs : List ObjectTurn) (s r : Stage) (n : Note) → IsClaimPrefix cs c xs s → IsClaimPrefix cs c xs r
         → note_of s ≡ None → note_of r ≡ Some n → ⊥
     noted_once xs s r n q w e f = let same = ap note_of (one_stage xs s r q w) in cc
 
-    -- from one place they are one access, and lead to one place
+    -- if two accesses that are alike lead on from one place, they are one access and lead to one place
     pub one_next : {a b : WorldAccess} {was x y : PathEnd} → AreAlike a b → Leads cs c p a was x → Leads cs c p b was y
         → (a ≡ b) × (x ≡ y)
     one_next l (waited ks ns v says e) (waited _ _ u tells f) =
@@ -87,14 +89,15 @@ module _ (cs : Claims) (c p : ℕ) where
         let same = l.loads (Item k) v u e f in
         (e ∙ (ap (λ (i : ℕ). item_load c k i) same ∙ sym f), ap (λ (i : ℕ). path_end (k ∷ ks) (Took i ∷ ns) None) same)
 
-    -- the same access is alike
+    -- two loads of one word that are one access find one value
     value_in_load : (w : Word) (v u : ℕ) → ToCells (load c w v) ≡ ToCells (load c w u) → v ≡ u
     value_in_load w v u e = ap value_of e
 
-    -- one access has one step
+    -- two steps on one cell that are one access are one step
     step_in : (k : ℕ) (x y : ObjectTurn) → claim_step c k x ≡ claim_step c k y → x ≡ y
     step_in k x y e = let f : claim_access c k x ≡ claim_access c k y = cc in ap (λ (z : ClaimAccess). z.step) f
 
+    -- an access is alike to itself
     alike_same : (a : WorldAccess) → AreAlike a a
     alike_same a = record {
       loads = λ w v u e f. value_in_load w v u (sym e ∙ f);
@@ -106,7 +109,7 @@ module _ (cs : Claims) (c p : ℕ) where
         → path_end ks ns z ≡ path_end [] [] None
     at_first begins = refl
 
-    -- what was done leads to one place
+    -- what was done leads to at most one place
     pub one_place : (done : WorldHistory) (x y : PathEnd) → ConsumerPath cs c p done x.cells x.notes x.held
         → ConsumerPath cs c p done y.cells y.notes y.held → x ≡ y
     one_place [] x y s r = at_first s ∙ sym (at_first r)
@@ -116,7 +119,7 @@ module _ (cs : Claims) (c p : ℕ) where
         let same : m.was ≡ n.was = one_place older m.was n.was m.path n.path in
         (one_next (alike_same a) (subst (λ (z : PathEnd). Leads cs c p a z x) same m.leads) n.leads).1
 
-    -- and goes on with one access
+    -- what was done goes on with at most one access, among those that are alike
     pub one_more : (done : WorldHistory) (a b : WorldAccess) (x y : PathEnd) → AreAlike a b
         → ConsumerPath cs c p (a ∷ done) x.cells x.notes x.held
         → ConsumerPath cs c p (b ∷ done) y.cells y.notes y.held → a ≡ b

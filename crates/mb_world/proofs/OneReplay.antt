@@ -1,4 +1,4 @@
--- Events have one replay.
+-- A list of events has at most one replay.
 use Rattle.std.proofs.Common.{◌≡◌, List, [], ◌∷◌, Option, Some, None, refl, sym, ◌∙◌, ap, ap₂, subst}
 use Rattle.mb_world.specs.declared.event.Answer.{Answer}
 use Rattle.mb_world.specs.declared.event.Answer.TheVariants as answer
@@ -31,21 +31,21 @@ module _ (plan : Plan) (h : WorldHistory) (known : EventKnown plan h) where
   never_both (event.Step c p word) r a refused made lawful =
       step_never_both plan h known c p word r a refused made lawful
 
-  -- an event has one refusal
+  -- an event has at most one answer that refuses it
   refused_once : (e : Event) (r s : Answer) → IsRefused plan e r h → IsRefused plan e s h → r ≡ s
   refused_once (event.Offer p x) r s a b = offer_refused_once plan h known p x r s a b
   refused_once (event.Push p) r s a b = push_refused_once plan h known p r s a b
   refused_once (event.Finish p) r s a b = finish_refused_once plan h known p r s a b
   refused_once (event.Step c p word) r s a b = step_refused_once plan h known c p word r s a b
 
-  -- an access has one name
+  -- at most one answer names an access
   named_once : (a : WorldAccess) (r s : Answer) → AnswerNames plan r a h → AnswerNames plan s a h → r ≡ s
   named_once (ToCells a) r s e f = let same : Some r ≡ Some s = sym e ∙ f in cc
   named_once (ToClaims a) r s (x, q, e) (y, w, f) =
       let same = known.one_stage a.consumer (a.step ∷ claim_part a.consumer a.cell (claim_accesses h)) x y q w in
       e ∙ (ap (λ (z : Stage). answer.Claimed a.cell a.step.object a.step.turn.act z) same ∙ sym f)
 
-  -- an event has one answer, and one access or none
+  -- an event has at most one answer, with one access or with none
   pub one_entry : (e : Event) (r s : Answer) (a b : Option WorldAccess) → HasAnswer plan e r a h
       → HasAnswer plan e s b h → (r ≡ s) × (a ≡ b)
   one_entry e r s None None x y = (refused_once e r s x y, refl)
@@ -56,7 +56,7 @@ module _ (plan : Plan) (h : WorldHistory) (known : EventKnown plan h) where
       (named_once b r s (subst (λ z. AnswerNames plan r z h) same x.1) y.1, ap Some same)
 
 module _ (plan : Plan) (known : (h : WorldHistory) → IsWorldLawful plan h → EventKnown plan h) where
-  -- an entry keeps the history lawful
+  -- an event that has an answer leaves the history lawful
   lawful_on : (e : Event) (r : Answer) (a : Option WorldAccess) (h : WorldHistory) → IsWorldLawful plan h
       → HasAnswer plan e r a h
       → IsWorldLawful plan (with_access a h)
@@ -72,7 +72,7 @@ module _ (plan : Plan) (known : (h : WorldHistory) → IsWorldLawful plan h → 
   replay_lawful (e ∷ es) (r ∷ rs) was now lawful (a, entry, rest) =
       replay_lawful es rs (with_access a was) now (lawful_on e r a was lawful entry) rest
 
-  -- events have one list of answers, and lead to one history
+  -- events have at most one list of answers, and lead to at most one history
   pub one_replay : (es : List Event) (rs ss : List Answer) (was now then : WorldHistory) → IsWorldLawful plan was
       → IsReplay plan es rs was now → IsReplay plan es ss was then → (rs ≡ ss) × (now ≡ then)
   one_replay [] [] [] was now then lawful x y = (refl, x ∙ sym y)

@@ -18,7 +18,7 @@ use Rattle.mb_world.proofs.Loads.{met_given}
 use Rattle.mb_world.proofs.ReaderParts.{loaded-read}
 
 -- ---- lists that have one element at each position
--- what stands in the one stands in the other
+-- what stands at a position of the one list stands there in the other
 abbrev StandsIn : {A : Type 0} → List A → List A → Type 0
 StandsIn {A} xs ys = (j : ℕ) (x : A) → slice_get xs j ≡ Some x → slice_get ys j ≡ Some x
 
@@ -44,10 +44,11 @@ some_lanes : (n m i : ℕ) → i < n * m → 0 < m
 some_lanes n zero i less = omega (arith, less)
 some_lanes n (suc m) i less = omega arith
 
--- a diary and a report made of these parts
+-- a diary made of these parts
 abbrev diary_of : ℕ → ℕ → List Note → Bool → DiaryView
 diary_of c p ns b = record { consumer = c; lane = p; notes = ns; begun = b }
 
+-- a report made of these parts
 abbrev report_of : List LaneView → List DiaryView → ReportView
 report_of ls ds = record { lanes = ls; diaries = ds }
 
@@ -59,15 +60,17 @@ one_bool false true f g = g refl
 one_bool false false f g = refl
 
 module _ (plan : Plan) (hs : Histories) (known : Known plan hs) where
-  -- the claim of consumer c on cell k has ended so
+  -- the claim of consumer c on cell k has ended as the note says
   abbrev Ends : ℕ → ℕ → Note → Type 0
   Ends c k n = EndsAs plan.claims c k n (parts_of c hs)
 
   -- ---- a claim has one end
+  -- a claim has one stage
   one_stage : (c k : ℕ) (s r : Stage) → HasStageIn plan.claims c k s (parts_of c hs)
       → HasStageIn plan.claims c k r (parts_of c hs) → s ≡ r
   one_stage c k s r = known.stage c (claim_part c k hs.claims) s r
 
+  -- the end of a claim has one note
   one_end : (c k : ℕ) (n m : Note) → Ends c k n → Ends c k m → n ≡ m
   one_end c k (Took v) (Took u) x y =
       let value : (z : ℕ) → Ends c k (Took z) → z ≡ _ =
@@ -85,14 +88,14 @@ module _ (plan : Plan) (hs : Histories) (known : Known plan hs) where
 
   -- ---- a consumer has one diary on a lane
   module _ (c p : ℕ) (cs : c < consumers_of plan) where
-    -- cells stand at the same positions of both
+    -- a cell met stands at the same position by both diaries
     same_at : (d e : DiaryView) (x : IsDiaryOf plan c p hs d) (y : IsDiaryOf plan c p hs e) (j k : ℕ)
         → StandsAt x.cells j k → StandsAt y.cells j k
     same_at d e x y j k at =
         met_at plan hs known c p cs e y j k (placed plan hs known c p cs d x j k at)
         (met_given (hs.reader_of c) p hs.pool x.cells k x.met.met (at_has x.cells j k at))
 
-    -- and so do notes
+    -- a note of the one diary stands at the same position in the other
     same_note : (d e : DiaryView) → IsDiaryOf plan c p hs d → IsDiaryOf plan c p hs e → StandsIn d.notes e.notes
     same_note d e x y j n is =
         let q = note_at plan hs known c p cs d x j n is in
@@ -104,6 +107,7 @@ module _ (plan : Plan) (hs : Histories) (known : Known plan hs) where
         let one = one_end c q.0 m n (subst (λ i. Ends c i m) (at_one y.cells j r.0 q.0 r.1 there) r.2) q.2 in
         found ∙ ap Some one
 
+    -- if the one diary says that a claim is begun, so does the other
     same_begun : (d e : DiaryView) → IsDiaryOf plan c p hs d → IsDiaryOf plan c p hs e → d.begun ≡ true → e.begun ≡ true
     same_begun d e x y is =
         let q = x.begun.0 is in

@@ -36,7 +36,7 @@ ends_at E (k ∷ ks) (m ∷ ns) j n h e =
     by (inl g) older = let q = older g in (q.0, inr q.1, q.2)
     by (inr g) older = (k, inl (g.0 ∙ (length-reverse ns ∙ ends_length E ks ns h.1), refl), subst (E k) g.1 h.0)
 
--- a cell that was given was given by some access
+-- a cell that was given was given by one of the accesses
 pub gave-some : (d : History) (k : ℕ) → Gave k d → (a : PoolAccess) × Has d a × IsGift k a.word a.act
 gave-some [] k g = absurd g
 gave-some (a ∷ d) k (inl g) = (a, inl refl, g)
@@ -51,6 +51,7 @@ module _ (cs : Claims) (c : ℕ)
       → Tracks cs c done (k ∷ qs) ns (Some xs) → (n : Note) → EndsIn cs c done k n → ⊥
   open_end done k qs ns xs once y n e = by y.is_open.0 y.is_open.1 y.is_open.2 n e
     where
+      -- the claim has one stage, by the path and by the steps made
       same : (s r : Stage) → IsClaimPrefix cs c xs s → IsClaimPrefix cs c (claim_part c k (claim_accesses done)) r
           → s ≡ r
       same s r q w = one_stage c xs s r q (subst (λ zs. IsClaimPrefix cs c zs r) y.is_held w)
@@ -77,7 +78,7 @@ module _ (cs : Claims) (c : ℕ)
   noted_within done (q ∷ qs) ns (Some xs) once y j k n (inr at) e =
       omega (arith, at_within qs j k at, ends_length (EndsIn cs c done) qs ns y.ended)
 
-  -- cell k is one of these, has steps of the claim there, and the claim has no end
+  -- cell k is one of these, has steps of a claim of c, and the claim has no end
   abbrev pub IsOpenAt : WorldHistory → List ℕ → ℕ → Type 0
   IsOpenAt done ks k = Has ks k × (claim_part c k (claim_accesses done) ≢ []) × ((n : Note) → EndsIn cs c done k n → ⊥)
 
@@ -100,6 +101,7 @@ module _ (cs : Claims) (c : ℕ)
   open_begun done [] ns (Some xs) y k z = absurd z.0
   open_begun done (q ∷ qs) ns (Some xs) y k z = by z.0
     where
+      -- a claim with an access is begun
       begun : (zs : List ObjectTurn) → claim_part c q (claim_accesses done) ≡ zs → q ≡ k → has_begun (Some zs) ≡ true
       begun [] e same = absurd (z.1 (subst (λ i. claim_part c i (claim_accesses done) ≡ []) same e))
       begun (x ∷ zs) e same = refl

@@ -1,4 +1,4 @@
--- What a consumer met and loaded on one lane, by its path there.
+-- What a consumer met and loaded on one lane, as its path there tells.
 use Rattle.std.proofs.Common.{◌≡◌, ◌≢◌, ◌⊎◌, ℕ, ◌+◌, ◌<◌, true, false, List, [], ◌∷◌, Option, Some, None, refl, sym, ◌∙◌, ap, subst, inl, inr, arith}
 use Rattle.std.specs.Prelude.{cond}
 use Rattle.std.proofs.lemmas.Bool.{ne_eqb}
@@ -91,7 +91,7 @@ module _ (cs : Claims) (c : ℕ) where
   path_met {p} (takes {older} {ks} {ns} {k} {xs} {v} q s) =
       met_more c p (pool_accesses older) (load c (Item k) v ∷ pool_accesses older) (k ∷ ks) (λ b m. inr m) (path_met s)
 
-  -- they are all the cells met
+  -- the cells to which the path leads are all that its loads met
   pub path_cells : {p : ℕ} {done : WorldHistory} {ks : List ℕ} {ns : List Note} {held : Option (List ObjectTurn)}
       → ConsumerPath cs c p done ks ns held → cells_met p (pool_accesses done) ≡ ks
   path_cells begins = refl

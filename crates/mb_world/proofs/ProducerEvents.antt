@@ -30,11 +30,11 @@ abbrev stored_value : Option (Word × ℕ) → ℕ
 stored_value None = 0
 stored_value (Some s) = s.1
 
--- two such stores that are one store in one word
+-- if two such stores are equal, they are in one word
 first_same : (w u : Word) (v x : ℕ) → stored w v ≡ stored u x → w ≡ u
 first_same w u v x e = ap stored_word e
 
--- two such stores that are one store one value
+-- if two such stores are equal, they store one value
 second_same : (w u : Word) (v x : ℕ) → stored w v ≡ stored u x → v ≡ x
 second_same w u v x e = ap stored_value e
 
@@ -51,7 +51,7 @@ module _ (plan : Plan) (h : WorldHistory) (known : EventKnown plan h) (p : ℕ) 
       (lawful.producers p)
 
   -- ---- offers have one access or one refusal
-  -- an offer has one access
+  -- an offer has at most one access
   pub one_offer : (x : ℕ) (a b : WorldAccess) → IsAccessOf (event.Offer p x) a h → IsWorldLawful plan (a ∷ h)
       → IsAccessOf (event.Offer p x) b h → IsWorldLawful plan (b ∷ h) → a ≡ b
   one_offer x a b (n, is_a) la (m, is_b) lb =
@@ -82,7 +82,7 @@ module _ (plan : Plan) (h : WorldHistory) (known : EventKnown plan h) (p : ℕ) 
           let f : None ≡ Some why = sym free ∙ refuses in
           cc
 
-  -- an offer has one refusal
+  -- an offer has at most one answer that refuses it
   pub offer_refused_once : (x : ℕ) (r s : Answer) → IsRefused plan (event.Offer p x) r h
       → IsRefused plan (event.Offer p x) s h
       → r ≡ s
@@ -123,7 +123,7 @@ module _ (plan : Plan) (h : WorldHistory) (known : EventKnown plan h) (p : ℕ) 
       by None ne = ne refl
       by (Some k) ne = ne refl
 
-  -- a push has one access
+  -- a push has at most one access
   pub one_push : (a b : WorldAccess) → IsAccessOf (event.Push p) a h → IsWorldLawful plan (a ∷ h)
       → IsAccessOf (event.Push p) b h → IsWorldLawful plan (b ∷ h) → a ≡ b
   one_push a b (w, v, push_a, is_a) la (u, x, push_b, is_b) lb =
@@ -133,6 +133,7 @@ module _ (plan : Plan) (h : WorldHistory) (known : EventKnown plan h) (p : ℕ) 
       lane : (l : Lane) × IsLaneOf plan p l h
       lane = known.place p
 
+      -- a push stores what the producer's place has to store
       pushes : (y : Word) (z : ℕ) (c : WorldAccess) → IsPushed y z → c ≡ ToCells (store p y z)
           → IsWorldLawful plan (c ∷ h)
           → push_store p lane.0 ≡ stored y z
@@ -162,14 +163,14 @@ module _ (plan : Plan) (h : WorldHistory) (known : EventKnown plan h) (p : ℕ) 
         | inr mark ↦ not_pushed lane w v mark.1.0 mark.1.1 pushed
       ]
 
-  -- a push has one refusal
+  -- a push has at most one answer that refuses it
   pub push_refused_once : (r s : Answer) → IsRefused plan (event.Push p) r h → IsRefused plan (event.Push p) s h → r ≡ s
   push_refused_once r s (inl (_, e)) (inl (_, f)) = e ∙ sym f
   push_refused_once r s (inl (past, _)) (inr (ps, _)) = absurd (omega (arith, past, ps))
   push_refused_once r s (inr (ps, _)) (inl (past, _)) = absurd (omega (arith, past, ps))
   push_refused_once r s (inr (_, (lane, at, idle, e))) (inr (_, (other, there, still, f))) = e ∙ sym f
 
-  -- a finish has one access
+  -- a finish has at most one access
   pub one_finish : (a b : WorldAccess) → IsAccessOf (event.Finish p) a h → IsWorldLawful plan (a ∷ h)
       → IsAccessOf (event.Finish p) b h → IsWorldLawful plan (b ∷ h) → a ≡ b
   one_finish a b (w, link_a, is_a) la (u, link_b, is_b) lb =
@@ -180,6 +181,7 @@ module _ (plan : Plan) (h : WorldHistory) (known : EventKnown plan h) (p : ℕ) 
       lane : (l : Lane) × IsLaneOf plan p l h
       lane = known.place p
 
+      -- a store of the end mark is in the lane's next link
       marked : (y : Word) (c : WorldAccess) → IsLinkWord y → c ≡ ToCells (store p y END) → IsWorldLawful plan (c ∷ h)
           → y ≡ next_link p lane.0
       marked y c link e l =
@@ -206,7 +208,7 @@ module _ (plan : Plan) (h : WorldHistory) (known : EventKnown plan h) (p : ℕ) 
             | inr mark ↦ let f : None ≡ Some why = sym mark.0 ∙ refuses in cc
           ]
 
-  -- a finish has one refusal
+  -- a finish has at most one answer that refuses it
   pub finish_refused_once : (r s : Answer) → IsRefused plan (event.Finish p) r h
       → IsRefused plan (event.Finish p) s h → r ≡ s
   finish_refused_once r s (inl (_, e)) (inl (_, f)) = e ∙ sym f

@@ -1,4 +1,4 @@
--- A call of a producer's lane, on the state of a world.
+-- What a call of the pool for a producer makes of the state of a world.
 use Rattle.std.proofs.Common.{◌≡◌, ◌≢◌, ◌↔◌, ℕ, ◌+◌, ◌-◌, ◌<◌, cond, ◌∷◌, Option, Some, None, refl, sym, ◌∙◌, ap, subst, subst₂, inr, arith}
 use Rattle.std.specs.Prelude.{is_some, unwrap_or}
 use Rattle.std.specs.Option.{option_map_or}
@@ -49,7 +49,7 @@ module _ (s : WorldState) (h : WorldHistory) (is : IsWorldAfter h s) (p : ℕ) (
   cells_now = same.1 ∙ is.cells
 
   -- ---- the state after a call
-  -- after a call without an access
+  -- if the call made no access, the same history leaves the state with the new pool
   after_none : IsAfter (pool_accesses h) pool → IsWorldAfter h (with_pool pool s)
   after_none after = record {
     lawful = is.lawful;
@@ -63,19 +63,21 @@ module _ (s : WorldState) (h : WorldHistory) (is : IsWorldAfter h s) (p : ℕ) (
     note = is.note;
   }
 
-  -- after a call with an access of the producer
+  -- what holds if the call made this access of the producer
   module _ (a : PoolAccess) (maker : a.process ≡ Producer p) (after : IsAfter (a ∷ pool_accesses h) pool) where
+    -- what the access adds to the history
     pub adds : ProducerAdds (plan s h is) a h
     adds =
         goes a maker (subst₂ (λ l m. IsPoolLawful (pool_size l m) (a ∷ pool_accesses h)) lanes_now
         cells_now after.lawful)
 
-    -- no consumer loads anything by it
+    -- the access adds nothing to what consumers loaded
     loads_stay : (d : ℕ) → part (Reader d) (a ∷ pool_accesses h) ≡ part (Reader d) (pool_accesses h)
     loads_stay d =
         ap (λ (who : Process). cond (is_same_process (Reader d) who) (a ∷ part (Reader d) (pool_accesses h))
         (part (Reader d) (pool_accesses h))) maker
 
+    -- the ends of all claims stay
     ends_stay : (d j : ℕ) (n : Note) → Ends (plan s h is).claims h d j n
         ↔ Ends (plan s h is).claims (ToCells a ∷ h) d j n
     ends_stay d j (Took v) = (
@@ -85,6 +87,7 @@ module _ (s : WorldState) (h : WorldHistory) (is : IsWorldAfter h s) (p : ℕ) (
     ends_stay d j (Lost w) = ((λ e. e), (λ e. e))
     ends_stay d j Undecided = ((λ e. e), (λ e. e))
 
+    -- the longer history leaves the state with the new pool
     after_access : IsWorldAfter (ToCells a ∷ h) (with_pool pool s)
     after_access = record {
       lawful = adds.lawful;
@@ -115,11 +118,11 @@ module _ (s : WorldState) (h : WorldHistory) (is : IsWorldAfter h s) (p : ℕ) (
   abbrev lane_here : Lane
   lane_here = slice_index_or s.pool.lanes p new_lane
 
-  -- it is the place to which its part leads
+  -- this place is the one to which the producer's part leads
   at : IsLaneAfter (cell_count s.pool) p lane_here (part (Producer p) (pool_accesses h))
   at = is.pool.lanes p new_lane (omega (arith, ps, is.lanes))
 
-  -- it is its place after the history
+  -- this place is the producer's after the history
   lane_of : IsLaneOf (plan s h is) p lane_here h
   lane_of =
       subst (λ (n : ℕ). IsLaneAfter n p lane_here (part (Producer p) (pool_accesses h))) is.cells at
@@ -171,13 +174,13 @@ module _ (s : WorldState) (h : WorldHistory) (is : IsWorldAfter h s) (p : ℕ) (
   link_is_no_mark cell (phase.Ended None) fits e = absurd (cc)
   link_is_no_mark cell (phase.Ended (Some x)) fits e = absurd (cc)
 
-  -- what a push stores, and its answer
+  -- a store of v in word w is one that a push makes, and the push's answer z names it
   pub record IsPush (w : Word) (v : ℕ) (z : Push) : Type 0 where
-    -- what a push makes of the world
+    -- the store is of an item, or of a link that is no end mark
     pub pushed : IsPushed w v
     pub named : answer_to (plan s h is).claims.cells w (Store v) ≡ Some (answer.Pushed z)
 
-  -- a store of a link is what a push stores, and its answer names the cell
+  -- a push makes a store of the number of a cell, plus one, in the lane's next link, and this answer names it
   pushes_link : (last : Option ℕ) (cell : ℕ) → cell + 1 ≢ END → IsPush (link_after p last) (cell + 1) (push.Link cell)
   pushes_link last cell other = by last
     where
@@ -190,12 +193,13 @@ module _ (s : WorldState) (h : WorldHistory) (is : IsWorldAfter h s) (p : ℕ) (
       by None = record { pushed = other; named = told }
       by (Some k) = record { pushed = other; named = told }
 
+  -- what a push makes of the world
   pub pushed : (z : Push) → PushMeets s.pool p z pool
       → EventAdds (event.Push p) (answer.Pushed z) (with_pool pool s) h
   pushed z meets =
       let m = meets (pool_accesses h) lane_here is.pool at in by lane_here.stage refl m.0 m.1
     where
-      -- with a store
+      -- if the push made a store, the history with that store leaves the state
       stores : (w : Word) (v : ℕ) → IsPush w v z → IsAfter (store p w v ∷ pool_accesses h) pool
           → EventAdds (event.Push p) (answer.Pushed z) (with_pool pool s) h
       stores w v is_push later = record {
@@ -204,7 +208,7 @@ module _ (s : WorldState) (h : WorldHistory) (is : IsWorldAfter h s) (p : ℕ) (
         left = after_access (store p w v) refl later;
       }
 
-      -- with none
+      -- if the push made no store, the same history leaves the state
       rests : push_store p lane_here ≡ None → z ≡ push.Idle → IsAfter (pool_accesses h) pool
           → EventAdds (event.Push p) (answer.Pushed z) (with_pool pool s) h
       rests idle t later = record {
@@ -230,11 +234,13 @@ module _ (s : WorldState) (h : WorldHistory) (is : IsWorldAfter h s) (p : ℕ) (
       by lane.Open e t later = rests (ap (stage_push_store (next_link p lane_here)) e) t later
 
   -- ---- what finishes make of the world
+  -- word w is a head or a link, and the answer to a store of the end mark there says that the lane is ended
   record IsMark (w : Word) : Type 0 where
     pub link : IsLinkWord w
     pub named : answer_to (plan s h is).claims.cells w (Store END) ≡ Some (answer.Finished finish.Ended)
 
-  -- the end mark goes to a head or link
+  -- the lane's next link is a head or a link, and the answer to a store of the end mark there says that the lane is
+  -- ended
   marks : (last : Option ℕ) → IsMark (link_after p last)
   marks last = by last
     where

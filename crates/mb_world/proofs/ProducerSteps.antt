@@ -1,4 +1,4 @@
--- One more access of a producer in a lawful history of a world.
+-- One more access of a producer, after which the history of a world stays lawful.
 use Rattle.std.proofs.Common.{◌≡◌, ◌⊎◌, ℕ, Bool, true, false, ◌&&◌, ◌||◌, cond, List, ◌∷◌, Option, Some, None, refl, sym, ◌∙◌, ap, subst, inl, inr, eq-eqb, eqb-true}
 use Rattle.std.specs.Prelude.{filter, nat_eq}
 use Rattle.std.proofs.lemmas.Bool.{and_parts, cases_Bool, cases_eq, cond_both, ne_eqb}
@@ -12,7 +12,7 @@ use Rattle.mb_world.proofs.Cells.{cell-of_true, has_cell-true}
 use Rattle.mb_world.proofs.LaneParts.{filter_same}
 use Rattle.mb_world.proofs.ReaderParts.{reader_is}
 
--- a lane after an access of producer p: that of another stays, and its own may have one cell more
+-- an access of producer p leaves the lane of any other producer
 linked_other : (p q : ℕ) (a : PoolAccess) (h : History) → a.process ≡ Producer p → (q ≡ p → ⊥)
     → linked_cells q (a ∷ h) ≡ linked_cells q h
 linked_other p q a h own other =
@@ -21,6 +21,7 @@ linked_other p q a h own other =
     ∙ ap (λ (b : Bool). cond b (push_if (link_of a.word a.act) (linked_cells q h)) (linked_cells q h))
     (ne_eqb q p other)
 
+-- an access of producer p adds to the lane of p the cell that it links, if it links one
 linked_own : (p : ℕ) (a : PoolAccess) (h : History) → a.process ≡ Producer p
     → linked_cells p (a ∷ h) ≡ push_if (link_of a.word a.act) (linked_cells p h)
 linked_own p a h own =
@@ -43,7 +44,7 @@ linked_more q a h k has =
 is_on_none : (c q p : ℕ) (ls : List ℕ) (a : PoolAccess) → a.process ≡ Producer p → is_on c q ls (ToCells a) ≡ false
 is_on_none c q p ls a own = ap (λ (w : Process). is_same_process (Reader c) w && is_of_lane q ls a.word) own
 
--- a cell that is on no lane makes no difference
+-- one more cell makes no difference to whether a word is of the lane, if the word is not of that cell
 word_same : (q k : ℕ) (ls : List ℕ) (w : Word) → ((j : ℕ) → (w ≡ Link j) ⊎ (w ≡ Item j) → k ≡ j → ⊥)
     → is_of_lane q (k ∷ ls) w ≡ is_of_lane q ls w
 word_same q k ls Counter apart = refl
@@ -60,6 +61,7 @@ module _ (plan : Plan) (h : WorldHistory) (lawful : IsWorldLawful plan h)
   new_cell : (k : ℕ) → link_of a.word a.act ≡ Some k → (q : ℕ) → Has (linked_cells q (pool_accesses h)) k → ⊥
   new_cell k is q has = by (cases_eq q p)
     where
+      -- lane p has the new cell first
       own : linked_cells p (a ∷ pool_accesses h) ≡ k ∷ linked_cells p (pool_accesses h)
       own = linked_own p a (pool_accesses h) maker
           ∙ ap (λ (o : Option ℕ). push_if o (linked_cells p (pool_accesses h))) is
@@ -72,7 +74,7 @@ module _ (plan : Plan) (h : WorldHistory) (lawful : IsWorldLawful plan h)
           ne (one q p k (linked_more q a (pool_accesses h) k has)
           (subst (λ (ls : List ℕ). Has ls k) (sym own) (inl refl)))
 
-  -- no access of a consumer is on that cell
+  -- the access's new cell makes no difference to which accesses of a consumer are on a lane
   on_same : (c q k : ℕ) → link_of a.word a.act ≡ Some k → (x : WorldAccess) → Has h x
       → is_on c q (k ∷ linked_cells q (pool_accesses h)) x ≡ is_on c q (linked_cells q (pool_accesses h)) x
   on_same c q k is (ToClaims x) has = by (cases_Bool (nat_eq x.consumer c))
@@ -100,6 +102,7 @@ module _ (plan : Plan) (h : WorldHistory) (lawful : IsWorldLawful plan h)
           ap (λ (b : Bool). is_same_process (Reader c) x.process && b)
           (word_same q k (linked_cells q (pool_accesses h)) x.word (apart y.lane here))
         where
+          -- an access of a consumer on a lane is not to a word of the new cell
           apart : (l : ℕ) → is_of_lane l (linked_cells l (pool_accesses h)) x.word ≡ true → (j : ℕ)
               → (x.word ≡ Link j) ⊎ (x.word ≡ Item j) → k ≡ j → ⊥
           apart l here j (inl w) f =
@@ -112,6 +115,7 @@ module _ (plan : Plan) (h : WorldHistory) (lawful : IsWorldLawful plan h)
               (subst (λ (v : Word). is_of_lane l (linked_cells l (pool_accesses h)) v ≡ true) w here)))
       by (inr e) = rw e refl
 
+  -- so the parts of all consumers stay
   pub parts_stay : (d q : ℕ) → lane_part d q (ToCells a ∷ h) ≡ lane_part d q h
   parts_stay d q =
       ap (λ (b : Bool). cond b (ToCells a ∷ filter (is_on d q (linked_cells q (a ∷ pool_accesses h))) h)
@@ -119,6 +123,7 @@ module _ (plan : Plan) (h : WorldHistory) (lawful : IsWorldLawful plan h)
       (is_on_none d q p (linked_cells q (a ∷ pool_accesses h)) a maker)
       ∙ by (cases_eq q p)
     where
+      -- this holds whether the access links a cell or not
       by_link : (o : Option ℕ) → link_of a.word a.act ≡ o
           → filter (is_on d q (push_if o (linked_cells q (pool_accesses h)))) h ≡ lane_part d q h
       by_link None is = refl
@@ -132,6 +137,7 @@ module _ (plan : Plan) (h : WorldHistory) (lawful : IsWorldLawful plan h)
           ∙ by_link (link_of a.word a.act) refl
       by (inr ne) = ap (λ (ls : List ℕ). filter (is_on d q ls) h) (linked_other p q a (pool_accesses h) maker ne)
 
+  -- so the longer history is lawful
   pub producer_goes_on : IsWorldLawful plan (ToCells a ∷ h)
   producer_goes_on = record {
     sized = lawful.sized;
@@ -152,6 +158,7 @@ module _ (plan : Plan) (h : WorldHistory) (lawful : IsWorldLawful plan h)
     no_others = λ d x has by_d. on_some_lane d x has by_d;
   }
     where
+      -- an access on a lane is on it with more cells linked, too
       lane_more : (q : ℕ) (ls ms : List ℕ) → ((k : ℕ) → Has ls k → Has ms k) → (d : ℕ) (x : WorldAccess)
           → is_on d q ls x ≡ true → is_on d q ms x ≡ true
       lane_more q ls ms more d (ToClaims x) on =
@@ -161,12 +168,14 @@ module _ (plan : Plan) (h : WorldHistory) (lawful : IsWorldLawful plan h)
           let y = and_parts (is_same_process (Reader d) x.process) (is_of_lane q ls x.word) on in
           rw (y.0, word_more x.word y.1) refl
         where
+          -- a word of the lane is one with more cells linked, too
           word_more : (w : Word) → is_of_lane q ls w ≡ true → is_of_lane q ms w ≡ true
           word_more Counter e = e
           word_more (Head i) e = e
           word_more (Link k) e = has_cell-true ms k (more k (cell-of_true ls k e))
           word_more (Item k) e = has_cell-true ms k (more k (cell-of_true ls k e))
 
+      -- each access of a consumer is on some lane still
       on_some_lane : (d : ℕ) (x : WorldAccess) → Has (ToCells a ∷ h) x → IsBy d x → IsOnLane plan d x (ToCells a ∷ h)
       on_some_lane d x (inl e) by_d =
           let f : a.process ≡ Reader d = subst (IsBy d) (sym e) by_d in

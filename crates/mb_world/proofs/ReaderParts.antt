@@ -1,23 +1,27 @@
--- What a reader loaded: its part has that and nothing else.
+-- The part of a reader has what the reader loaded, and nothing else.
 use Rattle.std.proofs.Common.{◌≡◌, ◌⊎◌, ℕ, Bool, true, [], ◌∷◌, refl, sym, ◌∙◌, ap, subst, inl, inr, eq-eqb, eqb-true}
 use Rattle.std.proofs.lemmas.Bool.{cond_both}
 use Rattle.mb_world.specs.Imports.{Counter, Has, HasLoaded, Head, History, Item, Link, Load, PoolAccess, PoolAct, Process, Producer, Reader, Word, is_same_process, is_same_word, load, part}
 use Rattle.mb_world.specs.Fitting.{HasRead}
 
--- ---- a process, a word and an access are told by their parts
+-- ---- equal processes, words and accesses
+-- a reader is the same process as itself
 pub reader_same : (q : ℕ) → is_same_process (Reader q) (Reader q) ≡ true
 reader_same q = eq-eqb q q refl
 
+-- a process that the test finds the same as a reader is that reader
 pub reader_is : (q : ℕ) (who : Process) → is_same_process (Reader q) who ≡ true → who ≡ Reader q
 reader_is q (Producer p) e = absurd (cc)
 reader_is q (Reader r) e = ap Reader (sym (eqb-true q r e))
 
+-- a word is the same word as itself
 pub word_same : (w : Word) → is_same_word w w ≡ true
 word_same Counter = refl
 word_same (Head p) = eq-eqb p p refl
 word_same (Link k) = eq-eqb k k refl
 word_same (Item k) = eq-eqb k k refl
 
+-- words that the test finds the same are one word
 pub word_is : (v w : Word) → is_same_word v w ≡ true → v ≡ w
 word_is Counter Counter e = refl
 word_is Counter (Head q) e = absurd (cc)
@@ -36,7 +40,7 @@ word_is (Item p) (Head q) e = absurd (cc)
 word_is (Item p) (Link q) e = absurd (cc)
 word_is (Item p) (Item q) e = ap Item (eqb-true p q e)
 
--- an access is what its fields are
+-- an access is made of its process, its word and its act
 pub access_is : (a : PoolAccess) (who : Process) (w : Word) (act : PoolAct) → a.process ≡ who → a.word ≡ w → a.act ≡ act
     → a ≡ record { process = who; word = w; act = act }
 access_is a who w act e f g = rw (← e, ← f, ← g) refl
@@ -72,11 +76,11 @@ of_part q (b ∷ h) a has =
         (inl own.1, sym (ap (λ (x : PoolAccess). x.process) own.1) ∙ reader_is q b.process own.0)
     by t e older (inr m) = let o = older m in (inr o.0, o.1)
 
--- a reader's part has what it loaded
+-- a reader's part has each load that the reader made
 pub read-loaded : (q : ℕ) (h : History) (w : Word) (v : ℕ) → HasLoaded q w v h → HasRead w v (part (Reader q) h)
 read-loaded q h w v has = (load q w v, has_part q h (load q w v) has refl, refl, refl)
 
--- what a reader's part has the reader loaded
+-- each load that a reader's part has was made by the reader
 pub loaded-read : (q : ℕ) (h : History) (w : Word) (v : ℕ) → HasRead w v (part (Reader q) h) → HasLoaded q w v h
 loaded-read q h w v read =
     let own = of_part q h read.0 read.1 in

@@ -28,7 +28,7 @@ module _ (plan : Plan) (hs : Histories) (known : Known plan hs) where
   abbrev Diary : ℕ → ℕ → DiaryView → Type 0
   Diary c p d = IsDiaryOf plan c p hs d
 
-  -- the end that a note tells names the winner that the note names
+  -- if a claim has ended as a note says, its stage names the winner that the note names
   end_named : (c k : ℕ) (n : Note) (w : ℕ) → c < consumers_of plan → EndsAs plan.claims c k n (parts_of c hs)
       → winner_named c n ≡ Some w
       → (s : Stage) × HasStage plan.claims c k s hs.claims × StageNames c s w
@@ -88,6 +88,7 @@ module _ (plan : Plan) (hs : Histories) (known : Known plan hs) where
     notes_within : (c p : ℕ) → length (notes c p r) ≤ length (items_put p r)
     notes_within c p = by_cases (cases_lt p plan.lanes) (cases_lt c (consumers_of plan))
       where
+        -- this holds whether there are such a consumer and such a lane or not
         by_cases : (p < plan.lanes) ⊎ (plan.lanes ≤ p) → (c < consumers_of plan) ⊎ (consumers_of plan ≤ c)
             → length (notes c p r) ≤ length (items_put p r)
         by_cases (inl ps) (inl cs) =
@@ -114,6 +115,7 @@ module _ (plan : Plan) (hs : Histories) (known : Known plan hs) where
             × (slice_get (is.diary c p cs ps).0.notes j ≡ Some (Lost w))
         i = note_in plan hs r is c p j (Lost w) e
 
+        -- this holds whether the winner is one of the consumers or not
         by_winner : (w < consumers_of plan) ⊎ (consumers_of plan ≤ w) → (w ≢ c) × HasCompeted w p j r
         by_winner (inl ws) =
             let d = is.diary c p i.0 i.1 in
@@ -140,6 +142,7 @@ module _ (plan : Plan) (hs : Histories) (known : Known plan hs) where
     left_all : (p : ℕ) → items_left p r ≡ items_where (λ j. not (is_taken (consumers_of plan) p j r)) (items_put p r)
     left_all p = by_lane (cases_lt p plan.lanes)
       where
+        -- this holds whether there is such a lane or not
         by_lane : (p < plan.lanes) ⊎ (plan.lanes ≤ p)
             → items_left p r ≡ items_where (λ j. not (is_taken (consumers_of plan) p j r)) (items_put p r)
         by_lane (inl ps) = rw (put_is plan hs r is p ps) (left_is plan hs r is p ps)

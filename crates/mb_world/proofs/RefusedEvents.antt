@@ -15,7 +15,7 @@ use Rattle.mb_world.specs.Replay.{IsLaneOf, IsRefused}
 module _ (plan : Plan) (h : WorldHistory) (p : ℕ) (ps : p < plan.lanes)
     (place : (lane : Lane) × IsLaneOf plan p lane h) where
   -- ---- when offers are refused
-  -- an offer is refused so exactly if its producer's place says so
+  -- an offer is refused with this answer exactly if its producer's place says so
   pub offer_refused : (x : ℕ) (why : Offer) (X : Type 0)
       → ((lane : Lane) → IsLaneOf plan p lane h → (offer_refusal lane ≡ Some why) ↔ X)
       → IsRefused plan (event.Offer p x) (answer.Offered why) h ↔ X
@@ -51,7 +51,7 @@ module _ (plan : Plan) (h : WorldHistory) (p : ℕ) (ps : p < plan.lanes)
       from (e, is) = inr (ps, (place.0, place.1, (says place.0 place.1).1 is, e))
 
   -- ---- when finishes are refused
-  -- a finish is refused so exactly if its producer's place says so
+  -- a finish is refused with this answer exactly if its producer's place says so
   pub finish_refused : (why : Finish) (X : Type 0)
       → ((lane : Lane) → IsLaneOf plan p lane h → (finish_refusal lane ≡ Some why) ↔ X)
       → IsRefused plan (event.Finish p) (answer.Finished why) h ↔ X

@@ -14,15 +14,15 @@ pub at_position : (c : ℕ) (xs ys : List ℕ) (ds : List DiaryView) → diary c
 at_position c xs ys ds =
     let e : c * 1 + 0 ≡ c = omega arith in ap (slice_get ds) e
 
--- there is no other consumer
+-- a consumer past the end of the list has no diary
 pub no_diary : (c : ℕ) (xs ys : List ℕ) (ds : List DiaryView) → length ds ≤ c → diary c 0 (report_of xs ys ds) ≡ None
 no_diary c xs ys ds past = at_position c xs ys ds ∙ slice_get_past ds c past
 
--- who has no diary has no note
+-- a consumer without a diary on a lane has no note there
 pub not_noted : (c p j : ℕ) (r : ReportView) (n : Note) → diary c p r ≡ None → note c p j r ≡ Some n → ⊥
 not_noted c p j r n none e = let q : slice_get {X = Note} [] j ≡ Some n = rw none at e in cc
 
--- who has no diary does not compete
+-- a consumer without a diary on a lane does not compete there
 pub not_competing : (c p j : ℕ) (r : ReportView) → diary c p r ≡ None → HasCompeted c p j r → ⊥
 not_competing c p j r none (inl h) =
     let e : notes c p r ≡ [] = ap (λ (o : Option DiaryView). option_map_or (λ d. d.notes) o []) none in
@@ -31,6 +31,6 @@ not_competing c p j r none (inr h) =
     let e : is_begun c p r ≡ false = ap (λ (o : Option DiaryView). option_map_or (λ d. d.begun) o false) none in
     false≢true (sym e ∙ h.1)
 
--- there is no other lane
+-- no consumer has a diary on another lane than lane 0
 pub no_lane : (c p : ℕ) (xs ys : List ℕ) (ds : List DiaryView) → diary c (suc p) (report_of xs ys ds) ≡ None
 no_lane c p xs ys ds = rw (le-ltb (suc p) 1 (omega arith)) refl

@@ -33,6 +33,7 @@ module _ (plan : Plan) (hs : Histories) (r : ReportView) (is : IsReportOf plan h
       beyond : length r.diaries ≤ c * length r.lanes + p
       beyond = rw (is.lanes_count, is.diaries_count) (omega (arith, size))
 
+      -- past the end of the diaries there is none, whatever the test of the lane says
       by_lane : (b : Bool) → cond b (slice_get r.diaries (c * length r.lanes + p)) None ≡ None
       by_lane true = slice_get_past r.diaries (c * length r.lanes + p) beyond
       by_lane false = refl
@@ -42,12 +43,12 @@ module _ (plan : Plan) (hs : Histories) (r : ReportView) (is : IsReportOf plan h
       ≡ Some (is.diary c p cs ps).0
   diary_is c p cs ps = rw (is.lanes_count, lt-ltb p plan.lanes ps) (is.diary c p cs ps).1
 
-  -- its notes are those of the report there
+  -- the notes of that diary are those of the report there
   pub notes_is : (c p : ℕ) (cs : c < consumers_of plan) (ps : p < plan.lanes)
       → notes c p r ≡ (is.diary c p cs ps).0.notes
   notes_is c p cs ps = ap (λ (o : Option DiaryView). option_map_or (λ d. d.notes) o []) (diary_is c p cs ps)
 
-  -- its claim is begun exactly if the report says so
+  -- a claim is begun by that diary exactly if the report says so
   pub begun_is : (c p : ℕ) (cs : c < consumers_of plan) (ps : p < plan.lanes)
       → is_begun c p r ≡ (is.diary c p cs ps).0.begun
   begun_is c p cs ps = ap (λ (o : Option DiaryView). option_map_or (λ d. d.begun) o false) (diary_is c p cs ps)
@@ -64,6 +65,7 @@ module _ (plan : Plan) (hs : Histories) (r : ReportView) (is : IsReportOf plan h
   pub inside : (c p : ℕ) → (diary c p r ≡ None → ⊥) → IsInside plan c p
   inside c p some = by_cases (cases_lt c (consumers_of plan)) (cases_lt p plan.lanes)
     where
+      -- if there is no such consumer, or no such lane, there is no diary
       by_cases : (c < consumers_of plan) ⊎ (consumers_of plan ≤ c) → (p < plan.lanes) ⊎ (plan.lanes ≤ p)
           → IsInside plan c p
       by_cases (inl cs) (inl ps) = (cs, ps)

@@ -6,15 +6,16 @@ use Rattle.mb_world.specs.Report.{ReportView, note}
 use Rattle.mb_world.specs.Assignment.{Assignment}
 use Rattle.mb_world.specs.Agreement.{AgreesWith, HasCompeted, HasTaken, IsFinished, IsLossTo, IsSettled}
 
--- some competitor's claim is unfinished
+-- some competitor's claim on the item is unfinished
 abbrev IsContested : ℕ → ℕ → ReportView → Type 0
 IsContested p j r = (d : ℕ) × HasCompeted d p j r × (IsFinished d p j r → ⊥)
 
--- a claim without a note is not finished, nor is one that ended undecided
+-- a claim without a note is not finished
 unfinished_none : (c p j : ℕ) (r : ReportView) → note c p j r ≡ None → IsFinished c p j r → ⊥
 unfinished_none c p j r e (inl h) = let k = h.1 in cc
 unfinished_none c p j r e (inr h) = let k = h.1 in cc
 
+-- a claim that ended undecided is not finished
 unfinished_undecided : (c p j : ℕ) (r : ReportView) → note c p j r ≡ Some Undecided → IsFinished c p j r → ⊥
 unfinished_undecided c p j r e (inl h) = let k = h.1 in cc
 unfinished_undecided c p j r e (inr h) = let k = h.1 in cc
@@ -38,7 +39,7 @@ module _ (t : Assignment) (r : ReportView) (a : AgreesWith t r) where
   pub settled : IsSettled r
   settled c p j inside competed none = at_note c p j competed none (note c p j r) refl
 
-  -- what the assignment gives, any other that the report agrees with gives
+  -- an item that the assignment t gives to c goes to c by each assignment with which the report agrees
   given_alike : (u : Assignment) → AgreesWith u r → (p j c : ℕ) → t p j ≡ Some c → u p j ≡ Some c
   given_alike u b p j c e = (b.given.taken c p j).0 ((a.given.taken c p j).1 e)
 

@@ -12,11 +12,11 @@ use Rattle.mb_world.proofs.Claimed.{part-another, part-elsewhere}
 use Rattle.mb_world.proofs.ReaderParts.{reader_same}
 
 module _ (cs : Claims) where
-  -- how the claim of consumer d on cell j has ended after a history
+  -- after a history, the claim of consumer d on cell j has ended as the note says
   abbrev pub Ends : WorldHistory → ℕ → ℕ → Note → Type 0
   Ends h d j n = EndsAs cs d j n (parts_of d (histories_of h))
 
-  -- the value was loaded from the item of cell j
+  -- in a history, consumer d loaded the value v from the item of cell j
   abbrev pub HasItem : WorldHistory → ℕ → ℕ → ℕ → Type 0
   HasItem h d j v = HasRead (Item j) v (part (Reader d) (pool_accesses h))
 
@@ -27,7 +27,7 @@ module _ (cs : Claims) where
       abbrev loaded : WorldHistory
       loaded = ToCells (load c w v) ∷ h
 
-      -- the loads of its consumer have it more
+      -- the loads of consumer c are those before and this one
       own_loads : part (Reader c) (pool_accesses loaded) ≡ load c w v ∷ part (Reader c) (pool_accesses h)
       own_loads = rw (reader_same c) refl
 
@@ -35,10 +35,11 @@ module _ (cs : Claims) where
       other_loads : (d : ℕ) → (d ≡ c → ⊥) → part (Reader d) (pool_accesses loaded) ≡ part (Reader d) (pool_accesses h)
       other_loads d other = rw (ne_eqb d c other) refl
 
-      -- a load of an item is an older one, or this one
+      -- a load of an item in the longer history is an older one, or this one
       pub item_loads : (d j u : ℕ) → HasItem loaded d j u → HasItem h d j u ⊎ ((d ≡ c) × (w ≡ Item j) × (v ≡ u))
       item_loads d j u read = by (cases_eq d c)
         where
+          -- the load found the item's value, or an older one did
           newest : (a : PoolAccess) → Has (load c w v ∷ part (Reader c) (pool_accesses h)) a → a.word ≡ Item j
               → a.act ≡ Load u → HasItem h c j u ⊎ ((w ≡ Item j) × (v ≡ u))
           newest a (inl e) is_word is_act =
@@ -57,7 +58,7 @@ module _ (cs : Claims) where
               ]
           by (inr other) = inl (subst (λ (l : History). HasRead (Item j) u l) (other_loads d other) read)
 
-      -- a value that was loaded from an item before is loaded in it, too
+      -- a value that was loaded from an item before is loaded in the longer history, too
       pub more_loads : (d j u : ℕ) → HasItem h d j u → HasItem loaded d j u
       more_loads d j u read = by (cases_eq d c)
         where
@@ -98,7 +99,7 @@ module _ (cs : Claims) where
           by (inl own) = part-elsewhere d j (claim_access c k x) (claim_accesses h) (λ e. other (sym own) (sym e))
           by (inr ne) = part-another d j (claim_access c k x) (claim_accesses h) ne
 
-      -- it leaves the ends of other claims
+      -- a step leaves the ends of other claims
       pub step_keeps : (d j : ℕ) (n : Note) → (d ≡ c → j ≡ k → ⊥) → Ends h d j n ↔ Ends stepped d j n
       step_keeps d j (Took u) other =
           let same = other_part d j other in (

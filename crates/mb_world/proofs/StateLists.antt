@@ -17,6 +17,7 @@ use Rattle.mb_world.proofs.Positions.{get-last, get-left}
 get_end : {A : Type 0} (xs : List A) (y : A) (i : ℕ) → i ≡ length xs → slice_get (xs ++ y ∷ []) i ≡ Some y
 get_end {A} xs y i e = subst (λ j. slice_get (xs ++ y ∷ []) j ≡ Some y) (sym e) (get-last xs y)
 
+-- if the state tells the reports of n lanes, and one of lane n, it tells n + 1 of them
 pub lanes_more : (s : WorldState) (n : ℕ) (l : LaneView) (ls : List LaneView) → AreLanesTold s n ls → IsLaneTold s n l
     → AreLanesTold s (n + 1) (ls ++ l ∷ [])
 lanes_more s n l ls told here = record {
@@ -31,7 +32,7 @@ lanes_more s n l ls told here = record {
   ];
 }
 
--- the elements of a grid with one more, at row c and column p
+-- if the elements of a grid have the property P, and one more at row c and column p has it, all of them have it
 grid_more : {A : Type 0} (P : ℕ → ℕ → A → Type 0) (w c p : ℕ) (xs : List A) (y : A) → p < w
     → length xs ≡ c * w + p → ((e q : ℕ) → q < w → e * w + q < c * w + p
     → (x : A) × (slice_get xs (e * w + q) ≡ Some x) × P e q x) → P c p y
@@ -48,6 +49,7 @@ grid_more P w c p xs y ps count each here e q qs less = elim (cases_lt (e * w + 
       )
 ]
 
+-- if the state tells the diaries before consumer c and lane p, and this one, it tells one more of them
 pub diaries_more : (s : WorldState) (c p : ℕ) (d : DiaryView) (ds : List DiaryView) → p < (plan_in s.setup).lanes
     → AreDiariesTold s (c * (plan_in s.setup).lanes + p) ds → IsDiaryTold s c p d
     → AreDiariesTold s (c * (plan_in s.setup).lanes + (p + 1)) (ds ++ d ∷ [])
@@ -56,6 +58,7 @@ diaries_more s c p d ds ps told here = record {
   each = grid_more (IsDiaryTold s) (plan_in s.setup).lanes c p ds d ps told.count told.each here;
 }
 
+-- if these places are before the heads of their lanes, and one more is, they all are
 pub heads_more : (lanes c p : ℕ) (places : List Place) → p < lanes → AreAtHeads lanes (c * lanes + p) places
     → AreAtHeads lanes (c * lanes + (p + 1)) (places ++ Before (Head p) ∷ [])
 heads_more lanes c p places ps heads = record {

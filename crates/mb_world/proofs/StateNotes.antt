@@ -15,7 +15,7 @@ use Rattle.mb_world.specs.Reporting.{any_below, is_took}
 use Rattle.mb_world.proofs.Tracks.{AreEnds}
 use mathlib.Core.List.{reverse-cons}
 
--- a number that passes is found
+-- if a number below n passes the test, one is found
 pub any_below-some : (n c : ℕ) (test : ℕ → Bool) → c < n → test c ≡ true → any_below n test ≡ true
 any_below-some zero c test less e = absurd (omega arith)
 any_below-some (suc n) c test less e = by (cases_eq c n) (λ under. any_below-some n c test under e)
@@ -32,12 +32,13 @@ any_below-some (suc n) c test less e = by (cases_eq c n) (λ under. any_below-so
     by (inl same) older = top (test n) (subst (λ i. test i ≡ true) same e)
     by (inr other) older = rest (test n) (older (omega (arith, less, other)))
 
--- tests that agree below a bound find the same there
+-- tests that agree below a bound find alike whether a number there passes
 pub any_below-same : (n : ℕ) (f g : ℕ → Bool) → ((c : ℕ) → c < n → f c ≡ g c) → any_below n f ≡ any_below n g
 any_below-same zero f g same = refl
 any_below-same (suc n) f g same =
     rw (same n (omega arith), any_below-same n f g (λ c less. same c (omega (arith, less)))) refl
 
+-- the notes along one cell that has a note are that note
 one_noted : (f : ℕ → Option Note) (q : ℕ) (n : Note) → f q ≡ Some n → filter_map f (q ∷ []) ≡ n ∷ []
 one_noted f q n e = rw e refl
 
@@ -53,7 +54,7 @@ noted f (q ∷ qs) (n ∷ ns) h =
     ∙ (ap (λ ms. ms ++ filter_map f (q ∷ [])) (noted f qs ns h.1)
     ∙ (ap (λ ms. reverse ns ++ ms) (one_noted f q n h.0) ∙ sym (reverse-cons n ns))))
 
--- a cell without a note adds none
+-- the list of notes of cells without a note is empty
 pub none_noted : (f : ℕ → Option Note) (xs : List ℕ) → ((k : ℕ) → Has xs k → f k ≡ None) → filter_map f xs ≡ []
 none_noted f [] none = refl
 none_noted f (x ∷ xs) none = rw (none x (inl refl)) (none_noted f xs (λ k has. none k (inr has)))
@@ -63,7 +64,7 @@ abbrev pub note_by : (ℕ → Option Note) → Option ℕ → Option Note
 note_by f None = None
 note_by f (Some k) = f k
 
--- at no position of cells without notes stands a note
+-- at no position of a list of cells without notes there is a note
 none_by : (f : ℕ → Option Note) (xs : List ℕ) (j : ℕ) → ((k : ℕ) → Has xs k → f k ≡ None)
     → note_by f (slice_get xs j) ≡ None
 none_by f [] zero none = refl
@@ -71,6 +72,7 @@ none_by f [] (suc j) none = refl
 none_by f (x ∷ xs) zero none = none x (inl refl)
 none_by f (x ∷ xs) (suc j) none = none_by f xs j (λ k has. none k (inr has))
 
+-- the empty list has no note at any position
 get_nil : (j : ℕ) → slice_get {X = Note} [] j ≡ None
 get_nil zero = refl
 get_nil (suc j) = refl
@@ -84,7 +86,7 @@ note_placed f (x ∷ xs) ys (suc j) some none =
     let q = some x (inl refl) in
     rw (q.1) (note_placed f xs ys j (λ k has. some k (inr has)) none)
 
--- a chosen item stands where its cell passes
+-- an item is chosen by its position exactly if its cell passes the test
 pub items_chosen : (item : ℕ → ℕ) (t : ℕ → Bool) (test : ℕ → Bool) (ks : List ℕ)
     → ((j k : ℕ) → slice_get ks j ≡ Some k → t j ≡ test k)
     → map item (filter test ks) ≡ items_where t (map item ks)
@@ -117,10 +119,11 @@ entry_cells pool (k ∷ ks) =
 pub put_cells : (p : ℕ) (pool : History) → map (λ (e : Entry). e.cell) (put_list p pool) ≡ reverse (linked_cells p pool)
 put_cells p pool = entry_cells pool (linked_cells p pool)
 
--- a note of an item taken is told from others
+-- a note that the item was taken passes the test for it
 pub took_some : (o : Option Note) (n : Note) (v : ℕ) → o ≡ Some n → n ≡ Took v → is_took o ≡ true
 took_some o n v e same = rw (e, same) refl
 
+-- the notes along one more cell are those before, and the note of that cell if it has one
 take_more : (f : ℕ → Option Note) (xs : List ℕ) (i d : ℕ) → i < length xs
     → filter_map f (take (suc i) xs) ≡ filter_map f (take i xs) ++ filter_map f (get_or xs i d ∷ [])
 take_more f [] i d less = absurd (omega arith)
@@ -133,7 +136,7 @@ take_more f (x ∷ xs) (suc i) d less = by (f x) refl (take_more f xs i d (omega
     by None e rest = rw e rest
     by (Some n) e rest = rw e (ap (λ zs. n ∷ zs) rest)
 
--- one cell further: it has a note, which is added
+-- if the next cell has a note, the note comes after those of the cells before
 pub note_read : (f : ℕ → Option Note) (xs : List ℕ) (i d : ℕ) (ns : List Note) (n : Note) → i < length xs
     → ns ≡ filter_map f (take i xs) → f (get_or xs i d) ≡ Some n → ns ++ n ∷ [] ≡ filter_map f (take (i + 1) xs)
 note_read f xs i d ns n less old here =
@@ -142,7 +145,7 @@ note_read f xs i d ns n less old here =
     ∙ (ap (λ ms. filter_map f (take i xs) ++ ms) (one_noted f (get_or xs i d) n here)
     ∙ ap (λ ms. ms ++ n ∷ []) (sym old))))
 
--- one cell further: it has no note, and none is added
+-- if the next cell has no note, none comes after those of the cells before
 pub note_missed : (f : ℕ → Option Note) (xs : List ℕ) (i d : ℕ) (ns : List Note) → i < length xs
     → ns ≡ filter_map f (take i xs) → ((n : Note) → f (get_or xs i d) ≡ Some n → ⊥)
     → ns ≡ filter_map f (take (i + 1) xs)

@@ -87,7 +87,7 @@ closed_at [] (Some xs) j k at less = absurd at
 closed_at (q ∷ qs) (Some xs) j k (inl at) less = absurd (omega (arith, at.0, less))
 closed_at (q ∷ qs) (Some xs) j k (inr at) less = at_has qs j k at
 
--- the lane's cells are those with notes, and cells linked later
+-- the lane's cells are those on which the claim has ended, and cells linked later
 closed_cut : (ks : List ℕ) (z : Option (List ObjectTurn)) (later ls : List ℕ) → later ++ ks ≡ ls
     → (late : List ℕ) × (late ++ closed ks z ≡ ls)
 closed_cut ks None later ls e = (later, e)
@@ -115,7 +115,7 @@ place_begun layout c p [] (Some xs) d is = absurd is
 place_begun layout c p (q ∷ qs) (Some xs) (Before at) is = absurd is
 place_begun layout c p (q ∷ qs) (Some xs) (At k claim) is = claim_begun claim.begun xs is.2.begun
 
--- ---- a lane, and the position of a diary
+-- ---- the view of a lane, and the position of a diary
 -- the view of a lane that is made of these parts
 abbrev lane_of : List ℕ → Bool → List ℕ → LaneView
 lane_of put ended left = record { put = put; ended = ended; left = left }
@@ -132,6 +132,7 @@ grid_within n w c p cs ps =
     let more : suc c * w ≡ c * w + w = grind arith in
     omega (arith, most, more, ps)
 
+-- ---- a state, and a history that leaves it
 module _ (s : WorldState) (h : WorldHistory) (is : IsWorldAfter h s) (known : WorldKnown (plan_in s.setup) h)
     (sound : AreSound (plan_in s.setup) (histories_of h))
     (fresh : (c : ℕ) → c < consumers_of (plan_in s.setup) → IsClaimPrefix (plan_in s.setup).claims c [] stage.Going)
@@ -139,20 +140,25 @@ module _ (s : WorldState) (h : WorldHistory) (is : IsWorldAfter h s) (known : Wo
     abbrev plan : Plan
     plan = plan_in s.setup
 
+    -- the claim of consumer c on cell k has ended as the note says
     abbrev Ends : ℕ → ℕ → Note → Type 0
     Ends c k n = EndsAs plan.claims c k n (parts_of c (histories_of h))
 
+    -- the cells linked on lane p, the last first
     abbrev linked : ℕ → List ℕ
     linked p = linked_cells p (pool_accesses h)
 
+    -- the cells of a walk along lane p are those linked there, the first first
     walk_is : (p : ℕ) (ks : List ℕ) (over : Bool) → IsWalked s.pool p ks over → ks ≡ reverse (linked p)
     walk_is p ks over w = sym (w (pool_accesses h) is.pool).cells ∙ put_cells p (pool_accesses h)
 
     -- ---- the note of a cell is the end of the claim there
+    -- if a claim has ended, the state has its note
     note_of_end : (c k : ℕ) (n : Note) → c < consumers_of plan → k < plan.claims.cells → Ends c k n
         → note_on s c k ≡ Some n
     note_of_end c k n cs less e = let q = is.note c k cs less in ap note_there q.1 ∙ (q.2 n).1 e
 
+    -- each note of the state is the end of the claim there
     end_of_note : (c k : ℕ) (n : Note) → c < consumers_of plan → k < plan.claims.cells → note_on s c k ≡ Some n
         → Ends c k n
     end_of_note c k n cs less e = let q = is.note c k cs less in (q.2 n).0 (sym (ap note_there q.1) ∙ e)
@@ -161,6 +167,7 @@ module _ (s : WorldState) (h : WorldHistory) (is : IsWorldAfter h s) (known : Wo
     end_some : (c k : ℕ) (n : Note) → c < consumers_of plan → Ends c k n → claim_part c k (claim_accesses h) ≢ []
     end_some c k n cs e none = by n e
       where
+        -- the claim would go on, as it has no access
         same : (z : _) → IsClaimPrefix plan.claims c (claim_part c k (claim_accesses h)) z → stage.Going ≡ z
         same z w =
             known.stage c [] stage.Going z (fresh c cs) (subst (λ xs. IsClaimPrefix plan.claims c xs z) none w)
@@ -172,19 +179,24 @@ module _ (s : WorldState) (h : WorldHistory) (is : IsWorldAfter h s) (known : Wo
 
     -- ---- the diary of one consumer on one lane
     module _ (c p : ℕ) (cs : c < consumers_of plan) (ps : p < plan.lanes) where
+      -- what the state's place of consumer c on lane p says
       abbrev at : IsPlaceAfter s.setup c p h (is.place c p cs ps).0
       at = (is.place c p cs ps).2
 
+      -- what consumer c did on lane p is on a path
       abbrev here : IsOnPath plan c p h
       here = record { cells = at.cells; notes = at.notes; held = at.held; path = at.path }
 
+      -- the cells that the consumer met whose claims have ended
       abbrev with_notes : List ℕ
       with_notes = closed at.cells at.held
 
+      -- the diary that follows from the path is that of the consumer on the lane
       own : IsDiaryOf plan c p (histories_of h)
           (record { consumer = c; lane = p; notes = reverse at.notes; begun = has_begun at.held })
       own = diary_is plan h is.lawful known c p at.cells at.notes at.held at.path
 
+      -- the state has the path's notes on these cells
       noted_here : AreEnds (λ k n. note_on s c k ≡ Some n) with_notes at.notes
       noted_here =
           ends_more (EndsIn plan.claims c (lane_part c p h)) (λ k n. note_on s c k ≡ Some n) with_notes at.notes
@@ -194,12 +206,13 @@ module _ (s : WorldState) (h : WorldHistory) (is : IsWorldAfter h s) (known : Wo
           (end_here plan h is.lawful known c p k n (has_cell-true (linked p) k stands) e))
           (tracks plan h is.lawful known c p here).ended
 
+      -- these cells are the first of the lane, and later cells follow
       late : (ks : List ℕ) × (ks ++ with_notes ≡ linked p)
       late =
           let start = known.start c p at.cells (met_all plan h is.lawful known c p here) in
           closed_cut at.cells at.held start.0 (linked p) start.1
 
-      -- a cell of the lane that has a note is met, and its note is among these
+      -- a cell of the lane on which the consumer's claim has ended is one of these cells
       ended_here : (k : ℕ) (n : Note) → Has (linked p) k → Ends c k n → Has with_notes k
       ended_here k n has e =
           let gave = (sound.fit c cs).met k (end_some c k n cs e) in
@@ -215,6 +228,7 @@ module _ (s : WorldState) (h : WorldHistory) (is : IsWorldAfter h s) (known : Wo
             ends_length (λ k n. note_on s c k ≡ Some n) with_notes at.notes noted_here,
           ))
 
+      -- on the later cells the state has no note of the consumer
       none_late : (k : ℕ) → Has (late.0) k → note_on s c k ≡ None
       none_late k has = by (note_on s c k) refl
         where
@@ -227,9 +241,11 @@ module _ (s : WorldState) (h : WorldHistory) (is : IsWorldAfter h s) (known : Wo
               absurd (once_apart late.0 with_notes k (subst IsOnceEach (sym late.1) (known.once p)) has
               (ended_here k n stands (end_of_note c k n cs (known.within p k stands) e)))
 
+      -- the lane in the order of linking: first these cells, then the later ones
       lane_order : reverse (linked p) ≡ reverse with_notes ++ reverse late.0
       lane_order = ap reverse (sym late.1) ∙ reverse-append late.0 with_notes
 
+      -- the notes along the lane are those of the path, the first first
       notes_along : filter_map (note_on s c) (reverse (linked p)) ≡ reverse at.notes
       notes_along =
           ap (filter_map (note_on s c)) lane_order
@@ -252,14 +268,17 @@ module _ (s : WorldState) (h : WorldHistory) (is : IsWorldAfter h s) (known : Wo
           (has_of_reverse with_notes k has))
           (λ k has. none_late k (has_of_reverse late.0 k has)))
 
+      -- the state says that a claim is begun exactly if the path does
       begun_here : begun_on s c p ≡ has_begun at.held
       begun_here =
           ap (λ (o : Option Place). option_map_or has_begun_at o false) (is.place c p cs ps).1
           ∙ place_begun s.setup.layout c p at.cells at.held (is.place c p cs ps).0 at.is
 
+      -- the notes of a diary that the state tells are those along the lane
       told_notes : (d : DiaryView) → IsDiaryTold s c p d → d.notes ≡ filter_map (note_on s c) (reverse (linked p))
       told_notes d t = t.notes ∙ ap (filter_map (note_on s c)) (walk_is p t.cells t.ended t.walked)
 
+      -- so a diary that the state tells is that of the consumer on the lane
       diary_told : (d : DiaryView) → IsDiaryTold s c p d → IsDiaryOf plan c p (histories_of h) d
       diary_told d t =
           let same : d.notes ≡ reverse at.notes = told_notes d t ∙ notes_along in
@@ -278,6 +297,7 @@ module _ (s : WorldState) (h : WorldHistory) (is : IsWorldAfter h s) (known : Wo
     -- ---- the whole report
     module _ (r : ReportView) (lanes : AreLanesTold s plan.lanes r.lanes)
         (diaries : AreDiariesTold s (consumers_of plan * plan.lanes) r.diaries) where
+      -- the report's note on an item is the state's note on the item's cell
       note_is : (c p j k : ℕ) → c < consumers_of plan → p < plan.lanes → slice_get (reverse (linked p)) j ≡ Some k
           → note c p j r ≡ note_on s c k
       note_is c p j k cs ps e =
@@ -288,12 +308,14 @@ module _ (s : WorldState) (h : WorldHistory) (is : IsWorldAfter h s) (known : Wo
           ap (λ (ns : List Note). slice_get ns j) (same ∙ told_notes c p cs ps t.0 t.2)
           ∙ (note_along c p cs ps j ∙ ap (note_by (note_on s c)) e)
 
+      -- the report says that an item was taken exactly if the state does
       taken_is : (p j k : ℕ) → p < plan.lanes → slice_get (reverse (linked p)) j ≡ Some k
           → not (is_taken (consumers_of plan) p j r) ≡ not (is_taken_on s k)
       taken_is p j k ps e =
           ap not (any_below-same (consumers_of plan) (λ c. is_took (note c p j r)) (λ c. is_took (note_on s c k))
           (λ c cs. ap is_took (note_is c p j k cs ps e)))
 
+      -- the view of a lane that the state tells is that of the report
       lane_told : (p : ℕ) (l : LaneView) → p < plan.lanes → IsLaneTold s p l → l ≡ lane_view plan p (histories_of h) r
       lane_told p l ps t =
           let w = t.walked (pool_accesses h) is.pool in
@@ -305,6 +327,7 @@ module _ (s : WorldState) (h : WorldHistory) (is : IsWorldAfter h s) (known : Wo
           (λ j k e. taken_is p j k ps (subst (λ (ls : List ℕ). slice_get ls j ≡ Some k) order e))
           ∙ ap (items_where (λ j. not (is_taken (consumers_of plan) p j r))) (sym w.values)))
 
+      -- so the report that the state tells is that of the history
       pub report_is : IsReportOf plan (histories_of h) r
       report_is = record {
         lanes_count = lanes.count;

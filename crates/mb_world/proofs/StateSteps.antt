@@ -1,4 +1,4 @@
--- The state of a world after one more access of a consumer: what stays of it, and what is left to be said.
+-- The state of a world after one more access of a consumer: which places and notes stay, and which are written.
 use Rattle.std.proofs.Common.{◌≡◌, ◌↔◌, ◌⊎◌, ℕ, ◌+◌, ◌*◌, ◌<◌, List, ◌∷◌, length, Option, Some, sym, ◌∙◌, subst, inl, inr}
 use Rattle.std.specs.Prelude.{slice_get, slice_set}
 use Rattle.std.proofs.lemmas.Bool.{cases_eq}
@@ -21,11 +21,11 @@ use Rattle.mb_world.specs.EventSteps.{EventAdds}
 use Rattle.mb_world.proofs.StateEnds.{Ends}
 use Rattle.mb_world.proofs.Grids.{HasAll, all_kept, all_set}
 
--- at a position stands one thing
+-- one thing stands at a position
 one_there : {X : Type 0} (o : Option X) (x y : X) → o ≡ Some x → o ≡ Some y → x ≡ y
 one_there o x y e f = let both : Some x ≡ Some y = sym e ∙ f in cc
 
--- a history leaves the state after an event
+-- after an event some history leaves the state
 pub still_sound : (e : Event) (r : Answer) (now : WorldState) (h : WorldHistory)
     → EventAdds e r now h → WorldIsSound now
 still_sound e r now h adds = (with_access adds.access h, adds.left)
@@ -67,7 +67,7 @@ module _ (s : WorldState) (h : WorldHistory) (is : IsWorldAfter h s) where
   module _ (c p : ℕ) (cs : c < consumers_of plan) (ps : p < plan.lanes) (a : WorldAccess)
       (adds : ConsumerAdds plan c p a h) where
     -- ---- the places after the access
-    -- another place stays
+    -- the place of another consumer or on another lane stays
     other_place : (e q : ℕ) (x : Place) → (e ≡ c → q ≡ p → ⊥) → IsPlaceAfter s.setup e q h x
         → IsPlaceAfter s.setup e q (a ∷ h) x
     other_place e q x other y = record {
@@ -79,7 +79,7 @@ module _ (s : WorldState) (h : WorldHistory) (is : IsWorldAfter h s) where
       is = y.is;
     }
 
-    -- the place to which its path leads with the access
+    -- the consumer's place on the lane after the access is the one to which its path then leads
     pub own_place : (ks : List ℕ) (ns : List Note) (held : Option (List ObjectTurn)) (d : Place)
         → ConsumerPath plan.claims c p (a ∷ lane_part c p h) ks ns held → IsPlaceAt (layout_of s.setup) c p ks held d
         → IsPlaceAfter s.setup c p (a ∷ h) d
@@ -91,7 +91,7 @@ module _ (s : WorldState) (h : WorldHistory) (is : IsWorldAfter h s) where
       is = at;
     }
 
-    -- the places stay as they are, if that of the consumer on the lane is right after the access
+    -- the places stay as they are, if that of consumer c on lane p is right after the access
     pub places_kept : (d : Place) → slice_get s.places (place_position c p) ≡ Some d
         → IsPlaceAfter s.setup c p (a ∷ h) d
         → ArePlaces (a ∷ h) s.places
@@ -99,6 +99,7 @@ module _ (s : WorldState) (h : WorldHistory) (is : IsWorldAfter h s) where
         all_kept (consumers_of plan) plan.lanes (λ e q x. IsPlaceAfter s.setup e q h x)
         (λ e q x. IsPlaceAfter s.setup e q (a ∷ h) x) s.places is.place keeps
       where
+        -- each place is right after the access: that of consumer c on lane p, and the others, which stay
         keeps : (e q : ℕ) (x : Place) → e < consumers_of plan → q < plan.lanes
             → slice_get s.places (place_position e q) ≡ Some x → IsPlaceAfter s.setup e q h x
             → IsPlaceAfter s.setup e q (a ∷ h) x
@@ -117,7 +118,7 @@ module _ (s : WorldState) (h : WorldHistory) (is : IsWorldAfter h s) where
             by (inr n) g = other_place e q x (λ f _. n f) old
             by (inl f) (inr n) = other_place e q x (λ _ g. n g) old
 
-    -- its place changes
+    -- if the place of consumer c on lane p is written, all places are right after the access
     pub places_set : (d : Place) → IsPlaceAfter s.setup c p (a ∷ h) d
         → ArePlaces (a ∷ h) (slice_set s.places (place_position c p) d)
     places_set d now =
@@ -130,12 +131,12 @@ module _ (s : WorldState) (h : WorldHistory) (is : IsWorldAfter h s) where
     places_count d = length-set s.places (place_position c p) d ∙ is.places_count
 
     -- ---- the notes after the access
-    -- a note stays, if the ends of its claim do
+    -- a note stays, if the ends of its claim stay
     note_kept : (e j : ℕ) (o : Option Note) → ((n : Note) → Ends plan.claims h e j n ↔ Ends plan.claims (a ∷ h) e j n)
         → IsNoteAfter s.setup e j h o → IsNoteAfter s.setup e j (a ∷ h) o
     note_kept e j o same old n = ((λ f. (same n).0 ((old n).0 f)), (λ f. (old n).1 ((same n).1 f)))
 
-    -- no note changes
+    -- if the ends of all claims stay, all notes do
     pub notes_kept : ((e j : ℕ) (n : Note) → Ends plan.claims h e j n ↔ Ends plan.claims (a ∷ h) e j n)
         → AreNotes (a ∷ h) s.notes
     notes_kept same =
@@ -143,9 +144,9 @@ module _ (s : WorldState) (h : WorldHistory) (is : IsWorldAfter h s) where
         (λ e j o. IsNoteAfter s.setup e j (a ∷ h) o) s.notes is.note
         (λ e j o _ _ _ old. note_kept e j o (same e j) old)
 
-    -- that of its claim on cell k is written
+    -- the note of consumer c on cell k is written
     module _ (k : ℕ) (ks : k < plan.claims.cells) (n : Note) where
-      -- the notes with the one that is written are right after the access
+      -- if that note is the end of the claim, and all other ends stay, all notes are right after the access
       pub notes_set : Ends plan.claims (a ∷ h) c k n → ((m : Note) → Ends plan.claims (a ∷ h) c k m → n ≡ m)
           → ((e j : ℕ) (m : Note) → (e ≡ c → j ≡ k → ⊥) → Ends plan.claims h e j m ↔ Ends plan.claims (a ∷ h) e j m)
           → AreNotes (a ∷ h) (slice_set s.notes (note_position c k) (Some n))
@@ -154,6 +155,7 @@ module _ (s : WorldState) (h : WorldHistory) (is : IsWorldAfter h s) where
           (λ e j o. IsNoteAfter s.setup e j (a ∷ h) o) s.notes is.note c k cs ks is.notes_count (Some n) written
           (λ e j o _ _ other old. note_kept e j o (λ m. same e j m other) old)
         where
+          -- the note that is written is the end of the claim
           written : IsNoteAfter s.setup c k (a ∷ h) (Some n)
           written m = (
             λ e. let one : n ≡ m = cc in subst (λ (x : Note). Ends plan.claims (a ∷ h) c k x) one now,

@@ -19,14 +19,14 @@ use Rattle.mb_world.proofs.WorldKnown.{WorldKnown}
 
 pub record StepKnown (s : WorldState) (h : WorldHistory) (c p : ℕ) : Type 0 where
   pub world : WorldKnown (plan_in s.setup) h
-  -- an access with which its path goes on keeps the history lawful
+  -- an access with which the consumer's path goes on keeps the history lawful
   pub goes : (a : WorldAccess) (ks : List ℕ) (ns : List Note) (held : Option (List ObjectTurn)) → IsTrueTo a h
       → ConsumerPath (plan_in s.setup).claims c p (a ∷ lane_part c p h) ks ns held
       → ConsumerAdds (plan_in s.setup) c p a h
   -- a load leaves the pool as it is
   pub stays : (w : Word) → LoadGoesOn w s.pool
 
--- these laws give it for each state that a history leaves
+-- these laws give what is known, for each state that a history leaves
 module _ (tables : (layout : Layout) → IsQuorumTable (quorums_of layout))
     (one_stage : (cs : Claims) (c : ℕ) (xs : List ObjectTurn) (s r : Stage) → IsQuorumTable cs.table
     → IsClaimPrefix cs c xs s → IsClaimPrefix cs c xs r → s ≡ r)

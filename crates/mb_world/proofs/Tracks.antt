@@ -1,4 +1,4 @@
--- What a consumer has done on one lane, as its place there tells it.
+-- What a consumer's place on one lane tells of all that the consumer did there.
 use Rattle.std.proofs.Common.{◌≡◌, ◌≢◌, ◌⊎◌, ℕ, ◌+◌, List, [], ◌∷◌, Option, Some, None, refl, sym, ◌∙◌, ap, subst, inl, inr}
 use Rattle.std.proofs.lemmas.Bool.{cases_eq}
 use Rattle.mb_claim.specs.declared.access.Stage.TheVariants as stage
@@ -15,35 +15,35 @@ use Rattle.mb_world.proofs.Loads.{gift_past}
 abbrev pub local : ℕ → WorldHistory → Parts
 local c done = record { reads = pool_accesses done; claimed = λ k. claim_part c k (claim_accesses done) }
 
--- how the claim of consumer c on cell k has ended in it
+-- the claim of consumer c on cell k has ended as the note says, by what c did on one lane
 abbrev pub EndsIn : Claims → ℕ → WorldHistory → ℕ → Note → Type 0
 EndsIn cs c done k n = EndsAs cs c k n (local c done)
 
--- the cells of which the claims have notes
+-- the cells met whose claims have ended: all of them, or all but the last if a claim is held
 abbrev pub closed : List ℕ → Option (List ObjectTurn) → List ℕ
 closed ks None = ks
 closed [] (Some xs) = []
 closed (k ∷ ks) (Some xs) = ks
 
--- the steps of a held claim are those on the last cell met
+-- the steps of a claim that is held are those made on the last cell met
 abbrev pub IsHeld : ℕ → WorldHistory → List ℕ → Option (List ObjectTurn) → Type 0
 IsHeld c done ks None = Unit {0}
 IsHeld c done [] (Some xs) = ⊥
 IsHeld c done (k ∷ ks) (Some xs) = claim_part c k (claim_accesses done) ≡ xs
 
--- a held claim has not come to its end
+-- a claim that is held has not come to its end
 abbrev pub IsOpenHeld : Claims → ℕ → Option (List ObjectTurn) → Type 0
 IsOpenHeld cs c None = Unit {0}
 IsOpenHeld cs c (Some xs) = (s : Stage) × IsClaimPrefix cs c xs s × (note_of s ≡ None)
 
--- each cell has its note
+-- each cell has its note, and the note is an end in the sense of E
 abbrev pub AreEnds : (ℕ → Note → Type 0) → List ℕ → List Note → Type 0
 AreEnds E [] [] = Unit {0}
 AreEnds E [] (n ∷ ns) = ⊥
 AreEnds E (k ∷ ks) [] = ⊥
 AreEnds E (k ∷ ks) (n ∷ ns) = E k n × AreEnds E ks ns
 
--- if each end in one sense is one in another, cells keep their notes
+-- if each end in the sense of E is one in the sense of F, cells keep their notes
 pub ends_more : (E F : ℕ → Note → Type 0) (ks : List ℕ) (ns : List Note)
     → ((k : ℕ) (n : Note) → Has ks k → E k n → F k n) → AreEnds E ks ns → AreEnds F ks ns
 ends_more E F [] [] more h = tt
@@ -52,7 +52,7 @@ ends_more E F (k ∷ ks) [] more h = absurd h
 ends_more E F (k ∷ ks) (n ∷ ns) more h =
     (more k n (inl refl) h.0, ends_more E F ks ns (λ i m has. more i m (inr has)) h.1)
 
--- each cell has an end
+-- each cell has an end in the sense of E
 pub ends_some : (E : ℕ → Note → Type 0) (ks : List ℕ) (ns : List Note) (k : ℕ) → AreEnds E ks ns → Has ks k
     → (n : Note) × E k n
 ends_some E [] ns k h has = absurd has
@@ -60,7 +60,7 @@ ends_some E (j ∷ ks) [] k h has = absurd h
 ends_some E (j ∷ ks) (n ∷ ns) k h (inl e) = (n, subst (λ i. E i n) e h.0)
 ends_some E (j ∷ ks) (n ∷ ns) k h (inr has) = ends_some E ks ns k h.1 has
 
--- what was read is read still after one more access
+-- a value that older accesses loaded from a word is loaded from it after one more access, too
 pub read-more : (a : PoolAccess) (d : History) (w : Word) (v : ℕ) → HasRead w v d → HasRead w v (a ∷ d)
 read-more a d w v h = (h.0, inr h.1, h.2, h.3)
 
@@ -72,11 +72,12 @@ read-cases a d w v h = by h.1
     by (inl e) = inl (ap (λ (x : PoolAccess). x.word) e ∙ h.2)
     by (inr m) = inr (h.0, m, h.2, h.3)
 
--- the link past cells is no item, and if it is the link of a cell, the cell is the last of these
+-- the link past cells is no item
 pub past_item : (p k : ℕ) (ks : List ℕ) → place_past p ks ≡ Item k → ⊥
 past_item p k [] e = cc
 past_item p k (j ∷ ks) e = cc
 
+-- if the link past cells is the link of a cell, that cell is one of these
 pub past_link : (p k : ℕ) (ks : List ℕ) → place_past p ks ≡ Link k → Has ks k
 past_link p k [] e = absurd (cc)
 past_link p k (j ∷ ks) e = let same : j ≡ k = cc in inl same
@@ -84,27 +85,33 @@ past_link p k (j ∷ ks) e = let same : j ≡ k = cc in inl same
 -- what a consumer's place on a lane tells of all that it did there
 pub record Tracks (cs : Claims) (c : ℕ) (done : WorldHistory) (ks : List ℕ) (ns : List Note)
     (held : Option (List ObjectTurn)) : Type 0 where
+  -- each cell met was given
   pub given : (k : ℕ) → Has ks k → Gave k (pool_accesses done)
+  -- no step was made on a cell that was not met
   pub none : (k : ℕ) → (Has ks k → ⊥) → claim_part c k (claim_accesses done) ≡ []
   pub is_held : IsHeld c done ks held
   pub is_open : IsOpenHeld cs c held
+  -- the steps on each cell are a prefix of a claim path
   pub prefix : (k : ℕ) → claim_part c k (claim_accesses done) ≢ []
       → (s : Stage) × IsClaimPrefix cs c (claim_part c k (claim_accesses done)) s
+  -- each cell whose claim has ended has its note
   pub ended : AreEnds (EndsIn cs c done) (closed ks held) ns
+  -- an item was loaded only if the claim there is won
   pub won : (k v : ℕ) → HasRead (Item k) v (pool_accesses done)
       → IsClaimPrefix cs c (claim_part c k (claim_accesses done)) stage.Won
+  -- items and links were loaded only of cells whose claims have ended
   pub items : (k v : ℕ) → HasRead (Item k) v (pool_accesses done) → Has (closed ks held) k
   pub links : (k v : ℕ) → HasRead (Link k) v (pool_accesses done) → Has (closed ks held) k
 
 module _ (cs : Claims) (c : ℕ) where
-  -- one more load keeps the ends
+  -- one more load keeps the ends of claims
   loaded : (a : PoolAccess) (done : WorldHistory) (k : ℕ) (n : Note) → EndsAs cs c k n (local c done)
       → EndsAs cs c k n (local c (ToCells a ∷ done))
   loaded a done k (Took v) e = (e.0, read-more a (pool_accesses done) (Item k) v e.1)
   loaded a done k (Lost w) e = e
   loaded a done k Undecided e = e
 
-  -- a step of the claim on another cell keeps the ends
+  -- a step of a claim on another cell keeps the ends of claims
   stepped : (k : ℕ) (x : ObjectTurn) (done : WorldHistory) (j : ℕ) (n : Note) → (k ≡ j → ⊥)
       → EndsAs cs c j n (local c done) → EndsAs cs c j n (local c (claim_step c k x ∷ done))
   stepped k x done j (Took v) ne e = (
@@ -119,7 +126,7 @@ module _ (cs : Claims) (c : ℕ) where
       subst (λ xs. IsClaimPrefix cs c xs stage.Undecided)
       (sym (part-elsewhere c j (claim_access c k x) (claim_accesses done) ne)) e
 
-  -- a claim that has a note at its last step has ended so
+  -- a claim that has a note at its last step has ended as the note says
   noted_end : (k : ℕ) (done : WorldHistory) (s : Stage) (n : Note)
       → IsClaimPrefix cs c (claim_part c k (claim_accesses done)) s → note_of s ≡ Some n
       → EndsAs cs c k n (local c done)
@@ -130,7 +137,7 @@ module _ (cs : Claims) (c : ℕ) where
   noted_end k done stage.Undecided n q e =
       let same : Undecided ≡ n = cc in subst (EndsIn cs c done k) same q
 
-  -- a step of the held claim, on the last cell met
+  -- what holds after one more step of the claim that is held on the last cell met
   module _ (k : ℕ) (ks : List ℕ) (ns : List Note) (xs : List ObjectTurn) (x : ObjectTurn) (older : WorldHistory)
       (once : IsOnceEach (k ∷ ks)) (z : Stage)
       (q : IsClaimPrefix cs c (x ∷ xs) z) (y : Tracks cs c older (k ∷ ks) ns (Some xs)) where
@@ -138,7 +145,7 @@ module _ (cs : Claims) (c : ℕ) where
     abbrev Now : WorldHistory
     Now = claim_step c k x ∷ older
 
-    -- the held claim has the step more
+    -- the claim that is held has this step more
     step_own : claim_part c k (claim_accesses Now) ≡ x ∷ xs
     step_own = part-own c k (claim_access c k x) (claim_accesses older) refl refl ∙ ap (λ zs. x ∷ zs) y.is_held
 
@@ -163,7 +170,7 @@ module _ (cs : Claims) (c : ℕ) where
             let r = y.prefix j (λ e. some (same ∙ e)) in
             (r.0, subst (λ zs. IsClaimPrefix cs c zs r.0) (sym same) r.1)
 
-    -- a cell of those before is another
+    -- a cell met before is another than the last one
     another : (j : ℕ) → Has ks j → k ≡ j → ⊥
     another j has e = once.0 (subst (Has ks) (sym e) has)
 
@@ -174,13 +181,13 @@ module _ (cs : Claims) (c : ℕ) where
         subst (λ zs. IsClaimPrefix cs c zs stage.Won)
         (sym (part-elsewhere c j (claim_access c k x) (claim_accesses older) (another j (y.items j v h)))) (y.won j v h)
 
-    -- the claims before have their notes still
+    -- the claims on the cells met before have their notes still
     step_ended : AreEnds (EndsIn cs c Now) ks ns
     step_ended =
         ends_more (EndsIn cs c older) (EndsIn cs c Now) ks ns
         (λ j n has. stepped k x older j n (another j has)) y.ended
 
-  -- a place tells this of each path to it
+  -- the place to which a path leads tells this of what was done
   pub track : {p : ℕ} {done : WorldHistory} {ks : List ℕ} {ns : List Note} {held : Option (List ObjectTurn)}
       → IsOnceEach ks → ConsumerPath cs c p done ks ns held → Tracks cs c done ks ns held
   track once begins = record {
@@ -194,6 +201,7 @@ module _ (cs : Claims) (c : ℕ) where
     items = λ k v h. h.1;
     links = λ k v h. h.1;
   }
+  -- the last access is a load of a link that leads to no cell
   track {p} once (waits {older} {ks} {ns} {v} says s) =
       let y = track once s in
       let a = load c (place_past p ks) v in
@@ -218,6 +226,7 @@ module _ (cs : Claims) (c : ℕ) where
         links = λ k u h. elim
             (read-cases a (pool_accesses older) (Link k) u h) [ inl e ↦ past_link p k ks e | inr m ↦ y.links k u m ];
       }
+  -- the last access is a load of a link that leads to cell k
   track {p} once (finds {older} {ks} {ns} {k} ne fresh s) =
       let y = track once.1 s in
       let a = load c (place_past p ks) (k + 1) in
@@ -245,6 +254,7 @@ module _ (cs : Claims) (c : ℕ) where
         links = λ j u h. elim
             (read-cases a (pool_accesses older) (Link j) u h) [ inl e ↦ past_link p j ks e | inr m ↦ y.links j u m ];
       }
+  -- the last access is a step of the claim, which then has no note
   track once (goes {older} {ks} {ns} {k} {xs} {x} z q still s) =
       let y = track once s in
       record {
@@ -258,6 +268,7 @@ module _ (cs : Claims) (c : ℕ) where
         items = y.items;
         links = y.links;
       }
+  -- the last access is the last step of the claim, which then has a note
   track once (ends {older} {ks} {ns} {k} {xs} {x} {n} z q note s) =
       let y = track once s in
       let own = step_own k ks ns xs x older once z q y in
@@ -275,6 +286,7 @@ module _ (cs : Claims) (c : ℕ) where
         items = λ j v h. inr (y.items j v h);
         links = λ j v h. inr (y.links j v h);
       }
+  -- the last access is the load of the item
   track once (takes {older} {ks} {ns} {k} {xs} {v} q s) =
       let y = track once s in
       let a = load c (Item k) v in

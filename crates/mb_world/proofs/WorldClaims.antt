@@ -51,6 +51,7 @@ module _ (plan : Plan) (h : WorldHistory) (lawful : IsWorldLawful plan h) (known
     pub below : lane < plan.lanes
     pub here : has_cell (linked_cells lane (pool_accesses h)) k ≡ true
 
+  -- each claim with steps is one of a consumer of the plan, on a cell of one of the lanes
   pub claim_lane : (c k : ℕ) → claim_part c k (claim_accesses h) ≢ [] → IsOnCell c k
   claim_lane c k some =
       let q = claim_has c k h some in
@@ -63,7 +64,7 @@ module _ (plan : Plan) (h : WorldHistory) (lawful : IsWorldLawful plan h) (known
             (and_parts (nat_eq q.0.consumer c) (has_cell (linked_cells on.lane (pool_accesses h)) q.0.cell) on.on).1;
       }
 
-  -- its steps are those of the part on that lane
+  -- the steps of a claim on a cell of a lane are those of the consumer's part on that lane
   pub steps_there : (c p k : ℕ) → has_cell (linked_cells p (pool_accesses h)) k ≡ true
       → claim_part c k (claim_accesses (lane_part c p h)) ≡ claim_part c k (claim_accesses h)
   steps_there c p k here = claim_on c p (linked_cells p (pool_accesses h)) k h here
@@ -84,7 +85,7 @@ module _ (plan : Plan) (h : WorldHistory) (lawful : IsWorldLawful plan h) (known
         );
   }
 
-  -- an end in the part on a lane is an end
+  -- the end of a claim by the consumer's part on a lane is its end by all that the consumer did
   pub end_here : (c p k : ℕ) (n : Note) → has_cell (linked_cells p (pool_accesses h)) k ≡ true
       → EndsIn plan.claims c (lane_part c p h) k n → EndsAs plan.claims c k n (parts_of c (histories_of h))
   end_here c p k (Took v) here e = (

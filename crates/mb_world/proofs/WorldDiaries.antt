@@ -1,4 +1,4 @@
--- The diary of a consumer in a lawful history of a world, by its place on a lane.
+-- The diary of a consumer in a lawful history of a world, as its place on a lane tells it.
 use Rattle.std.proofs.Common.{◌≡◌, ◌≢◌, ◌↔◌, ℕ, ◌<◌, true, List, [], ◌∷◌, length, Option, Some, None, refl, sym, ◌∙◌, subst, inl, inr, arith}
 use Rattle.std.specs.Prelude.{filter, reverse, slice_get}
 use Rattle.std.proofs.lemmas.List.{length-reverse}
@@ -23,14 +23,14 @@ use Rattle.mb_world.proofs.WorldClaims.{end_here, met_all, met_once, on_lane, st
 use Rattle.mb_world.proofs.WorldKnown.{WorldKnown}
 use Rattle.mb_world.proofs.WorldPool.{load_lane, loads, loads_on, of_lane, on_word, read_there}
 
--- a cell that has its note was met, at the same position
+-- a cell among those whose claims have ended is one of those met, at the same position
 closed_in : (qs : List ℕ) (z : Option (List ObjectTurn)) (j k : ℕ) → StandsAt (closed qs z) j k → StandsAt qs j k
 closed_in qs None j k at = at
 closed_in [] (Some xs) j k at = at
 closed_in (q ∷ qs) (Some xs) j k at = inr at
 
 module _ (plan : Plan) (h : WorldHistory) (lawful : IsWorldLawful plan h) (known : WorldKnown plan h) where
-  -- no other cell of the lane was given than those met
+  -- the consumer was given no other cell of the lane than those that it met
   pub no_other : (c p k : ℕ) (y : IsOnPath plan c p h) → Gave k (loads plan h lawful c)
       → Has (linked_cells p (pool_accesses h)) k
       → Has y.cells k
@@ -53,15 +53,15 @@ module _ (plan : Plan) (h : WorldHistory) (lawful : IsWorldLawful plan h) (known
     abbrev here : IsOnPath plan c p h
     here = record { cells = ks; notes = ns; held = held; path = path }
 
-    -- a claim of the consumer has ended so
+    -- the consumer's claim on cell k has ended as the note says, by all that the consumer did
     abbrev Ends : ℕ → Note → Type 0
     Ends k n = EndsAs plan.claims c k n (parts_of c (histories_of h))
 
-    -- a claim of the consumer has ended so by its part on the lane
+    -- the consumer's claim on cell k has ended as the note says, by its part on the lane
     abbrev EndsHere : ℕ → Note → Type 0
     EndsHere k n = EndsIn plan.claims c (lane_part c p h) k n
 
-    -- what the place tells of that part
+    -- what the consumer's place tells of that part
     tracks_here : Tracks plan.claims c (lane_part c p h) ks ns held
     tracks_here = tracks plan h lawful known c p here
 
@@ -69,20 +69,20 @@ module _ (plan : Plan) (h : WorldHistory) (lawful : IsWorldLawful plan h) (known
     once_here : IsOnceEach ks
     once_here = met_once plan h lawful known c p here
 
-    -- they are cells of the lane
+    -- the cells met are cells of the lane
     cell_here : (k : ℕ) → Has ks k → has_cell (linked_cells p (pool_accesses h)) k ≡ true
     cell_here k has = has_cell-true (linked_cells p (pool_accesses h)) k (on_lane plan h lawful known c p k here has)
 
-    -- the steps on them in that part are all of the consumer's there
+    -- in that part the steps on a cell met are all that the consumer made on the cell
     same_steps : (k : ℕ) → Has ks k
         → claim_part c k (claim_accesses (lane_part c p h)) ≡ claim_part c k (claim_accesses h)
     same_steps k has = steps_there plan h lawful known c p k (cell_here k has)
 
-    -- an end in the part on the lane is an end, and the other way round
+    -- the end of a claim by the part on the lane is its end by all that the consumer did
     ends_globally : (k : ℕ) (n : Note) → Has ks k → EndsHere k n → Ends k n
     ends_globally k n has e = end_here plan h lawful known c p k n (cell_here k has) e
 
-    -- an end of a claim on such a cell is one by the part on the lane
+    -- the end of a claim on a cell met is its end by the part on the lane, too
     ends_locally : (k : ℕ) (n : Note) → Has ks k → Ends k n → EndsHere k n
     ends_locally k (Took v) has e = (
       subst (λ xs. IsClaimPrefix plan.claims c xs stage.Won) (sym (same_steps k has)) e.0,
@@ -95,7 +95,7 @@ module _ (plan : Plan) (h : WorldHistory) (lawful : IsWorldLawful plan h) (known
     ends_locally k Undecided has e =
         subst (λ xs. IsClaimPrefix plan.claims c xs stage.Undecided) (sym (same_steps k has)) e
 
-    -- each note is the end of the claim on the cell at its place
+    -- each note is the end of the claim on the cell at its position
     notes_tell : (j : ℕ) (n : Note) → slice_get (reverse ns) j ≡ Some n
         → (k : ℕ) × (slice_get (reverse ks) j ≡ Some k) × Ends k n
     notes_tell j n e =
@@ -112,6 +112,7 @@ module _ (plan : Plan) (h : WorldHistory) (lawful : IsWorldLawful plan h) (known
         (ends_locally k n (at_has ks j k position) e) in
         omega (arith, less, length-reverse ns)
 
+    -- a claim is begun exactly if one of the consumer's claims on these cells has an access and no end
     begun_tells : (has_begun held ≡ true)
         ↔ ((k : ℕ) × Has ks k × (claim_part c k (claim_accesses h) ≢ []) × ((n : Note) → Ends k n → ⊥))
     begun_tells = (
@@ -121,7 +122,7 @@ module _ (plan : Plan) (h : WorldHistory) (lawful : IsWorldLawful plan h) (known
           (z.1, (λ e. z.2 (sym (same_steps z.0 z.1) ∙ e)), (λ n e. z.3 n (ends_globally z.0 n z.1 e))),
     )
 
-    -- so the diary of the place is that of the consumer on the lane
+    -- so the diary that the place tells is that of the consumer on the lane
     pub diary_is : IsDiaryOf plan c p (histories_of h) (diary_at c p ns held)
     diary_is = record {
       consumer = refl;
@@ -136,7 +137,7 @@ module _ (plan : Plan) (h : WorldHistory) (lawful : IsWorldLawful plan h) (known
       begun = begun_tells;
     }
 
-  -- the steps of a held claim are all that the consumer has made on that cell
+  -- the steps of a claim that is held are all that the consumer has made on that cell
   pub held_is : (c p k : ℕ) (qs : List ℕ) (ns : List Note) (xs : List ObjectTurn)
       → ConsumerPath plan.claims c p (lane_part c p h) (k ∷ qs) ns (Some xs)
       → (claim_part c k (claim_accesses h) ≡ xs) × (k < plan.claims.cells)

@@ -17,13 +17,15 @@ use Rattle.mb_world.proofs.WorldKnown.{WorldKnown}
 use Rattle.mb_world.proofs.WorldPool.{load_lane, loads, loads_on, of_lane, on_word, read_there}
 
 module _ (plan : Plan) (h : WorldHistory) (lawful : IsWorldLawful plan h) (known : WorldKnown plan h) where
+  -- the claim of consumer c on cell k has ended as the note says
   abbrev Ends : ℕ → ℕ → Note → Type 0
   Ends c k n = EndsAs plan.claims c k n (parts_of c (histories_of h))
 
+  -- the claim of consumer c on cell k has this stage
   abbrev Comes : ℕ → ℕ → Stage → Type 0
   Comes c k s = HasStageIn plan.claims c k s (parts_of c (histories_of h))
 
-  -- a claim that has ended has a stage, and is not going
+  -- a claim that has ended has a stage, and does not go on
   stage_of_end : (c k : ℕ) (n : Note) → Ends c k n → (s : Stage) × Comes c k s × (s ≢ stage.Going)
   stage_of_end c k (Took v) e = (stage.Won, e.0, λ d. cc)
   stage_of_end c k (Lost w) e = (stage.Lost w, e, λ d. cc)
@@ -39,13 +41,14 @@ module _ (plan : Plan) (h : WorldHistory) (lawful : IsWorldLawful plan h) (known
       absurd (let d = known.stage c (claim_part c k (claim_accesses h)) stage.Undecided stage.Won e won in cc)
 
   module _ (c : ℕ) (cs : c < consumers_of plan) where
-    -- a word that was loaded is one of a lane
+    -- the value v was loaded from a word of one of the lanes, and so in the part on that lane
     record IsThere (w : Word) (v : ℕ) : Type 0 where
       pub lane : ℕ
       pub path : IsOnPath plan c lane h
       pub here : is_of_lane lane (linked_cells lane (pool_accesses h)) w ≡ true
       pub read : HasRead w v (pool_accesses (lane_part c lane h))
 
+    -- each value that the consumer loaded from a word is loaded in its part on one of the lanes
     there : (w : Word) (v : ℕ) → HasRead w v (loads plan h lawful c) → IsThere w v
     there w v r =
         let on = load_lane plan h lawful c r.0 r.1 in
@@ -57,7 +60,7 @@ module _ (plan : Plan) (h : WorldHistory) (lawful : IsWorldLawful plan h) (known
           read = read_there plan h lawful c on.lane w v r word;
         }
 
-    -- past a cell, its claim has ended
+    -- if a cell's link was loaded, the claim there has ended
     end_past : (k v : ℕ) → HasRead (Link k) v (loads plan h lawful c) → (n : Note) × Ends c k n
     end_past k v r =
         let l = there (Link k) v r in
@@ -67,6 +70,7 @@ module _ (plan : Plan) (h : WorldHistory) (lawful : IsWorldLawful plan h) (known
         (closed l.path.cells l.path.held) l.path.notes k y.ended has in
         (e.0, end_here plan h lawful known c l.lane k e.0 l.here e.1)
 
+    -- a cell with a step of a claim was given
     met : (k : ℕ) → claim_part c k (claim_accesses h) ≢ [] → Gave k (loads plan h lawful c)
     met k some =
         let on = claim_lane plan h lawful known c k some in
@@ -78,11 +82,13 @@ module _ (plan : Plan) (h : WorldHistory) (lawful : IsWorldLawful plan h) (known
           | inr n ↦ absurd (some (sym same ∙ y.none k n))
         ])
       where
+        -- a cell that was given by the part on a lane was given by all loads
         gave : (p : ℕ) → Gave k (pool_accesses (lane_part c p h)) → Gave k (loads plan h lawful c)
         gave p g =
             gave-filter (of_lane plan h lawful p) (loads plan h lawful c) k
             (subst (λ (d : History). Gave k d) (loads_on plan h lawful c p) g)
 
+    -- an item was loaded only if the claim there is won
     won : (k v : ℕ) → HasRead (Item k) v (loads plan h lawful c) → Comes c k stage.Won
     won k v r =
         let l = there (Item k) v r in
@@ -90,6 +96,7 @@ module _ (plan : Plan) (h : WorldHistory) (lawful : IsWorldLawful plan h) (known
         subst (λ xs. IsClaimPrefix plan.claims c xs stage.Won)
         (steps_there plan h lawful known c l.lane k l.here) (y.won k v l.read)
 
+    -- so the two parts of the consumer fit
     pub fit : Fits plan.claims c (parts_of c (histories_of h))
     fit = record {
       follows = follows plan h lawful known c cs;

@@ -19,7 +19,7 @@ pub past_lane : (p : ℕ) (ks ls : List ℕ) → ((k : ℕ) → Has ks k → Has
 past_lane p [] ls on = eq-eqb p p refl
 past_lane p (k ∷ ks) ls on = has_cell-true ls k (on k (inl refl))
 
--- the cells met are met still after one more load
+-- a cell that the older loads met is met with one more load, too
 pub met_stay : (p : ℕ) (a : PoolAccess) (older : History) (k : ℕ) → Has (cells_met p older) k
     → Has (cells_met p (a ∷ older)) k
 met_stay p a older k has =
@@ -40,12 +40,13 @@ module _ (p : ℕ) (ls : List ℕ) where
   abbrev AreLinked : History → Type 0
   AreLinked d = (k : ℕ) → Has (cells_met p (filter test d)) k → Has ls k
 
+  -- if the cells that these loads met on the lane are linked there, so are those that the older loads met
   older_linked : (a : PoolAccess) (older : History) → AreLinked (a ∷ older) → AreLinked older
   older_linked a older all k has =
       all k (cond_both (test a) (a ∷ filter test older) (filter test older) (λ (d : History). Has (cells_met p d) k)
       (λ _. met_stay p a (filter test older) k has) (λ _. has))
 
-  -- loads elsewhere meet no cell of the lane
+  -- loads of other lanes' words meet no cell of the lane
   met_filter : (d : History) → AreLinked d → cells_met p (filter test d) ≡ cells_met p d
   met_filter [] all = refl
   met_filter (a ∷ older) all = by (cases_Bool (test a)) (met_filter older (older_linked a older all))
@@ -63,6 +64,7 @@ module _ (p : ℕ) (ls : List ℕ) where
             | inr f ↦ f
           ])))
         where
+          -- the link past cells of the lane is a word of the lane
           on_past : is_same_word a.word (place_past p (cells_met p older)) ≡ true → test a ≡ true
           on_past t =
               subst (λ w. is_of_lane p ls w ≡ true) (sym (word_is a.word (place_past p (cells_met p older)) t))
@@ -71,6 +73,7 @@ module _ (p : ℕ) (ls : List ℕ) where
 
 -- ---- all loads of a consumer
 module _ (plan : Plan) (h : WorldHistory) (lawful : IsWorldLawful plan h) (known : WorldKnown plan h) where
+  -- the cells linked on lane p, the last first
   abbrev cells_of : ℕ → List ℕ
   cells_of p = linked_cells p (pool_accesses h)
 
@@ -79,6 +82,7 @@ module _ (plan : Plan) (h : WorldHistory) (lawful : IsWorldLawful plan h) (known
     pub follows : FollowsLane p (filter (of_lane plan h lawful p) d)
     pub linked : (k : ℕ) → Has (cells_met p (filter (of_lane plan h lawful p) d)) k → Has (cells_of p) k
 
+  -- if these loads follow the links of lane p so, the older ones do, too
   older_links : (p : ℕ) (a : PoolAccess) (older : History) → IsOnLinks p (a ∷ older) → IsOnLinks p older
   older_links p a older y = record {
     follows = cond_both (of_lane plan h lawful p a) (a ∷ filter (of_lane plan h lawful p) older)
@@ -88,6 +92,7 @@ module _ (plan : Plan) (h : WorldHistory) (lawful : IsWorldLawful plan h) (known
     linked = older_linked p (cells_of p) a older y.linked;
   }
 
+  -- if loads of a consumer follow the links of each lane so, they follow links
   follows_all : (c : ℕ) (d : History) → ((a : PoolAccess) → Has d a → Has (loads plan h lawful c) a)
       → ((p : ℕ) → p < plan.lanes → IsOnLinks p d) → FollowsLinks d
   follows_all c [] among lanes = tt
@@ -96,12 +101,14 @@ module _ (plan : Plan) (h : WorldHistory) (lawful : IsWorldLawful plan h) (known
     follows_all c older (λ b has. among b (inr has)) (λ p ps. older_links p a older (lanes p ps)),
   )
     where
+      -- the load is on some lane
       on : IsOnLane plan c (ToCells a) h
       on = load_lane plan h lawful c a (among a (inl refl))
 
       here : of_lane plan h lawful on.lane a ≡ true
       here = on_word plan h lawful c a on
 
+      -- on that lane these loads follow the links
       links : IsOnLinks on.lane (a ∷ older)
       links = lanes on.lane on.below
 
@@ -110,15 +117,18 @@ module _ (plan : Plan) (h : WorldHistory) (lawful : IsWorldLawful plan h) (known
           subst (λ b. FollowsLane on.lane (cond b (a ∷ filter (of_lane plan h lawful on.lane) older)
           (filter (of_lane plan h lawful on.lane) older))) here links.follows
 
+      -- so the load is of the link past the cells met there
       follows : IsLinkWord a.word → a.word ≡ place_past on.lane (cells_met on.lane older)
       follows link =
           first.0 link
           ∙ ap (place_past on.lane)
           (met_filter on.lane (cells_of on.lane) older (older_linked on.lane (cells_of on.lane) a older links.linked))
 
+  -- so all loads of a consumer follow the links
   pub follows : (c : ℕ) → c < consumers_of plan → FollowsLinks (loads plan h lawful c)
   follows c cs = follows_all c (loads plan h lawful c) (λ a has. has) on_links
     where
+      -- on each lane the consumer's loads follow the links, by its path there
       on_links : (p : ℕ) → p < plan.lanes → IsOnLinks p (loads plan h lawful c)
       on_links p ps = record {
         follows = subst (FollowsLane p) (loads_on plan h lawful c p) (path_follows plan.claims c y.path);

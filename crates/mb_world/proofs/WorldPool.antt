@@ -25,16 +25,16 @@ module _ (plan : Plan) (h : WorldHistory) (lawful : IsWorldLawful plan h) where
   pub loads_on : (c p : ℕ) → pool_accesses (lane_part c p h) ≡ filter (of_lane p) (loads c)
   loads_on c p = pool_on c p (linked_cells p (pool_accesses h)) h
 
-  -- a load of a reader is that of a consumer on a lane
+  -- each access of a reader is on a lane of the mailbox, and the reader is one of its consumers
   pub load_lane : (q : ℕ) (a : PoolAccess) → Has (loads q) a → IsOnLane plan q (ToCells a) h
   load_lane q a has =
       let own = of_part q (pool_accesses h) a has in lawful.no_others q (ToCells a) (pool_has h a own.0) own.1
 
-  -- such a load is of a word of that lane
+  -- that access is to a word of that lane
   pub on_word : (q : ℕ) (a : PoolAccess) (on : IsOnLane plan q (ToCells a) h) → of_lane on.lane a ≡ true
   on_word q a on = (and_parts (is_same_process (Reader q) a.process) (of_lane on.lane a) on.on).1
 
-  -- a load of a word of lane p is in the part there
+  -- a load of a word of lane p is in the consumer's part there
   pub read_there : (c p : ℕ) (w : Word) (v : ℕ) (r : HasRead w v (loads c)) → of_lane p r.0 ≡ true
       → HasRead w v (pool_accesses (lane_part c p h))
   read_there c p w v r on = (
@@ -45,25 +45,29 @@ module _ (plan : Plan) (h : WorldHistory) (lawful : IsWorldLawful plan h) where
     r.3,
   )
 
-  -- a load of the part there is one of the consumer
+  -- a load in a consumer's part on a lane is among all of its loads
   pub read_here : (c p : ℕ) (w : Word) (v : ℕ) → HasRead w v (pool_accesses (lane_part c p h)) → HasRead w v (loads c)
   read_here c p w v r =
       (r.0, Has-of_filter (of_lane p) (loads c) r.0 (subst (λ (d : History). Has d r.0) (loads_on c p) r.1), r.2, r.3)
 
-  -- ---- the loads of a consumer are a reader path
+  -- ---- the loads of a consumer are a reader path, so the history of the cells is lawful
+  -- the loads of a consumer on one lane are a reader path
   lane_path : (c p : ℕ) → c < consumers_of plan → p < plan.lanes
       → IsReaderPath plan.lanes (filter (of_lane p) (loads c))
   lane_path c p cs ps =
       subst (λ (d : History). IsReaderPath plan.lanes d) (loads_on c p)
       (path_reads plan.claims c plan.lanes ps (lawful.consumers c p cs ps).path)
 
+  -- whether lane p is one of the mailbox's, and the access is to a word of it
   abbrev in_lane : ℕ → PoolAccess → Bool
   in_lane p a = nat_lt p plan.lanes && of_lane p a
 
+  -- each load of a consumer is on some lane
   some_lane : (c : ℕ) (a : PoolAccess) → Has (loads c) a → (p : ℕ) × (in_lane p a ≡ true)
   some_lane c a has =
       let on = load_lane c a has in (on.lane, rw (lt-ltb on.lane plan.lanes on.below) (on_word c a on))
 
+  -- for each number p the loads on lane p, or none if there is no such lane, are a reader path
   each_path : (c p : ℕ) → c < consumers_of plan → IsReaderPath plan.lanes (filter (in_lane p) (loads c))
   each_path c p cs = by (cases_lt p plan.lanes)
     where
@@ -77,9 +81,11 @@ module _ (plan : Plan) (h : WorldHistory) (lawful : IsWorldLawful plan h) where
           subst (λ (d : History). IsReaderPath plan.lanes d)
           (sym (filter_none (in_lane p) (loads c) (λ a. ap (λ b. b && of_lane p a) (le-ltb p plan.lanes past)))) tt
 
+  -- what holds if accesses are a reader path as soon as their parts on all lanes are
   module _ (whole : (test : ℕ → PoolAccess → Bool) (done : History)
       → ((a : PoolAccess) → Has done a → (p : ℕ) × (test p a ≡ true))
       → ((p : ℕ) → IsReaderPath plan.lanes (filter (test p) done)) → IsReaderPath plan.lanes done) where
+    -- so what each reader did is a reader path
     reads : (q : ℕ) → IsReaderPath plan.lanes (loads q)
     reads q = by (cases_lt q (consumers_of plan))
       where
@@ -89,6 +95,7 @@ module _ (plan : Plan) (h : WorldHistory) (lawful : IsWorldLawful plan h) where
             subst (λ (d : History). IsReaderPath plan.lanes d)
             (sym (nothing (loads q) (λ a has. let on = load_lane q a has in omega (arith, on.known)))) tt
 
+    -- so the history of the cells is lawful
     pub pool_lawful : IsPoolLawful (size_of plan) (pool_accesses h)
     pool_lawful = record {
       sized = lawful.sized;

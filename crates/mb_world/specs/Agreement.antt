@@ -12,7 +12,7 @@ item_taken (Took x) = Some x
 item_taken (Lost w) = None
 item_taken Undecided = None
 
--- the ledger of consumer c from producer p: the values of the items that it took
+-- the ledger of consumer c from producer p: the values of the items of lane p that c took
 abbrev pub ledger : ℕ → ℕ → ReportView → List ℕ
 ledger c p r = filter_map item_taken (notes c p r)
 
@@ -29,24 +29,26 @@ HasLostTo c w p j r = note c p j r ≡ Some (Lost w)
 abbrev pub HasCompeted : ℕ → ℕ → ℕ → ReportView → Type 0
 HasCompeted c p j r = (j < length (notes c p r)) ⊎ ((length (notes c p r) ≡ j) × (is_begun c p r ≡ true))
 
--- c's claim on that item is finished: taken or lost. Every other claim, also an undecided one, is unfinished
+-- c's claim on the item at position j of lane p is finished: c has taken the item or lost it. Every other claim, also
+-- an undecided one, is unfinished
 abbrev pub IsFinished : ℕ → ℕ → ℕ → ReportView → Type 0
 IsFinished c p j r = HasTaken c p j r ⊎ ((w : ℕ) × HasLostTo c w p j r)
 
--- what it says that c has lost the item to w: w is another, w competed, all losses of that item name w, and the item is
--- given to w or to nobody
+-- what it says that c has lost the item at position j of lane p to w. Consumer w is another than c and competed. All
+-- losses of this item name w, and the assignment gives the item to w or to nobody
 pub record IsLossTo (t : Assignment) (c w p j : ℕ) (r : ReportView) : Type 0 where
   pub another : w ≢ c
   pub competed : HasCompeted w p j r
   pub only : (d v : ℕ) → HasLostTo d v p j r → v ≡ w
   pub given : (t p j ≡ Some w) ⊎ (t p j ≡ None)
 
--- Each consumer's ledger from each producer is exactly the items that it was given, in the order put. Added is what
--- losses say, and that notes and begun claims are on items. This is all of the agreement except the items left.
+-- Each consumer's ledger from each producer is exactly the items that the assignment gives to the consumer, in the
+-- order put. The record also has what losses say, and that notes and begun claims are on items. Only the items left are
+-- not in it.
 pub record AreGiven (t : Assignment) (r : ReportView) : Type 0 where
   -- an item is taken exactly by the consumer that it is given to
   pub taken : (c p j : ℕ) → HasTaken c p j r ↔ (t p j ≡ Some c)
-  -- a consumer's ledger has the values of the items that it was given, in the order put
+  -- a consumer's ledger has the values of the items that the consumer was given, in the order put
   pub ledgers : (c p : ℕ) → ledger c p r ≡ share t c p r
   -- only items are given, and only to competitors
   pub competitors : (c p j : ℕ) → t p j ≡ Some c → (j < length (items_put p r)) × HasCompeted c p j r

@@ -7,7 +7,7 @@ use Rattle.mb_world.specs.Report.{ReportView, items_put}
 abbrev pub Assignment : Type 0
 Assignment = ℕ → ℕ → Option ℕ
 
--- the items at the positions that pass the test, in rising position
+-- the items of the list whose positions pass the test, in their order
 abbrev pub items_where : (ℕ → Bool) → List ℕ → List ℕ
 items_where test [] = []
 items_where test (x ∷ xs) =
@@ -18,7 +18,7 @@ abbrev pub is_consumer : ℕ → Option ℕ → Bool
 is_consumer c None = false
 is_consumer c (Some d) = nat_eq d c
 
--- the share of consumer c in lane p: the items put there that the assignment gives to it, in the order put
+-- the share of consumer c in lane p: the items put there that the assignment gives to c, in the order put
 abbrev pub share : Assignment → ℕ → ℕ → ReportView → List ℕ
 share t c p r = items_where (λ j. is_consumer c (t p j)) (items_put p r)
 

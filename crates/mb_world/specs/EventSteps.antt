@@ -11,8 +11,8 @@ use Rattle.mb_world.specs.World.{WorldAccess, WorldHistory}
 use Rattle.mb_world.specs.WorldState.{IsWorldAfter, WorldState}
 use Rattle.mb_world.specs.Replay.{HasAnswer, with_access}
 
--- after a history, the event has this answer and leaves a world in this state. It is the state of the history with the
--- event's access, or of the same history if the event has none
+-- after a history, the event has this answer and leaves a world in this state. The history with the event's access
+-- leaves that state, or the same history does if the event has none
 pub record EventAdds (e : Event) (r : Answer) (now : WorldState) (h : WorldHistory) : Type 0 where
   pub access : Option WorldAccess
   pub entry : HasAnswer (plan_in now.setup) e r access h

@@ -20,18 +20,20 @@ parts_of c hs = record {
   claimed = λ k. claim_part c k hs.claims;
 }
 
--- this value was loaded from the word
+-- one of these accesses loaded the value v from word w
 abbrev pub HasRead : Word → ℕ → History → Type 0
 HasRead w v reads = (a : PoolAccess) × Has reads a × (a.word ≡ w) × (a.act ≡ Load v)
 
 -- ---- which cells loads give, and how they follow the links
--- the cell that a load of a head or link gives: 0 gives none yet, and the end mark none at all
+-- the cell that an act on a head or a link gives, if it gives one. A load of 0 gives none yet, one of the end mark none
+-- at all
 abbrev pub cell_given : PoolAct → Option ℕ
 cell_given (Load v) = if nat_eq v 0 || nat_eq v END then None else Some (v - 1)
 cell_given (Store _) = None
 cell_given (FetchAdd _ _) = None
 
--- the cells met on lane p (the last first): from the head on, each was given by the link past those met before it
+-- the cells that these loads met on lane p (the last first). A load of the head gave the first, and a load of the link
+-- past the cell before it gave each next one
 abbrev pub cells_met : ℕ → History → List ℕ
 cells_met p [] = []
 cells_met p (a ∷ older) =
@@ -39,7 +41,8 @@ cells_met p (a ∷ older) =
     then push_if (cell_given a.act) (cells_met p older)
     else cells_met p older
 
--- each load of a link is of the one past the cells met before it on some lane, or of that lane's head
+-- each load of a head or a link is of the link past the cells met before it on some lane, or of that lane's head if
+-- none was met
 abbrev pub FollowsLinks : History → Type 0
 FollowsLinks [] = Unit {0}
 FollowsLinks (a ∷ older) =
@@ -59,14 +62,14 @@ EndsAs cs c k Undecided x = HasStageIn cs c k stage.Undecided x
 -- ---- when the two parts fit
 -- the two parts of consumer c fit each other
 pub record Fits (cs : Claims) (c : ℕ) (x : Parts) : Type 0 where
-  -- on each lane its loads follow the links from the head
+  -- on each lane the loads of c follow the links from the head
   pub follows : FollowsLinks x.reads
-  -- its claims are only on cells that it met: its own loads gave them
+  -- the claims of c are only on cells that c met: its own loads gave them
   pub met : (k : ℕ) → x.claimed k ≢ [] → Gave k x.reads
-  -- if it loaded a cell's link, its claim there has ended
+  -- if c loaded a cell's link, its claim there has ended
   pub ended : (k v : ℕ) → HasRead (Link k) v x.reads → (s : Stage) × HasStageIn cs c k s x × (s ≢ stage.Going)
-  -- if it loaded a cell's link, and its claim there is won, it loaded the item
+  -- if c loaded a cell's link, and its claim there is won, it loaded the item
   pub taken : (k v : ℕ) → HasRead (Link k) v x.reads → HasStageIn cs c k stage.Won x
       → (y : ℕ) × HasRead (Item k) y x.reads
-  -- it loaded a cell's item only if its claim there is won. How often is not asked
+  -- c loaded a cell's item only if its claim there is won. How often it did is not asked
   pub won : (k v : ℕ) → HasRead (Item k) v x.reads → HasStageIn cs c k stage.Won x

@@ -1,5 +1,5 @@
 -- What consumer 0 does on lane 0, with two consumers, two cells and one pair of objects over the unary table. Some of
--- it is on its path, some of it on none, and some of its parts do not fit.
+-- these histories are on a path of the consumer and some on none. Some parts do not fit.
 use Rattle.std.specs.Prelude.{ℕ, Option, List, [], ◌∷◌, ◌++◌, map}
 use Rattle.mb_deciding.specs.declared.access.Act.TheVariants as act
 use Rattle.mb_deciding.specs.declared.access.Reg.TheVariants.{Quorum, Value}
@@ -15,25 +15,25 @@ use Rattle.mb_world.specs.ConsumerPath.{ConsumerPath, claim_step, item_load, lin
 abbrev pub two_cells : Claims
 two_cells = claims_of two_consumers.table two_consumers.kinds 2
 
--- no path of consumer 0 on lane 0 leads through this
+-- the history is on no path of consumer 0 on lane 0
 abbrev pub IsOnNoPath : WorldHistory → Type 0
 IsOnNoPath done = (ks : List ℕ) (ns : List Note) (held : Option (List ObjectTurn))
     → ConsumerPath two_cells 0 0 done ks ns held → ⊥
 
--- the claim's first step: it finds the conciliator's word empty
+-- the first step of a claim: it finds the conciliator's word empty
 abbrev pub first_step : ObjectTurn
 first_step = record { object = 0; turn = record { act = act.Load Value 0; word = 0 } }
 
--- ---- histories that are on its path
+-- ---- histories that are on a path of consumer 0, and their steps
 -- consumer 0 has loaded the head, and nothing is linked yet
 abbrev pub waited : WorldHistory
 waited = link_load 0 0 [] 0 ∷ []
 
--- then the head that it loads leads to cell 0
+-- then the head that consumer 0 loads leads to cell 0
 abbrev pub found : WorldHistory
 found = link_load 0 0 [] 1 ∷ waited
 
--- then its claim on cell 0 is begun
+-- then the claim of consumer 0 on cell 0 is begun
 abbrev pub begun : WorldHistory
 begun = claim_step 0 0 first_step ∷ found
 
@@ -41,11 +41,11 @@ begun = claim_step 0 0 first_step ∷ found
 abbrev pub won_steps : List ObjectTurn
 won_steps = map (λ a. a.step) won_alone
 
--- the last of these steps: it finds no register of another consumer set
+-- the last step of the claim that is won: it finds that the register of consumer 1 is not set
 abbrev pub won_last : ObjectTurn
 won_last = record { object = 1; turn = record { act = act.Load (Quorum 1) 0; word = 0 } }
 
--- or its claim on cell 0 goes to its end and is won
+-- or, once cell 0 is found, the claim of consumer 0 there goes to its end and is won
 abbrev pub won : WorldHistory
 won = map (claim_step 0 0) won_steps ++ found
 
@@ -91,7 +91,7 @@ abbrev pub gone_back : WorldHistory
 gone_back = link_load 0 0 [] 1 ∷ taken
 
 -- ---- parts that do not fit
--- a step of a claim on each cell, and no load
+-- the parts of a consumer that has made a step of a claim on each cell, and no load
 abbrev pub claimed_unseen : Parts
 claimed_unseen = record { reads = []; claimed = λ k. first_step ∷ [] }
 
@@ -99,14 +99,14 @@ claimed_unseen = record { reads = []; claimed = λ k. first_step ∷ [] }
 abbrev pub read_on : PoolAccess → Parts
 read_on a = record { reads = a ∷ load 0 (Head 0) 1 ∷ []; claimed = λ k. [] }
 
--- the parts with a load of the item, without a claim
+-- the parts of a consumer that loads the item of cell 0 without a claim there
 abbrev pub read_unclaimed : Parts
 read_unclaimed = read_on (load 0 (Item 0) 5)
 
--- the parts with a load of the link, without a claim
+-- the parts of a consumer that loads the link of cell 0 without a claim there
 abbrev pub passed_without_claim : Parts
 passed_without_claim = read_on (load 0 (Link 0) 0)
 
--- the parts with a load of the head again, without a claim
+-- the parts of a consumer that loads the head again after it led to cell 0
 abbrev pub read_head_again : Parts
 read_head_again = read_on (load 0 (Head 0) 1)

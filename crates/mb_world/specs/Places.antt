@@ -20,7 +20,8 @@ place_after k claim stage.Won = At k claim
 place_after k claim (stage.Lost w) = Before (Past k)
 place_after k claim stage.Undecided = Before (Past k)
 
--- the first n places of consumers that have done nothing, consumer by consumer: each is before the head of its lane
+-- these are the first n places of consumers that have done nothing, consumer by consumer and lane by lane. Each is
+-- before the head of its lane
 pub record AreAtHeads (lanes n : ℕ) (places : List Place) : Type 0 where
   pub count : length places ≡ n
   pub each : (c p : ℕ) → p < lanes → c * lanes + p < n →

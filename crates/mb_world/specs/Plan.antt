@@ -14,7 +14,7 @@ pub record Plan : Type 0 where
 abbrev pub consumers_of : Plan → ℕ
 consumers_of plan = plan.claims.table.values
 
--- each cell ends with a last object
+-- the row of objects on each cell ends with a last object
 abbrev pub HasLastObject : Plan → Type 0
 HasLastObject plan = (front : List Kind) × (plan.claims.kinds ≡ front ++ LastObject ∷ [])
 

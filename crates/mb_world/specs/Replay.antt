@@ -32,7 +32,7 @@ HasRandom word (ToClaims a) = a.step.turn.word ≡ word
 
 -- after a history, the access is one that the event asks for. An offer asks for a fetch-add with its item, a push for a
 -- store of an item or a link, and a finish for a store of the end mark. A step asks for an access of that consumer on
--- that lane
+-- that lane. If the access is to a claim, it is made with the step's random word
 abbrev pub IsAccessOf : Event → WorldAccess → WorldHistory → Type 0
 IsAccessOf (event.Offer p x) a h = (n : ℕ) × (a ≡ ToCells (fetch p (record { cell = n; value = x })))
 IsAccessOf (event.Push p) a h = (w : Word) × (v : ℕ) × IsPushed w v × (a ≡ ToCells (store p w v))
@@ -41,11 +41,12 @@ IsAccessOf (event.Step c p word) a h =
     IsBy c a × (is_on c p (linked_cells p (pool_accesses h)) a ≡ true) × HasRandom word a
 
 -- ---- the answer that names an access
--- a store to a head or link is of the end mark, or links a cell
+-- the answer that names a store of v in a head or a link: the store is of the end mark, or it links a cell
 abbrev pub answer_to_link : ℕ → Answer
 answer_to_link v = if nat_eq v END then answer.Finished finish.Ended else answer.Pushed (push.Link (v - 1))
 
--- the answer that names an access to a word of the cells, in a pool with this number of cells
+-- the answer that names an access to a word of the cells, in a pool with this number of cells. None names an act that
+-- no event asks for
 abbrev pub answer_to : ℕ → Word → PoolAct → Option Answer
 answer_to cells Counter (FetchAdd x n) = Some (answer.Offered (offer_by_found cells n))
 answer_to cells (Head p) (Store v) = Some (answer_to_link v)
@@ -56,7 +57,8 @@ answer_to cells (Link k) (Load v) = Some (answer.Looked (look_of v))
 answer_to cells (Item k) (Load v) = Some (answer.Took k v)
 answer_to cells _ _ = None
 
--- after a history, the answer names the access. For an access to a claim it also has the stage to which that leads
+-- after a history, the answer names the access. For an access to a claim the answer also has the stage to which the
+-- access leads
 abbrev pub AnswerNames : Plan → Answer → WorldAccess → WorldHistory → Type 0
 AnswerNames plan r (ToCells a) h = answer_to plan.claims.cells a.word a.act ≡ Some r
 AnswerNames plan r (ToClaims a) h =
@@ -103,7 +105,7 @@ abbrev pub HasAnswer : Plan → Event → Answer → Option WorldAccess → Worl
 HasAnswer plan e r None h = IsRefused plan e r h
 HasAnswer plan e r (Some a) h = IsAccessOf e a h × AnswerNames plan r a h × IsWorldLawful plan (a ∷ h)
 
--- after a history, the event is refused, or has an access
+-- after a history, the event is refused, or has an access that keeps the history lawful
 abbrev pub IsRefusedOrMade : Plan → Event → WorldHistory → Type 0
 IsRefusedOrMade plan e h =
     ((r : Answer) × IsRefused plan e r h) ⊎ ((r : Answer) × (a : WorldAccess) × HasAnswer plan e r (Some a) h)

@@ -31,7 +31,7 @@ items_put p r = option_map_or (λ l. l.put) (slice_get r.lanes p) []
 abbrev pub items_left : ℕ → ReportView → List ℕ
 items_left p r = option_map_or (λ l. l.left) (slice_get r.lanes p) []
 
--- the diary of consumer c on lane p
+-- the diary of consumer c on lane p, if the report has one
 abbrev pub diary : ℕ → ℕ → ReportView → Option DiaryView
 diary c p r = if nat_lt p (length r.lanes) then slice_get r.diaries (c * length r.lanes + p) else None
 
@@ -43,6 +43,6 @@ notes c p r = option_map_or (λ d. d.notes) (diary c p r) []
 abbrev pub is_begun : ℕ → ℕ → ReportView → Bool
 is_begun c p r = option_map_or (λ d. d.begun) (diary c p r) false
 
--- c's note on the item at position j of lane p
+-- c's note on the item at position j of lane p, if there is one
 abbrev pub note : ℕ → ℕ → ℕ → ReportView → Option Note
 note c p j r = slice_get (notes c p r) j

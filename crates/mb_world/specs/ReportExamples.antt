@@ -5,11 +5,11 @@ use Rattle.mb_world.specs.declared.report.Note.TheVariants.{Took, Lost, Undecide
 use Rattle.mb_world.specs.Report.{DiaryView, ReportView}
 use Rattle.mb_world.specs.Assignment.{Assignment}
 
--- consumer c has these notes on lane 0, and perhaps a claim after them
+-- consumer c has these notes on lane 0, and perhaps a begun claim after them
 abbrev pub diary_of : ℕ → List Note → Bool → DiaryView
 diary_of c ns begun = record { consumer = c; lane = 0; notes = ns; begun = begun }
 
--- lane 0 with these items put and left, and these diaries
+-- the report of one lane, with these items put and these left, and with these diaries
 abbrev pub report_of : List ℕ → List ℕ → List DiaryView → ReportView
 report_of items left ds = record { lanes = record { put = items; ended = false; left = left } ∷ []; diaries = ds }
 
@@ -52,7 +52,8 @@ two_lanes ds = record {
   diaries = ds;
 }
 
--- consumer 0 has taken both items, and consumer 1 has lost that of lane 0: consumer by consumer, lane by lane
+-- consumer 0 has taken both items, and consumer 1 has lost that of lane 0. The diaries stand consumer by consumer, lane
+-- by lane
 abbrev pub taken_on_both : ReportView
 taken_on_both = two_lanes
     (diary_on 0 0 (Took 5 ∷ []) ∷ diary_on 0 1 (Took 6 ∷ []) ∷ diary_on 1 0 (Lost 0 ∷ []) ∷ diary_on 1 1 [] ∷ [])

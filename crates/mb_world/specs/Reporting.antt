@@ -13,7 +13,7 @@ use Rattle.mb_world.specs.Fitting.{EndsAs, parts_of}
 abbrev pub values_put : ℕ → History → List ℕ
 values_put p pool = map (λ e. e.value) (put_list p pool)
 
--- whether there is a note and it is of an item taken
+-- whether there is a note, and it says that the item was taken
 abbrev pub is_took : Option Note → Bool
 is_took None = false
 is_took (Some (Took x)) = true
@@ -39,32 +39,32 @@ lane_view plan p hs r = record {
 }
 
 -- ---- what the diary of a consumer on a lane has
--- the cells that reader q met on lane p (the last first). Links lead from the head to each of them, and it was given no
--- other cell of the lane
+-- these are the cells that reader q met on lane p (the last first). Links that q loaded lead from the head to each of
+-- them, and q was given no other cell of the lane
 pub record HasMetAll (q p : ℕ) (ks : List ℕ) (pool : History) : Type 0 where
   pub met : HasMet q p ks pool
   pub all : (k : ℕ) → Gave k (part (Reader q) pool) → Has (linked_cells p pool) k → Has ks k
 
--- the diary of consumer c on lane p
+-- the diary is that of consumer c on lane p, by what was done to the words of the mailbox
 pub record IsDiaryOf (plan : Plan) (c p : ℕ) (hs : Histories) (d : DiaryView) : Type 0 where
   pub consumer : d.consumer ≡ c
   pub lane : d.lane ≡ p
-  -- the cells that it met there, the last first
+  -- the cells that consumer c met on lane p, the last first
   pub cells : List ℕ
   pub met : HasMetAll (hs.reader_of c) p cells hs.pool
-  -- note j is the end of its claim on the j-th of them
+  -- note j is the end of c's claim on the cell at position j of them, the first met first
   pub notes : (j : ℕ) (n : Note) → slice_get d.notes j ≡ Some n →
       (k : ℕ) × (slice_get (reverse cells) j ≡ Some k) × EndsAs plan.claims c k n (parts_of c hs)
-  -- each claim there that has ended has its note
+  -- each claim of c on these cells that has ended has its note
   pub all : (j k : ℕ) (n : Note) → slice_get (reverse cells) j ≡ Some k →
       EndsAs plan.claims c k n (parts_of c hs) → j < length d.notes
-  -- begun: a claim there that has not ended has an access
+  -- the diary says that a claim is begun exactly if a claim of c on one of these cells has an access and has not ended
   pub begun : (d.begun ≡ true) ↔
       ((k : ℕ) × Has cells k × ((parts_of c hs).claimed k ≢ [])
       × ((n : Note) → EndsAs plan.claims c k n (parts_of c hs) → ⊥))
 
 -- ---- the whole report
--- each lane and each diary is at its position, and there are no others
+-- the report is that of the histories: each lane and each diary is at its position, and there are no others
 pub record IsReportOf (plan : Plan) (hs : Histories) (r : ReportView) : Type 0 where
   pub lanes_count : length r.lanes ≡ plan.lanes
   pub diaries_count : length r.diaries ≡ consumers_of plan * plan.lanes

@@ -23,12 +23,12 @@ pub record IsWalk (s : PoolState) (p : ℕ) (ks : List ℕ) (over : Bool) (pool 
 abbrev pub IsWalked : PoolState → ℕ → List ℕ → Bool → Type 0
 IsWalked s p ks ended = (pool : History) → IsAfter pool s → IsWalk s p ks ended pool
 
--- the note at a position of the list, if there is one
+-- the note in what was found at a position of a list, if the position is there and has a note
 abbrev pub note_there : Option (Option Note) → Option Note
 note_there None = None
 note_there (Some o) = o
 
--- the note of consumer c on cell k
+-- the note of consumer c on cell k, if the state has one
 abbrev pub note_on : WorldState → ℕ → ℕ → Option Note
 note_on s c k = note_there (slice_get s.notes (c * (plan_in s.setup).claims.cells + k))
 
@@ -40,7 +40,7 @@ is_taken_on s k = any_below (consumers_of (plan_in s.setup)) (λ c. is_took (not
 abbrev pub begun_on : WorldState → ℕ → ℕ → Bool
 begun_on s c p = option_map_or has_begun_at (slice_get s.places (c * (plan_in s.setup).lanes + p)) false
 
--- the state tells this of lane p
+-- the state tells this report of lane p: its items, whether it has ended, and which items no note says were taken
 pub record IsLaneTold (s : WorldState) (p : ℕ) (l : LaneView) : Type 0 where
   pub cells : List ℕ
   pub walked : IsWalked s.pool p cells l.ended
@@ -63,7 +63,7 @@ pub record AreDiariesTold (s : WorldState) (n : ℕ) (ds : List DiaryView) : Typ
   pub each : (c p : ℕ) → p < (plan_in s.setup).lanes → c * (plan_in s.setup).lanes + p < n →
       (d : DiaryView) × (slice_get ds (c * (plan_in s.setup).lanes + p) ≡ Some d) × IsDiaryTold s c p d
 
--- the state tells this of the first n lanes
+-- the state tells these reports of the first n lanes, in their order
 pub record AreLanesTold (s : WorldState) (n : ℕ) (ls : List LaneView) : Type 0 where
   pub count : length ls ≡ n
   pub each : (p : ℕ) → p < n → (l : LaneView) × (slice_get ls p ≡ Some l) × IsLaneTold s p l

@@ -6,12 +6,12 @@ use Rattle.mb_world.specs.Plan.{Plan, consumers_of}
 use Rattle.mb_world.specs.World.{WorldHistory, lane_part, pool_accesses}
 use Rattle.mb_world.specs.ConsumerPath.{ConsumerPath}
 
--- after a history, there is nothing for consumer c on lane p
+-- after a history, there is nothing for consumer c on lane p: no cell that c has not met, and no end mark
 pub record HasNothing (plan : Plan) (c p : ℕ) (h : WorldHistory) : Type 0 where
   -- there are such a consumer and such a lane
   pub consumer : c < consumers_of plan
   pub lane : p < plan.lanes
-  -- its path has led past all cells that are linked there, and it holds no claim
+  -- the path of c has met all cells that are linked there, and c holds no claim
   pub notes : List Note
   pub path : ConsumerPath plan.claims c p (lane_part c p h) (linked_cells p (pool_accesses h)) notes None
   -- the lane has not ended

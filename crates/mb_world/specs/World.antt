@@ -13,13 +13,13 @@ pub data WorldAccess : Type 0 where
 abbrev pub WorldHistory : Type 0
 WorldHistory = List WorldAccess
 
--- the accesses to the cells
+-- the accesses of a world's history to the words of the cells
 abbrev pub pool_accesses : WorldHistory → History
 pool_accesses [] = []
 pool_accesses (ToCells a ∷ older) = a ∷ pool_accesses older
 pool_accesses (ToClaims a ∷ older) = pool_accesses older
 
--- the accesses to the claims
+-- the accesses of a world's history to the words of the claims
 abbrev pub claim_accesses : WorldHistory → List ClaimAccess
 claim_accesses [] = []
 claim_accesses (ToCells a ∷ older) = claim_accesses older
@@ -34,8 +34,8 @@ abbrev pub IsBy : ℕ → WorldAccess → Type 0
 IsBy c (ToCells a) = a.process ≡ Reader c
 IsBy c (ToClaims a) = a.consumer ≡ c
 
--- whether it is an access of consumer c on lane p, if these cells are linked there: to the lane's head, or to a word or
--- the claim of one of the cells
+-- whether the access is one of consumer c on lane p, if these cells are linked there. Such an access is to the lane's
+-- head, or to a word or the claim of one of the cells
 abbrev pub is_on : ℕ → ℕ → List ℕ → WorldAccess → Bool
 is_on c p ks (ToCells a) = is_same_process (Reader c) a.process && is_of_lane p ks a.word
 is_on c p ks (ToClaims a) = nat_eq a.consumer c && has_cell ks a.cell

@@ -30,15 +30,15 @@ use Rattle.mb_world.specs.PathExamples.{first_step, two_cells, won_steps}
 abbrev pub two_by_two : Plan
 two_by_two = record { claims = two_cells; lanes = 2 }
 
--- the item 5, in cell 0
+-- the entry of the item 5, in cell 0
 abbrev pub five : Entry
 five = record { cell = 0; value = 5 }
 
--- the item 6, in cell 1
+-- the entry of the item 6, in cell 1
 abbrev pub six : Entry
 six = record { cell = 1; value = 6 }
 
--- a store of producer p
+-- a store of v in word w by producer p
 abbrev pub stores : ℕ → Word → ℕ → WorldAccess
 stores p w v = ToCells (store p w v)
 
@@ -47,7 +47,7 @@ stores p w v = ToCells (store p w v)
 abbrev pub one_taken : WorldHistory
 one_taken = ToCells (fetch 0 five) ∷ []
 
--- then consumer 0 has found nothing on its lane
+-- then consumer 0 has found nothing on lane 0
 abbrev pub offered : WorldHistory
 offered = link_load 0 0 [] 0 ∷ one_taken
 
@@ -59,19 +59,19 @@ one_stored = stores 0 (Item 0) 5 ∷ offered
 abbrev pub one_put : WorldHistory
 one_put = stores 0 (Head 0) 1 ∷ one_stored
 
--- producer 1 has put the item 6
+-- then producer 1 has put the item 6
 abbrev pub both_put : WorldHistory
 both_put = stores 1 (Head 1) 2 ∷ stores 1 (Item 1) 6 ∷ ToCells (fetch 1 six) ∷ one_put
 
--- consumer 0 has found the item 5
+-- then consumer 0 has found the item 5
 abbrev pub first_found : WorldHistory
 first_found = link_load 0 0 [] 1 ∷ both_put
 
--- consumer 0 has won the claim on the item 5
+-- then consumer 0 has won the claim on the item 5
 abbrev pub first_won : WorldHistory
 first_won = map (claim_step 0 0) won_steps ++ first_found
 
--- consumer 0 has taken the item 5
+-- then consumer 0 has taken the item 5
 abbrev pub first_taken : WorldHistory
 first_taken = item_load 0 0 5 ∷ first_won
 
@@ -79,19 +79,19 @@ first_taken = item_load 0 0 5 ∷ first_won
 abbrev pub lost_steps : List ObjectTurn
 lost_steps = claim_part 1 0 won_and_lost
 
--- consumer 1 has come and lost it
+-- then consumer 1 has come to the item 5 and lost it
 abbrev pub first_lost : WorldHistory
 first_lost = map (claim_step 1 0) lost_steps ++ link_load 1 0 [] 1 ∷ first_taken
 
--- consumer 1 has found the item 6
+-- then consumer 1 has found the item 6
 abbrev pub second_met : WorldHistory
 second_met = link_load 1 1 [] 2 ∷ first_lost
 
--- consumer 1 has begun a claim on the item 6
+-- then consumer 1 has begun a claim on the item 6
 abbrev pub second_begun : WorldHistory
 second_begun = claim_step 1 1 first_step ∷ second_met
 
--- producer 0 has finished, and consumer 1 has met the end of its lane
+-- then producer 0 has finished, and consumer 1 has met the end of lane 0
 abbrev pub all_done : WorldHistory
 all_done = link_load 1 0 (0 ∷ []) END ∷ stores 0 (Link 0) END ∷ second_begun
 
@@ -112,7 +112,7 @@ taken_unwon = item_load 1 1 6
 abbrev pub taken_again : WorldAccess
 taken_again = item_load 0 0 5
 
--- consumer 1 loads the item that it has lost
+-- consumer 1 loads the item 5, which it has lost
 abbrev pub taken_lost : WorldAccess
 taken_lost = item_load 1 0 5
 
@@ -158,7 +158,7 @@ report_with left d = record {
 abbrev pub all_reported : ReportView
 all_reported = report_with (6 ∷ []) (diary_with 1 0 (Lost 0 ∷ []))
 
--- ---- what is no report, and no diary
+-- ---- what is no report and no diary of this world
 -- this is no report of what was done in all
 abbrev pub IsNoReport : ReportView → Type 0
 IsNoReport r = IsReportOf two_by_two all_histories r → ⊥
@@ -167,7 +167,7 @@ IsNoReport r = IsReportOf two_by_two all_histories r → ⊥
 abbrev pub IsNoDiary : ℕ → ℕ → DiaryView → Type 0
 IsNoDiary c p d = IsDiaryOf two_by_two c p all_histories d → ⊥
 
--- an item that nobody took is left out
+-- an item that nobody took is left out of the items left
 abbrev pub item_left_out : ReportView
 item_left_out = report_with [] (diary_with 1 0 (Lost 0 ∷ []))
 

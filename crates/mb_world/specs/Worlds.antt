@@ -9,21 +9,21 @@ use Rattle.mb_world.specs.Plan.{Plan, consumers_of}
 use Rattle.mb_world.specs.World.{IsBy, ToCells, ToClaims, WorldAccess, WorldHistory, claim_accesses, is_on, lane_part, pool_accesses}
 use Rattle.mb_world.specs.ConsumerPath.{ConsumerPath}
 
--- what consumer c did on lane p is a prefix of a path there, which leads to one place
+-- what consumer c did on lane p is a prefix of a consumer path, and leads to these cells, these notes and this claim
 pub record IsOnPath (plan : Plan) (c p : ℕ) (h : WorldHistory) : Type 0 where
   pub cells : List ℕ
   pub notes : List Note
   pub held : Option (List ObjectTurn)
   pub path : ConsumerPath plan.claims c p (lane_part c p h) cells notes held
 
--- an access of consumer c is in its part on one of the lanes
+-- c is a consumer of the plan, and the access is in the part of c on one of the plan's lanes
 pub record IsOnLane (plan : Plan) (c : ℕ) (a : WorldAccess) (h : WorldHistory) : Type 0 where
   pub known : c < consumers_of plan
   pub lane : ℕ
   pub below : lane < plan.lanes
   pub on : is_on c lane (linked_cells lane (pool_accesses h)) a ≡ true
 
--- a lawful history of a world
+-- the history is a lawful one of a world with this plan
 pub record IsWorldLawful (plan : Plan) (h : WorldHistory) : Type 0 where
   -- the end mark is the link of no cell
   pub sized : plan.claims.cells < END
@@ -41,28 +41,28 @@ pub record IsWorldLawful (plan : Plan) (h : WorldHistory) : Type 0 where
   pub no_others : (c : ℕ) (a : WorldAccess) → Has h a → IsBy c a → IsOnLane plan c a h
 
 -- ---- one more access
--- the access's values are below 2^64, and it reads what was stored last in its word
+-- the access may follow by its values alone: they are below 2^64, and it reads what was stored last in its word
 abbrev pub IsTrueTo : WorldAccess → WorldHistory → Type 0
 IsTrueTo (ToCells a) h = ActFits a.act × cell.ReadsLast a.word a.act (pool_accesses h)
 IsTrueTo (ToClaims a) h =
     object.IsInWords a.step.turn
     × object.ReadsLast a.step.turn.act (claim.object_history a.cell a.step.object (claim_accesses h))
 
--- what an access of consumer c on lane p adds
+-- what one more access, of consumer c on lane p, adds to a lawful history
 pub record ConsumerAdds (plan : Plan) (c p : ℕ) (a : WorldAccess) (h : WorldHistory) : Type 0 where
-  -- it is the consumer's, on that lane
+  -- the access is one of consumer c, on lane p
   pub maker : IsBy c a
   pub on : is_on c p (linked_cells p (pool_accesses h)) a ≡ true
   -- the longer history is lawful
   pub lawful : IsWorldLawful plan (a ∷ h)
-  -- the part of its consumer on its lane has one access more
+  -- the part of c on lane p has one access more
   pub own : lane_part c p (a ∷ h) ≡ a ∷ lane_part c p h
-  -- all other parts of consumers stay
+  -- all other parts of consumers on lanes stay
   pub others : (d q : ℕ) → (d ≡ c → q ≡ p → ⊥) → lane_part d q (a ∷ h) ≡ lane_part d q h
 
--- what an access of a producer adds
+-- what one more access, of a producer, adds to a lawful history
 pub record ProducerAdds (plan : Plan) (a : PoolAccess) (h : WorldHistory) : Type 0 where
   -- the longer history is lawful
   pub lawful : IsWorldLawful plan (ToCells a ∷ h)
-  -- the parts of all consumers stay
+  -- the parts of all consumers on all lanes stay
   pub others : (d q : ℕ) → lane_part d q (ToCells a ∷ h) ≡ lane_part d q h

@@ -66,7 +66,7 @@ pub fn reports_agree()
     ensures untouched { AgreesWith to_nobody nobody_came }
 {}
 
-/// Of two lanes, the diary of consumer `c` on lane `p` is at `c * 2 + p`.
+/// In a report of two lanes, the diary of consumer `c` on lane `p` is at `c * 2 + p`.
 pub fn diaries_stand_by_consumers()
     ensures first { notes 0 1 taken_on_both ≡ Took 6 ∷ [] }
     ensures second { notes 1 0 taken_on_both ≡ Lost 0 ∷ [] }
@@ -118,13 +118,14 @@ pub fn reports_have_begun_claims()
     ensures all { AreAllTaken taken_and_lost }
     ensures waiting { AreAllTaken won_not_loaded }
 
-    // An item left beside undecided claims alone.
+    // Undecided claims alone stand beside the item left, so neither promise is kept.
     ensures undecided { IsLeftBesideBegun both_undecided → ⊥ }
     ensures not_all { AreAllTaken both_undecided → ⊥ }
 {}
 
 /// The path of a consumer on its lane, from a link that leads nowhere yet to an item taken.
 pub fn paths_lead_on()
+    // Each history leads to these cells, these notes and this claim.
     ensures waited { ConsumerPath two_cells 0 0 waited [] [] None }
     ensures found { ConsumerPath two_cells 0 0 found (0 ∷ []) [] (Some []) }
     ensures begun { ConsumerPath two_cells 0 0 begun (0 ∷ []) [] (Some (first_step ∷ [])) }
@@ -144,7 +145,7 @@ pub fn paths_lead_nowhere_else()
     ensures early { IsOnNoPath taken_early }
     ensures twice { IsOnNoPath taken_twice }
 
-    // A claim on a cell that was not met.
+    // A claim is made on a cell that was not met.
     ensures unmet { IsOnNoPath claimed_unmet }
     ensures another { IsOnNoPath claimed_another }
 
@@ -162,16 +163,16 @@ pub fn paths_lead_nowhere_else()
     claims_have_one_next_op();
 }
 
-/// Two parts of consumer 0 that do not fit.
+/// Each of these has two parts of consumer 0 that do not fit each other.
 pub fn parts_do_not_fit()
-    // A claim on a cell that no load gave.
+    // A claim is on a cell that no load gave.
     ensures unmet { Fits two_cells 0 claimed_unseen → ⊥ }
 
-    // An item loaded although the claim is not won, and the link of its cell although the claim has not ended.
+    // An item is loaded although the claim is not won, or the link of its cell although the claim has not ended.
     ensures unclaimed { Fits two_cells 0 read_unclaimed → ⊥ }
     ensures passed { Fits two_cells 0 passed_without_claim → ⊥ }
 
-    // The head loaded again after it led to a cell.
+    // The head is loaded again after it led to a cell.
     ensures back { Fits two_cells 0 read_head_again → ⊥ }
 {
     named_tables_are_lawful();
@@ -182,6 +183,7 @@ pub fn parts_do_not_fit()
 
 /// What was done in a small world, and where its consumers stand after it.
 pub fn worlds_go_on()
+    // Each history of the small world is lawful.
     ensures asked { IsWorldLawful two_by_two one_taken }
     ensures offered { IsWorldLawful two_by_two offered }
     ensures stored { IsWorldLawful two_by_two one_stored }
@@ -199,7 +201,7 @@ pub fn worlds_go_on()
         (lane_part 0 0 all_done) (0 ∷ []) (Took 5 ∷ []) None }
     ensures away { ConsumerPath two_cells 0 1 (lane_part 0 1 all_done) [] [] None }
 
-    // Consumer 1 has lost it, and met the end after it. On lane 1 its claim goes on.
+    // Consumer 1 has lost the item of lane 0, and met the end after it. On lane 1 its claim goes on.
     ensures lost { ConsumerPath two_cells 1 0
         (lane_part 1 0 all_done) (0 ∷ []) (Lost 0 ∷ []) None }
     ensures begun { ConsumerPath two_cells 1 1
@@ -222,7 +224,7 @@ pub fn worlds_keep_out()
     ensures lost { MayNotFollow taken_lost }
     ensures again { MayNotFollow taken_again }
 
-    // A claim on a cell that its consumer has not met.
+    // A claim is made on a cell that its consumer has not met.
     ensures unmet { MayNotFollow unmet_claimed }
 
     // The link past a cell is loaded while the claim there goes on.
@@ -234,7 +236,7 @@ pub fn worlds_keep_out()
     // A producer goes on after its end mark.
     ensures late { MayNotFollow offered_late }
 
-    // A consumer and a lane that do not exist.
+    // There is no such consumer, or no such lane.
     ensures stranger { MayNotFollow stranger }
     ensures no_lane { MayNotFollow no_lane }
 {
@@ -262,7 +264,7 @@ pub fn worlds_are_reported()
 
 /// Reports and diaries that are not of that world.
 pub fn worlds_are_not_misreported()
-    // An item that nobody took is left out, a note is skipped, and all is left out.
+    // An item that nobody took is left out, or a note is, or all is.
     ensures left { IsNoReport item_left_out }
     ensures skipped { IsNoReport (report_with (6 ∷ []) loss_left_out) }
     ensures nothing { IsNoReport nothing_told }
@@ -270,11 +272,11 @@ pub fn worlds_are_not_misreported()
     // A diary has no note on an item that its consumer has lost.
     ensures silent { IsNoDiary 1 0 loss_left_out }
 
-    // It says that an item was taken that its consumer has not won.
+    // A diary says that an item was taken that its consumer has not won.
     ensures lost { IsNoDiary 1 0 loss_taken }
     ensures unwon { IsNoDiary 1 1 unwon_taken }
 
-    // It does not say that a claim is begun. In place of a consumer's diary there is another consumer's.
+    // A diary does not say that a claim is begun. In place of a consumer's diary there is another consumer's.
     ensures open { IsNoDiary 1 1 claim_left_out }
     ensures other { IsNoDiary 1 0 (diary_with 0 0 (Lost 0 ∷ [])) }
 {
@@ -294,13 +296,14 @@ pub fn end_marks_are_not_passed()
 
 /// Events and their answers.
 pub fn events_are_replayed()
+    // The first events have these answers, and lead to the history in which the item 5 is put.
     ensures first { IsReplay two_by_two first_events first_answers [] one_put }
 
     // An item is stored.
     ensures pushed { HasAnswer two_by_two
         (event.Push 0) (answer.Pushed (push.Item 0)) (Some (stores 0 (Item 0) 5)) offered }
 
-    // A step that finds a cell, one of a claim, and one that takes an item.
+    // One step finds a cell, one is a step of a claim, and one takes an item.
     ensures found { HasAnswer two_by_two
         (event.Step 1 1 7) (answer.Looked (look.Cell 1)) (Some (link_load 1 1 [] 2)) first_lost }
     ensures claimed { HasAnswer two_by_two
@@ -308,7 +311,7 @@ pub fn events_are_replayed()
     ensures took { HasAnswer two_by_two
         (event.Step 0 0 7) (answer.Took 0 5) (Some (item_load 0 0 5)) first_won }
 
-    // Refusals in their order.
+    // An event is refused after the end mark, or for its lane, or for its consumer.
     ensures closed { HasAnswer two_by_two
         (event.Offer 0 7) (answer.Offered offer.Closed) None all_done }
     ensures no_lane { HasAnswer two_by_two (event.Step 2 2 0) answer.NoLane None all_done }
@@ -336,7 +339,7 @@ pub fn events_are_not_misanswered()
     ensures word { HasAnswer two_by_two
         (event.Step 1 1 1) first_claimed (Some (claim_step 1 1 first_step)) second_met → ⊥ }
 
-    // An event has no answer.
+    // No replay leaves an event without an answer.
     ensures silent { IsReplay two_by_two (event.Push 0 ∷ []) [] [] [] → ⊥ }
 {
     named_tables_are_lawful();
@@ -347,11 +350,12 @@ pub fn events_are_not_misanswered()
 
 /// What the state of a world says of its report, if its pool has one cell with the item 8.
 pub fn states_tell_reports()
+    // Lane 0 has the cell and has not ended. So no report of the lane without the item is told.
     ensures walked { IsWalk put_pool 0 (0 ∷ []) false item_put }
     ensures told { (s : WorldState) → s.pool ≡ put_pool
         → IsLaneTold s 0 (record { put = []; ended = false; left = [] }) → ⊥ }
 
-    // A cell that is left out, an end mark that nobody stored, and an item that is not there.
+    // A cell is left out, an end mark is told that nobody stored, or the state has another item in the cell.
     ensures passed { IsWalk put_pool 0 [] false item_put → ⊥ }
     ensures over { IsWalk put_pool 0 (0 ∷ []) true item_put → ⊥ }
     ensures not_there { IsWalk taken_pool 0 (0 ∷ []) false item_put → ⊥ }

@@ -229,7 +229,7 @@ pub fn replays_do_not_differ()
 /// What a producer has done decides whether its event is refused, and with which answer.
 pub fn events_are_refused_for_what_was_done()
     // An offer is closed after the end mark, busy while an item has a cell that is not linked, and full after a
-    // fetch-add that found no cell.
+    // fetch-add that found no cell. Else it is not refused.
     ensures closed { (plan : Plan) (h : WorldHistory) (p x : ℕ) → IsQuorumTable plan.claims.table
         → IsWorldLawful plan h → p < plan.lanes
         → IsRefused plan (event.Offer p x) (answer.Offered offer.Closed) h

@@ -5,9 +5,9 @@ use mb_claim::Claim;
 /// Where a consumer stands on a lane, and the claim that it holds there.
 #[derive(Clone, Copy, PartialEq, Eq, Debug)]
 pub enum Place {
-    /// It is before the link at this cursor.
+    /// The consumer is before the link at this cursor, and holds no claim.
     Before(Cursor),
-    /// It is at this cell, with its claim there.
+    /// The consumer is at this cell, and holds this claim there.
     At { cell: u32, claim: Claim },
 }
 

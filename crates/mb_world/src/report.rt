@@ -13,7 +13,7 @@ pub enum Note {
     Undecided,
 }
 
-/// The report of one lane.
+/// What a report has of one lane.
 #[derive(Drop)]
 pub struct LaneReport<A: Allocator + Drop> {
     /// The items put, in the order of linking.
@@ -24,28 +24,29 @@ pub struct LaneReport<A: Allocator + Drop> {
     pub left: Vec<u64, A>,
 }
 
-/// The report of one consumer on one lane.
+/// What a report has of one consumer on one lane.
 #[derive(Drop)]
 pub struct Diary<A: Allocator + Drop> {
     /// The consumer, from 0 on.
     pub consumer: u32,
     /// The lane, from 0 on.
     pub lane: u32,
-    /// Its notes on the items of the lane, from the first item on.
+    /// The consumer's notes on the items of the lane, from the first item on.
     pub notes: Vec<Note, A>,
-    /// Whether its claim on the next item, which has no note yet, has made an access.
+    /// Whether the consumer's claim on the next item, which has no note yet, has made an access.
     pub begun: bool,
 }
 
 /// The whole report.
 #[derive(Drop)]
 pub struct Report<A: Allocator + Drop> {
-    /// One for each lane, in their order.
+    /// What the report has of each lane, in the order of the lanes.
     pub lanes: Vec<LaneReport<A>, A>,
-    /// One for each consumer and lane. That of consumer `c` on lane `p` is at `c * lanes.len() + p`.
+    /// A diary for each consumer and lane. That of consumer `c` on lane `p` is at `c * lanes.len() + p`.
     pub diaries: Vec<Diary<A>, A>,
 }
 
+// Clauses see what a report has of a lane as plain lists.
 impl<A: Allocator + Drop> Model for LaneReport<A> {
     ghost use Rattle.mb_world.specs.Report.{LaneView};
 
@@ -54,6 +55,7 @@ impl<A: Allocator + Drop> Model for LaneReport<A> {
     ghost view = { λ l. record { put = l.put.items; ended = l.ended; left = l.left.items } };
 }
 
+// Clauses see a diary as plain numbers and a plain list.
 impl<A: Allocator + Drop> Model for Diary<A> {
     ghost use Rattle.mb_world.specs.Report.{DiaryView};
 
@@ -67,6 +69,7 @@ impl<A: Allocator + Drop> Model for Diary<A> {
     } };
 }
 
+// Clauses see a report as plain lists of lanes and diaries.
 impl<A: Allocator + Drop> Model for Report<A> {
     ghost use Rattle.mb_world.specs.Report.{ReportView};
 

@@ -10,8 +10,8 @@ use std::fmt;
 /// The most producers that a setup can have. The least is 1.
 pub const MAX_PRODUCERS: u64 = 16;
 
-/// The numbers of producers, consumers and cells, and the deciding objects of each cell. It holds their layout, so it
-/// is not `Copy`. A second one is made by [`Setup::copy`].
+/// The numbers of producers, consumers and cells, and the deciding objects of each cell. A setup holds their layout, so
+/// it is not `Copy`. A second one is made by [`Setup::copy`].
 #[derive(PartialEq, Eq, Debug, Drop)]
 pub struct Setup {
     producers: u32,
@@ -79,8 +79,8 @@ impl Setup {
         Setup::up_to(MAX_CELLS, producers, consumers, cells, pairs, name)
     }
 
-    /// The same for up to 2^24 cells, with the faults in the same order. The memory of a mailbox or a world grows with
-    /// the number of its cells. A script may have at most 256.
+    /// A setup as [`Setup::new`] makes it, but of up to 2^24 cells. The faults have the same order. The memory of a
+    /// mailbox or a world grows with the number of its cells. A script may have at most 256.
     pub fn large(
         producers: u64,
         consumers: u64,
@@ -135,7 +135,7 @@ impl Setup {
         }
     }
 
-    /// The same setup, but each cell has this shape. The shape that it had before makes no difference.
+    /// This setup, but with this shape for each cell. The shape that the cells had before makes no difference.
     pub fn shaped(&self, shape: Shape) -> Setup
         ensures table { (plan_in result).claims.table ≡ (plan_in self.now).claims.table }
         ensures cells { (plan_in result).claims.cells ≡ (plan_in self.now).claims.cells }
@@ -153,7 +153,7 @@ impl Setup {
         }
     }
 
-    /// The same setup once more.
+    /// A second setup that is the same.
     pub fn copy(&self) -> Setup
         ensures { result ≡ self.now }
     {

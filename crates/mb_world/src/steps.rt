@@ -1,5 +1,6 @@
-//! What builders need: one more access. A world keeps one history ([`history_extends`]). A consumer among threads keeps its
-//! own two parts, which fit ([`parts_fit_on`]). The functions compute nothing: their contracts are the laws. Their
+//! The laws of one more access, which a world and a mailbox for threads stand on. A world keeps one history
+//! ([`history_extends`]). A consumer among threads keeps its own two parts, which fit ([`parts_fit_on`]), and its loads
+//! tell which cells it met ([`loads_meet_cells`]). The functions compute nothing: their contracts are the laws. Their
 //! proofs are in `proofs/steps/`, one folder for each. They use the lemmas of `proofs/`.
 ghost use Rattle.std.specs.Prelude.{ℕ, ◌≡◌, ◌≢◌, ◌+◌, ◌<◌, ◌⊎◌, List, [], ◌∷◌, Option};
 ghost use Rattle.mb_claim.specs.declared.access.Stage.TheVariants as stage;
@@ -22,16 +23,17 @@ use mb_claim::laws::prefixes_have_one_stage;
 
 /// Lawful histories of a world grow by one access after another.
 pub fn history_extends()
+    // The history without an access is lawful, if the end mark is the link of no cell.
     ensures empty { (plan : Plan) → plan.claims.cells < END → IsWorldLawful plan [] }
 
-    // One more access of a consumer, which extends its path on a lane.
+    // An access of a consumer may follow if it is true to memory and extends the consumer's path on a lane.
     ensures consumer { (plan : Plan) (h : WorldHistory) (c p : ℕ) (a : WorldAccess) (ks : List ℕ)
         (ns : List Note) (held : Option (List ObjectTurn)) → IsQuorumTable plan.claims.table
         → IsWorldLawful plan h → c < consumers_of plan → p < plan.lanes → IsTrueTo a h
         → ConsumerPath plan.claims c p (a ∷ lane_part c p h) ks ns held
         → ConsumerAdds plan c p a h }
 
-    // One more access of a producer, which extends the lawful history of the cells.
+    // An access of a producer may follow if the history of the cells stays lawful with it.
     ensures producer { (plan : Plan) (h : WorldHistory) (p : ℕ) (a : PoolAccess)
         → IsWorldLawful plan h → a.process ≡ Producer p
         → IsPoolLawful (size_of plan) (a ∷ pool_accesses h)
@@ -46,22 +48,23 @@ pub fn history_extends()
 
 /// The two parts of a consumer still fit after each access that it may make, whatever it finds.
 pub fn parts_fit_on()
+    // The parts of a consumer that has done nothing fit.
     ensures empty { (cs : Claims) (c : ℕ) → Fits cs c no_parts }
 
-    // It may look for the next cell of a lane if it is done with the last one that it met.
+    // A consumer may look for the next cell of a lane if it is done with the last one that it met there.
     ensures looks { (cs : Claims) (c q p v : ℕ) (x : Parts) → Fits cs c x
         → MayLookPast cs c (cells_met p x.reads) x
         → Fits cs c (with_load (load q (place_past p (cells_met p x.reads)) v) x) }
 
-    // It may make a step of its claim on a cell that it met and has not left.
+    // A consumer may make a step of its claim on a cell that it met and has not left.
     ensures claims { (cs : Claims) (c k : ℕ) (t : ObjectTurn) (x : Parts) → Fits cs c x
         → Gave k x.reads → HasNotLeft k x → Fits cs c (with_step k t x) }
 
-    // It may load the item if its claim is won.
+    // A consumer may load the item of a cell if its claim there is won.
     ensures takes { (cs : Claims) (c q k v : ℕ) (x : Parts) → Fits cs c x
         → HasStageIn cs c k stage.Won x → Fits cs c (with_load (load q (Item k) v) x) }
 
-    // It has not left a cell on which its claim goes on.
+    // A consumer has not left a cell on which its claim goes on.
     ensures going { (cs : Claims) (c k : ℕ) (x : Parts) → IsQuorumTable cs.table → Fits cs c x
         → HasStageIn cs c k stage.Going x → HasNotLeft k x }
 {
@@ -71,7 +74,7 @@ pub fn parts_fit_on()
 /// The cells that a reader's own loads met on a lane: how they grow load by load, and what they are in a lawful history
 /// with these loads.
 pub fn loads_meet_cells()
-    // A load of the link past them meets the cell to which it leads, if it leads to one.
+    // A load of the link past the cells met so far meets the cell to which it leads, if it leads to one.
     ensures cell { (q p k : ℕ) (reads : History) → k + 1 ≢ END
         → cells_met p (load q (place_past p (cells_met p reads)) (k + 1) ∷ reads)
         ≡ k ∷ cells_met p reads }
@@ -82,7 +85,8 @@ pub fn loads_meet_cells()
     ensures elsewhere { (p : ℕ) (a : PoolAccess) (reads : History)
         → a.word ≢ place_past p (cells_met p reads) → cells_met p (a ∷ reads) ≡ cells_met p reads }
 
-    // They were met, so they were given. In a lawful history they are cells of the lane, each once.
+    // The reader has met these cells in the history too, and was given each. In a lawful history they are cells of the
+    // lane, each once.
     ensures met { (q p : ℕ) (h : History) → HasMet q p (cells_met p (part (Reader q) h)) h }
     ensures given { (q p k : ℕ) (h : History) → Has (cells_met p (part (Reader q) h)) k
         → Gave k (part (Reader q) h) }
@@ -91,7 +95,7 @@ pub fn loads_meet_cells()
     ensures once { (size : PoolSize) (q p : ℕ) (h : History) → IsPoolLawful size h
         → IsOnceEach (cells_met p (part (Reader q) h)) }
 
-    // If the loads follow links, no other cell of the lane was given.
+    // If the loads follow links, the reader was given no other cell of the lane.
     ensures all { (size : PoolSize) (q p : ℕ) (h : History) → IsPoolLawful size h
         → FollowsLinks (part (Reader q) h) → HasMetAll q p (cells_met p (part (Reader q) h)) h }
 {

@@ -31,6 +31,7 @@ pub struct World<A: Allocator + Drop> {
     notes: Vec<Option<Note>, A>,
 }
 
+// Clauses see the state of a world. The invariant is that some lawful history leaves it.
 impl<A: Allocator + Drop> Model for World<A> {
     ghost use Rattle.mb_world.specs.WorldState.{WorldIsSound, WorldState};
 
@@ -85,7 +86,7 @@ impl<A: Allocator + Clone + Drop> World<A> {
     }
 }
 
-/// The places of so many consumers that have done nothing, consumer by consumer: before the head of each lane.
+/// The places of this many consumers that have done nothing, consumer by consumer: each is before the head of its lane.
 fn before_heads<A: Allocator + Drop>(
     alloc: A,
     consumers: u32,

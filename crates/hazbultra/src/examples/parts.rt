@@ -12,7 +12,7 @@ ghost use Rattle.hazbultra.specs.declared.thing.SeededConsumer.{SeededConsumer};
 ghost use Rattle.hazbultra.specs.declared.thing.Thing.TheVariants.{OfConsumer, OfHub};
 ghost use Rattle.hazbultra.specs.declared.thing.Thing.TheVariants.{OfProducer, OfReport};
 
-/// A producer goes on as another one of its mailbox, and so does a consumer.
+/// After a call a handle leads to a producer of the same mailbox as before, or to such a consumer.
 pub fn parts_go_on()
     ensures producer { (p : BoundProducerView) (s : ProducerView)
         → ProducerWent (λ p q. q.producer ≡ s) (Some (OfProducer p))
@@ -51,7 +51,7 @@ pub fn producers_come_home()
         → HasTakenBack h (Some (OfProducer p)) k → ⊥ }
 {}
 
-/// The words of a source begin with its first one. A stream that begins with another is not theirs.
+/// The words of a source begin with its first one. A stream that begins with another word is not that of the source.
 pub fn words_are_of_eight_rounds()
     ensures first { (rng : ChaCha) → (words_of_generator rng).u32_after [] ≡ (next_word 4 rng).0 }
     ensures another { (rng : ChaCha) (s : Stream) → s.u32_after [] ≡ (next_word 4 rng).0 + 1

@@ -11,7 +11,8 @@ use std::alloc::Global;
 use std::marker::Model;
 use std::ptr::null_mut;
 
-/// It owns what a box of the thing owns, or nothing. Dropping a block does not free that.
+/// A block leads to a thing and owns what a box of the thing owns, or leads to nothing and owns nothing. Dropping a
+/// block does not free what it owns.
 #[repr(C)]
 #[derive(Drop)]
 pub struct Block {
@@ -20,11 +21,13 @@ pub struct Block {
     pub ghost thing: { Option Thing } by { maybe_thing_coded },
 }
 
+// A block owns what it leads to.
 impl Model for Block {
     ghost also_owns = { λ b. block_owns b.alloc b.at b.thing };
 }
 
 impl Block {
+    /// A block that leads to nothing.
     pub(super) fn none(alloc: Global) -> Block
         ensures { result.thing ≡ None }
     {
@@ -34,12 +37,14 @@ impl Block {
         }
     }
 
+    /// A block that leads to what is in the box.
     pub(super) fn of(thing: Box<Thing, Global>) -> Block
         ensures { result.thing ≡ Some thing.value }
     {
         Block::of_parts(Parts::of(thing))
     }
 
+    /// The box of the thing to which the block leads.
     pub(super) fn into_box(self) -> Box<Thing, Global>
         requires { IsSome self.thing }
         ensures { self.thing ≡ Some result.value }
@@ -47,6 +52,7 @@ impl Block {
         self.into_parts().into_box()
     }
 
+    /// A block that leads to the thing of which these are the parts of a box.
     fn of_parts(parts: Parts<Thing, Global>) -> Block
         ensures { result.thing ≡ Some parts.value }
     {
@@ -57,6 +63,7 @@ impl Block {
         }
     }
 
+    /// The parts of a box of the thing to which the block leads.
     fn into_parts(self) -> Parts<Thing, Global>
         requires { IsSome self.thing }
         ensures { self.thing ≡ Some result.value }

@@ -34,7 +34,7 @@ impl<A: Allocator + Clone + Drop> World<A> {
         ensures exact { IfOk result (λ r. (h : WorldHistory) → IsWorldAfter h self.now
             → IsReportOf (plan_in self.now.setup) (histories_of h) r) }
 
-        // One assignment agrees with it, and nothing follows an end mark.
+        // One assignment agrees with the report, and nothing follows an end mark.
         ensures honest { IfOk result (λ r. (h : WorldHistory) → IsWorldAfter h self.now
             → IsHonest (plan_in self.now.setup) (histories_of h) r) }
 
@@ -129,7 +129,7 @@ impl<A: Allocator + Clone + Drop> World<A> {
         })
     }
 
-    /// The cells of lane `p`, along the links from its head.
+    /// The cells of lane `p`, along the links from its head, and whether the lane has ended.
     fn lane_cells(&self, alloc: A, p: u32) -> Result<LaneCells<A>, NoMemory>
         requires { p < (plan_in self.now.setup).lanes }
         ensures walked { IfOk result (λ lane.

@@ -35,7 +35,7 @@ use mb_cells::laws::{cells_stand_once, readers_follow_lanes};
 use mb_cells::steps::loads_leave_pools;
 use mb_claim::laws::{layouts_are_sound, prefixes_have_one_stage};
 
-/// A look of a consumer that holds no claim.
+/// What a look of a consumer that holds no claim makes of the state.
 pub(super) fn looks_leave_states()
     // The consumer stands before a link of the pool.
     ensures within { (s : WorldState) (h : WorldHistory) (c p : ℕ) (at : Cursor)
@@ -49,7 +49,7 @@ pub(super) fn looks_leave_states()
         → EventAdds (event.Step c p word) (answer.Looked (look.Cell k))
         (with_place c p (At k claim) s) h }
 
-    // If it leads to none, the state stays.
+    // If the link leads to no cell, the state stays.
     ensures waited { (s : WorldState) (h : WorldHistory) (c p word : ℕ) (at : Cursor)
         (z : Look) → IsWorldAfter h s → HasPlace c p (Before at) s
         → look_after at (pool_accesses h) ≡ z → ((k : ℕ) → z ≢ look.Cell k)
@@ -64,7 +64,8 @@ pub(super) fn looks_leave_states()
     history_extends();
 }
 
-/// The item load of a consumer whose claim is won.
+/// What the item's load by a consumer whose claim is won makes of the state: the consumer has its note, and stands past
+/// the cell.
 pub(super) fn takes_leave_states()
     ensures { (s : WorldState) (h : WorldHistory) (c p word k : ℕ) (claim : Claim)
         → IsWorldAfter h s → HasPlace c p (At k claim) s → claim_stage claim ≡ stage.Won
@@ -81,7 +82,7 @@ pub(super) fn takes_leave_states()
     history_extends();
 }
 
-/// A step of a consumer's claim.
+/// What a step of a consumer's claim makes of the state.
 pub(super) fn claims_leave_states()
     // A claim that is held and not won goes on.
     ensures going { (s : WorldState) (h : WorldHistory) (c p k : ℕ) (claim : Claim)
@@ -94,7 +95,8 @@ pub(super) fn claims_leave_states()
         → IsClaimOn (layout_of s.setup) (plan_in s.setup).claims.cells k claim s.words
         (claim_accesses h) }
 
-    // The step leads to these words and this claim, and so to this state.
+    // If the step leads to these words and this claim, the event leads to the state with them, and with the note of a
+    // claim that has ended.
     ensures competed { (s : WorldState) (h : WorldHistory) (c p word k : ℕ) (claim now : Claim)
         (words : List ℕ) (x : ObjectTurn)
         → IsWorldAfter h s → HasPlace c p (At k claim) s → claim_stage claim ≡ stage.Going
@@ -115,7 +117,7 @@ pub(super) fn claims_leave_states()
     history_extends();
 }
 
-/// A call of a producer's lane.
+/// What a call of the pool for a producer makes of the state.
 pub(super) fn calls_leave_states()
     ensures offered { (s : WorldState) (h : WorldHistory) (p x : ℕ) (z : Offer) (pool : PoolState)
         → IsWorldAfter h s → p < (plan_in s.setup).lanes → OfferMeets s.pool p x z pool

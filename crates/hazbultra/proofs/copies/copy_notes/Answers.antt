@@ -6,6 +6,7 @@ use Rattle.std.proofs.lemmas.List.{take_more_set}
 use Rattle.hazbultra.specs.Reports.{note_out}
 use Rattle.hazbultra.proofs.copies.copy_notes.Goals as goal
 
+-- one more note is copied, and the rest of `to` stays
 pub loop-place-preserved : goal.loop-place-preserved
 loop-place-preserved c =
     let notes = c.args.from.now in
@@ -23,6 +24,7 @@ loop-place-preserved c =
           ∙ drop-drop 1 at c.args.to.now;
     }
 
+-- after the loop the first notes are copied
 pub returns-clause-notes : goal.returns-clause-notes
 returns-clause-notes c =
     let count = c.min-count.result in

@@ -7,6 +7,7 @@ use Rattle.hazbultra.proofs.Diaries.{consumers_told}
 use Rattle.hazbultra.proofs.reports.hz_report_size.Goals.{in-OfReport, in_default-deref}
 use Rattle.hazbultra.proofs.reports.hz_report_size.Goals as goal
 
+-- the number that is written is the quotient of the counts, and so that of the consumers
 pub returns-clause-consumers : goal.returns-clause-consumers
 returns-clause-consumers c = λ done.
     elim c.match-deref.branch [

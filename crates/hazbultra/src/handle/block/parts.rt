@@ -12,11 +12,13 @@ pub struct Parts<T, A: Allocator> {
     pub ghost value: { T },
 }
 
+// The parts own what a box of this value at this address owns.
 impl<T, A: Allocator> Model for Parts<T, A> {
     ghost also_owns = { λ p. box_owns (A.dealloc_token p.alloc) T.row p.ptr p.value };
 }
 
 impl<T, A: Allocator> Parts<T, A> {
+    /// Takes the box apart.
     pub fn of(whole: Box<T, A>) -> Parts<T, A>
     where
         T: Drop,
@@ -26,6 +28,7 @@ impl<T, A: Allocator> Parts<T, A> {
         Parts { ptr, alloc }
     }
 
+    /// Makes a box of the parts again.
     pub fn into_box(self) -> Box<T, A>
         ensures { result.value ≡ self.value }
     {

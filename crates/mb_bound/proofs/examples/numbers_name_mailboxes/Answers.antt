@@ -1,3 +1,4 @@
+-- Proof of `examples::numbers_name_mailboxes`: two mailboxes with different numbers are always named apart.
 use Rattle.std.proofs.Common.{arith, refl}
 use Rattle.mb_bound.proofs.examples.numbers_name_mailboxes.Goals as goal
 

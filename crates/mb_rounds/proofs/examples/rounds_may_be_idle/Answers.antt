@@ -8,6 +8,7 @@ use Rattle.mb_rounds.specs.RoundExamples.{at_each_call, at_no_call, idle_terms, 
 use Rattle.mb_rounds.proofs.Played.{played}
 use Rattle.mb_rounds.proofs.examples.rounds_may_be_idle.Goals as goal
 
+-- no list is dealt, and the run has no workers
 pub returns : goal.returns
 returns c = λ m size lanes cells gathered.
     let n = consumer_count m.claims.layout in

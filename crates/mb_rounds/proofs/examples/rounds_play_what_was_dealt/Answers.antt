@@ -18,10 +18,11 @@ returns-clause-other_item c = λ terms played.
     let first : 8 ≡ 7 = ap (λ items. get_or items 0 0) played.fronts.0.1 in
     omega (arith, first)
 
+-- the lists dealt: one list with the item 7
 abbrev dealt : List (List ℕ)
 dealt = (7 ∷ []) ∷ []
 
--- a producer that nobody stops, of a list that has a cell
+-- a producer that nobody stops, and for whose item there is a cell, has put the item
 puts_it : (m : MailboxView) (h : HubView) (n : ℕ) (left : List LaneLeft) → m.cells.size.cells ≡ 1
     → h.puts ≡ map (λ l. Some (ended_list l)) left → h.cells.roll.lanes ≡ map (λ l. Some l.part) left
     → AllZip (λ list l. IsFront l.put list) dealt left

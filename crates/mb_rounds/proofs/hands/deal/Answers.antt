@@ -5,6 +5,7 @@ use Rattle.mb_mailbox.specs.Worked.{lists_in}
 use Rattle.mb_rounds.proofs.Cutting.{dealt_more, last_has_all}
 use Rattle.mb_rounds.proofs.hands.deal.Goals as goal
 
+-- one more list is cut off the front of what is left, and the last list has all of it
 pub loop-number-preserved : goal.loop-number-preserved
 loop-number-preserved g c =
     let rest = c.loop-number.rest.now in

@@ -5,6 +5,7 @@ use Rattle.mb_rounds.proofs.Counts.{times_first}
 use Rattle.mb_rounds.proofs.Turning.{all_there}
 use Rattle.mb_rounds.proofs.laws.carried_by_example.Goals as goal
 
+-- the items carried before each turn, and that each round kept all values: 8, 7 and 9 were carried into the second
 pub returns-clause-one_left : goal.returns-clause-one_left
 returns-clause-one_left c = (
   8 ∷ 7 ∷ 9 ∷ [],
@@ -19,8 +20,10 @@ returns-clause-one_left c = (
       omega (arith, a, b, d, e, f, g)),
 )
 
+-- the value 8 was handed in once and not given out, so it is carried
 pub returns-clause-none_left : goal.returns-clause-none_left
 returns-clause-none_left c e = let t = all_there 8 two_rounds [] e in absurd (omega (arith, t))
 
+-- the value 8 was handed in once and not given out, so it is carried
 pub returns-clause-other_left : goal.returns-clause-other_left
 returns-clause-other_left c e = let t = all_there 8 two_rounds (7 ∷ []) e in absurd (omega (arith, t))

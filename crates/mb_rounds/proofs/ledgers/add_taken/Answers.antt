@@ -5,6 +5,7 @@ use Rattle.mb_rounds.proofs.Reading.{read_none, read_some}
 use Rattle.mb_rounds.proofs.ledgers.add_taken.Goals as goal
 use Rattle.mb_rounds.proofs.ledgers.add_taken.Goals.{in-Some+in_ok-push, in_default}
 
+-- the next note adds its item, if it says that one was taken
 pub loop-note-preserved : goal.loop-note-preserved
 loop-note-preserved g c =
     let notes = c.args.notes.now in

@@ -8,6 +8,7 @@ use Rattle.mb_rounds.proofs.Cutting.{count_lists}
 use Rattle.mb_rounds.proofs.Played.{count_sources, played}
 use Rattle.mb_rounds.proofs.play.play.Goals as goal
 
+-- what the mailbox's calls promise is what a played round asks for
 pub returns-clause-played : goal.returns-clause-played
 returns-clause-played g c =
     let items = c.args.lists.items in

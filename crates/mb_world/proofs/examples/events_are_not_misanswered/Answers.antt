@@ -11,6 +11,7 @@ use Rattle.mb_world.specs.PathExamples.{first_step}
 use Rattle.mb_world.specs.WorldExamples.{all_done, first_claimed, first_lost, offered, second_met, stores, two_by_two}
 use Rattle.mb_world.proofs.examples.events_are_not_misanswered.Goals as goal
 
+-- in the first five clauses the event has another answer, and no event has two
 pub returns-clause-nothing : goal.returns-clause-nothing
 returns-clause-nothing c (a, entry) =
     let same = (c.replays_do_not_differ.ensures.entry two_by_two (event.Step 1 1 7)

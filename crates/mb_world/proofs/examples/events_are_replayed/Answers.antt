@@ -11,6 +11,7 @@ use Rattle.mb_world.specs.WorldExamples.{five, stores}
 use Rattle.mb_world.proofs.ExampleEvents.{busy, busy_there, closed, closed_there, idle, idle_there}
 use Rattle.mb_world.proofs.examples.events_are_replayed.Goals as goal
 
+-- event by event: the access, that it is asked for and named, and the lawful history with it, or else the refusal
 pub returns-clause-first : goal.returns-clause-first
 returns-clause-first c =
     let w = c.worlds_go_on.ensures in (

@@ -6,6 +6,7 @@ use Rattle.mb_world.proofs.SmallPaths.{claimed_another_none, claimed_unmet_none,
 use Rattle.mb_world.proofs.SmallPaths.{passed_won_none, taken_early_none, taken_twice_none, taken_unclaimed_none}
 use Rattle.mb_world.proofs.examples.paths_lead_nowhere_else.Goals as goal
 
+-- each clause takes its lemma, with the laws of claims that the lemmas of `SmallPaths` ask for
 pub returns-clause-unclaimed : goal.returns-clause-unclaimed
 returns-clause-unclaimed c = taken_unclaimed_none
     (λ xs s r.

@@ -6,6 +6,7 @@ use Rattle.mb_claim.specs.Examples.{two_consumers}
 use Rattle.mb_world.proofs.SmallPaths.{begun_path, found_path, taken_path, waited_path, won_path}
 use Rattle.mb_world.proofs.examples.paths_lead_on.Goals as goal
 
+-- each clause takes its lemma, with the laws of claims that the lemmas of `SmallPaths` ask for
 pub returns-clause-waited : goal.returns-clause-waited
 returns-clause-waited c = waited_path
     (λ xs s r.

@@ -12,16 +12,19 @@ use Rattle.mb_world.proofs.ReportLists.{no_diary, not_noted}
 use Rattle.mb_world.proofs.examples.reports_have_begun_claims.Goals as goal
 
 -- ---- two reports of which both hold: the one has no begun claim, the other has one beside the item left
+-- the item is taken, so nothing is asked of it
 beside_taken : IsLeftBesideBegun taken_and_lost
 beside_taken c zero zero inside competed none = absurd (none 0 (5, refl))
 beside_taken c zero (suc j) inside competed none = absurd (omega (arith, inside))
 beside_taken c (suc p) j inside competed none = absurd (omega (arith, inside))
 
+-- the item left stands beside the begun claim of consumer 0
 beside_begun : IsLeftBesideBegun won_not_loaded
 beside_begun c zero zero inside competed none = (0, refl, refl)
 beside_begun c zero (suc j) inside competed none = absurd (omega (arith, inside))
 beside_begun c (suc p) j inside competed none = absurd (omega (arith, inside))
 
+-- the item is taken
 all_taken : AreAllTaken taken_and_lost
 all_taken zero idle c zero inside competed = (0, (5, refl))
 all_taken zero idle c (suc j) inside competed = absurd (omega (arith, inside))
@@ -33,16 +36,19 @@ all_waiting zero idle c j inside competed = absurd (idle 0 refl)
 all_waiting (suc p) idle c j inside competed = absurd (omega (arith, inside))
 
 -- ---- a report of which neither holds: two claims are undecided
+-- there are two consumers, and so two diaries
 no_other : (d : ℕ) → diary (suc (suc d)) 0 both_undecided ≡ None
 no_other d =
     no_diary (suc (suc d)) (5 ∷ []) (5 ∷ [])
     (diary_of 0 (Undecided ∷ []) false ∷ diary_of 1 (Undecided ∷ []) false ∷ []) (omega arith)
 
+-- nobody has taken the item
 none_taken : (d : ℕ) → HasTaken d 0 0 both_undecided → ⊥
 none_taken zero h = let e = h.1 in cc
 none_taken (suc zero) h = let e = h.1 in cc
 none_taken (suc (suc d)) h = not_noted (suc (suc d)) 0 0 both_undecided (Took h.0) (no_other d) h.1
 
+-- no claim is begun
 none_begun : (d : ℕ) → is_begun d 0 both_undecided ≡ true → ⊥
 none_begun zero e = false≢true e
 none_begun (suc zero) e = false≢true e

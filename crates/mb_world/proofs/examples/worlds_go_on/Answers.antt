@@ -11,6 +11,7 @@ use Rattle.mb_world.proofs.ExampleWorlds.{first_won_lawful, met_lawful, offered_
 use Rattle.mb_world.proofs.ExampleWorlds.{taken_lawful}
 use Rattle.mb_world.proofs.examples.worlds_go_on.Goals as goal
 
+-- each clause takes its lemma, with the record `Laws` that the lemmas of `ExampleWorlds` ask for
 pub returns-clause-offered : goal.returns-clause-offered
 returns-clause-offered c =
     offered_lawful (record {

@@ -12,6 +12,7 @@ use Rattle.mb_world.proofs.LastAccess.{path_end}
 use Rattle.mb_world.proofs.ExampleLimits.{no_item, no_item_yet, no_link, no_step, no_stranger, no_such_lane, not_next}
 use Rattle.mb_world.proofs.examples.worlds_keep_out.Goals as goal
 
+-- in the first five clauses the consumer stands at this place on the lane, and the access does not lead on from there
 pub returns-clause-unwon : goal.returns-clause-unwon
 returns-clause-unwon c = not_next
     (λ d xs s r. c.prefixes_have_one_stage.ensures two_cells d xs s r

@@ -20,6 +20,7 @@ returns-clause-none c q p v reads says =
     met_there p (cells_met p reads) (load q (place_past p (cells_met p reads)) v) reads refl refl
     ∙ ap (λ o. push_if o (cells_met p reads)) (none_given v says)
 
+-- two words that differ do not pass the test for one word
 other_word : (v w : Word) → v ≢ w → is_same_word v w ≡ false
 other_word v w ne = elim (cases_Bool (is_same_word v w)) [
   | inl same ↦ absurd (ne (word_is v w same))

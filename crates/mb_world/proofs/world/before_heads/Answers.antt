@@ -1,18 +1,22 @@
+-- Proof of `before_heads`: the places of consumers that have done nothing.
 use Rattle.std.proofs.Common.{◌≡◌, ◌*◌, ◌+◌, ◌∙◌, ℕ, ap, arith, subst, sym}
 use Rattle.mb_world.specs.Places.{AreAtHeads}
 use Rattle.mb_world.proofs.StateLists.{heads_more}
 use Rattle.mb_world.proofs.world.before_heads.Goals as goal
 
+-- a consumer's places begin after those of the consumers before
 pub loop-p-init : goal.loop-p-init
 loop-p-init g c =
     let same : c.loop-c.c * c.args.lanes ≡ c.loop-c.c * c.args.lanes + 0 = omega arith in
     subst (λ (n : ℕ). AreAtHeads c.args.lanes n c.loop-c.places.items) same c.loop-c.invariant
 
+-- one more place is before the head of its lane
 pub loop-p-preserved : goal.loop-p-preserved
 loop-p-preserved g c =
     rw (c.in_ok-push.ensures.items)
     (heads_more c.args.lanes c.loop-c.c c.loop-p.p c.loop-p.places.items c.loop-p-test.true c.loop-p.invariant)
 
+-- with a place for each lane, those of one more consumer are done
 pub loop-c-preserved : goal.loop-c-preserved
 loop-c-preserved g c =
     let done : c.loop-p.p ≡ c.args.lanes = omega (arith, c.loop-p-test.false, c.loop-p.auto.p-end) in
@@ -20,6 +24,7 @@ loop-c-preserved g c =
     subst (λ (n : ℕ). AreAtHeads c.args.lanes n c.loop-p.places.items)
     (ap (λ (n : ℕ). c.loop-c.c * c.args.lanes + n) done ∙ sym more) c.loop-p.invariant
 
+-- after the loop the places of all consumers are done
 pub returns : goal.returns
 returns g c =
     let done : c.loop-c.c ≡ c.args.consumers = omega (arith, c.loop-c-test.false, c.loop-c.auto.c-end) in

@@ -1,3 +1,4 @@
+-- Proof of `BoundHub::gather`: ends the mailbox, and returns a report of what its producers and consumers did.
 use Rattle.std.proofs.Common.{◌≡◌, ◌∙◌, ap, subst}
 use Rattle.mb_mailbox.specs.Imports.{consumer_count}
 use Rattle.mb_mailbox.specs.Gathering.{FullTakesAll, IsGathered, IsReportIn}
@@ -6,6 +7,7 @@ use Rattle.mb_mailbox.specs.Mailboxes.{MailboxView}
 use Rattle.mb_bound.specs.Bound.{BoundHubView}
 use Rattle.mb_bound.proofs.hub.BoundHub.gather.Goals as goal
 
+-- each clause is that of `Mailbox::gather_with`, as its mailbox and its hub are those of this call
 pub returns-in-Ok-try_unwrap-clause-lists : goal.returns-in-Ok-try_unwrap-clause-lists
 returns-in-Ok-try_unwrap-clause-lists g c =
     let m : c.in-Ok-try_unwrap.mailbox ≡ c.args.self.mailbox = c.in-Ok-try_unwrap.ensures.ok

@@ -7,11 +7,13 @@ use Rattle.mb_world.specs.Replay.{HasAnswer, IsRefused}
 use Rattle.mb_world.specs.Setups.{layout_of, plan_in}
 use Rattle.mb_world.proofs.world.World.apply.Goals as goal
 
+-- a finish that is refused changes nothing
 pub returns-then-lane-producers-3-clause-kept : goal.returns-then-lane-producers-3-clause-kept
 returns-then-lane-producers-3-clause-kept g c h is refused =
     c.finish.ensures.kept h is
     (subst (λ (e : Event). IsRefused (plan_in c.args.self.now.setup) e c.finish.result h) c.in-Finish.is refused)
 
+-- a step finds nothing exactly if there is nothing
 pub returns-else-consumer-consumers-clause-nothing : goal.returns-else-consumer-consumers-clause-nothing
 returns-else-consumer-consumers-clause-nothing g c h d p word is same =
     let setup = c.args.self.now.setup in

@@ -7,6 +7,7 @@ use Rattle.mb_world.proofs.StateNotes.{note_missed, note_read}
 use Rattle.mb_world.proofs.world.World.diary.Goals as goal
 use Rattle.mb_world.proofs.world.World.diary.Goals.{in-Some+in_ok-push, in_default}
 
+-- after the loop all cells of the lane were read
 pub returns : goal.returns
 returns g c =
     let s = c.args.self.now in
@@ -24,6 +25,7 @@ returns g c =
       begun = c.begun.ensures;
     }
 
+-- the next cell's note, if there is one, comes after the notes before
 pub loop-k-preserved : goal.loop-k-preserved
 loop-k-preserved g c =
     let f = note_on c.args.self.now c.args.c in

@@ -9,6 +9,7 @@ use Rattle.mb_world.specs.WorldState.{WorldState}
 use Rattle.mb_world.proofs.StateNotes.{any_below-some, took_some}
 use Rattle.mb_world.proofs.world.World.is_taken.Goals as goal
 
+-- this consumer's note says that it took the item, so one is found
 pub returns-in-Some-Took : goal.returns-in-Some-Took
 returns-in-Some-Took g c =
     let s = c.args.self.now in

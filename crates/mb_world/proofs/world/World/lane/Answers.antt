@@ -5,6 +5,7 @@ use Rattle.mb_cells.specs.State.{item_in}
 use Rattle.mb_world.specs.StateReport.{is_taken_on}
 use Rattle.mb_world.proofs.world.World.lane.Goals as goal
 
+-- after the loop all cells of the lane were read
 pub returns : goal.returns
 returns g c =
     let s = c.args.self.now in

@@ -1,4 +1,4 @@
--- Proof of `World::lane_cells`: the cells of lane `p`, along the links from its head.
+-- Proof of `World::lane_cells`: the cells of lane `p`, along the links from its head, and whether the lane has ended.
 use Rattle.std.proofs.Common.{◌≡◌, ◌<◌, sym, ◌∙◌, ap, subst, arith, true, false, length}
 use Rattle.std.proofs.Common.{[], ◌∷◌, length-append}
 use Rattle.std.proofs.lemmas.List.Elements.{All-push}
@@ -9,6 +9,7 @@ use Rattle.mb_world.specs.WorldState.{WorldIsSound, WorldState}
 use Rattle.mb_world.proofs.LaneWalks.{walk_begins, walk_ends, walk_goes, walk_fits}
 use Rattle.mb_world.proofs.world.World.lane_cells.Goals as goal
 
+-- at the head no cell was met yet
 pub links-init : goal.links-init
 links-init g c =
     let s = c.args.self.now in
@@ -21,6 +22,7 @@ links-init g c =
           (walk_begins s.pool c.args.p (λ pool after. c.pools_show_lanes.ensures pool s.pool c.args.p after inside));
     }
 
+-- if a cell is found, the walk goes on past it
 pub links-preserved : goal.links-preserved
 links-preserved g c =
     let s = c.args.self.now in
@@ -39,6 +41,7 @@ links-preserved g c =
       walks = goes;
     })
 
+-- fewer cells were met before than the pool has, so the loop ends
 pub links-smaller : goal.links-smaller
 links-smaller g c =
     let s = c.args.self.now in
@@ -57,12 +60,14 @@ links-smaller g c =
     (λ i has. (c.cells_stand_once.ensures.within (size_of s.pool) old.0 c.args.p i old.1.lawful has).1) in
     omega (arith, fits, is.1.cells, ap length c.in_ok-push-in-Cell.ensures.items, length-append ks (k ∷ []))
 
+-- if nothing is found, these are all cells of the lane, which has not ended
 pub returns-in-Nothing-clause-walked : goal.returns-in-Nothing-clause-walked
 returns-in-Nothing-clause-walked g c =
     walk_ends c.args.self.now.pool c.args.p c.links.cells.items c.links.cursor false
     (subst (λ (q : PoolState). look_in c.links.cursor q ≡ look.Nothing) (ap (λ (w : WorldState). w.pool) c.self.view_is)
     (sym c.look.ensures.shown ∙ c.in-Nothing.is)) c.links.invariant.walks
 
+-- if the end mark is found, these are all cells of the lane, which has ended
 pub returns-in-Ended-clause-walked : goal.returns-in-Ended-clause-walked
 returns-in-Ended-clause-walked g c =
     walk_ends c.args.self.now.pool c.args.p c.links.cells.items c.links.cursor true

@@ -1,10 +1,12 @@
--- Loop invariants of `World::lane_cells`: the cells of lane `p`, along the links from its head.
+-- Loop invariants of `World::lane_cells`: the cells of lane `p`, along the links from its head, and whether the lane
+-- has ended.
 use Rattle.std.proofs.Common.{◌<◌, ◌-◌, All, length}
 use Rattle.mb_cells.specs.State.{IsWithin}
 use Rattle.mb_world.specs.Setups.{plan_in}
 use Rattle.mb_world.proofs.LaneWalks.{WalksOn}
 use Rattle.mb_world.proofs.world.World.lane_cells.Given as goal
 
+-- the cells met are the pool's, and the walk along the links has come to the cursor
 abbrev pub invariant-links : goal.invariant-links
 invariant-links g l = record {
   within : All (λ k. k < (plan_in l.self.setup).claims.cells) l.cells.items;
@@ -12,5 +14,6 @@ invariant-links g l = record {
   walks : WalksOn l.self.pool l.p l.cells.items l.cursor;
 }
 
+-- as many cells can still be met as the pool has more than were met
 abbrev pub decreases-links : goal.decreases-links
 decreases-links g l = (plan_in l.self.setup).claims.cells - length l.cells.items

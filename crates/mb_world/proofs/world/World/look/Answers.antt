@@ -6,11 +6,13 @@ use Rattle.mb_world.specs.World.{pool_accesses}
 use Rattle.mb_world.proofs.StateSteps.{still_sound}
 use Rattle.mb_world.proofs.world.World.look.Goals as goal
 
+-- the link at the cursor is a word of the pool
 pub look-look-requires : goal.look-look-requires
 look-look-requires g c =
     c.looks_leave_states.ensures.within _ _ c.args.c c.args.p c.args.cursor c.self.invariant.1
     (rw (← c.self.view_is) at c.requires)
 
+-- the world is sound after the look
 pub invariant_of-self : goal.invariant_of-self
 invariant_of-self g c =
     let h = c.self.invariant.0 in

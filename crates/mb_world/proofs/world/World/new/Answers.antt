@@ -13,6 +13,7 @@ use Rattle.mb_world.proofs.FreshClaims.{fresh_goes, some_row}
 use Rattle.mb_world.proofs.NewWorlds.{empty_after, none_alone}
 use Rattle.mb_world.proofs.world.World.new.Goals as goal
 
+-- the empty history leaves the new world
 pub returns-clause-empty : goal.returns-clause-empty
 returns-clause-empty g c =
     let setup = c.args.setup in
@@ -43,5 +44,6 @@ returns-clause-empty g c =
     c.in_ok-pool.pool c.in_ok-words.words c.in_ok-places.places.items c.in_ok-notes.notes.items
     (c.history_extends.ensures.empty plan sized) lanes cells c.in_ok-pool.ensures.empty words heads notes
 
+-- so the new world is sound
 pub invariant_of-result : goal.invariant_of-result
 invariant_of-result g c = ([], returns-clause-empty g c)

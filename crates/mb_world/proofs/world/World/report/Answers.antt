@@ -13,6 +13,7 @@ use Rattle.mb_world.proofs.StateReports.{report_is}
 use Rattle.mb_world.proofs.WorldKnown.{WorldKnown}
 use Rattle.mb_world.proofs.world.World.report.Goals as goal
 
+-- what the state tells is the report of each history that leaves the world
 pub returns-clause-exact : goal.returns-clause-exact
 returns-clause-exact g c h is =
     let s = c.args.self.now in
@@ -36,6 +37,7 @@ returns-clause-exact g c h is =
     (record { lanes = c.in_ok-lanes.field-0.items; diaries = c.in_ok-diaries.field-0.items })
     c.in_ok-lanes.ensures c.in_ok-diaries.ensures
 
+-- so one assignment agrees with the report
 pub returns-clause-honest : goal.returns-clause-honest
 returns-clause-honest g c h is =
     let s = c.args.self.now in
@@ -43,6 +45,7 @@ returns-clause-honest g c h is =
     (record { lanes = c.in_ok-lanes.field-0.items; diaries = c.in_ok-diaries.field-0.items })
     (c.layouts_are_sound.ensures.table s.setup.layout) is.lawful (returns-clause-exact g c h is)
 
+-- if each cell has a last object, so has each cell of the plan, and the law of last objects holds of the report
 pub returns-clause-settled : goal.returns-clause-settled
 returns-clause-settled g c last h is =
     let s = c.args.self.now in

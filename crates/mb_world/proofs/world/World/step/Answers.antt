@@ -3,6 +3,7 @@ use Rattle.std.proofs.Common.{◌∙◌}
 use Rattle.mb_world.proofs.ClaimNotes.{place_found}
 use Rattle.mb_world.proofs.world.World.step.Goals as goal
 
+-- the place that was read holds a claim that is not won
 pub compete-requires : goal.compete-requires
 compete-requires g c =
     let asked = rw (← c.self.view_is) at c.requires in

@@ -1,4 +1,4 @@
--- Proof of `states::claims_leave_states`: a step of a consumer's claim.
+-- Proof of `states::claims_leave_states`: what a step of a consumer's claim makes of the state.
 use Rattle.std.proofs.Common.{refl}
 use Rattle.mb_claim.specs.OneClaim.{claim_stage}
 use Rattle.mb_world.proofs.CompeteStates.{competed}
@@ -6,6 +6,7 @@ use Rattle.mb_world.proofs.HeldStates.{claim_on, goes_unless_won}
 use Rattle.mb_world.proofs.StepKnown.{step_known}
 use Rattle.mb_world.proofs.world.states.claims_leave_states.Goals as goal
 
+-- each clause takes its lemma, with what the laws give for a step of this consumer on this lane
 pub returns-clause-going : goal.returns-clause-going
 returns-clause-going c s h d p k claim is has not_won =
     let known = step_known c.layouts_are_sound.ensures.table c.prefixes_have_one_stage.ensures

@@ -1,8 +1,9 @@
--- Proof of `states::looks_leave_states`: a look of a consumer that holds no claim.
+-- Proof of `states::looks_leave_states`: what a look of a consumer that holds no claim makes of the state.
 use Rattle.mb_world.proofs.LookStates.{looked_in_vain, looked_on, within}
 use Rattle.mb_world.proofs.StepKnown.{step_known}
 use Rattle.mb_world.proofs.world.states.looks_leave_states.Goals as goal
 
+-- each clause takes its lemma, with what the laws give for a step of this consumer on this lane
 pub returns-clause-within : goal.returns-clause-within
 returns-clause-within c s h d p at is has =
     let known = step_known c.layouts_are_sound.ensures.table c.prefixes_have_one_stage.ensures

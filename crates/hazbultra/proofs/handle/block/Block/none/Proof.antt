@@ -17,6 +17,7 @@ use Rattle.hazbultra.specs.contracts.handle.block.Block.none.Key.{name as f_name
 use Rattle.hazbultra.proofs.handle.block.Block.none.Statement.{statement}
 use Rattle.hazbultra.proofs.handle.block.Block.none.Code as code
 
+-- what the function still has of its parameter at the return: nothing
 abbrev stayed : Stays f.ended.signature.params f.ended.kept
 stayed = (stay_dropped (plain (λ _. Heap)) yes, tt)
 
@@ -24,6 +25,7 @@ module _ {M : Type 1} {𝓤 : Ura M} (𝓛 : Logic 𝓤) (heap : Memory → SPro
     (𝓣 : Tables 𝓤 𝓛.H) where
   open 𝓛 use {H}
 
+  -- the walk through the body comes from what the clauses ask to what they promise
   walk : (z : (walk_of 𝓛 f.ended stayed (f.clauses 𝓛 heap run)).Ghost)
       → ent 𝓤 ((walk_of 𝓛 f.ended stayed (f.clauses 𝓛 heap run)).pre z)
       (WpFn 𝓤 H 𝓣.C 𝓣.Λ code.function (z.0.4.0 ++ [])
@@ -59,6 +61,7 @@ module _ {M : Type 1} {𝓤 : Ura M} (𝓛 : Logic 𝓤) (heap : Memory → SPro
       use1 𝓛 (‵ (Block.own_val made (w ∷ []))) (id⊢ 𝓤 _) $
       nothing ! $ nothing ! $ fjoin ! $ join ! $ nothing ! $ join ! $ done !))))
 
+-- so the compiled function meets its statement
 pub none_spec : {M : Type 1} → statement M
 unfolding tables_of
 none_spec 𝓤 𝓛 𝓜 𝓡 wired =

@@ -15,6 +15,7 @@ use Rattle.hazbultra.specs.contracts.handle.block.Block.of_parts.Key.{name as f_
 use Rattle.hazbultra.proofs.handle.block.Block.of_parts.Statement.{statement}
 use Rattle.hazbultra.proofs.handle.block.Block.of_parts.Code as code
 
+-- what the function still has of its parameter at the return: nothing
 abbrev stayed : Stays f.ended.signature.params f.ended.kept
 stayed = (stay_dropped parts_slot yes, tt)
 
@@ -22,6 +23,7 @@ module _ {M : Type 1} {𝓤 : Ura M} (𝓛 : Logic 𝓤) (heap : Memory → SPro
     (𝓣 : Tables 𝓤 𝓛.H) where
   open 𝓛 use {H}
 
+  -- the walk through the body comes from what the clauses ask to what they promise
   walk : (z : (walk_of 𝓛 f.ended stayed (f.clauses 𝓛 heap run)).Ghost)
       → ent 𝓤 ((walk_of 𝓛 f.ended stayed (f.clauses 𝓛 heap run)).pre z)
       (WpFn 𝓤 H 𝓣.C 𝓣.Λ code.function (z.0.4.0 ++ [])
@@ -54,6 +56,7 @@ module _ {M : Type 1} {𝓤 : Ura M} (𝓛 : Logic 𝓤) (heap : Memory → SPro
       says ! refl $
       nothing ! $ nothing ! $ fjoin ! $ join ! $ nothing ! $ join ! $ done !))))
 
+-- so the compiled function meets its statement
 pub of_parts_spec : {M : Type 1} → statement M
 unfolding tables_of
 of_parts_spec 𝓤 𝓛 𝓜 𝓡 wired =

@@ -27,15 +27,19 @@ abbrev after_call : Body
 after_call = seq (assign (place 0 []) (rv_opd (copy (place 4 [])))) return
 
 module _ (E : Bx) where
+  -- the body of the function, at the types of this box
   abbrev body_at : Fn
   body_at = inst_fn (args E) code.function
 
+  -- the function's signature at these types, and what it keeps of its parameters
   abbrev over : Ended
   over = f.ended E.row E.al.row E.al.g E.al.d E.al.drops
 
+  -- the type of the parts that the function takes
   abbrev taken : RattleType
   taken = parts.the_row (R E) (P E) E.al.g
 
+  -- what the function still has of its parameter at the return: nothing
   abbrev stayed : Stays over.signature.params over.kept
   stayed = (stay_dropped (plain (λ _. taken)) no, tt)
 
@@ -43,13 +47,16 @@ module _ (E : Bx) where
       (𝓣 : Tables 𝓤 𝓛.H) where
     open 𝓛 use {H}
 
+    -- the function's clauses at these types
     abbrev promised : Clauses 𝓤 over
     promised = f.clauses E.row E.al.row E.al.g E.al.d E.al.drops 𝓛 heap run
 
+    -- the contract of `from_raw`, which the body calls
     abbrev callee : Contract 𝓤
     callee = triple_of 𝓛 (raw_box.signature E.row E.al.row E.al.g E.al.d E.al.drops)
         (raw_box.spec E.row E.al.row E.al.g E.al.d E.al.drops 𝓛 heap run)
 
+    -- the walk through the body comes from what the clauses ask to what they promise, if `from_raw` keeps its contract
     walk : Triple 𝓤 (𝓣.C (raw_box_symbol.name (args E))) callee
         → (z : (walk_of 𝓛 over stayed promised).Ghost)
         → ent 𝓤 ((walk_of 𝓛 over stayed promised).pre z)
@@ -116,6 +123,7 @@ module _ (E : Bx) where
         says ! same $
         nothing ! $ nothing ! $ fjoin ! $ join ! $ move ! (1 ∷ 0 ∷ []) $ join ! $ done !)))))))))
 
+-- so the compiled function meets its statement
 pub into_box_spec : {M : Type 1} → statement M
 unfolding tables_of
 into_box_spec 𝓤 𝓛 𝓜 𝓡 wired X Z X-laws Z-laws g d drops allocator met_d =

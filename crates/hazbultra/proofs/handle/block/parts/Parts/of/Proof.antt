@@ -25,19 +25,24 @@ use Rattle.std_alloc.proofs.boxed.Box.into_raw_with_allocator.Symbol as raw_part
 use Rattle.std_alloc.proofs.boxed.Box.into_raw_with_allocator.Met as raw_parts_met
 
 module _ (E : Bx) (drop_x : Dict) where
+  -- the types for which the function is compiled
   abbrev passed : Args
   passed = bounded (a_type ∷ a_type ∷ []) (E.row, (E.al.row, tt))
       (dcons E.al.d (dcons E.al.drops (dcons drop_x dnil)))
 
+  -- the body of the function, at the types of this box
   abbrev body_at : Fn
   body_at = inst_fn passed code.function
 
+  -- the function's signature at these types, and what it keeps of its parameters
   abbrev over : Ended
   over = f.ended E.row E.al.row E.al.g E.al.d E.al.drops drop_x
 
+  -- what the function still has of its parameter at the return: nothing
   abbrev stayed : Stays over.signature.params over.kept
   stayed = (stay_dropped (plain (λ _. B E)) no, tt)
 
+  -- the type of the parts that the function returns
   abbrev given : RattleType
   given = parts.the_row (R E) (P E) E.al.g
 
@@ -45,13 +50,17 @@ module _ (E : Bx) (drop_x : Dict) where
       (𝓣 : Tables 𝓤 𝓛.H) where
     open 𝓛 use {H}
 
+    -- the function's clauses at these types
     abbrev promised : Clauses 𝓤 over
     promised = f.clauses E.row E.al.row E.al.g E.al.d E.al.drops drop_x 𝓛 heap run
 
+    -- the contract of `into_raw_with_allocator`, which the body calls
     abbrev callee : Contract 𝓤
     callee = triple_of 𝓛 (raw_parts.signature E.row E.al.row E.al.g E.al.d E.al.drops drop_x)
         (raw_parts.spec E.row E.al.row E.al.g E.al.d E.al.drops drop_x 𝓛 heap run)
 
+    -- the walk through the body comes from what the clauses ask to what they promise, if the called function keeps its
+    -- contract
     walk : Triple 𝓤 (𝓣.C (raw_parts_symbol.name passed)) callee
         → (z : (walk_of 𝓛 over stayed promised).Ghost)
         → ent 𝓤 ((walk_of 𝓛 over stayed promised).pre z)
@@ -119,6 +128,7 @@ module _ (E : Bx) (drop_x : Dict) where
         nothing ! $ nothing ! $ fjoin ! $ join ! $ move ! (1 ∷ 0 ∷ []) $ join ! $
         done !)))))))))))))
 
+-- so the compiled function meets its statement
 pub of_spec : {M : Type 1} → statement M
 unfolding tables_of
 of_spec 𝓤 𝓛 𝓜 𝓡 wired X Z X-laws Z-laws g d drops drop_x allocator met_d met_drop =
