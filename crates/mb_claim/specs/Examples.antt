@@ -25,7 +25,7 @@ won_alone =
     ∷ access_at 0 1 (Store (Quorum 0) 1)
     ∷ access_at 0 0 (Load Value 1) ∷ access_at 0 0 (Store Value 1) ∷ access_at 0 0 (Load Value 0) ∷ []
 
--- after that consumer 1 comes, and loses
+-- consumer 0 has won alone. Then consumer 1 comes, and loses
 abbrev pub won_and_lost : List ClaimAccess
 won_and_lost =
     access_at 1 1 (Load (Quorum 1) 0) ∷ access_at 1 1 (Load Proposal 1) ∷ access_at 1 1 (Store
@@ -75,7 +75,7 @@ step = (0, 0)
 abbrev pub eight_steps : List (ℕ × ℕ)
 eight_steps = step ∷ step ∷ step ∷ step ∷ step ∷ step ∷ step ∷ step ∷ []
 
--- the entries of `won_alone`, and this one
+-- the entries of the accesses of `won_alone`, in the order of time, and then this entry
 abbrev pub won_and : ClaimEntry → List ClaimEntry
 won_and e =
     entry.Access 0 0 (Load Value 0) ∷ entry.Access 0 0 (Store Value 1) ∷ entry.Access 0 0
