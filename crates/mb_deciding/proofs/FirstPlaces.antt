@@ -1,4 +1,4 @@
--- What it means that a list has no first place at which a test holds.
+-- Two facts about the places of numbers: if a test of a number fails, and if no place is given.
 use Rattle.std.proofs.Common.{◌≡◌, ℕ, ◌<◌, ◌≤◌, Bool, true, false, nat_lt, nat_le, cond, Some, None, refl, arith}
 use Rattle.std.proofs.lemmas.Bool.Decides.{nat_tests}
 

@@ -12,7 +12,7 @@ use Rattle.mb_deciding.specs.{most_turns, turns_left}
 use Rattle.mb_deciding.proofs.Sizes.{each_exact, each_size, largest_bound}
 use Rattle.mb_deciding.proofs.TurnsLeft.{attempts_left}
 
--- an act for a register of the one mask goes with one for that register of the other
+-- one act more in the one list goes with one more in the other, so the first stays no longer
 cond_within :
     (x : Act) (xs ys : List Act) (p q : Bool) → (p ≡ true → q ≡ true) → length xs ≤ length ys
     → length (cond p (x ∷ xs) xs) ≤ length (cond q (x ∷ ys) ys)
@@ -30,7 +30,7 @@ below_within act (suc n) a b within =
     cond_within (act n) (acts_below act n a) (acts_below act n b) (bit_at a n == 1) (bit_at b n == 1)
     (λ e. eq-eqb (bit_at b n) 1 (within n (eqb-true (bit_at a n) 1 e))) (below_within act n a b within)
 
--- a mask within another has no more registers
+-- a mask all of whose registers are in another has no more registers than that
 ones_within : (a b : ℕ) → ((k : ℕ) → IsMember a k → IsMember b k) → count_ones a ≤ count_ones b
 ones_within a b within =
     let act = λ (k : ℕ). Load (Quorum k) 0 in
