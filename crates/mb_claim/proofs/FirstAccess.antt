@@ -28,7 +28,7 @@ first_kind : (b : Bool) (kind : Kind) (rest ys : List Kind) → ys ≡ kind ∷ 
 first_kind true kind rest ys is = (Ratifier, Ratifier ∷ ys, refl)
 first_kind false kind rest ys is = (kind, rest, is)
 
--- a process without turns in a conciliator loads its word next, and finds at most the number of values
+-- a process without turns in a conciliator loads the conciliator's word next, and finds at most the number of values
 first_load :
     (t : QuorumTable) (s v : ℕ) (pc : Pc) (op : Op) → PcIsAt t (Conciliator s) v pc [] → IsOpAt t pc op
     → (op ≡ to.Load Value) × ((seen : ℕ) → CanFind t pc op seen → seen ≤ t.values)
@@ -51,7 +51,7 @@ module _ (t : QuorumTable) (law : AreDeciding t) (c : ℕ) (known : c < t.values
       absurd (open_closed t kind (law kind) c [] x.turns (answer false u) (sym empty) ((law kind
       (λ p. p)).opens c known) x.path)
 
-  -- a consumer without turns, in a row that begins with a conciliator, stands on object 0 and loads its word next
+  -- in a row that begins with a conciliator a consumer without turns stands on object 0, and loads that word next
   stands_first :
       (s object : ℕ) (rest : List Kind) (pc : Pc) (op : Op) → StandsAt t (Conciliator s ∷ rest) c object pc []
       → IsOpAt t pc op
