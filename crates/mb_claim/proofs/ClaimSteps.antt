@@ -184,6 +184,7 @@ claim_passed t kinds claim c object pc xs p x u parts own known begun below path
     (sym passed)
     (undecided_last t kinds c object pc xs p x u path (ap (slice_get kinds) n ∙ is)))
   where
+    -- an undecided claim is not going
     undecided_going : Undecided ≡ Going → ⊥
     undecided_going e = cc
 claim_passed t kinds claim c object pc xs p x u parts own known begun below path (Some kind) is passed =

@@ -114,6 +114,7 @@ pub all_push :
     → P (length xs) y → (k : ℕ) (d : A) → k < length (xs ++ y ∷ []) → P k (get_or (xs ++ y ∷ []) k d)
 all_push P xs y all p k d below = by_place (cases_lt k (length xs))
   where
+    -- P holds of the element at place k, by whether k is a place of the shorter list
     by_place : (k < length xs) ⊎ (length xs ≤ k) → P k (get_or (xs ++ y ∷ []) k d)
     by_place (inl l) = subst (P k) (sym (get_or_append_left xs (y ∷ []) d k l)) (all k d l)
     by_place (inr l) =

@@ -143,6 +143,7 @@ older_goes t c [] o v x xs s p = absurd (let e = p.0 in cc)
 older_goes t c (kind ∷ kinds) o v x xs s p =
     by (where_is t c kind kinds o v x xs s p) (λ u l q. older_goes t c kinds (suc o) u x l s q)
   where
+    -- without its last step the part is going, by which object that step is on
     by :
         IsHere t kind o v x xs ⊎ IsBehind t c kind kinds o v x xs s
         → ((u : ℕ) (l : List ObjectTurn) → IsClaimPrefixFrom t c kinds (suc o) u (x ∷ l) s

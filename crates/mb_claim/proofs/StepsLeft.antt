@@ -64,6 +64,7 @@ module _ (layout : Layout) (old now : Claim) (going : old.stage ≡ Going) where
       → steps_left layout now < steps_left layout old
   fewer_passed some None is passed = fewer_ended (λ g. undecided_going (sym passed ∙ g)) some
     where
+      -- an undecided claim is not going
       undecided_going : Undecided ≡ Going → ⊥
       undecided_going e = cc
   fewer_passed some (Some kind) is passed =

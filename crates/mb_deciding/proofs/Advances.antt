@@ -124,6 +124,7 @@ announced_more t q v input left r after made op seen within at is some least tak
       | inr x ↦ absurd (some x.1)
     ]
   where
+    -- the longer acts lead to the place with `after` left, if x is the register stored
     more : {x : ℕ} → x ≡ r → IsInRatifier t v (Announce input after) (Store (Quorum x) 1 ∷ made)
     more {x} same =
         let next = announced_next t q v input left r made within at least in
@@ -143,6 +144,7 @@ announced_whole t v input left made op seen at is none can =
       | inr x ↦ (let found = rw (x.0) at can in (rw (x.0) whole, found))
     ]
   where
+    -- the acts made are the whole announcement
     whole : Load Proposal seen ∷ made ≡ Load Proposal seen ∷ announcement t v
     whole =
         let bound = at.1.0 in

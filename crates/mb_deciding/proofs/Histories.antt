@@ -99,6 +99,7 @@ since_newest o P last made kept [] l p rest is = absurd (not_empty last rest (sy
 since_newest o P last made kept (a ∷ h) l p rest is =
     by (λ k. since_newest o P last made kept h (lawful_older o a h l) p rest k) (a.process == p) is
   where
+    -- P holds with the access a, by whether it is of process p
     by :
         (part p h ≡ last ∷ rest → P h) → (own : Bool)
         → cons_option (cond own (Some a.turn) None) (part p h) ≡ last ∷ rest → P (a ∷ h)

@@ -178,9 +178,11 @@ module _ (t : QuorumTable) (inputs : ℕ → ℕ) where
 
   -- right after the one turn of a path with the value u the word holds that value
   module _ (v u : ℕ) (x : Turn) (path : IsLastPath v (x ∷ []) u) where
+    -- an access whose turn is this one leaves the value u in the word
     at_once : (a : Access) (h : List Access) → L (a ∷ h) → a.turn ≡ x → value_in Last (a ∷ h) ≡ u + 1
     at_once a h l same = by path
       where
+        -- the word holds u, by whether the exchange found 0
         by : IsLastPath v (x ∷ []) u → value_in Last (a ∷ h) ≡ u + 1
         by (inl k) =
             let e : Exchange Last (inputs a.process + 1) (value_in Last h) ≡ Exchange Last (v + 1) 0 =

@@ -14,6 +14,7 @@ pub conciliator_step :
 conciliator_step t place makes op seen word follows is made reaches =
     record { op = op; seen = seen; is = is; made = made; reached = reached }
   where
+    -- what follows is reached from a conciliator's place alone
     reached :
         (kind : Kind) (v : ℕ) (turns : List Turn) → PcIsAt t kind v (InConciliator place) turns
         → CanFind t (InConciliator place) op seen
@@ -30,6 +31,7 @@ pub ratifier_step :
 ratifier_step t place makes op seen word follows is made reaches =
     record { op = op; seen = seen; is = is; made = made; reached = reached }
   where
+    -- what follows is reached from a ratifier's place alone
     reached :
         (kind : Kind) (v : ℕ) (turns : List Turn) → PcIsAt t kind v (InRatifier place) turns
         → CanFind t (InRatifier place) op seen
@@ -46,6 +48,7 @@ pub last_step :
 last_step t place makes op seen word follows is made reaches =
     record { op = op; seen = seen; is = is; made = made; reached = reached }
   where
+    -- what follows is reached from a last object's place alone
     reached :
         (kind : Kind) (v : ℕ) (turns : List Turn) → PcIsAt t kind v (InLast place) turns
         → CanFind t (InLast place) op seen
@@ -62,9 +65,11 @@ pub begin_step :
 begin_step t input left makes word follows is step =
     record { op = step.op; seen = step.seen; is = (begin_op t input step.op).1 op; made = step.made; reached = reached }
   where
+    -- the op of the step is that of the whole write quorum
     op : IsRatifierOp t (Announce input (t.write input)) step.op
     op = subst (λ mask. IsRatifierOp t (Announce input mask) step.op) is step.is
 
+    -- what follows is reached from the place before the first access, too
     reached :
         (kind : Kind) (v : ℕ) (turns : List Turn) → PcIsAt t kind v (InRatifier (Begin input)) turns
         → CanFind t (InRatifier (Begin input)) step.op step.seen

@@ -147,6 +147,7 @@ one_trace u schedule es fs outs others a b =
     let long : length outs ≡ length others = a.processes ∙ sym b.processes in
     (entries, ext_get_or None outs others long (λ p below. same entries p below (subst (λ n. p < n) long below)))
   where
+    -- each process has one output, if the entries are one list
     same :
         es ≡ fs → (p : ℕ) → p < length outs → p < length others
         → slice_index_or outs p None ≡ slice_index_or others p None

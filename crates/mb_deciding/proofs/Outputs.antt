@@ -43,6 +43,7 @@ prefers_no_load :
     (t : QuorumTable) (v u r x : ℕ) (begin : List Act) → Prefers t v u begin → Has begin (Load (Quorum r) x) → ⊥
 prefers_no_load t v u r x begin (inl p) h = stores (subst (λ xs. Has xs (Load (Quorum r) x)) p.1 h)
   where
+    -- the acts of a process that proposed its input have no load of a register
     stores : Has (Store Proposal (v + 1) ∷ Load Proposal 0 ∷ announcement t v) (Load (Quorum r) x) → ⊥
     stores (inl e) = cc
     stores (inr (inl e)) = cc
@@ -51,6 +52,7 @@ prefers_no_load t v u r x begin (inl p) h = stores (subst (λ xs. Has xs (Load (
         let e : Load (Quorum r) x ≡ Store (Quorum other.0) 1 = other.1 in cc
 prefers_no_load t v u r x begin (inr p) h = loads (subst (λ xs. Has xs (Load (Quorum r) x)) p h)
   where
+    -- the acts of a process that found a proposal have no load of a register
     loads : Has (Load Proposal (u + 1) ∷ announcement t v) (Load (Quorum r) x) → ⊥
     loads (inl e) = cc
     loads (inr k) =
@@ -71,9 +73,11 @@ clear_only t v u n r x made clear h =
       | inr k ↦ absurd (prefers_no_load t v u r x clear.0 clear.1 k)
     ]
   where
+    -- equal loads are of one register
     register : (s : ℕ) → Load (Quorum r) x ≡ Load (Quorum s) 0 → r ≡ s
     register s e = cc
 
+    -- equal loads are of one value
     value : (s : ℕ) → Load (Quorum r) x ≡ Load (Quorum s) 0 → x ≡ 0
     value s e = cc
 

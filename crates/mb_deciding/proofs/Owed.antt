@@ -124,6 +124,7 @@ bounded o h p l =
       | inr some ↦ (let own = l.parts p some in by_kind o.kind l own.0 own.1)
     ]
   where
+    -- the bound holds of a process with a turn, by the kind of the object
     by_kind :
         (k : Kind) → IsObjectLawful (object_of o.table k o.inputs) h → o.inputs p < o.table.values → IsPrefix o.table k
         (o.inputs p) (part p h)

@@ -58,6 +58,7 @@ rest_taken mask bound left r after rest least taken k = (
       (taken k).1 ((rest k).1 (omega arith, both.1), omega arith)),
 )
   where
+    -- another register that is left is above r
     above : IsMember left k → k ≢ r → r + 1 ≤ k
     above m other = elim (cases_lt k r) [ inl l ↦ absurd (least.least k l m) | inr l ↦ omega arith ]
 
@@ -93,6 +94,7 @@ some_least mask some =
       | inr none ↦ absurd (some (same_from_bits mask 0 (λ i. zeros none i ∙ sym (bit_at-zero i))))
     ]
   where
+    -- if no register is in the mask, all its bits are 0
     zeros : ((r : ℕ) → r < mask → IsMember mask r → ⊥) → (i : ℕ) → bit_at mask i ≡ 0
     zeros none i =
         elim (cases_lt i mask) [

@@ -106,9 +106,11 @@ patient_path = (
   ),
 )
   where
+    -- the random word 3 does not store on attempt 1
     late : 3 % 2 ^ 2 < 2 ^ 1 → ⊥
     late stores = omega arith
 
+    -- the random word 3 does not store on attempt 0
     later : 3 % 2 ^ 2 < 2 ^ 0 → ⊥
     later stores = omega arith
 

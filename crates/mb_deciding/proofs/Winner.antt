@@ -157,6 +157,7 @@ accepted t q inputs h l v all p d u o =
     let same : u ≡ v = sym from.2 ∙ all from.0 from.1 in
     (decided d u o same, same)
   where
+    -- an output with the value v is decided
     decided : (d : Bool) (u : ℕ) → HasOutput (ratifier_of t inputs) p d u h → u ≡ v → d ≡ true
     decided true u o same = refl
     decided false u o same =

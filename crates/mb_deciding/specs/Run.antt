@@ -47,9 +47,9 @@ pub record RunState : Type 0 where
 
 -- the run is one after the turns of the schedule
 pub record IsRun (u : ObjectSetup) (schedule : List (ℕ × ℕ)) (run : RunState) : Type 0 where
-  -- the entries are those of the turns
+  -- the entries fit the turns
   pub fits : AreEntriesOf (object_in u) schedule run.entries []
-  -- their accesses are one lawful history, which leaves the words
+  -- the accesses of the entries are one lawful history, which leaves the words
   pub lawful : IsObjectLawful (object_in u) (history_of schedule run.entries)
   pub memory : IsMemory run.words (history_of schedule run.entries)
   -- each process has an input of the table

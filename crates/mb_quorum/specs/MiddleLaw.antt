@@ -163,16 +163,16 @@ others_have (suc k) n (suc i) fits within =
     ∙ ap (λ d. 1 - d) (sym (bit_at-suc n i))
 
 -- ---- how many sets there are
--- among one register more there are no fewer sets
+-- n + 1 registers have no fewer sets of h of them than n registers
 more_sets : (n h : ℕ) → choose n h ≤ choose (suc n) h
 more_sets n zero = omega arith
 more_sets n (suc h) = omega arith
 
--- among one register more there are no fewer sets with one register more
+-- n + 1 registers have no fewer sets of h + 1 of them than n registers have of h
 more_in_sets : (n h : ℕ) → choose n h ≤ choose (suc n) (suc h)
 more_in_sets n h = omega arith
 
--- among one register more there are no fewer sets of half of the registers
+-- n + 1 registers have no fewer sets of half of them than n registers
 halves_rise : (n : ℕ) → halves n ≤ halves (suc n)
 halves_rise n =
     elim (cases_eq (suc n / 2) (n / 2)) [
@@ -182,7 +182,7 @@ halves_rise n =
           subst (λ h. halves n ≤ choose (suc n) h) (sym next) (more_in_sets n (n / 2)))
     ]
 
--- among d registers more there are no fewer sets of half of the registers
+-- d + n registers have no fewer sets of half of them than n registers
 pub halves_mono : (n d : ℕ) → halves n ≤ halves (d + n)
 halves_mono n zero =
     let same : n ≡ 0 + n = omega arith in
@@ -191,13 +191,13 @@ halves_mono n (suc d) =
     let next : suc (d + n) ≡ suc d + n = omega arith in
     subst (λ k. halves n ≤ halves k) next (omega (arith, halves_mono n d, halves_rise (d + n)))
 
--- there is a set of h registers among n, if h is at most n
+-- n registers have a set of h of them, if h is at most n
 pub some_set : (n h : ℕ) → h ≤ n → 0 < choose n h
 some_set n zero few = omega arith
 some_set zero (suc h) few = absurd (omega (arith, few))
 some_set (suc n) (suc h) few = omega (arith, some_set n h (omega (arith, few)))
 
--- from one register on, there are more sets of half of the registers among one register more
+-- n + 2 registers have more sets of half of them than n + 1 registers
 halves_grow : (n : ℕ) → halves (suc n) < halves (suc (suc n))
 halves_grow n =
     elim (cases_eq (suc (suc n) / 2) (suc n / 2)) [
@@ -214,18 +214,18 @@ halves_grow n =
           subst (λ h. halves (suc n) < choose (suc (suc n)) h) (sym next) more)
     ]
 
--- there are at least as many sets of half of the registers as registers
+-- n registers have at least n sets of half of them
 self_within : (n : ℕ) → n ≤ halves n
 self_within zero = omega arith
 self_within (suc zero) = omega arith
 self_within (suc (suc n)) = omega (arith, self_within (suc n), halves_grow n)
 
 -- ---- the least number of registers
--- if `halves n` is below m, it counts
+-- if `halves n` is below m, `halves_below` counts it
 counted : (n m : ℕ) → halves n < m → halves_below (suc n) m ≡ suc (halves_below n m)
 counted n m h = sym (cond_below (halves n) m (suc (halves_below n m)) (halves_below n m) h)
 
--- if `halves n` is not below m, it does not count
+-- if `halves n` is not below m, `halves_below` does not count it
 passed_over : (n m : ℕ) → m ≤ halves n → halves_below (suc n) m ≡ halves_below n m
 passed_over n m h = sym (cond_above (halves n) m (suc (halves_below n m)) (halves_below n m) (halves_below n m) h refl)
 
@@ -245,7 +245,7 @@ all_below (suc n) m h =
     let before : halves n < m = omega (arith, halves_rise n, h) in
     omega (arith, counted n m before, all_below n m before)
 
--- if n registers have m sets of half of them, so have as many registers as the count
+-- if n registers have m sets of half of them, so have `halves_below n m` registers
 enough_halves : (n m : ℕ) → m ≤ halves n → m ≤ halves (halves_below n m)
 enough_halves zero m h = h
 enough_halves (suc n) m h =
@@ -267,7 +267,7 @@ registers_below n c lower =
           absurd (omega (arith, higher, lower)))
     ]
 
--- if c registers have m sets of half of them, c is not less than the count
+-- if c registers have m sets of half of them, c is at least `halves_below n m`
 least_halves : (n m c : ℕ) → m ≤ halves c → halves_below n m ≤ c
 least_halves zero m c h = omega arith
 least_halves (suc n) m c h =
@@ -298,13 +298,13 @@ least_so_far m n enough smaller =
     })
     (breadth_is_least m)
 
--- there are at most as many sets among n registers as masks below 2 ^ n
+-- n registers have at most 2 ^ n sets of h of them
 pub few_sets : (n h : ℕ) → choose n h ≤ 2 ^ n
 few_sets n zero = omega (arith, pow_pos n)
 few_sets zero (suc h) = omega arith
 few_sets (suc n) (suc h) = omega (arith, few_sets n (suc h), few_sets n h, double n)
 
--- 64 values need at most 8 registers
+-- at most 64 values need at most 8 registers
 pub breadth_small : (m : ℕ) → m ≤ 64 → breadth_of m ≤ 8
 breadth_small m most =
     let all : halves 8 ≡ 70 = refl in

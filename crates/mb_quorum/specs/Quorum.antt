@@ -18,8 +18,8 @@ IsMember mask register = bit_at mask register ≡ 1
 abbrev pub AreDisjoint : ℕ → ℕ → Type 0
 AreDisjoint a b = (register : ℕ) → IsMember a register → IsMember b register → ⊥
 
--- The table keeps the law of quorum tables. There are at most 64 registers and 64 values. Masks are below 2 ^
--- registers. A write quorum and a read quorum are disjoint exactly if they belong to one value
+-- The table keeps the law of quorum tables. There are at most 64 registers and 64 values. Masks are below
+-- 2 ^ registers. A write quorum and a read quorum are disjoint exactly if they belong to one value
 pub record IsQuorumTable (t : QuorumTable) : Type 0 where
   pub limit : t.registers ≤ 64
   pub few : t.values ≤ 64

@@ -5,11 +5,11 @@ use Rattle.std.proofs.Math.Pow.{pow-lt, pow-add, pow_mono}
 use Rattle.std.proofs.lemmas.Bool.{cases_lt, cond_below, cond_above}
 use Rattle.mb_quorum.specs.Width.{powers_below, width_of, IsLeastWidth}
 
--- if 2 ^ i is below m, it counts
+-- if 2 ^ i is below m, `powers_below` counts it
 counted : (i m : ℕ) → 2 ^ i < m → powers_below (suc i) m ≡ suc (powers_below i m)
 counted i m h = sym (cond_below (2 ^ i) m (suc (powers_below i m)) (powers_below i m) h)
 
--- if 2 ^ i is not below m, it does not count
+-- if 2 ^ i is not below m, `powers_below` does not count it
 passed_over : (i m : ℕ) → m ≤ 2 ^ i → powers_below (suc i) m ≡ powers_below i m
 passed_over i m h = sym (cond_above (2 ^ i) m (suc (powers_below i m)) (powers_below i m) (powers_below i m) h refl)
 
@@ -30,7 +30,7 @@ all_below (suc i) m h =
     let before : 2 ^ i < m = omega (arith, lower, h) in
     omega (arith, counted i m before, all_below i m before)
 
--- if m is at most 2 ^ n, it is at most the power with the count as exponent
+-- if m is at most 2 ^ n, it is at most the power of two with the exponent `powers_below n m`
 enough_powers : (n m : ℕ) → m ≤ 2 ^ n → m ≤ 2 ^ powers_below n m
 enough_powers zero m h = h
 enough_powers (suc i) m h =
@@ -49,7 +49,7 @@ exponent_below i c lower =
       | inr more ↦ (let higher : 2 ^ c ≤ 2 ^ i = pow_mono more in omega (arith, higher, lower))
     ]
 
--- if m is at most 2 ^ c, c is not less than the count
+-- if m is at most 2 ^ c, c is at least `powers_below n m`
 least_powers : (n m c : ℕ) → m ≤ 2 ^ c → powers_below n m ≤ c
 least_powers zero m c h = omega arith
 least_powers (suc i) m c h =
@@ -66,7 +66,7 @@ self_below (suc i) =
     let double : 2 ^ suc i ≡ 2 * 2 ^ i = rw one-add at (pow-add 2 1 i) in
     omega (arith, double, self_below i)
 
--- the number of powers below m is the least b with m ≤ 2 ^ b
+-- the number of powers of two below m is the least b with m ≤ 2 ^ b
 pub width_is_least : (m : ℕ) → IsLeastWidth m (width_of m)
 width_is_least m =
     record {
