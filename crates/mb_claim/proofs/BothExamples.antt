@@ -141,7 +141,7 @@ exchange_two = ((omega arith, tt), (omega arith))
 exchange_one : IsInWords (record { act = Exchange Last 1 0; word = 0 })
 exchange_one = ((omega arith, omega arith), (omega arith))
 
--- if the older accesses are of these two parts, so are those on a ratifier that both pass
+-- if the older accesses belong to these claims, so do those on a ratifier that both pass
 pass_parts : (o : ℕ) (h : List ClaimAccess) → AreAll IsBothPart h → AreAll IsBothPart (both_pass o h)
 pass_parts o h older =
     (one_here, (one_here, (zero_here, (zero_here, (one_here, (zero_here, (one_here, (zero_here, older))))))))

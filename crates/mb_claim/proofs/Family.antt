@@ -12,8 +12,7 @@ use Rattle.mb_claim.proofs.ObjectHistories.{turns_at}
 use Rattle.mb_claim.proofs.Parts.{Member, Forward, Ends, forward}
 
 -- The consumers of one cell, from object o on, with hs n as the history of object n. For each consumer: its input
--- to object o, what its part has from there on, and its stage. What holds of P holds of the inputs of all who have
--- come so far.
+-- to object o, what its part has from there on, and its stage. P holds of the inputs of all who have come so far.
 pub record Family (t : QuorumTable) (ks : List Kind) (o : ℕ) (hs : ℕ → List Access) (P : ℕ → Type 0) : Type 0 where
   pub input : ℕ → ℕ
   pub rest : ℕ → List ObjectTurn

@@ -75,7 +75,8 @@ completed t c (kind ∷ kinds) o v xs s (inr (inr (u, rest, x, p))) =
     (whole.0, whole.1, (x.turns, whole.0 ++ rest, false, u, all, x.path, inr (refl, whole.2)))
 
 -- ---- each beginning of a whole path is a prefix of a claim
--- Of two ways to cut one list, the older part of the first is that of the second and more, or it is less.
+-- One list is cut in two ways, each into later and older elements. The first way has all older elements of the second
+-- and perhaps more, or it has fewer.
 abbrev IsCut : {A : Type 0} → List A → List A → List A → List A → Type 0
 IsCut {A} later xs rest back =
     ((front : List A) × (xs ≡ front ++ back) × (rest ≡ later ++ front))
@@ -87,7 +88,7 @@ cut_more :
 cut_more y z ys xs zs back e (inl (front, p, q)) = inl (front, p, ap₂ (λ a zs. a ∷ zs) (sym e) q)
 cut_more y z ys xs zs back e (inr p) = inr p
 
--- of two ways to cut one list the older part of the first is more or less
+-- of two ways to cut one list the first has all older elements of the second, or has fewer
 cut : {A : Type 0} (later xs rest back : List A) → later ++ xs ≡ rest ++ back → IsCut later xs rest back
 cut [] xs rest back e = inl (rest, e, refl)
 cut (y ∷ ys) xs [] back e = inr (y, ys, sym e)
@@ -95,7 +96,7 @@ cut (y ∷ ys) xs (z ∷ zs) back e =
     cut_more y z ys xs zs back (heads y z (ys ++ xs) (zs ++ back) e)
     (cut ys xs zs back (tails y z (ys ++ xs) (zs ++ back) e))
 
--- if turns on one object are cut in two, both parts are turns on that object
+-- if turns on one object are cut in two, both lists are turns on that object
 cut_turns_on :
     (o : ℕ) (turns : List Turn) (mid xs : List ObjectTurn) → turns_on o turns ≡ mid ++ xs
     → (more ts : List Turn) × (turns ≡ more ++ ts) × (mid ≡ turns_on o more) × (xs ≡ turns_on o ts)

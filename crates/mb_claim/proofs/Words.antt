@@ -75,7 +75,7 @@ own_place k o s n op e =
     ap₂ (λ a b. cond a (cond b (value_after (reg_of op) (act_of op s) n) n) n) (eq-eqb k k refl) (eq-eqb o o refl)
     ∙ (ap (λ m. value_after (reg_of op) (act_of op m) n) e ∙ own_word op n)
 
--- if a value stays n where both tests pass, it stays n
+-- a value that is n whenever both tests pass is n
 same_at : (a b : Bool) (x n : ℕ) → (a ≡ true → b ≡ true → x ≡ n) → cond a (cond b x n) n ≡ n
 same_at true true x n h = h refl refl
 same_at true false x n h = refl

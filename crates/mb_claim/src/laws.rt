@@ -174,7 +174,7 @@ pub fn fast_layouts_avoid_conciliators()
     fast_paths_take_two_ratifiers();
 }
 
-/// An older part of a lawful history is lawful.
+/// A lawful history without its last accesses is lawful.
 pub fn older_histories_are_lawful()
     ensures { (cs : Claims) (later h : List ClaimAccess) → IsClaimLawful cs (later ++ h)
         → IsClaimLawful cs h }
@@ -205,8 +205,8 @@ pub fn limits_have_their_numbers()
     ensures large { MAX_LARGE_CELLS ≡ 2 ^ 24 }
 {}
 
-/// The claim of a consumer that has made no access goes on, on the first object. Without a fast path that is a
-/// conciliator, and its word is loaded first.
+/// The claim of a consumer that has made no access goes on, and stands on the first object. Without a fast path that
+/// object is a conciliator, and its word is loaded first.
 pub fn claims_begin_on_the_first_object()
     ensures fresh { (layout : Layout) (claim : Claim) → IsClaimIn layout claim []
         → (claim_stage claim ≡ Going) × (is_begun claim ≡ false) }

@@ -50,7 +50,7 @@ path_follow s v (x ∷ older) u h =
       | inr p ↦ (subst (λ act. Follows s v act older) (sym h.0) (h.1.0, inr p), put_follow s v h.1.0 older p)
     ]
 
--- if each turn of a list follows the turns before it, so it is in an older part of the list
+-- if each turn of a list follows the turns before it, so does each of its older turns
 suffix_follow : (s v : ℕ) (later turns : List Turn) → AllFollow s v (later ++ turns) → AllFollow s v turns
 suffix_follow s v [] turns h = h
 suffix_follow s v (x ∷ later) turns h = suffix_follow s v later turns h.1

@@ -58,7 +58,7 @@ pub path_length : (s v : ℕ) (turns : List Turn) (u : ℕ) → IsConciliatorPat
 path_length s v [] u h = absurd h
 path_length s v (x ∷ older) u h = omega (arith, (behind_last s v x older u h).1)
 
--- if each act of a list is one before the end, so is each act of an older part
+-- if each act of a list is one before the end, so is each of its older acts
 suffix_before : (v : ℕ) (later turns : List Turn) → AreBefore v (later ++ turns) → AreBefore v turns
 suffix_before v [] turns h = h
 suffix_before v (x ∷ later) turns h = suffix_before v later turns h.1

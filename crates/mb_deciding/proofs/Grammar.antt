@@ -77,7 +77,7 @@ preference_later : (v : ℕ) (xs ys : List Act) → HasPreference v ys → HasPr
 preference_later v xs ys (inl h) = inl (has_later xs ys (Store Proposal (v + 1)) h)
 preference_later v xs ys (inr h) = inr (h.0, has_later xs ys (Load Proposal (h.0 + 1)) h.1)
 
--- acts in order, with one more before an older part if a test adds it, are in order if that act has what it needs
+-- acts in order, with one more among them if a test adds it, are in order if that act has before it what it needs
 behind_cond_append :
     (t : QuorumTable) (v : ℕ) (b : Bool) (x : Act) (xs ys : List Act) → Behind t v x (xs ++ ys)
     → AllBehind t v (xs ++ ys) → AllBehind t v (cond b (x ∷ xs) xs ++ ys)
@@ -131,7 +131,7 @@ path_behind :
 path_behind t v made true u h = (clear_behind t v u t.registers made h).1
 path_behind t v made false u h = one_behind t v u made h
 
--- an older part of a list in order is in order
+-- the older acts of a list in order are in order
 suffix_behind : (t : QuorumTable) (v : ℕ) (later made : List Act) → AllBehind t v (later ++ made) → AllBehind t v made
 suffix_behind t v [] made h = h
 suffix_behind t v (x ∷ later) made h = suffix_behind t v later made h.1

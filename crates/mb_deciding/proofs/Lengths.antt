@@ -270,7 +270,7 @@ path_checked t v (act ∷ older) false u h =
           );
     }
 
--- an older part of two lists joined lies within the second, or has all of it
+-- older acts of two lists joined are no more than those of the second, or are all of these and more
 suffix_cases :
     (xs begin later made : List Act) → xs ++ begin ≡ later ++ made
     → (length made ≤ length begin) ⊎ ((ys : List Act) × (made ≡ ys ++ begin))

@@ -1,4 +1,4 @@
--- A whole path of a ratifier has one output.
+-- Which loads a ratifier's path has, how its preference shows in them, and that a whole path has one output.
 use Rattle.std.proofs.Common.{◌≡◌, ℕ, zero, suc, ◌+◌, ◌<◌, ◌==◌, cond, Bool, true, false, List, [], ◌∷◌, ◌++◌, ◌⊎◌, inl}
 use Rattle.std.proofs.Common.{inr, sym, refl, ap, ◌∙◌, subst, arith}
 use Rattle.std.specs.Int.{bit_at}
@@ -133,6 +133,7 @@ one_from t v u (act ∷ older) h =
     let e : proposal_loads (act ∷ older) ≡ proposal_loads older = ap (λ a. proposal_loads (a ∷ older)) h.1 in
     subst (λ xs. IsFrom v u xs (proposal_loads (announcement t v))) (sym e) (clear_from t v u h.0 older h.4)
 
+-- ---- one output
 -- a whole path has one output
 pub same_output :
     (t : QuorumTable) (v : ℕ) (made : List Act) (d e : Bool) (u w : ℕ) → IsRatifierPath t v made d u

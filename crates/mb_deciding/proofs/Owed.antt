@@ -17,7 +17,7 @@ use Rattle.mb_deciding.proofs.Sizes.{largest_bound}
 use Rattle.mb_deciding.proofs.ConciliatorPaths.{path_ends as conciliator_ends, path_length as conciliator_length}
 use Rattle.mb_deciding.proofs.Conciliators.{valid as conciliator_valid, fits as conciliator_fits}
 
--- outputs with the same two parts are one
+-- two outputs are one, if both are decided or neither is, and their values are one
 same_answer : (a b : Out) → (a.decided ≡ b.decided) × (a.value ≡ b.value) → a ≡ b
 same_answer a b e = ap₂ answer e.0 e.1
 

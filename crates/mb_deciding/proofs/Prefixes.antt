@@ -41,7 +41,7 @@ part_older t v x made h = (
   ),
 )
 
--- an older part of an open prefix is an open prefix
+-- the older acts of an open prefix are an open prefix
 open_suffix :
     (t : QuorumTable) (v : ℕ) (later made : List Act) → IsRatifierOpen t v (later ++ made) → IsRatifierOpen t v made
 open_suffix t v [] made h = h

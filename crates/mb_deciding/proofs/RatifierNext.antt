@@ -50,7 +50,7 @@ prefers_follow t v u begin (inl h) =
 prefers_follow t v u begin (inr h) =
     subst (λ made. AllFollow t v made) (sym h) (refl, stores_follow t v t.registers (omega arith))
 
--- one more act before an older part, if a test adds it and it follows those before it, keeps this so
+-- each act still follows those before it with one more act among them, if a test adds it and it follows all before it
 check_cond :
     (t : QuorumTable) (v : ℕ) (b : Bool) (x : Act) (xs ys : List Act) → (b ≡ true → Follows t v x (xs ++ ys))
     → AllFollow t v (xs ++ ys) → AllFollow t v (cond b (x ∷ xs) xs ++ ys)
@@ -79,7 +79,7 @@ path_follow t v [] false u h = tt
 path_follow t v (act ∷ older) false u h =
     (subst (λ a. Follows t v a older) (sym h.1) (u, h.2, h.4), clear_follow t v u h.0 older h.4)
 
--- if each act of a list follows the acts before it, so it is in an older part of the list
+-- if each act of a list follows the acts before it, so does each of its older acts
 suffix_follow : (t : QuorumTable) (v : ℕ) (later made : List Act) → AllFollow t v (later ++ made) → AllFollow t v made
 suffix_follow t v [] made h = h
 suffix_follow t v (x ∷ later) made h = suffix_follow t v later made h.1

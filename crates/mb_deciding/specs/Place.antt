@@ -83,7 +83,7 @@ PcIsAt t Ratifier v (InLast place) turns = ⊥
 PcIsAt t (Conciliator s) v (InLast place) turns = ⊥
 
 -- ---- the access that comes next, its act and its word
--- at this place in a ratifier the access comes next
+-- at this place in a ratifier this op comes next
 abbrev pub IsRatifierOp : QuorumTable → RatifierPlace → Op → Type 0
 IsRatifierOp t (Begin input) (to.Store (Quorum r) value) = (value ≡ 1) × IsLeast (t.write input) r
 IsRatifierOp t (Begin input) (to.Load Proposal) = t.write input ≡ 0
@@ -93,17 +93,17 @@ IsRatifierOp t (Propose input) (to.Store Proposal value) = value ≡ input + 1
 IsRatifierOp t (Check preference left) (to.Load (Quorum r)) = IsLeast left r
 IsRatifierOp t place op = ⊥
 
--- at this place in a conciliator the access comes next
+-- at this place in a conciliator this op comes next
 abbrev pub IsConciliatorOp : ConciliatorPlace → Op → Type 0
 IsConciliatorOp (Draw input limit modulus) op = op ≡ to.Load Value
 IsConciliatorOp (Put input) op = op ≡ to.Store Value (input + 1)
 IsConciliatorOp (Look input) op = op ≡ to.Load Value
 
--- at the place in a last object the access comes next: the exchange for the input
+-- at this place in a last object this op comes next: the exchange for the input
 abbrev pub IsLastOp : LastPlace → Op → Type 0
 IsLastOp place op = op ≡ to.Exchange Last (place.input + 1)
 
--- at this place the access comes next
+-- at this place this op comes next
 abbrev pub IsOpAt : QuorumTable → Pc → Op → Type 0
 IsOpAt t (InRatifier place) op = IsRatifierOp t place op
 IsOpAt t (InConciliator place) op = IsConciliatorOp place op
