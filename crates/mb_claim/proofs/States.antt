@@ -102,7 +102,7 @@ module _
         same_find cs.table pc op found (object_history k object h) is seen
         (finds_there cs law stepping h c k object pc op memory.lawful stands is)
 
--- ---- words without an access
+-- ---- the words of the empty history, and words after those of the cells
 -- words that are all 0 are those of the empty history
 pub memory_empty :
     (cs : Claims) (words : List ℕ) → words_in cs ≤ length words → ((i : ℕ) → slice_index words i ≡ 0)

@@ -18,6 +18,7 @@ abbrev pub access_at : ℕ → ℕ → Act → ClaimAccess
 access_at c o act =
     record { consumer = c; cell = 0; step = record { object = o; turn = record { act = act; word = 0 } } }
 
+-- ---- histories that are lawful
 -- consumer 0 comes alone, and wins
 abbrev pub won_alone : List ClaimAccess
 won_alone =

@@ -29,7 +29,7 @@ missing_follow s v (suc k) [] h = absurd h
 missing_follow s v (suc k) (x ∷ older) h =
     (subst (λ act. Follows s v act older) (sym h.0) (k, inl h.2), missing_follow s v k older h.2)
 
--- each turn of attempts, with the one whose word stores, follows the turns before it
+-- each turn of attempts, with the one whose random word stores, follows the turns before it
 drawn_follow : (s v k : ℕ) (turns : List Turn) → IsDrawn s k turns → AllFollow s v turns
 drawn_follow s v k [] h = absurd h
 drawn_follow s v k (x ∷ older) h =
@@ -62,7 +62,7 @@ pub turn_follows :
 turn_follows s v later turns x u h = (suffix_follow s v later (x ∷ turns) (path_follow s v (later ++ x ∷ turns) u h)).0
 
 -- ---- what was done before names one op
--- the same turns do not end both with attempts that did not store and with one whose word stores
+-- the same turns do not end both with attempts that did not store and with one whose random word stores
 missing_undrawn : (s j k : ℕ) (turns : List Turn) → IsMissing s j turns → IsDrawn s k turns → ⊥
 missing_undrawn s zero k [] h d = d
 missing_undrawn s zero k (x ∷ older) h d = h
@@ -71,7 +71,7 @@ missing_undrawn s (suc j) k (x ∷ older) h d =
     let same : k ≡ j = sym (missing_before s 0 k older d.2).1 ∙ (missing_before s 0 j older h.2).1 in
     h.1 (subst (λ n. StoresOn s n x.word) same d.1)
 
--- the same turns do not end both with a store and with a load whose word stores
+-- the same turns do not end both with a store and with a load whose random word stores
 put_undrawn : (s v j k : ℕ) (turns : List Turn) → IsPut s v j turns → IsDrawn s k turns → ⊥
 put_undrawn s v j k [] h d = d
 put_undrawn s v j k (x ∷ older) h d = let other : Store Value (v + 1) ≡ Load Value 0 = sym h.0 ∙ d.0 in cc

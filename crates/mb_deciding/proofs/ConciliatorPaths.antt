@@ -28,7 +28,7 @@ missing_before s v (suc k) (x ∷ older) h =
     let deeper = missing_before s v k older h.2 in
     ((subst (λ act. IsBefore v act) (sym h.0) refl, deeper.0), ap suc deeper.1)
 
--- the turns of attempts up to k, with the one whose word stores, are k + 1, all before the end
+-- the turns of attempts up to k, with the one whose random word stores, are k + 1, all before the end
 found_before : (s v k : ℕ) (turns : List Turn) → IsDrawn s k turns → AreBefore v turns × (length turns ≡ suc k)
 found_before s v k [] h = absurd h
 found_before s v k (x ∷ older) h =

@@ -12,6 +12,7 @@ use Rattle.mb_deciding.specs.{most_turns, turns_left}
 use Rattle.mb_deciding.proofs.Sizes.{each_exact, each_size, largest_bound}
 use Rattle.mb_deciding.proofs.TurnsLeft.{attempts_left}
 
+-- ---- masks within others
 -- one act more in the one list goes with one more in the other, so the first stays no longer
 cond_within :
     (x : Act) (xs ys : List Act) (p q : Bool) → (p ≡ true → q ≡ true) → length xs ≤ length ys
@@ -42,6 +43,7 @@ ones_within a b within =
 rest_within : (mask bound left : ℕ) → IsRest mask bound left → count_ones left ≤ count_ones mask
 rest_within mask bound left rest = ones_within left mask (λ k member. ((rest k).0 member).1)
 
+-- ---- the accesses left at a place
 -- no more accesses are left at a place than an object of its kind allows
 pub most_left :
     (t : QuorumTable) (kind : Kind) (v : ℕ) (pc : Pc) (turns : List Turn) → v < t.values → PcIsAt t kind v pc turns

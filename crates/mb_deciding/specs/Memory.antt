@@ -23,7 +23,7 @@ abbrev pub IsMemory : ObjectMemory → List Access → Type 0
 IsMemory words h = (reg : Reg) → IsReg reg → word_of words reg ≡ value_in reg h
 
 -- The access was made to the words and found this value. If the words fit a history before, they fit that history with
--- the access afterwards
+-- the access afterwards, and the value is the one that the history leaves. What is loaded and stored is below 2 ^ 64
 pub record IsAccess (words : ObjectMemory) (op : Op) (seen : ℕ) (after : ObjectMemory) : Type 0 where
   pub memory :
       (h : List Access) → IsMemory words h → (p word : ℕ)
