@@ -9,14 +9,14 @@ use Rattle.mb_claim.specs.{IsMemoryTrue, AreInWords, on_cell, IsClaimPart, IsCla
 use Rattle.mb_claim.proofs.Lists.{filter_map-filter_map, filter_map_agree}
 
 -- ---- a pick from what a test lets through
--- a pick from an access that passes a test is a pick from the access, if one that fails the test gives nothing
+-- picking after a test gives what picking alone gives, if an access that fails the test gives nothing
 picks :
     {B : Type 0} (g : ClaimAccess → Option B) (b : Bool) (a : ClaimAccess) → (b ≡ false → g a ≡ None)
     → option_and_then g (cond b (Some a) None) ≡ g a
 picks g true a none = refl
 picks g false a none = sym (none refl)
 
--- a pick from an access that passes a test gives nothing, if such an access gives nothing
+-- picking after a test gives nothing, if an access that passes the test gives nothing
 drops :
     {B : Type 0} (g : ClaimAccess → Option B) (b : Bool) (a : ClaimAccess) → (b ≡ true → g a ≡ None)
     → option_and_then g (cond b (Some a) None) ≡ None

@@ -82,7 +82,7 @@ IsCut {A} later xs rest back =
     ((front : List A) × (xs ≡ front ++ back) × (rest ≡ later ++ front))
     ⊎ ((first : A) × (more : List A) × (back ≡ (first ∷ more) ++ xs))
 
--- one more element before both lists changes nothing of that
+-- with one more later element in both ways, they compare as before
 cut_more :
     {A : Type 0} (y z : A) (ys xs zs back : List A) → y ≡ z → IsCut ys xs zs back → IsCut (y ∷ ys) xs (z ∷ zs) back
 cut_more y z ys xs zs back e (inl (front, p, q)) = inl (front, p, ap₂ (λ a zs. a ∷ zs) (sym e) q)

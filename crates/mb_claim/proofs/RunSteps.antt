@@ -146,7 +146,7 @@ module _
         }
 
 -- ---- the end of a run
--- a claim for places where there is none
+-- a claim that stands for a missing one
 nobody : Claim
 nobody = record { consumer = 0; object = 0; place = InRatifier (Begin 0); stage = Going; begun = false }
 

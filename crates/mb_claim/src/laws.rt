@@ -122,7 +122,7 @@ pub fn fast_paths_take_two_ratifiers()
         → IsPath t Ratifier c (part_at c k 0 h) (answer true u) → (d o : ℕ) → 2 ≤ o
         → part_at d k o h ≡ [] }
 
-    // Nobody goes on there either if a consumer has ended its claim before the first access of any other.
+    // Nobody goes on after the second, either, if a consumer has ended its claim before the first access of any other.
     ensures alone { (t : QuorumTable) (kinds : List Kind) (cells k c : ℕ) (s : Stage)
         (later h : List ClaimAccess)
         → IsQuorumTable t → let cs = claims_of t (Ratifier ∷ Ratifier ∷ kinds) cells in

@@ -14,7 +14,7 @@ pub conciliator_step :
 conciliator_step t place makes op seen word follows is made reaches =
     record { op = op; seen = seen; is = is; made = made; reached = reached }
   where
-    -- what follows is reached from a conciliator's place alone
+    -- what follows is reached, as only a conciliator has this place
     reached :
         (kind : Kind) (v : ℕ) (turns : List Turn) → PcIsAt t kind v (InConciliator place) turns
         → CanFind t (InConciliator place) op seen
@@ -31,7 +31,7 @@ pub ratifier_step :
 ratifier_step t place makes op seen word follows is made reaches =
     record { op = op; seen = seen; is = is; made = made; reached = reached }
   where
-    -- what follows is reached from a ratifier's place alone
+    -- what follows is reached, as only a ratifier has this place
     reached :
         (kind : Kind) (v : ℕ) (turns : List Turn) → PcIsAt t kind v (InRatifier place) turns
         → CanFind t (InRatifier place) op seen
@@ -48,7 +48,7 @@ pub last_step :
 last_step t place makes op seen word follows is made reaches =
     record { op = op; seen = seen; is = is; made = made; reached = reached }
   where
-    -- what follows is reached from a last object's place alone
+    -- what follows is reached, as only a last object has this place
     reached :
         (kind : Kind) (v : ℕ) (turns : List Turn) → PcIsAt t kind v (InLast place) turns
         → CanFind t (InLast place) op seen
