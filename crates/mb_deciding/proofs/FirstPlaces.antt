@@ -1,4 +1,4 @@
--- Two facts about the places of numbers: if a test of a number fails, and if no place is given.
+-- Two facts: a number that fails a test is below the bound, and a place that is not given is not below the length.
 use Rattle.std.proofs.Common.{◌≡◌, ℕ, ◌<◌, ◌≤◌, Bool, true, false, nat_lt, nat_le, cond, Some, None, refl, arith}
 use Rattle.std.proofs.lemmas.Bool.Decides.{nat_tests}
 

@@ -15,7 +15,7 @@ ghost use Rattle.mb_deciding.specs.{invented_run, patient_run, impatient_run, Is
 ghost use Rattle.mb_deciding.specs.{clear_entries, hidden_entries, patient_entries, impatient_entries};
 ghost use Rattle.mb_deciding.specs.declared.trace.Entry.TheVariants as entry;
 
-/// Small histories of one process with the input 0.
+/// Small histories of one process with the input 0. Those with `→ ⊥` are not lawful.
 pub fn small_histories()
     // Process 0 announces its input, finds the proposal empty, proposes it, and checks it.
     ensures clear { IsObjectLawful small_ratifier (history_of_one clear_run) }
@@ -36,7 +36,7 @@ pub fn small_histories()
     ensures impatient_part { IsPrefix (unary_table 2) (Conciliator 2) 0 impatient_run → ⊥ }
 {}
 
-/// Small histories of a last object. Each process has its own number as its input.
+/// Small histories of a last object. Those with `→ ⊥` are not lawful. Each process has its own number as its input.
 pub fn small_last_objects()
     // Process 0 puts its value into the empty word. The others find that, and leave it there.
     ensures lawful { IsObjectLawful small_last first_decides }
@@ -67,7 +67,7 @@ pub fn small_last_objects()
         (turn 0 (Exchange Last 2 1) ∷ []) (answer d u) → (d ≡ true) × (u ≡ 0) }
 {}
 
-/// Small traces of one process with the input 0.
+/// Small traces of one process with the input 0. With `→ ⊥`, the entries and outputs are not the schedule's trace.
 pub fn small_traces()
     // Process 0 uses the ratifier, and has one turn after its output. On the conciliator it stores on the last attempt.
     ensures clear { IsTraceOfOne Ratifier 5 0
