@@ -1,4 +1,5 @@
--- Different words have different addresses, and how many words lie before an object.
+-- Different words have different addresses. Also how many words objects have, how many lie before an object, and where
+-- the words of a row of pairs lie.
 use Rattle.std.proofs.Common.{◌≡◌, ◌+◌, ◌*◌, ◌<◌, ◌≤◌, ◌⊎◌, ℕ, zero, suc, List, [], ◌∷◌, refl, sym, ap, subst, inl, inr}
 use Rattle.std.proofs.Common.{Some, length, slice_get}
 use Rattle.std.proofs.Common.{arith, mul-le-mul_right, suc-mul}
@@ -8,6 +9,7 @@ use Rattle.mb_deciding.specs.Vocabulary.{HasReg}
 use Rattle.mb_claim.specs.{Reg, Kind, Value, Proposal, Quorum, Last, Conciliator, Ratifier, LastObject, width, offset, words_before}
 use Rattle.mb_claim.specs.{row_words, address_of, pairs_of, IsWordOf}
 
+-- ---- different words have different addresses
 -- a word lies within its object
 in_object : (r : ℕ) (k : Kind) (reg : Reg) → HasReg r k reg → offset reg < width r k
 in_object r (Conciliator s) Value h = omega arith
@@ -50,7 +52,7 @@ same_word r LastObject Value q h g e = absurd h
 same_word r LastObject Proposal q h g e = absurd h
 same_word r LastObject (Quorum i) q h g e = absurd h
 
--- a word of the first object
+-- a word of object 0 of a row is a word of the row's first kind
 first_word : (r : ℕ) (k : Kind) (ks : List Kind) (reg : Reg) → IsWordOf r (k ∷ ks) 0 reg → HasReg r k reg
 first_word r k ks reg p = subst (λ j. HasReg r j reg) (sym (same_Some k p.0 p.1)) p.2
 
@@ -80,7 +82,7 @@ row_before w k n a b l h e =
     let s : suc k * w ≡ k * w + w = suc-mul k w in
     omega arith
 
--- the cells are one, or one comes before the other
+-- different words have different addresses, by whether the cells are one, or one comes before the other
 distinct_by :
     (r : ℕ) (kinds : List Kind) (k n o m : ℕ) (p q : Reg) → IsWordOf r kinds o p → IsWordOf r kinds m q
     → address_of r kinds k o p ≡ address_of r kinds n m q
@@ -101,7 +103,7 @@ pub distinct :
     → address_of r kinds k o p ≡ address_of r kinds n m q → (k ≡ n) × (o ≡ m) × (p ≡ q)
 distinct r kinds k n o m p q a b e = distinct_by r kinds k n o m p q a b e (cases_order k n)
 
--- the words of the first cells lie below their count
+-- the words of the first `cells` cells lie below the number of their words
 pub within :
     (r : ℕ) (kinds : List Kind) (cells k o : ℕ) (reg : Reg) → IsWordOf r kinds o reg → k < cells
     → address_of r kinds k o reg < cells * row_words r kinds
@@ -112,7 +114,7 @@ within r kinds cells k o reg p l =
     omega arith
 
 -- ---- how many words objects have, and how many lie before one
--- an object has few words
+-- an object has at most as many words as a ratifier
 pub width_few : (r : ℕ) (k : Kind) → width r k ≤ 1 + r
 width_few r (Conciliator s) = omega arith
 width_few r Ratifier = omega arith
@@ -123,7 +125,7 @@ pub words_before-first : (r : ℕ) (kinds : List Kind) → words_before r kinds 
 words_before-first r [] = refl
 words_before-first r (k ∷ ks) = refl
 
--- before the next object lie the words of one more
+-- before the next object lie the words before this one, and its own words
 pub words_before-next :
     (r : ℕ) (kinds : List Kind) (o : ℕ) (kind : Kind) → slice_get kinds o ≡ Some kind
     → words_before r kinds (suc o) ≡ words_before r kinds o + width r kind
@@ -133,7 +135,7 @@ words_before-next r (k ∷ ks) zero kind e =
     omega (arith, same, words_before-first r ks)
 words_before-next r (k ∷ ks) (suc o) kind e = omega (arith, words_before-next r ks o kind e)
 
--- the words before the end of a row are all
+-- the words before the end of a row are all its words
 pub words_before-all : (r : ℕ) (kinds : List Kind) → words_before r kinds (length kinds) ≡ row_words r kinds
 words_before-all r [] = refl
 words_before-all r (k ∷ ks) = omega (arith, words_before-all r ks)
@@ -149,12 +151,12 @@ pub row_words-few : (r : ℕ) (kinds : List Kind) → row_words r kinds ≤ leng
 row_words-few r kinds = omega (arith, words_before-all r kinds, words_before-few r kinds (length kinds))
 
 -- ---- the words of a row of pairs
--- a pair has the words of its two objects
+-- a row of n pairs has n times the words of a conciliator and a ratifier
 pub row_words-pairs_of : (r s n : ℕ) → row_words r (pairs_of s n) ≡ n * (2 + r)
 row_words-pairs_of r s zero = omega arith
 row_words-pairs_of r s (suc n) = let h = row_words-pairs_of r s n in omega arith
 
--- the words before an object of a pair: those of the pairs before it, and before its second object that of the first
+-- before object j of pair i lie the words of i pairs, and one word more if j is 1
 pub words_before-pairs_of :
     (r s n i j o : ℕ) → o ≡ 2 * i + j → j < 2 → i < n → words_before r (pairs_of s n) o ≡ i * (2 + r) + j
 words_before-pairs_of r s zero i j o e f h = absurd (omega arith)
@@ -166,7 +168,7 @@ words_before-pairs_of r s (suc n) zero j (suc (suc o)) e f h = absurd (omega ari
 words_before-pairs_of r s (suc n) (suc i) j (suc (suc o)) e f h =
     let g = words_before-pairs_of r s n i j o (omega arith) f (omega arith) in omega arith
 
--- the address of a word of a pair
+-- the address of a word of object j of pair i, by its place in that object
 pub pair_address :
     (r s n k i j : ℕ) (reg : Reg) → i < n → j < 2
     → address_of r (pairs_of s n) k (2 * i + j) reg ≡ k * (n * (2 + r)) + i * (2 + r) + (j + offset reg)

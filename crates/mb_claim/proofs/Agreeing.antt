@@ -25,7 +25,7 @@ module _ (t : QuorumTable) (k : Kind) (ks : List Kind) (o : ℕ) (hs : ℕ → L
       → StageNames d (step t k ks o hs P fam d).stage w → w ≡ u
   late c d u w p n = winner_holds t hs law ks (suc o) (λ a. a ≡ u) (next_decided t k ks o hs P fam (law k) c u p) d w n
 
-  -- two consumers decided here, later, or one of each
+  -- two winners are one, if each was decided here or later
   agree_by :
       (c d u w : ℕ) → ((a b : ℕ) → StageNames c (step t k ks o hs P fam c).stage a
       → StageNames d (step t k ks o hs P fam d).stage b → a ≡ b)
@@ -36,7 +36,7 @@ module _ (t : QuorumTable) (k : Kind) (ks : List Kind) (o : ℕ) (hs : ℕ → L
   agree_by c d u w ih (inr p) (inl q) = late d c w u q p.1
   agree_by c d u w ih (inr p) (inr q) = ih u w p.1 q.1
 
--- all stages that name a winner name the same
+-- all stages that name a winner name the same one
 pub agree :
     (t : QuorumTable) (hs : ℕ → List Access) → AreDeciding t
     → (ks : List Kind) (o : ℕ) (P : ℕ → Type 0) (fam : Family t ks o hs P)

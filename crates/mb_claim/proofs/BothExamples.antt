@@ -12,6 +12,7 @@ use Rattle.mb_claim.proofs.ObjectHistories.{turns_at}
 use Rattle.mb_claim.proofs.LawfulExamples.{AreAll, known, zero_word, one_word, two_word, one_put, two_put}
 use Rattle.mb_claim.proofs.PassedRatifiers.{left_behind}
 
+-- ---- the part of consumer 0
 -- the row of the five objects
 abbrev kinds : List Kind
 kinds = Ratifier ∷ Ratifier ∷ Conciliator 2 ∷ Ratifier ∷ LastObject ∷ []
@@ -20,7 +21,7 @@ kinds = Ratifier ∷ Ratifier ∷ Conciliator 2 ∷ Ratifier ∷ LastObject ∷ 
 abbrev zero_on : ℕ → List ObjectTurn
 zero_on o = turns_on o (turns_at o (part_on 0 0 through_all))
 
--- the first ratifier leaves consumer 0 undecided with its own number
+-- the first ratifier leaves consumer 0 undecided with its own number, and so does each other ratifier
 zero_passes :
     IsPath (unary_table 2) Ratifier 0 (turns_at 0 (part_on 0 0 through_all)) (answer false 0)
 zero_passes = (
@@ -31,7 +32,7 @@ zero_passes = (
   (Store Proposal 1 ∷ Load Proposal 0 ∷ Store (Quorum 0) 1 ∷ [], inl (refl, refl), refl),
 )
 
--- all objects but the last leave it so, and there it wins
+-- all objects but the last leave consumer 0 undecided with its own number, and on the last it wins
 pub zero_all : IsClaimPrefixFrom (unary_table 2) 0 kinds 0 0 (part_on 0 0 through_all) Won
 zero_all =
     let xs : List ObjectTurn = part_on 0 0 through_all in
@@ -67,11 +68,12 @@ zero_all =
       )),
     ))
 
+-- ---- the part of consumer 1
 -- what consumer 1 did on object o
 abbrev one_on : ℕ → List ObjectTurn
 one_on o = turns_on o (turns_at o (part_on 1 0 through_all))
 
--- the first ratifier leaves consumer 1 undecided with its own number
+-- the first ratifier leaves consumer 1 undecided with its own number, and so does each other ratifier
 one_passes :
     IsPath (unary_table 2) Ratifier 1 (turns_at 0 (part_on 1 0 through_all)) (answer false 1)
 one_passes = (
@@ -82,7 +84,7 @@ one_passes = (
   (Store Proposal 2 ∷ Load Proposal 0 ∷ Store (Quorum 1) 1 ∷ [], inl (refl, refl), refl),
 )
 
--- all objects but the last leave it so, and there it loses to consumer 0
+-- all objects but the last leave consumer 1 undecided with its own number, and on the last it loses to consumer 0
 pub one_all : IsClaimPrefixFrom (unary_table 2) 1 kinds 0 1 (part_on 1 0 through_all) (Lost 0)
 one_all =
     let xs : List ObjectTurn = part_on 1 0 through_all in
@@ -118,37 +120,38 @@ one_all =
       )),
     ))
 
+-- ---- the whole history
 -- what consumer c did on cell k belongs to its claim
 abbrev IsBothPart : ℕ → ℕ → Type 0
 IsBothPart c k = IsClaimPart (two_with true true) c k (part_on c k through_all)
 
--- it holds of consumer 0
+-- what consumer 0 did on cell 0 belongs to its claim
 zero_here : IsBothPart 0 0
 zero_here = ((omega arith), (omega arith), (Won, zero_all))
 
--- it holds of consumer 1
+-- what consumer 1 did on cell 0 belongs to its claim
 one_here : IsBothPart 1 0
 one_here = ((omega arith), (omega arith), (Lost 0, one_all))
 
--- what the exchanges find and store are words
+-- what the second exchange finds and stores is below 2 ^ 64
 exchange_two : IsInWords (record { act = Exchange Last 2 1; word = 0 })
 exchange_two = ((omega arith, tt), (omega arith))
 
--- what the first exchange finds and stores are words
+-- what the first exchange finds and stores is below 2 ^ 64
 exchange_one : IsInWords (record { act = Exchange Last 1 0; word = 0 })
 exchange_one = ((omega arith, omega arith), (omega arith))
 
--- on a ratifier that both pass: whose the accesses are, and that they are of words
+-- if the older accesses belong to these claims, so do those on a ratifier that both pass
 pass_parts : (o : ℕ) (h : List ClaimAccess) → AreAll IsBothPart h → AreAll IsBothPart (both_pass o h)
 pass_parts o h older =
     (one_here, (one_here, (zero_here, (zero_here, (one_here, (zero_here, (one_here, (zero_here, older))))))))
 
--- the accesses of both on such a ratifier are of words
+-- if the older accesses have values and random words below 2 ^ 64, so have those on a ratifier that both pass
 pass_words : (o : ℕ) (h : List ClaimAccess) → AreInWords h → AreInWords (both_pass o h)
 pass_words o h older =
     (one_word, (two_put, (one_word, (one_put, (zero_word, (zero_word, (one_put, (one_put, older))))))))
 
--- the history is lawful
+-- the history through all objects is lawful
 pub both_lawful : IsClaimLawful (two_with true true) through_all
 both_lawful =
     record {
@@ -277,7 +280,7 @@ both_lawful =
       ) some;
     }
 
--- who comes to the last object has passed the pair
+-- a history in which consumer 0 goes to the last object without the pair is not lawful
 pub past_refused : IsClaimLawful (two_with true true) past_the_pair → ⊥
 past_refused bad =
     let xs : List ObjectTurn = part_on 0 0 past_the_pair in

@@ -9,6 +9,7 @@ use Rattle.mb_claim.proofs.Parts.{Member}
 use Rattle.mb_claim.proofs.Family.{Family, step, here, lawful_here, next}
 use Rattle.mb_claim.proofs.CellFamily.{competes, family}
 
+-- ---- a claim makes at most the accesses that its objects allow
 -- with no object left there is no turn
 none_left : (t : QuorumTable) (c o v : ℕ) (xs : List ObjectTurn) (s : Stage) → Member t c [] o v xs s → xs ≡ []
 none_left t c o v xs s (inl p) = p.0
@@ -38,7 +39,8 @@ claim_bounded cs law h c k lawful =
     rest_bounded cs.table (λ n. object_history k n h) law cs.kinds 0 (competes cs h k law lawful)
     (family cs h k law lawful) c
 
--- pairs take so many times what one pair takes
+-- ---- how many accesses a row of a shape allows
+-- n pairs allow n times the accesses that one pair allows
 pub pairs_steps : (t : QuorumTable) (n : ℕ) → most_on_objects t (pairs_of (spread t.values) n) ≡ max_steps t n
 pairs_steps t zero = omega arith
 pairs_steps t (suc n) =
@@ -48,24 +50,24 @@ pairs_steps t (suc n) =
       suc-mul n (spread t.values + 3 + largest_quorum t.write t.values + 2 + largest_quorum t.read t.values),
     )
 
--- two rows joined take what both take
+-- two rows joined allow as many accesses as both together
 pub most-append :
     (t : QuorumTable) (xs ys : List Kind)
     → most_on_objects t (xs ++ ys) ≡ most_on_objects t xs + most_on_objects t ys
 most-append t [] ys = omega arith
 most-append t (kind ∷ xs) ys = omega (arith, most-append t xs ys)
 
--- a fast path takes what it adds to a row
+-- the ratifiers of a fast path allow `fast_steps` accesses
 fast_most : (t : QuorumTable) (b : Bool) → most_on_objects t (fast_row b) ≡ fast_steps t b
 fast_most t true = omega arith
 fast_most t false = omega arith
 
--- a last object takes what it adds to a row
+-- a last object allows `last_steps` accesses
 last_most : (t : QuorumTable) (b : Bool) → most_on_objects t (last_row b) ≡ last_steps b
 last_most t true = omega arith
 last_most t false = omega arith
 
--- so a row of any shape takes what its shape says
+-- a row of any shape allows `shaped_steps` accesses
 pub row_steps :
     (t : QuorumTable) (shape : Shape) (n : ℕ)
     → most_on_objects t (row_of shape (spread t.values) n) ≡ shaped_steps t shape n

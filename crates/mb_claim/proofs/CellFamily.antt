@@ -11,14 +11,14 @@ use Rattle.mb_claim.proofs.Parts.{Member}
 use Rattle.mb_claim.proofs.Unique.{one_stage_lem}
 use Rattle.mb_claim.proofs.Family.{Family}
 
--- the stage that the history gives a consumer
+-- consumer c has this one stage in the history, and has no turn if it is none of the claims' consumers
 pub record Start (cs : Claims) (h : List ClaimAccess) (k c : ℕ) : Type 0 where
   pub stage : Stage
   pub member : Member cs.table c cs.kinds 0 c (part_on c k h) stage
   pub below : part_on c k h ≢ [] → c < cs.table.values
   pub is : (s : Stage) → HasStage cs c k s h → stage ≡ s
 
--- a consumer that has not begun has a stage
+-- a consumer without turns has a stage
 pub idle :
     (t : QuorumTable) → AreDeciding t → (kinds : List Kind) (c : ℕ) → c < t.values
     → (s : Stage) × IsClaimPrefixFrom t c kinds 0 c [] s
@@ -28,7 +28,7 @@ idle t law (k ∷ ks) c l =
 
 module _ (cs : Claims) (h : List ClaimAccess) (k : ℕ) (law : AreDeciding cs.table)
     (lawful : IsClaimLawful cs h) where
-  -- a consumer with a turn has one stage
+  -- a consumer of the claims, whose part is a prefix of a path, has one stage
   begun : (c : ℕ) → c < cs.table.values → (s : Stage) × IsClaimPrefixFrom cs.table c cs.kinds 0 c (part_on c k h) s
       → Start cs h k c
   begun c l p =
@@ -56,11 +56,11 @@ module _ (cs : Claims) (h : List ClaimAccess) (k : ℕ) (law : AreDeciding cs.ta
             absurd (omega arith);
       }
 
-  -- the stage of each consumer
+  -- each consumer has one stage
   pub start : (c : ℕ) → Start cs h k c
   start c = start_by c (nil_or (part_on c k h)) (cases_lt c cs.table.values)
 
-  -- the consumer has an access to this cell
+  -- consumer c has an access to this cell
   abbrev pub competes : ℕ → Type 0
   competes c = part_on c k h ≢ []
 

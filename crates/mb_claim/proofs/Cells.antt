@@ -8,14 +8,15 @@ use Rattle.mb_claim.specs.{Claims, ClaimAccess, step_by, part_on, access_on, obj
 use Rattle.mb_claim.specs.{IsMemoryTrue, AreInWords, on_cell, IsClaimPart, IsClaimLawful}
 use Rattle.mb_claim.proofs.Lists.{filter_map-filter_map, filter_map_agree}
 
--- a pick from the accesses that pass a test is a pick from all, if the others give nothing
+-- ---- a pick from what a test lets through
+-- picking after a test gives what picking alone gives, if an access that fails the test gives nothing
 picks :
     {B : Type 0} (g : ClaimAccess → Option B) (b : Bool) (a : ClaimAccess) → (b ≡ false → g a ≡ None)
     → option_and_then g (cond b (Some a) None) ≡ g a
 picks g true a none = refl
 picks g false a none = sym (none refl)
 
--- a pick from the accesses that pass a test gives nothing, if these give nothing
+-- picking after a test gives nothing, if an access that passes the test gives nothing
 drops :
     {B : Type 0} (g : ClaimAccess → Option B) (b : Bool) (a : ClaimAccess) → (b ≡ true → g a ≡ None)
     → option_and_then g (cond b (Some a) None) ≡ None
@@ -27,12 +28,13 @@ none_picked : {A B : Type 0} (h : List A) → filter_map {X = A} {Y = B} (λ a. 
 none_picked [] = refl
 none_picked (a ∷ h) = none_picked h
 
--- a pick fails with its second test
+-- a pick by two tests gives nothing, if the second fails
 cond_none : {B : Type 0} (p q : Bool) (x : B) → q ≡ false → cond p (cond q (Some x) None) None ≡ None
 cond_none true q x e = ap (λ b. cond b (Some x) None) e
 cond_none false q x e = refl
 
--- on this cell every part is kept
+-- ---- what a history cut down to one cell keeps
+-- a history cut down to cell k keeps each part on that cell
 pub kept : (c k : ℕ) (h : List ClaimAccess) → part_on c k (on_cell k h) ≡ part_on c k h
 kept c k h =
     filter_map-filter_map (step_by c k) (λ (a : ClaimAccess). cond (eqb a.cell k) (Some a) None) h
@@ -40,7 +42,7 @@ kept c k h =
     (step_by c k)
     (λ a. picks (step_by c k) (eqb a.cell k) a (λ e. cond_none (eqb a.consumer c) (eqb a.cell k) a.step e)) h
 
--- on another cell nothing is left
+-- a history cut down to cell k has no part on another cell
 pub gone : (c k j : ℕ) (h : List ClaimAccess) → (j ≡ k → ⊥) → part_on c j (on_cell k h) ≡ []
 gone c k j h ne =
     filter_map-filter_map (step_by c j) (λ (a : ClaimAccess). cond (eqb a.cell k) (Some a) None) h
@@ -51,7 +53,7 @@ gone c k j h ne =
     (ne_eqb a.cell j (λ f. ne (sym f ∙ eqb-true a.cell k e))))) h
     ∙ none_picked h
 
--- on this cell the history of every object is kept
+-- a history cut down to cell k keeps the history of each object of that cell
 pub object_kept : (k o : ℕ) (h : List ClaimAccess) → object_history k o (on_cell k h) ≡ object_history k o h
 object_kept k o h =
     filter_map-filter_map (access_on k o) (λ (a : ClaimAccess). cond (eqb a.cell k) (Some a) None) h
@@ -61,7 +63,8 @@ object_kept k o h =
     (λ e. ap (λ b. cond b (cond (eqb a.step.object o)
     (Some (record { process = a.consumer; turn = a.step.turn })) None) None) e)) h
 
--- one access keeps the cut history true to memory
+-- ---- the cut history is lawful
+-- one access more keeps the cut history true to memory, by whether it is on cell k
 memory_by :
     (k : ℕ) (a : ClaimAccess) (h : List ClaimAccess) (q : Bool) → eqb a.cell k ≡ q
     → ReadsLast a.step.turn.act (object_history a.cell a.step.object h) → IsMemoryTrue (on_cell k h)
@@ -80,21 +83,21 @@ memory_cut : (k : ℕ) (h : List ClaimAccess) → IsMemoryTrue h → IsMemoryTru
 memory_cut k [] m = tt
 memory_cut k (a ∷ h) m = memory_by k a h (eqb a.cell k) refl m.0 (memory_cut k h m.1)
 
--- one access keeps the cut history within words of 64 bits
+-- one access more keeps the values and random words below 2 ^ 64, by whether it is kept
 words_by :
     (a : ClaimAccess) (xs : List ClaimAccess) (q : Bool) → IsInWords a.step.turn → AreInWords xs
     → AreInWords (cons_option (cond q (Some a) None) xs)
 words_by a xs true w older = (w, older)
 words_by a xs false w older = older
 
--- the cut history has words of 64 bits
+-- the cut history has values and random words below 2 ^ 64
 words_cut : (k : ℕ) (h : List ClaimAccess) → AreInWords h → AreInWords (on_cell k h)
 words_cut k [] w = tt
 words_cut k (a ∷ h) w = words_by a (on_cell k h) (eqb a.cell k) w.0 (words_cut k h w.1)
 
 module _ (cs : Claims) (h : List ClaimAccess) (k : ℕ)
     (lawful : IsClaimLawful cs h) where
-  -- each part of the cut history with a step keeps to its path
+  -- each part of the cut history with a step belongs to a claim
   part_cut :
       (c j : ℕ) → part_on c j (on_cell k h) ≢ [] → (j ≡ k) ⊎ (j ≡ k → ⊥)
       → IsClaimPart cs c j (part_on c j (on_cell k h))

@@ -1,4 +1,4 @@
--- What a claim is after its next access.
+-- A claim after its next access, at its beginning, and the object on which it stands.
 use Rattle.std.proofs.Common.{◌≡◌, ◌≢◌, ◌+◌, ◌<◌, ℕ, suc, true, false, cond, Option, Some, None, MatchOption}
 use Rattle.std.proofs.Common.{List, [], ◌∷◌, ◌++◌, length, refl, sym, ◌∙◌, ap, ap₂, subst, subst₂, slice_get}
 use Rattle.std.proofs.Common.{append-nil, append_assoc, arith}
@@ -12,7 +12,8 @@ use Rattle.mb_claim.specs.{turns_on, stage_for, IsClaimPrefixFrom, PassesAll, St
 use Rattle.mb_claim.proofs.Lists.{not_empty, get_behind, first_of, none_of, length-push}
 use Rattle.mb_claim.proofs.Standing.{longer_is, decided_here, undecided_here, stands_on}
 
--- one more object passed
+-- ---- where a consumer stands after one turn more
+-- after one more whole path without a decision, one object more is passed
 passes_more :
     (t : QuorumTable) (before : List Kind) (kind : Kind) (o v w u : ℕ) (front : List ObjectTurn) (turns : List Turn)
     → PassesAll t before o v front w → IsPath t kind w turns (answer false u)
@@ -44,7 +45,7 @@ passes_more t (k ∷ ks) kind o v w u front turns (i, rest, x, p) path =
 
 module _ (t : QuorumTable) (kinds : List Kind) (c object : ℕ) (pc : Pc) (xs : List ObjectTurn)
     (p : StandsAt t kinds c object pc xs) (x : Turn) where
-  -- the claim goes on with this object
+  -- the consumer stands on the same object, at the place to which its turn led
   pub same_object : (after : Pc) → PcIsAt t p.kind p.input after (x ∷ p.turns)
       → StandsAt t kinds c object after (record { object = object; turn = x } ∷ xs)
   same_object after at =
@@ -63,11 +64,11 @@ module _ (t : QuorumTable) (kinds : List Kind) (c object : ℕ) (pc : Pc) (xs : 
         place = at;
       }
 
-  -- the object that comes next
+  -- the kind with the next number is the first of those after the consumer's object
   next_kind : slice_get kinds (suc object) ≡ slice_get p.after 0
   next_kind = ap₂ (λ ks n. slice_get ks (suc n)) p.order p.number ∙ get_behind p.before p.kind p.after
 
-  -- the claim passes to it
+  -- the consumer's turn ended its path undecided, and it stands on the next object
   pub next_object :
       (u : ℕ) (kind : Kind) (after : Pc) → u < t.values → IsPath t p.kind p.input (x ∷ p.turns) (answer false u)
       → slice_get kinds (suc object) ≡ Some kind → PcIsAt t kind u after []
@@ -93,7 +94,7 @@ module _ (t : QuorumTable) (kinds : List Kind) (c object : ℕ) (pc : Pc) (xs : 
         place = at;
       }
 
-  -- the object was the last one and did not decide
+  -- the object was the last one and did not decide, so the part is undecided
   undecided_last :
       (u : ℕ) → IsPath t p.kind p.input (x ∷ p.turns) (answer false u) → slice_get kinds (suc object) ≡ None
       → IsClaimPrefixFrom t c kinds 0 c (record { object = object; turn = x } ∷ xs) Undecided
@@ -101,12 +102,12 @@ module _ (t : QuorumTable) (kinds : List Kind) (c object : ℕ) (pc : Pc) (xs : 
       undecided_here t kinds c object pc xs p x u path (none_of p.after (sym next_kind ∙ last))
 
 -- ---- a claim with an access: it goes on, or has ended
--- what is asked of the objects: a claim that stands at its place makes a part that goes on
+-- the turns of each consumer that stands at a place are a prefix of its path, and it is going
 abbrev pub PartsOf : QuorumTable → List Kind → Type 0
 PartsOf t kinds = (c object : ℕ) (pc : Pc) (xs : List ObjectTurn) → StandsAt t kinds c object pc xs
     → IsClaimPrefixFrom t c kinds 0 c xs Going
 
--- a claim with an access that stands at its place
+-- a claim with an access that is going is the claim of these turns, if its consumer stands at its place
 pub claim_going :
     (t : QuorumTable) (kinds : List Kind) (claim : Claim) (x : ObjectTurn) (xs : List ObjectTurn)
     → PartsOf t kinds → claim.consumer < t.values → claim.stage ≡ Going → claim.begun ≡ true
@@ -120,7 +121,7 @@ claim_going t kinds claim x xs parts known going begun stands =
       stands = λ g. stands;
     }
 
--- a claim with an access that has come to its end
+-- a claim with an access that has ended is the claim of these turns, if they are a prefix with its stage
 pub claim_ended :
     (t : QuorumTable) (kinds : List Kind) (claim : Claim) (x : ObjectTurn) (xs : List ObjectTurn)
     → claim.consumer < t.values → claim.stage ≢ Going → claim.begun ≡ true
@@ -134,16 +135,16 @@ claim_ended t kinds claim x xs known ended begun prefix =
           (ended g);
     }
 
--- the stage of a consumer whose own number was decided
+-- a consumer whose own number was decided has won
 pub stage_for-own : (c u : ℕ) → u ≡ c → stage_for c u ≡ Won
 stage_for-own c u e = ap (λ b. cond b Won (Lost u)) (eq-eqb c u (sym e))
 
--- the stage of a consumer, if another number was decided
+-- a consumer has lost to another number that was decided
 pub stage_for-other : (c u : ℕ) → u ≢ c → stage_for c u ≡ Lost u
 stage_for-other c u ne = ap (λ b. cond b Won (Lost u)) (ne_eqb c u (λ e. ne (sym e)))
 
 -- ---- a claim at its beginning, and after an object's end
--- a claim without an access stands on the first object
+-- a consumer without a turn stands on the first object
 pub stands_first :
     (t : QuorumTable) (kinds : List Kind) (kind : Kind) (c : ℕ) (pc : Pc) → slice_get kinds 0 ≡ Some kind → c < t.values
     → PcIsAt t kind c pc [] → StandsAt t kinds c 0 pc []
@@ -164,7 +165,8 @@ stands_first t kinds kind c pc first below at =
       place = at;
     }
 
--- a claim whose object was undecided, which has passed to the next one, if there is one
+-- a claim whose object did not decide is the claim of the turns, if it has passed to the next object or, if there is
+-- none, is undecided
 pub claim_passed :
     (t : QuorumTable) (kinds : List Kind) (claim : Claim) (c object : ℕ) (pc : Pc) (xs : List ObjectTurn)
     (p : StandsAt t kinds c object pc xs) (x : Turn) (u : ℕ)
@@ -182,6 +184,7 @@ claim_passed t kinds claim c object pc xs p x u parts own known begun below path
     (sym passed)
     (undecided_last t kinds c object pc xs p x u path (ap (slice_get kinds) n ∙ is)))
   where
+    -- an undecided claim is not going
     undecided_going : Undecided ≡ Going → ⊥
     undecided_going e = cc
 claim_passed t kinds claim c object pc xs p x u parts own known begun below path (Some kind) is passed =
@@ -192,7 +195,7 @@ claim_passed t kinds claim c object pc xs p x u parts own known begun below path
     (n ∙ sym passed.1)
     (next_object t kinds c object pc xs p x u kind claim.place below path (ap (slice_get kinds) n ∙ is) passed.2))
 
--- a claim whose object decided
+-- a claim whose object decided is the claim of the turns, if it has the stage for the value
 pub claim_decided :
     (t : QuorumTable) (kinds : List Kind) (claim : Claim) (object : ℕ) (pc : Pc) (xs : List ObjectTurn)
     (p : StandsAt t kinds claim.consumer object pc xs) (x : Turn) (u : ℕ)
@@ -206,7 +209,7 @@ claim_decided t kinds claim object pc xs p x u known begun ended is path =
     (decided_here t kinds claim.consumer object pc xs p x u path))
 
 -- ---- the object on which a claim stands, as calls ask for it
--- a process at a place is at one that fits the table
+-- a place to which turns led fits the table
 at_place : (t : QuorumTable) (kind : Kind) (v : ℕ) (pc : Pc) (turns : List Turn)
     → PcIsAt t kind v pc turns → IsPlace t pc
 at_place t Ratifier v (InRatifier place) turns at = at.0
@@ -219,7 +222,7 @@ at_place t LastObject v (InConciliator place) turns at = absurd at
 at_place t Ratifier v (InLast place) turns at = absurd at
 at_place t (Conciliator s) v (InLast place) turns at = absurd at
 
--- the claim of a consumer stands on one of the layout's objects
+-- a claim that is going stands on one of the layout's objects
 pub on_object :
     (layout : Layout) (claim : Claim) (xs : List ObjectTurn) → IsClaimOf (quorums_of layout) (kinds_of layout) claim xs
     → claim.stage ≡ Going
@@ -232,7 +235,7 @@ on_object layout claim xs of going =
       place = at_place (quorums_of layout) p.kind p.input claim.place p.turns p.place;
     }
 
--- that object is the one of the claim's next access
+-- the claim's next access is on the object on which its consumer stands
 pub stands_next :
     (layout : Layout) (claim : Claim) (next : ClaimOp) (xs : List ObjectTurn)
     → IsClaimOf (quorums_of layout) (kinds_of layout) claim xs → claim.stage ≡ Going

@@ -1,4 +1,4 @@
--- A claim is undecided only if each ratifier saw two values.
+-- A claim is undecided only if two different values were announced to each ratifier of its row.
 use Rattle.std.proofs.Common.{◌≡◌, ◌≢◌, ◌+◌, ℕ, zero, suc, false, Some, List, [], ◌∷◌, refl, sym, ◌∙◌, ap, subst, inl}
 use Rattle.std.proofs.Common.{slice_get, arith}
 use Rattle.std.proofs.lemmas.Option.{none-some, same_Some}
@@ -9,7 +9,7 @@ use Rattle.mb_claim.proofs.KindLaws.{OfKind, AreDeciding, AreRatifying}
 use Rattle.mb_claim.proofs.Turns.{has_turns}
 use Rattle.mb_claim.proofs.Family.{Family, step, acted, lawful_here, next, passed}
 
--- a process that has come to object n with input u, and has stored in a register of u's write quorum
+-- a process has come to object n with input u, which E says, and has stored in a register of u's write quorum
 pub record Shown (t : QuorumTable) (hs : ℕ → List Access) (E : ℕ → ℕ → ℕ → Type 0) (n u : ℕ) : Type 0 where
   pub process : ℕ
   pub register : ℕ
@@ -17,7 +17,7 @@ pub record Shown (t : QuorumTable) (hs : ℕ → List Access) (E : ℕ → ℕ �
   pub member : IsMember (t.write u) register
   pub stored : Has (acts (part process (hs n))) (Store (Quorum register) 1)
 
--- two processes that have shown two values
+-- two processes have come to object n with different inputs, and each has announced its input
 pub record Contest (t : QuorumTable) (hs : ℕ → List Access) (E : ℕ → ℕ → ℕ → Type 0) (n : ℕ) : Type 0 where
   pub first : ℕ
   pub second : ℕ
@@ -31,7 +31,7 @@ module _
     (fam : Family t (k ∷ ks) o hs P) (law : AreDeciding t) (ratifying : AreRatifying t)
     (E : ℕ → ℕ → ℕ → Type 0) (enter : (c n w : ℕ) → fam.rest c ≢ []
     → Enters t (k ∷ ks) o (fam.input c) (fam.rest c) n w → E c n w) where
-  -- a value that was announced was shown
+  -- a process that announced a value has come to the object with that value
   abbrev shown : (u : ℕ) → IsAnnounced (object_of t Ratifier fam.input) u (hs o) → Shown t hs E o u
   shown u a =
       record {
@@ -43,7 +43,7 @@ module _
         stored = a.4;
       }
 
-  -- an undecided output of a ratifier here shows two values
+  -- if a ratifier here has an undecided output, two processes have announced different values
   contest_here : k ≡ Ratifier → (c u : ℕ) → HasOutput (object_of t k fam.input) c false u (hs o) → Contest t hs E o
   contest_here e c u out =
       let found =
@@ -60,7 +60,7 @@ module _
         two = λ q. other.1 (sym other.2.2 ∙ ap fam.input (sym q) ∙ found.0.2);
       }
 
-  -- who comes to a later object has come here
+  -- who comes to a later object from the next one on has come there from this one on
   pub enter_next :
       (law' : OfKind t k) (c n w : ℕ) → (next t k ks o hs P fam law').rest c ≢ []
       → Enters t ks (suc o) ((next t k ks o hs P fam law').input c) ((next t k ks o hs P fam law').rest c) n w
@@ -68,7 +68,7 @@ module _
   enter_next law' c n w ne q =
       let came = (step t k ks o hs P fam c).came ne in enter c n w came.nonempty (came.enters n w q)
 
--- if a claim is undecided, each ratifier from object o on has seen two values
+-- if a claim is undecided, two different values were announced to each ratifier from object o on
 pub contention :
     (t : QuorumTable) (hs : ℕ → List Access) → AreDeciding t → AreRatifying t
     → (E : ℕ → ℕ → ℕ → Type 0) (ks : List Kind) (o : ℕ) (P : ℕ → Type 0) (fam : Family t ks o hs P)

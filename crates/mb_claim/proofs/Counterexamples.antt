@@ -19,13 +19,13 @@ use Rattle.mb_claim.proofs.PassedObjects.{forward_passes}
 use Rattle.mb_claim.proofs.LawfulExamples.{conciliated, ratified}
 
 -- ---- consumer 0 begins again on an object that it has left
--- the first three turns of `begun_again`, which are a whole path
+-- the oldest three turns of `begun_again`, which are a whole path
 abbrev first_turns : List Turn
 first_turns =
     record { act = Load Value 1; word = 0 } ∷ record { act = Store Value 1; word = 0 }
     ∷ record { act = Load Value 0; word = 0 } ∷ []
 
--- after a whole path of object 0 there would be a turn
+-- `begun_again` is not lawful: a turn on object 0 would come after a whole path there
 pub not_again : OfKind (unary_table 2) (Conciliator 2) → IsClaimLawful two_consumers begun_again → ⊥
 not_again law bad =
     let xs : List ObjectTurn = part_on 0 0 begun_again in
@@ -37,7 +37,7 @@ not_again law bad =
     (answer false 0) conciliated refl here)
 
 -- ---- consumer 0 goes on after it has won
--- if a part has passed its first object, its turns on the second are a prefix of a path there
+-- if a part has passed its first object, its turns on the second are none or a prefix of a path there
 second_here :
     (t : QuorumTable) (c : ℕ) (k j : Kind) (ks : List Kind) (o v : ℕ) (xs : List ObjectTurn) (s : Stage)
     → OfKind t k → v < t.values
@@ -51,7 +51,7 @@ second_here t c k j ks o v xs s law l p u later x none =
     subst₂ (λ w zs. Member t c (j ∷ ks) (suc o) w zs first.stage) same.0 same.1 first.member in
     (forward t c j ks (suc o) u later first.stage member).here
 
--- consumer 0 goes on after it has won: after a whole path of object 1 there would be a turn
+-- `after_winning` is not lawful: a turn on object 1 would come after a whole path there
 pub not_after_winning :
     OfKind (unary_table 2) (Conciliator 2) → OfKind (unary_table 2) Ratifier
     → IsClaimLawful two_consumers after_winning → ⊥
@@ -68,14 +68,14 @@ not_after_winning law ratifier bad =
     (turns_at 1 later) (answer true 0) ratified refl here)
 
 -- ---- consumer 1 comes to the second object with its own number
--- what a process with input 0 does up to its preference begins with its announcement
+-- the acts of a process with input 0 up to its preference begin with its announcement
 prefers_last :
     (u : ℕ) (begin : List Act) → Prefers (unary_table 2) 0 u begin
     → (front : List Act) × (begin ≡ front ++ Store (Quorum 0) 1 ∷ [])
 prefers_last u begin (inl p) = (Store Proposal 1 ∷ Load Proposal 0 ∷ [], p.1)
 prefers_last u begin (inr p) = (Load Proposal (u + 1) ∷ [], p)
 
--- what it does up to its end begins so, if its reads met no 1
+-- the acts of a process with input 0 up to its end begin with its announcement, if its reads met no 1
 clear_last :
     (u bound : ℕ) (made : List Act) → ReadsClear (unary_table 2) 0 u bound made
     → (front : List Act) × (made ≡ front ++ Store (Quorum 0) 1 ∷ [])
@@ -87,7 +87,7 @@ clear_last u bound made (begin, prefers, all) =
           ∙ sym (append_assoc zeros last.0 (Store (Quorum 0) 1 ∷ [])),
     )
 
--- what it does up to its end begins so, if its last read met a 1
+-- the acts of a process with input 0 up to its end begin with its announcement, if its last read met a 1
 one_last :
     (u : ℕ) (made : List Act) → ReadsOne (unary_table 2) 0 u made
     → (front : List Act) × (made ≡ front ++ Store (Quorum 0) 1 ∷ [])
@@ -95,23 +95,23 @@ one_last u [] p = absurd p
 one_last u (act ∷ older) (r, is, member, below, clear) =
     let last = clear_last u r older clear in (act ∷ last.0, ap (λ acts. act ∷ acts) last.1)
 
--- so each whole path of input 0 begins with that announcement
+-- each whole path of a ratifier with input 0 begins with the announcement of 0
 path_last :
     (made : List Act) (d : Bool) (u : ℕ) → IsRatifierPath (unary_table 2) 0 made d u
     → (front : List Act) × (made ≡ front ++ Store (Quorum 0) 1 ∷ [])
 path_last made true u p = clear_last u 2 made p
 path_last made false u p = one_last u made p
 
--- the register that an act stores in
+-- the register that an act stores in, or 0 if it stores in none
 abbrev register_of : Act → ℕ
 register_of (Store (Quorum r) value) = r
 register_of act = 0
 
--- the announcement of 1
+-- the turn that announces 1
 abbrev stored : Turn
 stored = record { act = Store (Quorum 1) 1; word = 0 }
 
--- no path of the ratifier with input 0 begins with it
+-- no path of the ratifier with input 0 begins with the announcement of 1
 no_path_behind : (turns : List Turn) (out : Out) → IsPath (unary_table 2) Ratifier 0 (turns ++ stored ∷ []) out → ⊥
 no_path_behind turns out path =
     let last = path_last (acts (turns ++ stored ∷ [])) out.decided out.value path in
@@ -120,7 +120,7 @@ no_path_behind turns out path =
     let same = same_from_push (acts turns) last.0 (Store (Quorum 1) 1) (Store (Quorum 0) 1) joined in
     let one : 1 ≡ 0 = ap register_of same.1 in absurd (omega (arith, one))
 
--- consumer 1 announces its own number in object 1, to which it came with 0
+-- `own_number_again` is not lawful: consumer 1 would announce its own number in object 1, to which it came with 0
 pub not_own_number :
     OfKind (unary_table 2) (Conciliator 2) → IsClaimLawful two_consumers own_number_again → ⊥
 not_own_number law bad =
@@ -133,6 +133,6 @@ not_own_number law bad =
     ⊎_elim (λ none. not_empty stored [] none) (λ begun. no_path_behind begun.0 begun.1 begun.2) here
 
 -- ---- a consumer comes that is none of the claims'
--- there are two consumers, and this is the third
+-- `of_a_stranger` is not lawful: there are two consumers, and its access is of a third
 pub no_stranger : IsClaimLawful two_consumers of_a_stranger → ⊥
 no_stranger bad = let two : 2 < 2 = (bad.parts 2 0 (λ none. not_empty _ _ none)).0 in omega (arith, two)

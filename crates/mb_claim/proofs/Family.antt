@@ -12,8 +12,7 @@ use Rattle.mb_claim.proofs.ObjectHistories.{turns_at}
 use Rattle.mb_claim.proofs.Parts.{Member, Forward, Ends, forward}
 
 -- The consumers of one cell, from object o on, with hs n as the history of object n. For each consumer: its input
--- to object o, what its part has from there on, and its stage. What holds of P holds of the inputs of all who have
--- come so far.
+-- to object o, what its part has from there on, and its stage. P holds of the inputs of all who have come so far.
 pub record Family (t : QuorumTable) (ks : List Kind) (o : ℕ) (hs : ℕ → List Access) (P : ℕ → Type 0) : Type 0 where
   pub input : ℕ → ℕ
   pub rest : ℕ → List ObjectTurn
@@ -24,7 +23,8 @@ pub record Family (t : QuorumTable) (ks : List Kind) (o : ℕ) (hs : ℕ → Lis
   pub memory : (n : ℕ) → IsObjectMemoryTrue (hs n)
   pub words : (n : ℕ) → AreObjectInWords (hs n)
 
--- the stage names the winner that was decided
+-- ---- which winner a stage names, if a value was decided
+-- if consumer c has won or has lost to a, by whether c is a, its stage names a
 names_decided : (c a u : ℕ) (b : Bool) → eqb c a ≡ b → StageNames c (cond b Won (Lost a)) u → u ≡ a
 names_decided c a u true e n = n ∙ eqb-true c a e
 names_decided c a u false e n = n
@@ -40,19 +40,20 @@ decided_undecided c a false e = cc
 
 module _ (t : QuorumTable) (k : Kind) (ks : List Kind) (o : ℕ) (hs : ℕ → List Access) (P : ℕ → Type 0)
     (fam : Family t (k ∷ ks) o hs P) where
+  -- ---- object o: its history, and the outputs there
   -- each consumer's part, taken one object further
   unfoldable pub step : (c : ℕ) → Forward t c k ks o (fam.input c) (fam.rest c) (fam.stage c)
   step c = forward t c k ks o (fam.input c) (fam.rest c) (fam.stage c) (fam.member c)
 
-  -- the turns of a consumer here
+  -- the turns of a consumer in the history of object o are those of its part
   pub here : (c : ℕ) → part c (hs o) ≡ turns_at o (fam.rest c)
   here c = fam.turns c o (omega arith)
 
-  -- who has a turn here has come so far
+  -- who has a turn on object o has come so far
   pub acted : (c : ℕ) → part c (hs o) ≢ [] → fam.rest c ≢ []
   acted c ne e = ne (here c ∙ ap (turns_at o) e)
 
-  -- its turns are a prefix of a path of its input
+  -- the turns of a consumer on object o are a prefix of a path of its input, which is a value of the table
   part_here :
       (c : ℕ) → part c (hs o) ≢ []
       → (turns_at o (fam.rest c) ≡ []) ⊎ IsPrefix t k (fam.input c) (turns_at o (fam.rest c))
@@ -64,13 +65,13 @@ module _ (t : QuorumTable) (k : Kind) (ks : List Kind) (o : ℕ) (hs : ℕ → L
   pub lawful_here : IsObjectLawful (object_of t k fam.input) (hs o)
   lawful_here = record { memory = fam.memory o; words = fam.words o; parts = λ c ne. part_here c ne (step c).here }
 
-  -- a whole path of a consumer here is its output
+  -- a consumer whose turns on object o are a whole path has that path's output
   pub output :
       (c : ℕ) (d : Bool) (u : ℕ) → IsPath t k (fam.input c) (turns_at o (fam.rest c)) (answer d u)
       → HasOutput (object_of t k fam.input) c d u (hs o)
   output c d u p = subst (λ ts. IsPath t k (fam.input c) ts (answer d u)) (sym (here c)) p
 
-  -- what holds of each input holds of each output
+  -- P holds of each output of object o, as it holds of each input
   pub output_holds :
       OfKind t k → (c : ℕ) (d : Bool) (u : ℕ) → HasOutput (object_of t k fam.input) c d u (hs o) → (u < t.values) × P u
   output_holds law c d u out =
@@ -78,7 +79,8 @@ module _ (t : QuorumTable) (k : Kind) (ks : List Kind) (o : ℕ) (hs : ℕ → L
       let at : (fam.input from.0 < t.values) × P (fam.input from.0) = fam.holds from.0 (acted from.0 from.1) in
       subst (λ n. (n < t.values) × P n) from.2 at
 
-  -- the consumers at the next object
+  -- ---- the family from the next object on
+  -- the consumers from the next object on, if Q holds of each undecided output of object o
   abbrev pub next_with :
       (Q : ℕ → Type 0) → ((c u : ℕ) → HasOutput (object_of t k fam.input) c false u (hs o) → (u < t.values) × Q u)
       → Family t ks (suc o) hs Q
@@ -94,24 +96,25 @@ module _ (t : QuorumTable) (k : Kind) (ks : List Kind) (o : ℕ) (hs : ℕ → L
         words = fam.words;
       }
 
-  -- the consumers at the next object, with what held of the inputs
+  -- the consumers from the next object on: what holds of the inputs to object o holds of those to the next
   abbrev pub next : OfKind t k → Family t ks (suc o) hs P
   next law = next_with P (λ c u out. output_holds law c false u out)
 
-  -- the consumers at the next object, if u was decided here
+  -- the consumers from the next object on, if u was decided on object o: each comes with u
   abbrev pub next_decided :
       OfKind t k → (c u : ℕ) → HasOutput (object_of t k fam.input) c true u (hs o) → Family t ks (suc o) hs (λ a. a ≡ u)
   next_decided law c u p =
       next_with (λ a. a ≡ u) (λ b a out.
       ((output_holds law b false a out).0, (law fam.input).coherence (hs o) lawful_here c b false u a p out))
 
-  -- a stage that names u: u was decided here, or after this object
+  -- ---- where a claim was decided, or not
+  -- u was decided for consumer c on object o, or after it
   abbrev pub Ended : ℕ → ℕ → Type 0
   Ended c u =
       HasOutput (object_of t k fam.input) c true u (hs o)
       ⊎ (HasOutput (object_of t k fam.input) c false (step c).value (hs o) × StageNames c (step c).stage u)
 
-  -- a stage that names u is one of these, by how the part ends
+  -- if the stage of consumer c names u, u was decided on object o or after it, by how c's part ends
   ended_by :
       (c u : ℕ) → StageNames c (fam.stage c) u
       → Ends t c k o (fam.input c) (fam.rest c) (fam.stage c) (step c).value (step c).stage → Ended c u
@@ -121,11 +124,11 @@ module _ (t : QuorumTable) (k : Kind) (ks : List Kind) (o : ℕ) (hs : ℕ → L
       (output c true a path))
   ended_by c u n (inr (inr x)) = inr (output c false (step c).value x.0, subst (λ r. StageNames c r u) (sym x.1) n)
 
-  -- each stage that names a winner is one of these
+  -- if the stage of consumer c names u, u was decided on object o or after it
   pub ended : (c u : ℕ) → StageNames c (fam.stage c) u → Ended c u
   ended c u n = ended_by c u n (step c).ends
 
-  -- an undecided claim has passed this object undecided, by how the part ends
+  -- an undecided claim has passed object o undecided, by how its part ends
   passed_by :
       (c : ℕ) → fam.stage c ≡ Undecided
       → Ends t c k o (fam.input c) (fam.rest c) (fam.stage c) (step c).value (step c).stage
@@ -134,7 +137,7 @@ module _ (t : QuorumTable) (k : Kind) (ks : List Kind) (o : ℕ) (hs : ℕ → L
   passed_by c e (inr (inl (a, path, g))) = absurd (decided_undecided c a (eqb c a) (sym e ∙ g))
   passed_by c e (inr (inr x)) = (output c false (step c).value x.0, x.1 ∙ e)
 
-  -- an undecided claim has passed this object undecided
+  -- an undecided claim has passed object o undecided
   pub passed :
       (c : ℕ) → fam.stage c ≡ Undecided
       → HasOutput (object_of t k fam.input) c false (step c).value (hs o) × ((step c).stage ≡ Undecided)

@@ -16,6 +16,7 @@ use Rattle.mb_claim.proofs.OlderHistories.{older_history_lawful}
 use Rattle.mb_claim.proofs.Family.{Family, step, acted, output, lawful_here, next, next_decided}
 use Rattle.mb_claim.proofs.CellFamily.{competes, family}
 
+-- ---- the first ratifier has decided for some consumer
 module _ (t : QuorumTable) (ks : List Kind) (hs : ℕ → List Access) (law : AreDeciding t) (ratifying : AreRatifying t)
     (P : ℕ → Type 0) (fam : Family t (Ratifier ∷ Ratifier ∷ ks) 0 hs P) (c u : ℕ)
     (p : IsPath t Ratifier (fam.input c) (part c (hs 0)) (answer true u)) where
@@ -23,11 +24,11 @@ module _ (t : QuorumTable) (ks : List Kind) (hs : ℕ → List Access) (law : Ar
   abbrev second : Family t (Ratifier ∷ ks) 1 hs (λ a. a ≡ u)
   second = next_decided t Ratifier (Ratifier ∷ ks) 0 hs P fam (law Ratifier) c u p
 
-  -- those who would come after the second ratifier
+  -- the consumers who would come after the second ratifier
   abbrev third : Family t ks 2 hs (λ a. a ≡ u)
   third = next t Ratifier ks 1 hs (λ a. a ≡ u) second (law Ratifier)
 
-  -- nobody comes after it: the second ratifier decides
+  -- nobody comes after the second ratifier, which decides for all who come to it with u
   nobody : (d : ℕ) → third.rest d ≢ [] → ⊥
   nobody d ne =
       let f = step t Ratifier ks 1 hs (λ a. a ≡ u) second d in
@@ -37,7 +38,7 @@ module _ (t : QuorumTable) (ks : List Kind) (hs : ℕ → List Access) (law : Ar
       ((ratifying second.input).acceptance (hs 1) (lawful_here t Ratifier ks 1 hs (λ a. a ≡ u) second) u
       (λ q m. (second.holds q (acted t Ratifier ks 1 hs (λ a. a ≡ u) second q m)).1) d false f.value out).0)
 
-  -- so no later object has a turn
+  -- no object after the second ratifier has a turn
   pub none_behind : (d o : ℕ) → 2 ≤ o → part d (hs o) ≡ []
   none_behind d o l =
       third.turns d o l ∙ ap (turns_at o) (⊎_elim (λ e. e) (λ ne. absurd (nobody d ne)) (nil_or (third.rest d)))
@@ -57,7 +58,7 @@ fast_path_lem t law ratifying ks cells h k c u lawful p =
 -- ---- a consumer that ended its claim before any other came
 module _ (t : QuorumTable) (law : AreDeciding t) (ratifying : AreRatifying t) (ks : List Kind) (cells : ℕ)
     (k c : ℕ) where
-  -- a layout that begins with two ratifiers
+  -- a row that begins with two ratifiers
   abbrev kinds : List Kind
   kinds = Ratifier ∷ Ratifier ∷ ks
 
@@ -80,7 +81,7 @@ module _ (t : QuorumTable) (law : AreDeciding t) (ratifying : AreRatifying t) (k
       (some (part-object_history q k 0 h ∙ ap (turns_at 0) (alone q ne)))) (cases_eq q c) in
       true≢false (sym ((ratifying (λ q. q)).acceptance (hs 0) here c mine c false u path).0)
 
-  -- so it has decided
+  -- if only consumer c has come and has ended its claim, the first ratifier has decided for it
   decided_by :
       (h : List ClaimAccess) → IsClaimLawful (claims_of t kinds cells) h → ((d : ℕ) → d ≢ c → part_on d k h ≡ [])
       → (s : Stage)
@@ -96,7 +97,7 @@ module _ (t : QuorumTable) (law : AreDeciding t) (ratifying : AreRatifying t) (k
       (subst P (passed_turns t c Ratifier (Ratifier ∷ ks) 0 c (part_on c k h) s u rest x p
       ∙ sym (part-object_history c k 0 h)) x.path))
 
-  -- later accesses leave its turns on the first object as they are
+  -- later accesses leave consumer c's turns on the first object as they are, if these are a whole path
   firsts_stay :
       (later h : List ClaimAccess) → IsClaimLawful (claims_of t kinds cells) (later ++ h) → (u : ℕ)
       → IsPath t Ratifier c (firsts h) (answer true u)

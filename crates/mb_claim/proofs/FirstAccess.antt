@@ -11,12 +11,13 @@ use Rattle.mb_claim.proofs.KindLaws.{AreDeciding}
 use Rattle.mb_claim.proofs.Lists.{not_empty, append_nil_parts, append_nil_rest, heads}
 use Rattle.mb_claim.proofs.Unique.{open_closed, one_stage_lem}
 
+-- ---- the first object of a row, and the place there
 -- no turns on an object are no turns
 no_turns_on : (o : ℕ) (turns : List Turn) → turns_on o turns ≡ [] → turns ≡ []
 no_turns_on o [] none = refl
 no_turns_on o (x ∷ turns) none = absurd (not_empty _ _ none)
 
--- a row that begins with pairs has a first object, a conciliator
+-- a row that begins with one pair or more begins with a conciliator
 first_object : (s n : ℕ) (ys : List Kind) → 1 ≤ n → (rest : List Kind) × (pairs_of s n ++ ys ≡ Conciliator s ∷ rest)
 first_object s zero ys some = absurd (omega (arith, some))
 first_object s (suc n) ys some = (Ratifier ∷ (pairs_of s n ++ ys), refl)
@@ -27,7 +28,7 @@ first_kind : (b : Bool) (kind : Kind) (rest ys : List Kind) → ys ≡ kind ∷ 
 first_kind true kind rest ys is = (Ratifier, Ratifier ∷ ys, refl)
 first_kind false kind rest ys is = (kind, rest, is)
 
--- what the place of a process in a conciliator without turns does next, and what it may find
+-- a process without turns in a conciliator loads the conciliator's word next, and finds at most the number of values
 first_load :
     (t : QuorumTable) (s v : ℕ) (pc : Pc) (op : Op) → PcIsAt t (Conciliator s) v pc [] → IsOpAt t pc op
     → (op ≡ to.Load Value) × ((seen : ℕ) → CanFind t pc op seen → seen ≤ t.values)
@@ -38,6 +39,7 @@ first_load t s v (InConciliator (Draw input limit modulus)) op at is =
 first_load t s v (InConciliator (Put input)) op at is = absurd at.1.1.2
 first_load t s v (InConciliator (Look input)) op at is = absurd at.1.1.2
 
+-- ---- a consumer without turns
 module _ (t : QuorumTable) (law : AreDeciding t) (c : ℕ) (known : c < t.values) where
   -- without turns no object is passed
   none_passed : (before : List Kind) (front : List ObjectTurn) (w : ℕ) → front ≡ [] → PassesAll t before 0 c front w
@@ -49,7 +51,7 @@ module _ (t : QuorumTable) (law : AreDeciding t) (c : ℕ) (known : c < t.values
       absurd (open_closed t kind (law kind) c [] x.turns (answer false u) (sym empty) ((law kind
       (λ p. p)).opens c known) x.path)
 
-  -- so a claim stands on its first object, where it loads the conciliator's word
+  -- in a row that begins with a conciliator a consumer without turns stands on object 0, and loads that word next
   stands_first :
       (s object : ℕ) (rest : List Kind) (pc : Pc) (op : Op) → StandsAt t (Conciliator s ∷ rest) c object pc []
       → IsOpAt t pc op
@@ -67,7 +69,7 @@ module _ (t : QuorumTable) (law : AreDeciding t) (c : ℕ) (known : c < t.values
       let load = first_load t s at.input pc op place is in
       (at.number ∙ ap length before, load.0, load.1)
 
-  -- whatever its first object is, it stands there
+  -- a consumer without turns stands on object 0, whatever its kind is
   stands_at_first :
       (kinds : List Kind) (object : ℕ) (pc : Pc) → StandsAt t kinds c object pc [] → object ≡ 0
   stands_at_first kinds object pc at =
@@ -79,21 +81,22 @@ not_true : (b : Bool) → (b ≡ true → ⊥) → b ≡ false
 not_true true never = absurd (never refl)
 not_true false never = refl
 
+-- ---- a claim of a layout without accesses
 module _ (layout : Layout) (law : AreDeciding (quorums_of layout)) (claim : Claim)
     (of : IsClaimOf (quorums_of layout) (kinds_of layout) claim []) where
   -- the layout's pairs and what comes after them
   abbrev behind_fast : List Kind
   behind_fast = pairs_of (spread (quorums_of layout).values) layout.pairs ++ last_row layout.shape.last
 
-  -- the first of these
+  -- the first of these objects is a conciliator
   abbrev first : (rest : List Kind) × (behind_fast ≡ Conciliator (spread (quorums_of layout).values) ∷ rest)
   first = first_object (spread (quorums_of layout).values) layout.pairs (last_row layout.shape.last) layout.some
 
-  -- the layout's first object, and those after it
+  -- the layout has a first object
   abbrev any_first : (kind : Kind) × (rest : List Kind) × (kinds_of layout ≡ kind ∷ rest)
   any_first = first_kind layout.shape.fast (Conciliator (spread (quorums_of layout).values)) first.0 behind_fast first.1
 
-  -- the claim goes on
+  -- the claim is going
   pub fresh_going : claim.stage ≡ Going
   fresh_going =
       one_stage_lem (quorums_of layout) law claim.consumer
@@ -110,7 +113,7 @@ module _ (layout : Layout) (law : AreDeciding (quorums_of layout)) (claim : Clai
   pub fresh_begun : claim.begun ≡ false
   fresh_begun = not_true claim.begun (λ e. of.begun.0 e refl)
 
-  -- it stands on the first object
+  -- the claim stands on the first object
   pub fresh_object : claim.object ≡ 0
   fresh_object =
       stands_at_first (quorums_of layout) law claim.consumer of.known (kinds_of layout) claim.object claim.place

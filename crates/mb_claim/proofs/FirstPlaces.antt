@@ -1,4 +1,4 @@
--- What it means that a list has no first place at which a test holds.
+-- Two facts: a number that fails a test is below the bound, and a place that is not given is not below the length.
 use Rattle.std.proofs.Common.{◌≡◌, ℕ, ◌<◌, ◌≤◌, Bool, true, false, nat_lt, nat_le, cond, Some, None, refl, arith}
 use Rattle.std.proofs.lemmas.Bool.Decides.{nat_tests}
 
@@ -10,6 +10,7 @@ below_by_test bound n e = grind (arith, nat_tests)
 pub none_inside : (at all : ℕ) → None ≡ cond (nat_lt at all) (Some at) None → all ≤ at
 none_inside at all e = by_test (nat_lt at all) refl e
   where
+    -- the place is not below the length, by what the test says
     by_test : (b : Bool) → nat_lt at all ≡ b → None ≡ cond b (Some at) None → all ≤ at
     by_test true is none = cc
     by_test false is none = grind (arith, nat_tests)

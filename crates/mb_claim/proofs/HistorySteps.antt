@@ -1,4 +1,4 @@
--- One more access.
+-- What one more access adds to a history of claims.
 use Rattle.std.proofs.Common.{◌≡◌, ◌≢◌, ◌⊎◌, ℕ, Bool, true, false, cond, eqb, Some, None, List, [], ◌∷◌, refl, sym, ◌∙◌}
 use Rattle.std.proofs.Common.{ap₂, subst, subst₂, inl, inr, ⊎_elim}
 use Rattle.std.specs.List.{cons_option}
@@ -7,7 +7,7 @@ use Rattle.mb_deciding.specs.Vocabulary.{value_in, value_after}
 use Rattle.mb_claim.specs.{Claims, Reg, Access, ObjectTurn, ClaimAccess, part_on, object_history}
 use Rattle.mb_claim.specs.{IsClaimPart, IsClaimLawful, MayFollow, Adds}
 
--- the step is added to the part of its consumer and cell
+-- an access adds its step to the part of its consumer on its cell
 pub own_part : (a : ClaimAccess) (h : List ClaimAccess) → part_on a.consumer a.cell
     (a ∷ h) ≡ a.step ∷ part_on a.consumer a.cell h
 own_part a h =
@@ -22,7 +22,7 @@ other_by true true x xs ne = absurd (ne refl refl)
 other_by true false x xs ne = refl
 other_by false q x xs ne = refl
 
--- every other part stays
+-- an access leaves every part but its own as it is
 pub other_part :
     (c k : ℕ) (a : ClaimAccess) (h : List ClaimAccess) → (a.consumer ≡ c → a.cell ≡ k → ⊥)
     → part_on c k (a ∷ h) ≡ part_on c k h
@@ -30,7 +30,7 @@ other_part c k a h ne =
     other_by (eqb a.consumer c) (eqb a.cell k) a.step (part_on c k h)
     (λ p q. ne (eqb-true a.consumer c p) (eqb-true a.cell k q))
 
--- what is left in a word changes as the access says
+-- what is left in a word changes as the access says, by whether it is on the word's object
 left_by :
     (q r : Bool) (x : Access) (reg : Reg) (xs : List Access)
     → value_in reg (cons_option (cond q (cond r (Some x) None) None) xs) ≡ cond q
@@ -47,7 +47,7 @@ module _ (cs : Claims) (h : List ClaimAccess) (a : ClaimAccess)
       ⊎_elim (λ p. ⊎_elim (λ q. inl (p, q)) (λ q. inr (λ x y. q y)) (cases_eq a.cell k)) (λ p. inr (λ x y. p x))
       (cases_eq a.consumer c)
 
-  -- each part with a step keeps to its path
+  -- each part of the longer history with a step belongs to a claim
   part_kept :
       (c k : ℕ) → part_on c k (a ∷ h) ≢ [] → ((a.consumer ≡ c) × (a.cell ≡ k)) ⊎ (a.consumer ≡ c → a.cell ≡ k → ⊥)
       → IsClaimPart cs c k (part_on c k (a ∷ h))
@@ -57,7 +57,7 @@ module _ (cs : Claims) (h : List ClaimAccess) (a : ClaimAccess)
   part_kept c k some (inr ne) =
       let same = other_part c k a h ne in subst (IsClaimPart cs c k) (sym same) (law.parts c k (λ e. some (same ∙ e)))
 
-  -- what the access adds
+  -- an access that may follow adds one step to one part, and changes at most one word
   pub adds : Adds cs a h
   adds =
       record {

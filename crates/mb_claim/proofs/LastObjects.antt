@@ -5,12 +5,13 @@ use Rattle.mb_quorum.specs.Vocabulary.{QuorumTable}
 use Rattle.mb_claim.specs.{Kind, Conciliator, Ratifier, LastObject, ObjectTurn, Going, Won, Lost, Undecided, pairs_of}
 use Rattle.mb_claim.specs.{fast_row, last_row, row_of, Shape, IsClaimPrefixFrom}
 
+-- ---- a row that ends with a last object
 -- a decided stage is not undecided
 decided_not : (c u : ℕ) (b : Bool) → Undecided ≡ cond b Won (Lost u) → ⊥
 decided_not c u true e = cc
 decided_not c u false e = cc
 
--- no prefix of a path through such a row is undecided
+-- no prefix of a path through a row that ends with a last object is undecided
 pub never_undecided :
     (t : QuorumTable) (c : ℕ) (front : List Kind) (o v : ℕ) (xs : List ObjectTurn)
     → IsClaimPrefixFrom t c (front ++ LastObject ∷ []) o v xs Undecided → ⊥
@@ -23,7 +24,7 @@ never_undecided t c (kind ∷ front) o v xs (inr (inl decides)) =
 never_undecided t c (kind ∷ front) o v xs (inr (inr (u, later, passes, rest))) =
     never_undecided t c front (suc o) u later rest
 
--- a row with a last object ends with it
+-- the row of a shape with a last object ends with that object
 pub ends_with_last :
     (shape : Shape) (s n : ℕ) → shape.last ≡ true
     → row_of shape s n ≡ (fast_row shape.fast ++ pairs_of s n) ++ LastObject ∷ []
@@ -31,13 +32,14 @@ ends_with_last shape s n has =
     ap (λ b. fast_row shape.fast ++ (pairs_of s n ++ last_row b)) has
     ∙ sym (append_assoc (fast_row shape.fast) (pairs_of s n) (LastObject ∷ []))
 
+-- ---- a row with a fast path
 -- a row with a fast path begins with two ratifiers
 pub begins_fast :
     (shape : Shape) (s n : ℕ) → shape.fast ≡ true
     → row_of shape s n ≡ Ratifier ∷ Ratifier ∷ (pairs_of s n ++ last_row shape.last)
 begins_fast shape s n has = ap (λ b. fast_row b ++ (pairs_of s n ++ last_row shape.last)) has
 
--- so in a row with a fast path each conciliator comes after its two ratifiers
+-- in a row that begins with two ratifiers each conciliator comes after these
 pub conciliator_behind :
     (ks : List Kind) (o s : ℕ) → slice_get (Ratifier ∷ Ratifier ∷ ks) o ≡ Some (Conciliator s) → 2 ≤ o
 conciliator_behind ks zero s e = absurd (cc)

@@ -11,12 +11,12 @@ use Rattle.mb_claim.specs.{IsClaimLawful, pairs_of, two_consumers, won_and_lost,
 use Rattle.mb_claim.proofs.ObjectHistories.{turns_at}
 
 -- ---- what holds of each access holds of each part
--- what holds of the consumer and the cell of each access
+-- P holds of the consumer and the cell of each access
 abbrev pub AreAll : (ℕ → ℕ → Type 0) → List ClaimAccess → Type 0
 AreAll P [] = Unit {0}
 AreAll P (a ∷ h) = P a.consumer a.cell × AreAll P h
 
--- one access more: the part is its own, or one that was there
+-- P holds of a part with one access more, by whether the access is of that part
 known_by :
     (P : ℕ → ℕ → Type 0) (c k : ℕ) (a : ClaimAccess) (xs : List ObjectTurn) (p q : Bool) → eqb a.consumer c ≡ p
     → eqb a.cell k ≡ q
@@ -25,18 +25,18 @@ known_by P c k a xs true true e f this older some = subst₂ P (eqb-true a.consu
 known_by P c k a xs true false e f this older some = older some
 known_by P c k a xs false q e f this older some = older some
 
--- what holds of each access holds of each consumer and cell with a part
+-- if P holds of each access, it holds of each consumer and cell with a part that is not empty
 pub known : (P : ℕ → ℕ → Type 0) (c k : ℕ) (h : List ClaimAccess) → AreAll P h → part_on c k h ≢ [] → P c k
 known P c k [] all some = absurd (some refl)
 known P c k (a ∷ h) all some =
     known_by P c k a (part_on c k h) (eqb a.consumer c) (eqb a.cell k) refl refl all.0 (known P c k h all.1) some
 
 -- ---- consumer 0 wins, and consumer 1 loses
--- consumer 0 on the conciliator: it stored its own number
+-- consumer 0 has stored its own number in the conciliator, and leaves it with that
 pub conciliated : IsPath (unary_table 2) (Conciliator 2) 0 (turns_at 0 (part_on 0 0 won_and_lost)) (answer false 0)
 conciliated = (refl, (refl, (0, (omega arith), inr (refl, (refl, (omega arith), tt)))))
 
--- consumer 0 on the ratifier: it met no 1
+-- consumer 0 has met no 1 in the ratifier, so its own number is decided
 pub ratified : IsPath (unary_table 2) Ratifier 0 (turns_at 1 (part_on 0 0 won_and_lost)) (answer true 0)
 ratified = (Store Proposal 1 ∷ Load Proposal 0 ∷ Store (Quorum 0) 1 ∷ [], inl (refl, refl), refl)
 
@@ -57,7 +57,7 @@ won =
           })),
     ))
 
--- consumer 1 has lost to it
+-- consumer 1 has lost to consumer 0
 pub lost : IsClaimPrefixFrom (unary_table 2) 1 (pairs_of 2 1) 0 1 (part_on 1 0 won_and_lost) (Lost 0)
 lost =
     inr (inr (
@@ -79,31 +79,31 @@ lost =
           })),
     ))
 
--- what consumer c did on cell k in such a history belongs to its claim
+-- what consumer c did on cell k in this history belongs to its claim
 abbrev IsMine : List ClaimAccess → ℕ → ℕ → Type 0
 IsMine h c k = IsClaimPart two_consumers c k (part_on c k h)
 
--- it holds of consumer 0
+-- what consumer 0 did on cell 0 belongs to its claim
 first : IsMine won_and_lost 0 0
 first = ((omega arith), (omega arith), (Won, won))
 
--- and of consumer 1
+-- what consumer 1 did on cell 0 belongs to its claim
 second : IsMine won_and_lost 1 0
 second = ((omega arith), (omega arith), (Lost 0, lost))
 
--- 0 is a word
+-- a turn that loads 0 is within words
 pub zero_word : IsInWords (record { act = Load Value 0; word = 0 })
 zero_word = ((omega arith, tt), (omega arith))
 
--- and so is 1
+-- a turn that loads 1 is within words
 pub one_word : IsInWords (record { act = Load Value 1; word = 0 })
 one_word = ((omega arith, tt), (omega arith))
 
--- and it is stored as one
+-- a turn that stores 1 is within words
 pub one_put : IsInWords (record { act = Store Value 1; word = 0 })
 one_put = ((tt, omega arith), (omega arith))
 
--- that history is lawful
+-- the history in which consumer 0 wins and consumer 1 loses is lawful
 pub lawful : IsClaimLawful two_consumers won_and_lost
 lawful =
     record {
@@ -141,7 +141,7 @@ lawful =
     }
 
 -- ---- both are undecided
--- consumer 0 leaves each object undecided with its own number
+-- consumer 0 leaves each object undecided with its own number, so it is undecided
 pub first_undecided : IsClaimPrefixFrom (unary_table 2) 0 (pairs_of 2 1) 0 0 (part_on 0 0 both_undecided) Undecided
 first_undecided =
     let xs : List ObjectTurn = part_on 0 0 both_undecided in
@@ -172,7 +172,7 @@ first_undecided =
       )),
     ))
 
--- and so does consumer 1
+-- consumer 1 leaves each object undecided with its own number, so it is undecided
 pub second_undecided : IsClaimPrefixFrom (unary_table 2) 1 (pairs_of 2 1) 0 1 (part_on 1 0 both_undecided) Undecided
 second_undecided =
     let xs : List ObjectTurn = part_on 1 0 both_undecided in
@@ -203,23 +203,23 @@ second_undecided =
       )),
     ))
 
--- it holds of consumer 0
+-- what consumer 0 did on cell 0 belongs to its claim, if both are undecided
 zero_here : IsMine both_undecided 0 0
 zero_here = ((omega arith), (omega arith), (Undecided, first_undecided))
 
--- and of consumer 1
+-- what consumer 1 did on cell 0 belongs to its claim, if both are undecided
 one_here : IsMine both_undecided 1 0
 one_here = ((omega arith), (omega arith), (Undecided, second_undecided))
 
--- 2 is a word
+-- a turn that loads 2 is within words
 pub two_word : IsInWords (record { act = Load Value 2; word = 0 })
 two_word = ((omega arith, tt), (omega arith))
 
--- and is stored as one
+-- a turn that stores 2 is within words
 pub two_put : IsInWords (record { act = Store Value 2; word = 0 })
 two_put = ((tt, omega arith), (omega arith))
 
--- that history is lawful, too
+-- the history in which both are undecided is lawful
 pub undecided_lawful : IsClaimLawful two_consumers both_undecided
 undecided_lawful =
     record {

@@ -1,4 +1,5 @@
--- The objects of a layout: how many there are, of which kinds, and that their numbers and words are few.
+-- The objects of a layout: how many there are, and of which kinds. Their numbers and words are few. Also what is left
+-- of a row, and a row that is copied object by object.
 use Rattle.std.proofs.Common.{◌≡◌, ◌<◌, ◌≤◌, ◌+◌, ◌*◌, ℕ, zero, suc, Bool, true, false, Some, List, [], ◌∷◌, ◌++◌, drop, length, slice_get, set}
 use Rattle.std.proofs.Common.{refl, ◌∙◌, sym, ap, subst, get_or, append-nil, length-append, arith}
 use Rattle.std.proofs.lemmas.Option.{none-some, same_Some, slice_get-get_or, get_or_from_slice_get}
@@ -15,12 +16,13 @@ use Rattle.mb_claim.specs.{consumer_count, cell_words}
 use Rattle.mb_claim.specs.declared.layout.TheConstants.{MAX_OBJECTS, MAX_PAIRS}
 use Rattle.mb_claim.proofs.Addresses.{row_words-few}
 
--- two objects for each pair
+-- ---- the objects of a row of pairs
+-- a row of n pairs has 2 n objects
 pub length-pairs_of : (s n : ℕ) → length (pairs_of s n) ≡ 2 * n
 length-pairs_of s zero = omega arith
 length-pairs_of s (suc n) = let h = length-pairs_of s n in omega arith
 
--- the first object of a pair
+-- the first object of a pair is a conciliator
 pub first_of_pair : (s n i o : ℕ) → o ≡ 2 * i → i < n → slice_get (pairs_of s n) o ≡ Some (Conciliator s)
 first_of_pair s zero i o e h = absurd (omega arith)
 first_of_pair s (suc n) i zero e h = refl
@@ -28,7 +30,7 @@ first_of_pair s (suc n) i (suc zero) e h = absurd (omega arith)
 first_of_pair s (suc n) zero (suc (suc o)) e h = absurd (omega arith)
 first_of_pair s (suc n) (suc i) (suc (suc o)) e h = first_of_pair s n i o (omega arith) (omega arith)
 
--- the second object of a pair
+-- the second object of a pair is a ratifier
 pub second_of_pair : (s n i o : ℕ) → o ≡ 2 * i + 1 → i < n → slice_get (pairs_of s n) o ≡ Some Ratifier
 second_of_pair s zero i o e h = absurd (omega arith)
 second_of_pair s (suc n) i zero e h = absurd (omega arith)
@@ -37,19 +39,19 @@ second_of_pair s (suc n) zero (suc (suc o)) e h = absurd (omega arith)
 second_of_pair s (suc n) (suc i) (suc (suc o)) e h = second_of_pair s n i o (omega arith) (omega arith)
 
 -- ---- the objects of a row
--- an element of the first of two lists joined
+-- of two lists joined, the first elements are those of the first list
 get_ahead : (xs ys : List Kind) (o : ℕ) → o < length xs → slice_get (xs ++ ys) o ≡ slice_get xs o
 get_ahead [] ys o h = absurd (omega (arith, h))
 get_ahead (x ∷ xs) ys zero h = refl
 get_ahead (x ∷ xs) ys (suc o) h = get_ahead xs ys o (omega (arith, h))
 
--- an element of the second of two lists joined
+-- of two lists joined, the elements after the first list are those of the second
 get_behind : (xs ys : List Kind) (n o : ℕ) → n ≡ length xs + o → slice_get (xs ++ ys) n ≡ slice_get ys o
 get_behind [] ys n o e = let same : n ≡ o = omega (arith, e) in ap (slice_get ys) same
 get_behind (x ∷ xs) ys zero o e = absurd (omega (arith, e))
 get_behind (x ∷ xs) ys (suc n) o e = get_behind xs ys n o (omega (arith, e))
 
--- a fast path has two objects at most, and after the pairs there is one at most
+-- a fast path has two objects at most
 fast_few : (b : Bool) → length (fast_row b) ≤ 2
 fast_few true = omega arith
 fast_few false = omega arith
@@ -59,7 +61,7 @@ pub last_few : (b : Bool) → length (last_row b) ≤ 1
 last_few true = omega arith
 last_few false = omega arith
 
--- how many objects a row has
+-- a row has the objects of its fast path, of its pairs, and the last one
 pub length-row_of :
     (shape : Shape) (s n : ℕ)
     → length (row_of shape s n) ≡ length (fast_row shape.fast) + 2 * n + length (last_row shape.last)
@@ -71,11 +73,11 @@ length-row_of shape s n =
       length-pairs_of s n,
     )
 
--- a row of pairs alone
+-- a row of pairs with nothing after them is the row of these pairs
 pub row_plain : (s n : ℕ) → pairs_of s n ++ [] ≡ pairs_of s n
 row_plain s n = append-nil (pairs_of s n)
 
--- an object of the fast path
+-- an object of the fast path is a ratifier, whatever follows
 fast_kind : (b : Bool) (ys : List Kind) (o : ℕ) → o < length (fast_row b)
     → slice_get (fast_row b ++ ys) o ≡ Some Ratifier
 fast_kind true ys zero h = refl
@@ -83,12 +85,12 @@ fast_kind true ys (suc zero) h = refl
 fast_kind true ys (suc (suc o)) h = absurd (omega (arith, h))
 fast_kind false ys o h = absurd (omega (arith, h))
 
--- an object of a row's fast path
+-- an object of a row's fast path is a ratifier
 pub in_fast :
     (shape : Shape) (s n o : ℕ) → o < length (fast_row shape.fast) → slice_get (row_of shape s n) o ≡ Some Ratifier
 in_fast shape s n o h = fast_kind shape.fast (pairs_of s n ++ last_row shape.last) o h
 
--- an object of a pair
+-- an object of a pair is the same in the row as among the pairs alone
 pub in_pairs :
     (shape : Shape) (s n o place : ℕ) → o ≡ length (fast_row shape.fast) + place → place < 2 * n
     → slice_get (row_of shape s n) o ≡ slice_get (pairs_of s n) place
@@ -96,12 +98,12 @@ in_pairs shape s n o place e h =
     get_behind (fast_row shape.fast) (pairs_of s n ++ last_row shape.last) o place e
     ∙ get_ahead (pairs_of s n) (last_row shape.last) place (omega (arith, length-pairs_of s n, h))
 
--- the last object
+-- the only object after the pairs is a last object
 last_kind : (b : Bool) → 0 < length (last_row b) → slice_get (last_row b) 0 ≡ Some LastObject
 last_kind true h = refl
 last_kind false h = absurd (omega (arith, h))
 
--- the last object of a row
+-- the object of a row after its pairs is a last object
 pub at_last :
     (shape : Shape) (s n o : ℕ) → o ≡ length (fast_row shape.fast) + 2 * n → o < length (row_of shape s n)
     → slice_get (row_of shape s n) o ≡ Some LastObject
@@ -111,7 +113,7 @@ at_last shape s n o e h =
     ∙ last_kind shape.last (omega (arith, length-row_of shape s n, e, h))
 
 -- ---- what is small enough in a layout
--- the quorum table of a layout is one
+-- the quorum table of a layout keeps the law of quorum tables
 pub quorums_lawful : (layout : Layout) → IsQuorumTable (quorums_of layout)
 quorums_lawful layout = chosen_lawful layout.table
 
@@ -119,14 +121,14 @@ quorums_lawful layout = chosen_lawful layout.table
 pub consumers_within : (layout : Layout) → (1 ≤ consumer_count layout) × (consumer_count layout ≤ MAX_VALUES)
 consumers_within layout = chosen_within layout.table
 
--- the kinds of a row of pairs fit
+-- the kinds of a row of pairs fit, if s is at most 63
 pub fit_in_pairs : (s n o : ℕ) (kind : Kind) → s ≤ 63 → slice_get (pairs_of s n) o ≡ Some kind → IsFitKind kind
 fit_in_pairs s zero o kind h e = absurd (none-some kind e)
 fit_in_pairs s (suc n) zero kind h e = subst IsFitKind (same_Some (Conciliator s) kind e) h
 fit_in_pairs s (suc n) (suc zero) kind h e = subst IsFitKind (same_Some Ratifier kind e) tt
 fit_in_pairs s (suc n) (suc (suc o)) kind h e = fit_in_pairs s n o kind h e
 
--- two lists joined fit, if the kinds of both do
+-- the kinds of two lists joined fit, if those of both do
 fit_behind :
     (xs ys : List Kind) → ((o : ℕ) (kind : Kind) → slice_get xs o ≡ Some kind → IsFitKind kind)
     → ((o : ℕ) (kind : Kind) → slice_get ys o ≡ Some kind → IsFitKind kind) → (o : ℕ) (kind : Kind)
@@ -148,14 +150,14 @@ fit_last true zero kind e = subst IsFitKind (same_Some LastObject kind e) tt
 fit_last true (suc o) kind e = absurd (none-some kind e)
 fit_last false o kind e = absurd (none-some kind e)
 
--- the kinds of a row fit
+-- the kinds of a row fit, if s is at most 63
 pub fit_in_row :
     (shape : Shape) (s n o : ℕ) (kind : Kind) → s ≤ 63 → slice_get (row_of shape s n) o ≡ Some kind → IsFitKind kind
 fit_in_row shape s n o kind h e =
     fit_behind (fast_row shape.fast) (pairs_of s n ++ last_row shape.last) (fit_fast shape.fast)
     (fit_behind (pairs_of s n) (last_row shape.last) (λ p k f. fit_in_pairs s n p k h f) (fit_last shape.last)) o kind e
 
--- the last turn of a conciliator of a layout is small
+-- the number s of a conciliator of a layout is at most 63
 pub last_turn_small : (layout : Layout) → spread (quorums_of layout).values ≤ 63
 last_turn_small layout =
     let m = (quorums_of layout).values in
@@ -163,12 +165,12 @@ last_turn_small layout =
     let narrow : width_of m ≤ 6 = (width_is_least m).least 6 (omega (arith, quorum.few)) in
     omega (arith, narrow)
 
--- a cell has no more objects than any can have
+-- the cells of a layout have at most MAX_OBJECTS objects
 pub objects_few : (shape : Shape) (s n : ℕ) → n ≤ MAX_PAIRS → length (row_of shape s n) ≤ MAX_OBJECTS
 objects_few shape s n few =
     omega (arith, length-row_of shape s n, fast_few shape.fast, last_few shape.last, few)
 
--- a cell of a layout has few words
+-- a cell of a layout has at most 65 words for each of MAX_OBJECTS objects
 pub cell_small : (layout : Layout) → cell_words layout ≤ 65 * MAX_OBJECTS
 cell_small layout =
     let kinds = kinds_of layout in
@@ -177,7 +179,8 @@ cell_small layout =
     let few = objects_few layout.shape (spread (quorums_of layout).values) layout.pairs layout.few in
     omega (arith, row_words-few r kinds, mul-le (length kinds) (1 + r) MAX_OBJECTS 65 few (omega (arith, quorum.limit)))
 
--- if two rows have the same object, either tells it
+-- ---- objects that are read, left and copied
+-- if two rows have the same object at a place, what is read from the second is the object of the first
 pub told_by_row :
     (xs ys : List Kind) (o : ℕ) (d : Kind) → o < length xs → slice_get xs o ≡ slice_get ys o
     → slice_get xs o ≡ Some (get_or ys o d)
@@ -185,14 +188,14 @@ told_by_row xs ys o d below same =
     let e = slice_get-get_or xs o d below in
     e ∙ ap Some (sym (get_or_from_slice_get ys o (get_or xs o d) d (sym same ∙ e)))
 
--- no object is left past the last
+-- past the last object of a row no turns are allowed
 pub none_left : (t : QuorumTable) (kinds : List Kind) (o : ℕ) → length kinds ≤ o → most_on_objects t (drop o kinds) ≡ 0
 none_left t [] zero h = refl
 none_left t [] (suc o) h = refl
 none_left t (k ∷ ks) zero h = absurd (omega arith)
 none_left t (k ∷ ks) (suc o) h = none_left t ks o (omega arith)
 
--- a row that is copied so far is copied one object farther
+-- if the first i objects of a row are copied, one store copies the next, too
 pub copied_next :
     (xs ys : List Kind) (i : ℕ) (x : Kind) → i < length ys → slice_get xs i ≡ Some x
     → ((o : ℕ) → o < i → slice_get xs o ≡ slice_get ys o)

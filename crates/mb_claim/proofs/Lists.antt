@@ -7,24 +7,25 @@ use Rattle.std.proofs.Common.{option_and_then}
 use Rattle.std.specs.List.{cons_option}
 use Rattle.std.proofs.lemmas.Option.{none-some, same_Some}
 
+-- ---- empty lists, and lists joined
 -- a list with a first element is not empty
 pub not_empty : {A : Type 0} (x : A) (xs : List A) → x ∷ xs ≢ []
 not_empty x xs e = cc
 
--- a list is empty or not
+-- a list is empty or is not
 pub nil_or : {A : Type 0} (xs : List A) → (xs ≡ []) ⊎ (xs ≢ [])
 nil_or [] = inl refl
 nil_or (x ∷ xs) = inr (λ e. not_empty x xs e)
 
--- two empty lists, joined
+-- two empty lists joined are empty
 pub append_nils : {A : Type 0} (xs ys : List A) → xs ≡ [] → ys ≡ [] → xs ++ ys ≡ []
 append_nils xs ys p q = ap (λ zs. zs ++ ys) p ∙ q
 
--- an empty list before another
+-- an empty list before another adds nothing
 pub append_nil_left : {A : Type 0} (xs ys : List A) → xs ≡ [] → xs ++ ys ≡ ys
 append_nil_left xs ys p = ap (λ zs. zs ++ ys) p
 
--- an empty list after another
+-- an empty list after another adds nothing
 pub append_nil_right : {A : Type 0} (xs ys : List A) → ys ≡ [] → xs ++ ys ≡ xs
 append_nil_right xs ys p = ap (λ zs. xs ++ zs) p ∙ append-nil xs
 
@@ -56,7 +57,8 @@ heads x y xs ys e = ap (head_or x) e
 pub tails : {A : Type 0} (x y : A) (xs ys : List A) → x ∷ xs ≡ y ∷ ys → xs ≡ ys
 tails x y xs ys e = ap tail_of e
 
--- a pick from a list with one element more, perhaps
+-- ---- picks from a list
+-- a pick from a list with perhaps one element more is a pick from both
 filter_map-cons_option :
     {A B : Type 0} (g : A → Option B) (o : Option A) (xs : List A)
     → filter_map g (cons_option o xs) ≡ cons_option (option_and_then g o) (filter_map g xs)
@@ -72,7 +74,7 @@ filter_map-filter_map g f (a ∷ h) =
     filter_map-cons_option g (f a) (filter_map f h)
     ∙ ap (cons_option (option_and_then g (f a))) (filter_map-filter_map g f h)
 
--- picks that agree at each element pick the same
+-- two picks that agree at each element give the same list
 pub filter_map_agree :
     {A B : Type 0} (f g : A → Option B) → ((a : A) → f a ≡ g a) → (h : List A) → filter_map f h ≡ filter_map g h
 filter_map_agree f g e [] = refl
@@ -80,28 +82,28 @@ filter_map_agree f g e (a ∷ h) =
     ap (λ o. cons_option o (filter_map f h)) (e a) ∙ ap (cons_option (g a)) (filter_map_agree f g e h)
 
 -- ---- elements at places
--- the element that follows a list
+-- the element after a list stands at the list's length
 pub get_at : {A : Type 0} (xs : List A) (a : A) (ys : List A) → slice_get (xs ++ a ∷ ys) (length xs) ≡ Some a
 get_at [] a ys = refl
 get_at (x ∷ xs) a ys = get_at xs a ys
 
--- the elements that follow a list and one element more
+-- what stands after a list and one element more is the first of what follows
 pub get_behind : {A : Type 0} (xs : List A) (a : A) (ys : List A)
     → slice_get (xs ++ a ∷ ys) (suc (length xs)) ≡ slice_get ys 0
 get_behind [] a ys = refl
 get_behind (x ∷ xs) a ys = get_behind xs a ys
 
--- a list with a first element
+-- a list with an element at place 0 begins with it
 pub first_of : {A : Type 0} (ys : List A) (a : A) → slice_get ys 0 ≡ Some a → (rest : List A) × (ys ≡ a ∷ rest)
 first_of [] a e = absurd (none-some a e)
 first_of (y ∷ ys) a e = (ys, ap (λ b. b ∷ ys) (same_Some y a e))
 
--- a list without one
+-- a list without an element at place 0 is empty
 pub none_of : {A : Type 0} (ys : List A) → slice_get ys 0 ≡ None → ys ≡ []
 none_of [] e = refl
 none_of (y ∷ ys) e = absurd (none-some y (sym e))
 
--- a list with one element more at its end
+-- one element more at the end makes a list longer by one
 pub length-push : {A : Type 0} (xs : List A) (a : A) → length (xs ++ a ∷ []) ≡ suc (length xs)
 length-push [] a = refl
 length-push (x ∷ xs) a = ap suc (length-push xs a)
@@ -112,6 +114,7 @@ pub all_push :
     → P (length xs) y → (k : ℕ) (d : A) → k < length (xs ++ y ∷ []) → P k (get_or (xs ++ y ∷ []) k d)
 all_push P xs y all p k d below = by_place (cases_lt k (length xs))
   where
+    -- P holds of the element at place k, by whether k is a place of the shorter list
     by_place : (k < length xs) ⊎ (length xs ≤ k) → P k (get_or (xs ++ y ∷ []) k d)
     by_place (inl l) = subst (P k) (sym (get_or_append_left xs (y ∷ []) d k l)) (all k d l)
     by_place (inr l) =

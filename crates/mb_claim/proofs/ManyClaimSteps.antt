@@ -10,14 +10,14 @@ use Rattle.mb_claim.specs.{IsClaimStep, IsClaimIn, step_of}
 use Rattle.mb_claim.specs.ManyClaimSteps.{stood_at, AreClaimSteps, DrawsAndMakesNext}
 use Rattle.mb_claim.proofs.ClaimSteps.{PartsOf, same_object, claim_going}
 
--- the claim after so many accesses on its object
+-- the claim after n accesses on its object, which led to this place
 abbrev pub stood_after : ℕ → Pc → Claim → Claim
 stood_after zero pc claim = claim
 stood_after (suc n) pc claim = stood_at pc true claim
 
 module _ {M : Type 0} (layout : Layout) (parts : PartsOf (quorums_of layout) (kinds_of layout))
     (draws : M → ℕ → M → Type 0) (makes : M → ℕ → Op → ℕ → M → Type 0) where
-  -- one access of a claim at this place
+  -- an access of a claim's place that leads to a place is a step of the claim to that place
   goes_on :
       (claim : Claim) → claim_stage claim ≡ Going → (before now : M) (word : ℕ) (follows : Pc)
       → IsStep (quorums_of layout) claim.place
@@ -42,7 +42,7 @@ module _ {M : Type 0} (layout : Layout) (parts : PartsOf (quorums_of layout) (ki
       }
 
   module _ (claim : Claim) (going : claim_stage claim ≡ Going) (start : M) where
-    -- after so many accesses the claim is at the place to which they led
+    -- after n accesses of its place the claim is at the place to which they led
     pub place_after :
         (n : ℕ) (at : Pc) (before : M)
         → AreSteps (quorums_of layout) (DrawsAndMakes draws makes claim.object) claim.place start n (leads.Go at) before
@@ -50,28 +50,28 @@ module _ {M : Type 0} (layout : Layout) (parts : PartsOf (quorums_of layout) (ki
     place_after zero at before steps = let is : leads.Go at ≡ leads.Go claim.place = steps.0 in cc
     place_after (suc n) at before steps = refl
 
-    -- it goes on
+    -- after n accesses on its object the claim is going
     pub stage_after : (n : ℕ) (at : Pc) → claim_stage (stood_after n at claim) ≡ Going
     stage_after zero at = going
     stage_after (suc n) at = going
 
-    -- it is on the same object
+    -- after n accesses on its object the claim is on the same object
     pub object_after : (n : ℕ) (at : Pc) → (stood_after n at claim).object ≡ claim.object
     object_after zero at = refl
     object_after (suc n) at = refl
 
-    -- it is the same consumer's
+    -- after n accesses on its object the claim is the same consumer's
     consumer_after : (n : ℕ) (at : Pc) → consumer_of (stood_after n at claim) ≡ consumer_of claim
     consumer_after zero at = refl
     consumer_after (suc n) at = refl
 
-    -- put at a place, and begun, it is the first claim put there
+    -- the claim after n accesses, put at a place and begun, is the first claim put there
     moved_after : (n : ℕ) (at follows : Pc) → stood_at follows true (stood_after n at claim)
         ≡ stood_at follows true claim
     moved_after zero at follows = refl
     moved_after (suc n) at follows = refl
 
-    -- the accesses of the place are accesses of the claim
+    -- the accesses of the claim's place, which led to a place, are accesses of the claim
     pub all_go_on :
         (n : ℕ) (follows : Pc) (now : M)
         → AreSteps (quorums_of layout) (DrawsAndMakes draws makes claim.object) claim.place start n
@@ -108,7 +108,7 @@ module _ {M : Type 0} (layout : Layout) (parts : PartsOf (quorums_of layout) (ki
     moved_on zero follows now some steps = absurd (some refl)
     moved_on (suc n) follows now some steps = all_go_on (suc n) follows now steps
 
-    -- no access was made: the claim and its place are as they were
+    -- if no access was made, the claim and its place are as they were
     pub stayed :
         (n : ℕ) (at : Pc) (now : M) → n ≡ 0
         → AreSteps (quorums_of layout) (DrawsAndMakes draws makes claim.object) claim.place start n (leads.Go at) now
@@ -117,7 +117,7 @@ module _ {M : Type 0} (layout : Layout) (parts : PartsOf (quorums_of layout) (ki
         (ap (λ pc. stood_at pc claim.begun claim) (sym (place_after zero at now steps)), steps.1)
     stayed (suc n) at now none steps = absurd (omega (arith, none))
 
-    -- the claim after them is the first one at that place
+    -- the claim after n accesses is the first claim put at the place to which they led
     stands_there :
         (n : ℕ) (at : Pc) (before : M)
         → AreSteps (quorums_of layout) (DrawsAndMakes draws makes claim.object) claim.place start n (leads.Go at) before
@@ -126,7 +126,7 @@ module _ {M : Type 0} (layout : Layout) (parts : PartsOf (quorums_of layout) (ki
         ap (λ pc. stood_at pc claim.begun claim) (place_after zero at before steps)
     stands_there (suc n) at before steps = refl
 
-    -- the last access led to an output, and the claim went on with that
+    -- if the last access led to an output, the accesses of the place lead to the claim that went on with that output
     pub ended_on :
         (n : ℕ) (out : Out) (now : M) (follows : Claim) → consumer_of follows ≡ consumer_of claim
         → AreSteps (quorums_of layout) (DrawsAndMakes draws makes claim.object) claim.place start n (leads.Out out) now
@@ -160,10 +160,10 @@ module _ {M : Type 0} (layout : Layout) (parts : PartsOf (quorums_of layout) (ki
           },
         )
 
--- two chains in a row are one
+-- ---- two rows of accesses are one
 module _ {M : Type 0} (layout : Layout) (makes : M → ℕ → ClaimOp → ℕ → M → Type 0) (claim : Claim) (start : M) (m : ℕ)
     (between : Claim) (mid : M) (first : AreClaimSteps layout makes claim start m between mid) where
-  -- accesses after accesses are accesses in a row
+  -- accesses of a claim after m accesses of it make one row of accesses
   pub joined :
       (n : ℕ) (follows : Claim) (now : M) → AreClaimSteps layout makes between mid n follows now
       → AreClaimSteps layout makes claim start (n + m) follows now

@@ -6,7 +6,7 @@ use Rattle.mb_claim.specs.{quorums_of, kinds_of, most_on_objects, most_accesses,
 use Rattle.mb_claim.proofs.Bounds.{most-append, row_steps}
 use Rattle.mb_claim.proofs.StepsLeft.{ended_left, going_left, won_ended, lost_ended}
 
--- of a row, what comes after one object
+-- what comes after one object of a row is what is left if that object and those before it are dropped
 past_one : (before : List Kind) (kind : Kind) (after : List Kind)
     → drop (suc (length before)) (before ++ kind ∷ after) ≡ after
 past_one [] kind after = refl
@@ -16,7 +16,7 @@ module _ (layout : Layout) (claim : Claim) (xs : List ObjectTurn) (of : IsClaimI
     (most : (kind : Kind) (v : ℕ) (pc : Pc) (turns : List Turn) → v < (quorums_of layout).values
     → PcIsAt (quorums_of layout) kind v pc turns
     → turns_left (quorums_of layout) pc ≤ most_turns (quorums_of layout) kind) where
-  -- while it goes on
+  -- a claim that is going has no more accesses left than a claim on this layout makes
   going_most : claim.stage ≡ Going → steps_left layout claim ≤ most_accesses layout
   going_most goes =
       let t = quorums_of layout in
@@ -33,6 +33,7 @@ module _ (layout : Layout) (claim : Claim) (xs : List ObjectTurn) (of : IsClaimI
         most at.kind at.input claim.place at.turns at.within at.place,
       )
 
+  -- a claim with any stage has no more accesses left than a claim on this layout makes
   by_stage : (s : Stage) → claim.stage ≡ s → steps_left layout claim ≤ most_accesses layout
   by_stage Going e = going_most e
   by_stage Won e = let none = ended_left layout claim Won e won_ended in omega (arith, none)
@@ -40,6 +41,6 @@ module _ (layout : Layout) (claim : Claim) (xs : List ObjectTurn) (of : IsClaimI
       in omega (arith, none)
   by_stage Undecided e = let none = ended_left layout claim Undecided e (λ u. cc) in omega (arith, none)
 
-  -- no more accesses are left than a claim on this layout makes
+  -- a claim has no more accesses left than a claim on this layout makes
   pub most_steps : steps_left layout claim ≤ most_accesses layout
   most_steps = by_stage claim.stage refl

@@ -9,7 +9,7 @@ use Rattle.mb_claim.specs.{Turn, Access, ObjectTurn, ClaimAccess, step_by, part_
 use Rattle.mb_claim.specs.{IsMemoryTrue, AreInWords}
 use Rattle.mb_claim.proofs.Lists.{filter_map-filter_map, filter_map_agree}
 
--- the turn, if it went to object o
+-- the turn of a step, if it went to object o
 abbrev pub turn_at : ℕ → ObjectTurn → Option Turn
 turn_at o x = cond (eqb x.object o) (Some x.turn) None
 
@@ -43,7 +43,7 @@ part-object_history c k o h =
     (record { process = a.consumer; turn = a.step.turn }) a.step a.step.turn (turn_by c) (turn_at o) refl refl) h
     ∙ sym (filter_map-filter_map (turn_at o) (step_by c k) h)
 
--- one access keeps the memory of the history of one object true
+-- one access more keeps the history of object o true to memory, by whether it is on that object
 cut_by :
     (k o : ℕ) (a : ClaimAccess) (h : List ClaimAccess) (q r : Bool) → eqb a.cell k ≡ q → eqb a.step.object o ≡ r
     → ReadsLast a.step.turn.act (object_history a.cell a.step.object h) → IsObjectMemoryTrue (object_history k o h)
@@ -64,7 +64,7 @@ IsMemoryTrue-object_history k o [] m = tt
 IsMemoryTrue-object_history k o (a ∷ h) m =
     cut_by k o a h (eqb a.cell k) (eqb a.step.object o) refl refl m.0 (IsMemoryTrue-object_history k o h m.1)
 
--- one access keeps the words of the history of one object within 64 bits
+-- one access more keeps the values and random words of an object's history below 2 ^ 64
 words_by :
     (a : ClaimAccess) (xs : List Access) (q r : Bool) → IsInWords a.step.turn → AreObjectInWords xs
     → AreObjectInWords (cons_option
@@ -73,7 +73,7 @@ words_by a xs true true w older = (w, older)
 words_by a xs true false w older = older
 words_by a xs false r w older = older
 
--- the words of the history of one object are words of 64 bits
+-- the values and random words of one object's history are below 2 ^ 64
 pub AreInWords-object_history :
     (k o : ℕ) (h : List ClaimAccess) → AreInWords h → AreObjectInWords (object_history k o h)
 AreInWords-object_history k o [] w = tt

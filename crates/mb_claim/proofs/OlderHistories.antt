@@ -1,4 +1,4 @@
--- What came before in a lawful history is lawful.
+-- A lawful history without its last accesses is lawful.
 use Rattle.std.proofs.Common.{◌≢◌, ℕ, Bool, true, false, cond, eqb, Some, None, List, [], ◌∷◌, ◌++◌, sym, append_assoc}
 use Rattle.std.specs.List.{cons_option}
 use Rattle.mb_claim.specs.{Claims, ObjectTurn, ClaimAccess, part_on, IsClaimPart, IsClaimLawful}
@@ -6,7 +6,7 @@ use Rattle.mb_claim.proofs.Lists.{not_empty}
 use Rattle.mb_claim.proofs.Prefixes.{completed, begun}
 
 module _ (cs : Claims) where
-  -- a part stays one without its last step
+  -- if a part belongs to a claim, it does so without its last step, by whether the last access is of that part
   part_older :
       (c k : ℕ) (x : ObjectTurn) (xs : List ObjectTurn) (p q : Bool)
       → (cons_option (cond p (cond q (Some x) None) None) xs ≢ []
@@ -32,7 +32,7 @@ module _ (cs : Claims) where
         parts = λ c k. part_older c k a.step (part_on c k h) (eqb a.consumer c) (eqb a.cell k) (lawful.parts c k);
       }
 
-  -- a lawful history stays lawful without any of its last accesses
+  -- a lawful history stays lawful without any number of its last accesses
   pub older_history_lawful : (later h : List ClaimAccess) → IsClaimLawful cs (later ++ h) → IsClaimLawful cs h
   older_history_lawful [] h lawful = lawful
   older_history_lawful (a ∷ later) h lawful = older_history_lawful later h (older_lawful a (later ++ h) lawful)

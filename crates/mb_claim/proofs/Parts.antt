@@ -10,26 +10,27 @@ use Rattle.mb_claim.specs.{Turn, Kind, ObjectTurn, Stage, Going, turns_on, stage
 use Rattle.mb_claim.proofs.ObjectHistories.{turn_at, turns_at}
 use Rattle.mb_claim.proofs.Lists.{append_nils, append_nil_left, append_nil_right, append_nil_parts}
 
--- of turns made on object o all went there
+-- ---- the turns of a part on one object
+-- the turns on object o, of turns that were all made there, are these turns
 pub turns_at-turns_on : (o : ℕ) (ts : List Turn) → turns_at o (turns_on o ts) ≡ ts
 turns_at-turns_on o [] = refl
 turns_at-turns_on o (t ∷ ts) =
     ap (λ b. cons_option (cond b (Some t) None) (turns_at o (turns_on o ts))) (eq-eqb o o refl)
     ∙ ap (λ zs. t ∷ zs) (turns_at-turns_on o ts)
 
--- there are as many turns as steps
+-- the steps of some turns on one object are as many as the turns
 pub length-turns_on : (o : ℕ) (ts : List Turn) → length (turns_on o ts) ≡ length ts
 length-turns_on o [] = refl
 length-turns_on o (t ∷ ts) = ap suc (length-turns_on o ts)
 
--- turns on one object are none on another
+-- turns that were made on one object are no turns on another
 pub turns_at-turns_on_other : (o n : ℕ) (ts : List Turn) → (o ≡ n → ⊥) → turns_at n (turns_on o ts) ≡ []
 turns_at-turns_on_other o n [] ne = refl
 turns_at-turns_on_other o n (t ∷ ts) ne =
     ap (λ b. cons_option (cond b (Some t) None) (turns_at n (turns_on o ts))) (ne_eqb o n ne)
     ∙ turns_at-turns_on_other o n ts ne
 
--- the turns on object n of two lists joined
+-- the turns on object n of two lists joined are those of both, joined
 pub turns_at-append : (n : ℕ) (xs ys : List ObjectTurn) → turns_at n (xs ++ ys) ≡ turns_at n xs ++ turns_at n ys
 turns_at-append n xs ys = filter_map-append (turn_at n) xs ys
 
@@ -48,11 +49,11 @@ nothing_before t c (k ∷ ks) o v n xs s l (inr (inr (u, rest, x, p))) =
     (nothing_before t c ks (suc o) u n rest s (omega arith) p)
     (turns_at-turns_on_other o n x.turns (λ e. omega arith))
 
--- what goes on is a prefix
+-- turns on an object that go on are a prefix of a path
 pub open_part : (t : QuorumTable) (k : Kind) (v : ℕ) (turns : List Turn) → IsOpen t k v turns → IsPrefix t k v turns
 open_part t k v turns g = (g.0, g.2.0, g.2.1)
 
--- the turns of a passed object
+-- the turns with which object o was passed are all the turns of the part there
 pub passed_turns :
     (t : QuorumTable) (c : ℕ) (k : Kind) (ks : List Kind) (o v : ℕ) (xs : List ObjectTurn) (s : Stage) (u : ℕ)
     (rest : List ObjectTurn) (x : Passes t k o v xs u rest)
@@ -64,26 +65,28 @@ passed_turns t c k ks o v xs s u rest x p =
     (nothing_before t c ks (suc o) u o rest s (omega arith) p)
     ∙ turns_at-turns_on o x.turns)
 
--- a consumer's part from object o on; or nothing, if it has not come so far
+-- ---- a part, seen from its first object
+-- the turns are consumer c's part from object o on, with this stage. Or there are none and it is going, as it has not
+-- come so far
 abbrev pub Member : QuorumTable → ℕ → List Kind → ℕ → ℕ → List ObjectTurn → Stage → Type 0
 Member t c ks o v xs s = ((xs ≡ []) × (s ≡ Going)) ⊎ IsClaimPrefixFrom t c ks o v xs s
 
--- the consumer has come to the object after this one
+-- the consumer has come to the object after object o, with this value, and what is left of its part there
 pub record Came (t : QuorumTable) (k : Kind) (ks : List Kind) (o v : ℕ) (xs : List ObjectTurn) (value : ℕ)
     (rest : List ObjectTurn) : Type 0 where
   pub path : IsPath t k v (turns_at o xs) (answer false value)
   pub nonempty : xs ≢ []
   pub enters : (n w : ℕ) → Enters t ks (suc o) value rest n w → Enters t (k ∷ ks) o v xs n w
 
--- how the part ends, seen from its first object
+-- the claim is going, or object o decided a value, or it was passed undecided and the stage is that of what follows
 abbrev pub Ends : QuorumTable → ℕ → Kind → ℕ → ℕ → List ObjectTurn → Stage → ℕ → Stage → Type 0
 Ends t c k o v xs s value stage =
     (s ≡ Going)
     ⊎ (((a : ℕ) × IsPath t k v (turns_at o xs) (answer true a) × (s ≡ stage_for c a))
     ⊎ (IsPath t k v (turns_at o xs) (answer false value) × (stage ≡ s)))
 
--- one consumer's part, taken one object further: the value, the part and the stage after its first object, and how
--- it ends
+-- one consumer's part, taken one object further: the value with which it leaves object o, what is left of it after that
+-- object, and the stage there
 pub record Forward (t : QuorumTable) (c : ℕ) (k : Kind) (ks : List Kind) (o v : ℕ) (xs : List ObjectTurn)
     (s : Stage) : Type 0 where
   pub value : ℕ
@@ -96,12 +99,13 @@ pub record Forward (t : QuorumTable) (c : ℕ) (k : Kind) (ks : List Kind) (o v 
   pub ends : Ends t c k o v xs s value stage
   pub counted : length xs ≡ length (turns_at o xs) + length rest
 
+-- ---- each part can be taken one object further
 module _ (t : QuorumTable) (c : ℕ) (k : Kind) (ks : List Kind) (o v : ℕ) (xs : List ObjectTurn) (s : Stage) where
-  -- a part on this object alone has its turns
+  -- a part on this object alone has as many steps as turns there
   pub counts : (turns : List Turn) → xs ≡ turns_on o turns → turns_at o xs ≡ turns → length xs ≡ length (turns_at o xs)
   counts turns all here = ap length all ∙ length-turns_on o turns ∙ sym (ap length here)
 
-  -- it does not come to the next object
+  -- a part that does not come to the next object is taken further with nothing left
   abbrev stays :
       ((n : ℕ) → o < n → turns_at n xs ≡ []) → (turns_at o xs ≡ []) ⊎ IsPrefix t k v (turns_at o xs)
       → Ends t c k o v xs s 0 Going
@@ -120,7 +124,7 @@ module _ (t : QuorumTable) (c : ℕ) (k : Kind) (ks : List Kind) (o v : ℕ) (xs
         counted = omega (arith, counted);
       }
 
-  -- it comes to the next object
+  -- a part that passes this object is taken further with what follows
   abbrev moves :
       (u : ℕ) (rest : List ObjectTurn) → Passes t k o v xs u rest → IsClaimPrefixFrom t c ks (suc o) u rest s
       → Forward t c k ks o v xs s
@@ -154,7 +158,7 @@ module _ (t : QuorumTable) (c : ℕ) (k : Kind) (ks : List Kind) (o v : ℕ) (xs
         );
       }
 
-  -- the step to the next object
+  -- each part is taken one object further
   abbrev pub forward : Member t c (k ∷ ks) o v xs s → Forward t c k ks o v xs s
   forward (inl x) = stays (λ n l. ap (turns_at n) x.0) (inl (ap (turns_at o) x.0)) (inl x.1)
       (ap length x.0 ∙ sym (ap (λ zs. length (turns_at o zs)) x.0))

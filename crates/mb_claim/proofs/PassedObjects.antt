@@ -23,17 +23,17 @@ nothing_passed t (k ∷ ks) o v w n xs l (u, later, x, p) =
     ∙ append_nils (turns_at n later) (turns_at n (turns_on o x.turns))
     (nothing_passed t ks (suc o) u w n later (omega arith) p) (turns_at-turns_on_other o n x.turns (λ e. omega arith))
 
--- a part has one way past its first object
+-- ---- a part has one way past its first object
 module _ (t : QuorumTable) (c : ℕ) (k : Kind) (ks : List Kind) (o v : ℕ) (xs : List ObjectTurn) (s : Stage)
     (law : OfKind t k) (l : v < t.values)
     (u : ℕ) (later : List ObjectTurn) (x : Passes t k o v xs u later) (none : turns_at o later ≡ []) where
-  -- the turns of the object that was passed
+  -- the turns with which the first object was passed are all the turns there
   pub here : x.turns ≡ turns_at o xs
   here =
       sym (ap (turns_at o) x.all ∙ turns_at-append o later (turns_on o x.turns)
       ∙ append_nil_left (turns_at o later) (turns_at o (turns_on o x.turns)) none ∙ turns_at-turns_on o x.turns)
 
-  -- what is left of the part after that object is what `forward` finds
+  -- the value and what is left of the part after that object are those that `forward` finds
   pub forward_passes :
       (m : Member t c (k ∷ ks) o v xs s)
       → ((forward t c k ks o v xs s m).value ≡ u) × ((forward t c k ks o v xs s m).rest ≡ later)
@@ -53,8 +53,9 @@ module _ (t : QuorumTable) (c : ℕ) (k : Kind) (ks : List Kind) (o v : ℕ) (xs
             (ap (λ ts. front ++ turns_on o ts) (sym e) ∙ sym y.all ∙ x.all),
       )
 
--- the history of the object on which a claim stands is lawful, and the claim's input there is the one that its part
--- gives
+-- ---- the object on which a claim stands has a lawful history
+-- object o has a lawful history with some inputs. There consumer c's input is w, a value of the table, and it has made
+-- these turns
 pub record Here (t : QuorumTable) (kind : Kind) (hs : ℕ → List Access) (c o w : ℕ) (turns : List Turn) : Type 0 where
   pub inputs : ℕ → ℕ
   pub lawful : IsObjectLawful (object_of t kind inputs) (hs o)
@@ -62,7 +63,7 @@ pub record Here (t : QuorumTable) (kind : Kind) (hs : ℕ → List Access) (c o 
   pub same : part c (hs o) ≡ turns
   pub within : inputs c < t.values
 
--- one consumer among all has one way past its first object
+-- in a family, too, a consumer has one way past its first object
 step_passes :
     (t : QuorumTable) (k : Kind) (ks : List Kind) (o : ℕ) (hs : ℕ → List Access) (P : ℕ → Type 0)
     (fam : Family t (k ∷ ks) o hs P) (law : OfKind t k) (c : ℕ) → fam.input c < t.values
@@ -72,7 +73,7 @@ unfolding step
 step_passes t k ks o hs P fam law c l u later x none =
     forward_passes t c k ks o (fam.input c) (fam.rest c) (fam.stage c) law l u later x none (fam.member c)
 
--- past the objects that a claim has passed undecided, it stands on an object with a lawful history, with its own input
+-- a consumer that has passed the objects before undecided stands on an object with a lawful history, with its own input
 pub family_at :
     (t : QuorumTable) (hs : ℕ → List Access) (law : AreDeciding t) (before : List Kind) (kind : Kind)
     (after : List Kind) (o : ℕ) (P : ℕ → Type 0)

@@ -16,16 +16,16 @@ use Rattle.mb_claim.proofs.LawfulExamples.{conciliated, ratified, won, lawful}
 use Rattle.mb_claim.proofs.Parts.{forward}
 use Rattle.mb_claim.proofs.Unique.{one_stage_lem}
 
--- ---- consumer 0 wins: which entries and stages such a run has
--- a turn with the random word 0
+-- ---- consumer 0 wins: its claim step by step
+-- the turn with this act and the random word 0
 abbrev turn : Act → Turn
 turn act = record { act = act; word = 0 }
 
--- what consumer 0 does on the conciliator
+-- the turns of consumer 0 on the conciliator
 abbrev drawn : List Turn
 drawn = turn (Load Value 1) ∷ turn (Store Value 1) ∷ turn (Load Value 0) ∷ []
 
--- before the end of that it goes on
+-- before the end of its path on the conciliator consumer 0 is going
 going_first :
     (turns later : List Turn) (x : Turn) → IsPath (unary_table 2) (Conciliator 2) 0 (x ∷ later ++ turns)
     (answer false 0)
@@ -34,7 +34,7 @@ going_first turns later x path =
     inl
     (record { turns = turns; all = refl; going = (x ∷ later, not_empty x later, (answer false 0, path)); is = refl })
 
--- before the end of what it does on the ratifier it goes on
+-- before the end of its path on the ratifier consumer 0 is going
 going_second :
     (turns later : List Turn) (x : Turn) → IsPath (unary_table 2) Ratifier 0 (x ∷ later ++ turns) (answer true 0)
     → IsClaimPrefixFrom (unary_table 2) 0 (pairs_of 2 1) 0 0 (turns_on 1 turns ++ turns_on 0 drawn) Going
@@ -60,11 +60,11 @@ going_second turns later x path =
 zero_known : 0 < 2
 zero_known = omega arith
 
--- a claim that was won does not go on
+-- a claim that was won is not going
 won_ended : Won ≢ Going
 won_ended e = cc
 
--- what came before the other consumer is lawful
+-- the history before the other consumer came is lawful
 alone_lawful : IsClaimLawful two_consumers won_alone
 alone_lawful =
     older_history_lawful two_consumers
@@ -73,8 +73,9 @@ alone_lawful =
     (Load Value 1) ∷ [])
     won_alone lawful
 
+-- ---- which entries and stages are those of a run
 module _ (law : AreDeciding (unary_table 2)) where
-  -- who has not begun goes on
+  -- a consumer that has not begun is going
   idle : (c : ℕ) → c < 2 → IsClaimPrefixFrom (unary_table 2) c (pairs_of 2 1) 0 c [] Going
   idle c known = inl (record {
     turns = [];
@@ -84,14 +85,14 @@ module _ (law : AreDeciding (unary_table 2)) where
     is = refl;
   })
 
-  -- the stages at the end
+  -- at the end consumer 0 has won, and consumer 1 has not begun
   stages_reached :
       (c : ℕ) (d : Stage) → c < 2 → HasStage two_consumers c 0 (get_or (Won ∷ Going ∷ []) c d) won_alone
   stages_reached zero d below = (below, won)
   stages_reached (suc zero) d below = (below, idle 1 below)
   stages_reached (suc (suc c)) d below = absurd (omega arith)
 
-  -- seven accesses, and a step of the claim that was won
+  -- eight steps of consumer 0 make seven accesses, with which it wins, and then none
   pub won_played : IsPlayedByTwo eight_steps (won_and (entry.Done 0)) (Won ∷ Going ∷ [])
   won_played =
       let load : Turn = turn (Load Value 0) in
@@ -135,36 +136,36 @@ module _ (law : AreDeciding (unary_table 2)) where
         reached = stages_reached;
       }
 
-  -- `Done` comes after the end
+  -- no run has the entry `Done` before the claim's end
   pub early_refused : IsPlayedByTwo (step ∷ []) (entry.Done 0 ∷ []) (Going ∷ Going ∷ []) → ⊥
   early_refused bad =
       let done = bad.fits.1 in
       done.2 (one_stage_lem (unary_table 2) law 0 (pairs_of 2 1) 0 0 [] done.0 Going done.1.1 (idle 0 zero_known))
 
-  -- after the end comes nothing but `Done`
+  -- no run has an access after the claim's end
   pub late_refused : IsPlayedByTwo eight_steps (won_and (entry.Access 0 1 (Load (Quorum 1) 0))) (Won ∷ Going ∷ []) → ⊥
   late_refused bad = not_after_winning (law (Conciliator 2)) (law Ratifier) bad.lawful
 
-  -- the stages are the history's
+  -- no run has the stage `Won` of a claim without accesses
   pub boast_refused : IsPlayedByTwo [] [] (Won ∷ Going ∷ []) → ⊥
   boast_refused bad =
       won_ended
       (one_stage_lem (unary_table 2) law 0 (pairs_of 2 1) 0 0 [] Won Going (bad.reached 0 Going zero_known).1
       (idle 0 zero_known))
 
--- each step has an entry
+-- no run has a step without an entry
 pub silent_refused : IsPlayedByTwo (step ∷ []) [] (Going ∷ Going ∷ []) → ⊥
 silent_refused bad = bad.fits
 
--- the entry is one of the step's consumer
+-- no run has an entry of another consumer than the step's
 pub another_refused : IsPlayedByTwo ((1, 0) ∷ []) (entry.Access 0 0 (Load Value 0) ∷ []) (Going ∷ Going ∷ []) → ⊥
 another_refused bad = let same : 0 ≡ 1 = bad.fits.0 in absurd (omega (arith, same))
 
--- each consumer has a stage
+-- no run has fewer stages than consumers
 pub few_refused : IsPlayedByTwo [] [] (Going ∷ []) → ⊥
 few_refused bad = let same : 1 ≡ 2 = bad.consumers in absurd (omega (arith, same))
 
--- the random words are the steps'
+-- no run has a store that the step's random word does not allow
 pub impatient_refused :
     (IsPrefix (unary_table 2) (Conciliator 2) 0 impatient_run → ⊥)
     → IsPlayedByTwo ((0, 3) ∷ (0, 3) ∷ []) (entry.Access 0 0 (Load Value 0) ∷ entry.Access 0 0 (Store Value 1) ∷ [])

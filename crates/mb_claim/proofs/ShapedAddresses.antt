@@ -11,13 +11,13 @@ row_words-append : (r : ℕ) (xs ys : List Kind) → row_words r (xs ++ ys) ≡ 
 row_words-append r [] ys = omega arith
 row_words-append r (x ∷ xs) ys = omega (arith, row_words-append r xs ys)
 
--- an object of the first row has the words before it that it had
+-- before an object of the first row lie as many words as before the rows were joined
 before_ahead : (r : ℕ) (xs ys : List Kind) (o : ℕ) → o < length xs → words_before r (xs ++ ys) o ≡ words_before r xs o
 before_ahead r [] ys o h = absurd (omega (arith, h))
 before_ahead r (x ∷ xs) ys zero h = refl
 before_ahead r (x ∷ xs) ys (suc o) h = omega (arith, before_ahead r xs ys o (omega (arith, h)))
 
--- an object of the second row has those of the first before it, too
+-- before an object of the second row lie the words of the first, too
 before_behind :
     (r : ℕ) (xs ys : List Kind) (n o : ℕ) → n ≡ length xs + o
     → words_before r (xs ++ ys) n ≡ row_words r xs + words_before r ys o
@@ -26,30 +26,30 @@ before_behind r (x ∷ xs) ys zero o e = absurd (omega (arith, e))
 before_behind r (x ∷ xs) ys (suc n) o e = omega (arith, before_behind r xs ys n o (omega (arith, e)))
 
 -- ---- the words of the fast path and of the last object
--- how many words a fast path has
+-- each object of a fast path has the words of a ratifier
 fast_words : (r : ℕ) (b : Bool) → row_words r (fast_row b) ≡ length (fast_row b) * (1 + r)
 fast_words r true = omega arith
 fast_words r false = omega arith
 
--- how many words lie before an object of a fast path
+-- before object o of a fast path lie the words of o ratifiers
 fast_before : (r : ℕ) (b : Bool) (o : ℕ) → o < length (fast_row b) → words_before r (fast_row b) o ≡ o * (1 + r)
 fast_before r true zero h = omega arith
 fast_before r true (suc zero) h = omega arith
 fast_before r true (suc (suc o)) h = absurd (omega (arith, h))
 fast_before r false o h = absurd (omega (arith, h))
 
--- how many words a last object has
+-- a last object has one word
 last_words : (r : ℕ) (b : Bool) → row_words r (last_row b) ≡ length (last_row b)
 last_words r true = omega arith
 last_words r false = omega arith
 
--- before a last object nothing lies in its part
+-- among the objects after the pairs no word lies before the last object's
 nothing_before : (r : ℕ) (b : Bool) → words_before r (last_row b) 0 ≡ 0
 nothing_before r true = refl
 nothing_before r false = refl
 
 -- ---- a row of any shape
--- how many words a row has
+-- a row of any shape has `shaped_words` words
 pub row_words-row_of : (r s n : ℕ) (shape : Shape) → row_words r (row_of shape s n) ≡ shaped_words r shape n
 row_words-row_of r s n shape =
     omega (
@@ -61,7 +61,7 @@ row_words-row_of r s n shape =
       last_words r shape.last,
     )
 
--- a cell's words begin after those of the cells before it
+-- an address is the words of the cells before, of the objects before in the row, and the place in the object
 address_in_row :
     (r s n k o : ℕ) (shape : Shape) (reg : Reg) (before : ℕ) → words_before r (row_of shape s n) o ≡ before
     → address_of r (row_of shape s n) k o reg ≡ k * shaped_words r shape n + (before + offset reg)
@@ -70,7 +70,7 @@ address_in_row r s n k o shape reg before e =
     ap (λ w. k * w) (row_words-row_of r s n shape) in
     omega (arith, cells, e)
 
--- the address of a word of the fast path
+-- the address of a word of object i of the fast path
 pub fast_address :
     (r s n k i : ℕ) (shape : Shape) (reg : Reg) → i < length (fast_row shape.fast)
     → address_of r (row_of shape s n) k i reg ≡ k * shaped_words r shape n + (i * (1 + r) + offset reg)
@@ -82,7 +82,7 @@ fast_address r s n k i shape reg h =
       fast_before r shape.fast i h,
     ))
 
--- the address of a word of a pair
+-- the address of a word of object j of pair i, in a row of any shape
 pub shaped_address :
     (r s n k i j o : ℕ) (shape : Shape) (reg : Reg) → i < n → j < 2 → o ≡ length (fast_row shape.fast) + (2 * i + j)
     → address_of r (row_of shape s n) k o reg
@@ -97,7 +97,7 @@ shaped_address r s n k i j o shape reg h f e =
       words_before-pairs_of r s n i j (2 * i + j) refl f h,
     ))
 
--- the address of the last word
+-- the address of the word after the pairs, which is the last object's
 pub last_address :
     (r s n k : ℕ) (shape : Shape) (reg : Reg)
     → address_of r (row_of shape s n) k (length (fast_row shape.fast) + 2 * n) reg

@@ -1,4 +1,4 @@
--- The examples with a fast path or a last object.
+-- The examples with a fast path or with a last object: which of them are lawful.
 use Rattle.std.proofs.Common.{◌≡◌, ℕ, true, false, List, [], ◌∷◌, ◌++◌, refl, sym, ap, ◌∙◌, inl, inr}
 use Rattle.std.proofs.Common.{append_assoc, arith}
 use Rattle.mb_quorum.specs.Unary.{unary_table}
@@ -14,11 +14,11 @@ use Rattle.mb_claim.proofs.LawfulExamples.{known, undecided_lawful}
 use Rattle.mb_claim.proofs.LawfulExamples.{zero_word, one_word, one_put}
 
 -- ---- a fast path
--- its row
+-- the row of a fast path and a pair
 abbrev fast_kinds : List Kind
 fast_kinds = Ratifier ∷ Ratifier ∷ Conciliator 2 ∷ Ratifier ∷ []
 
--- consumer 0 on the first ratifier: it met no 1
+-- consumer 0 meets no 1 in the first ratifier, so its own number is decided
 won_there : IsPath (unary_table 2) Ratifier 0 (turns_at 0 (part_on 0 0 lost_at_second)) (answer true 0)
 won_there = (Store Proposal 1 ∷ Load Proposal 0 ∷ Store (Quorum 0) 1 ∷ [], inl (refl, refl), refl)
 
@@ -33,7 +33,7 @@ fast_won =
       is = refl;
     }))
 
--- consumer 1 on the first ratifier: it prefers 0, and meets its own announcement
+-- consumer 1 prefers 0 in the first ratifier and meets its own announcement, so it is undecided there
 left_there : IsPath (unary_table 2) Ratifier 1 (turns_at 0 (part_on 1 0 lost_at_second)) (answer false 0)
 left_there = (
   1,
@@ -60,19 +60,19 @@ fast_lost =
       })),
     ))
 
--- what consumer c did on cell k in that history belongs to its claim
+-- what consumer c did on cell k in `lost_at_second` belongs to its claim
 abbrev IsFastPart : ℕ → ℕ → Type 0
 IsFastPart c k = IsClaimPart (two_with true false) c k (part_on c k lost_at_second)
 
--- it holds of consumer 0
+-- what consumer 0 did on cell 0 belongs to its claim
 first : IsFastPart 0 0
 first = ((omega arith), (omega arith), (Won, fast_won))
 
--- it holds of consumer 1
+-- what consumer 1 did on cell 0 belongs to its claim
 second : IsFastPart 1 0
 second = ((omega arith), (omega arith), (Lost 0, fast_lost))
 
--- it is lawful
+-- `lost_at_second` is lawful
 pub fast_lawful : IsClaimLawful (two_with true false) lost_at_second
 fast_lawful =
     record {
@@ -120,7 +120,7 @@ fast_lawful =
       ) some;
     }
 
--- who comes to the conciliator has passed the first ratifier
+-- `past_both_ratifiers` is not lawful: who comes to the conciliator has passed the first ratifier
 pub both_refused : IsClaimLawful (two_with true false) past_both_ratifiers → ⊥
 both_refused bad =
     let xs : List ObjectTurn = part_on 0 0 past_both_ratifiers in
@@ -128,7 +128,7 @@ both_refused bad =
     (left_by_both (unary_table 2) 0 (Conciliator 2 ∷ Ratifier ∷ []) 0 2 xs mine.2.0 (omega arith) mine.2.1
     (λ none. not_empty _ _ none)).2
 
--- who comes to the conciliator has passed the second ratifier
+-- `past_one_ratifier` is not lawful: who comes to the conciliator has passed the second ratifier
 pub one_refused : IsClaimLawful (two_with true false) past_one_ratifier → ⊥
 one_refused bad =
     let xs : List ObjectTurn = part_on 1 0 past_one_ratifier in
@@ -137,11 +137,12 @@ one_refused bad =
     (λ none. not_empty _ _ none)).3
 
 -- ---- a last object
--- its row
+-- the row of a pair and a last object
 abbrev last_kinds : List Kind
 last_kinds = Conciliator 2 ∷ Ratifier ∷ LastObject ∷ []
 
--- consumer 0 leaves both objects of the pair undecided with its own number, and then whatever follows
+-- if consumer 0 begins as in `both_undecided`, both objects of the pair leave it undecided with its own number, and its
+-- part has the stage of what follows
 zero_passes :
     (h : List ClaimAccess) (s : Stage) (later : List ObjectTurn)
     → part_on 0 0 h ≡ later ++ part_on 0 0 both_undecided
@@ -175,7 +176,8 @@ zero_passes h s later is end =
       )),
     ))
 
--- consumer 1 does the same
+-- if consumer 1 begins as in `both_undecided`, both objects of the pair leave it undecided with its own number, and its
+-- part has the stage of what follows
 one_passes :
     (h : List ClaimAccess) (s : Stage) (later : List ObjectTurn)
     → part_on 1 0 h ≡ later ++ part_on 1 0 both_undecided
@@ -209,7 +211,7 @@ one_passes h s later is end =
       )),
     ))
 
--- consumer 0 comes first to the last object, and has won
+-- consumer 0 comes first to the last object and wins
 pub last_won : IsClaimPrefixFrom (unary_table 2) 0 last_kinds 0 0 (part_on 0 0 last_decides) Won
 last_won =
     let later : List ObjectTurn =
@@ -223,7 +225,7 @@ last_won =
       is = refl;
     })))
 
--- consumer 1 finds its number, and has lost to it
+-- consumer 1 finds consumer 0's number in the last object, and loses to it
 pub last_lost : IsClaimPrefixFrom (unary_table 2) 1 last_kinds 0 1 (part_on 1 0 last_decides) (Lost 0)
 last_lost =
     let later : List ObjectTurn =
@@ -237,7 +239,7 @@ last_lost =
       is = refl;
     })))
 
--- before the last object the claim of consumer 0 was going on
+-- before its access to the last object the claim of consumer 0 is going
 pub still_going : IsClaimPrefixFrom (unary_table 2) 0 last_kinds 0 0 (part_on 0 0 both_undecided) Going
 still_going =
     zero_passes both_undecided Going [] refl
@@ -252,27 +254,27 @@ still_going =
       is = refl;
     }))
 
--- what consumer c did on cell k in that history belongs to its claim
+-- what consumer c did on cell k in `last_decides` belongs to its claim
 abbrev IsLastPart : ℕ → ℕ → Type 0
 IsLastPart c k = IsClaimPart (two_with false true) c k (part_on c k last_decides)
 
--- it holds of consumer 0
+-- what consumer 0 did on cell 0 belongs to its claim, if there is a last object
 zero_here : IsLastPart 0 0
 zero_here = ((omega arith), (omega arith), (Won, last_won))
 
--- it holds of consumer 1
+-- what consumer 1 did on cell 0 belongs to its claim, if there is a last object
 one_here : IsLastPart 1 0
 one_here = ((omega arith), (omega arith), (Lost 0, last_lost))
 
--- what an exchange finds and stores are words
+-- what the second exchange finds is below 2 ^ 64
 found_word : IsInWords (record { act = Exchange Last 2 1; word = 0 })
 found_word = ((omega arith, tt), (omega arith))
 
--- what the first exchange finds and stores are words
+-- what the first exchange finds and stores is below 2 ^ 64
 put_word : IsInWords (record { act = Exchange Last 1 0; word = 0 })
 put_word = ((omega arith, omega arith), (omega arith))
 
--- it is lawful
+-- `last_decides` is lawful
 pub last_lawful : IsClaimLawful (two_with false true) last_decides
 last_lawful =
     record {
@@ -329,11 +331,11 @@ last_lawful =
       ) some;
     }
 
--- an exchange that found 0 has stored
+-- `last_found_empty_twice` is not lawful: the first exchange has stored, so the second does not find 0
 pub empty_refused : IsClaimLawful (two_with false true) last_found_empty_twice → ⊥
 empty_refused bad = let none : ◌≡◌ {A = ℕ} 0 1 = bad.memory.0 in absurd (omega (arith, none))
 
--- who comes to the last object has passed the pair
+-- `last_comes_first` is not lawful: who comes to the last object has passed the pair
 pub first_refused : IsClaimLawful (two_with false true) last_comes_first → ⊥
 first_refused bad =
     let xs : List ObjectTurn = part_on 0 0 last_comes_first in
@@ -341,7 +343,7 @@ first_refused bad =
     (left_behind (unary_table 2) 0 (Conciliator 2) (Ratifier ∷ LastObject ∷ []) 0 0 2 xs mine.2.0 (omega arith)
     mine.2.1 (λ none. not_empty _ _ none)).path.1
 
--- a row of a pair alone has no third object
+-- without a last object `last_decides` is not lawful: the row has no third object
 pub absent_refused : IsClaimLawful two_consumers last_decides → ⊥
 absent_refused bad =
     let xs : List ObjectTurn = part_on 0 0 last_decides in

@@ -1,4 +1,5 @@
--- The access that a place names may come next.
+-- Where a claim stands: the part with one turn more there, the access that its place names, which may come next, and
+-- the part that goes on.
 use Rattle.std.proofs.Common.{◌≡◌, ◌+◌, ◌<◌, ℕ, suc, Bool, true, false, cond, Some, None, List, [], ◌∷◌, ◌++◌, length}
 use Rattle.std.proofs.Common.{refl, sym, ◌∙◌, ap, ap₂, subst, subst₂, slice_get, inl, inr, append-nil, append_assoc}
 use Rattle.std.proofs.Common.{arith}
@@ -16,7 +17,8 @@ use Rattle.mb_claim.proofs.Turns.{reads_seen}
 use Rattle.mb_claim.proofs.CellFamily.{competes, family}
 use Rattle.mb_claim.proofs.PassedObjects.{Here, family_at}
 
--- a part of the objects after those passed
+-- ---- a part from the object on which a claim stands
+-- whole paths through the objects before, and then a part of the objects after, are a part of all
 pub passed_then :
     (t : QuorumTable) (c : ℕ) (before after : List Kind) (o v w : ℕ) (front ys : List ObjectTurn) (s : Stage)
     → PassesAll t before o v front w → IsClaimPrefixFrom t c after (o + length before) w ys s
@@ -38,7 +40,7 @@ passed_then t c (k ∷ ks) after o v w front ys s (u, rest, x, p) q =
 
 module _ (t : QuorumTable) (kinds : List Kind) (c object : ℕ) (pc : Pc) (xs : List ObjectTurn)
     (p : StandsAt t kinds c object pc xs) where
-  -- a part from the claim's object on, after those passed
+  -- a part from the claim's object on, after the objects passed, is a part of all objects
   from_here : (ys : List ObjectTurn) (s : Stage) → IsClaimPrefixFrom t c (p.kind ∷ p.after) object p.input ys s
       → IsClaimPrefixFrom t c kinds 0 c (ys ++ p.front) s
   from_here ys s q =
@@ -51,11 +53,11 @@ module _ (t : QuorumTable) (kinds : List Kind) (c object : ℕ) (pc : Pc) (xs : 
     abbrev longer : List ObjectTurn
     longer = record { object = object; turn = x } ∷ xs
 
-    -- the claim's turns are those on this object, and those before
+    -- the longer turns are those on this object with one more, and those before
     pub longer_is : longer ≡ turns_on object (x ∷ p.turns) ++ p.front
     longer_is = ap (λ zs. record { object = object; turn = x } ∷ zs) p.all
 
-    -- a part with one more turn on this object
+    -- if the turns on this object with one more are a part from here on, the longer turns are a part of all objects
     then_here : (s : Stage) → IsClaimPrefixFrom t c (p.kind ∷ p.after) object p.input (turns_on object (x ∷ p.turns)) s
         → IsClaimPrefixFrom t c kinds 0 c longer s
     then_here s q = subst (λ zs. IsClaimPrefixFrom t c kinds 0 c zs s) (sym longer_is)
@@ -75,7 +77,7 @@ module _ (t : QuorumTable) (kinds : List Kind) (c object : ℕ) (pc : Pc) (xs : 
     undecided_then u s path behind =
         then_here s (inr (inr (u, [], record { turns = x ∷ p.turns; all = refl; path = path }, behind)))
 
-    -- if it does not decide, and is the last one, the claim is undecided
+    -- if the object does not decide and is the last one, the claim is undecided
     pub undecided_here :
         (u : ℕ) → IsPath t p.kind p.input (x ∷ p.turns) (answer false u) → p.after ≡ []
         → IsClaimPrefixFrom t c kinds 0 c longer Undecided
@@ -83,7 +85,7 @@ module _ (t : QuorumTable) (kinds : List Kind) (c object : ℕ) (pc : Pc) (xs : 
         undecided_then u Undecided path
         (subst (λ ks. IsClaimPrefixFrom t c ks (suc object) u [] Undecided) (sym last) (refl, refl))
 
-    -- if it does not decide, and another comes after it, the claim goes on
+    -- if the object does not decide and another comes after it, the claim is going
     passed_here :
         AreDeciding t → (k : Kind) (ks : List Kind) → p.after ≡ k ∷ ks
         → (u : ℕ) → IsPath t p.kind p.input (x ∷ p.turns) (answer false u) → u < t.values
@@ -102,7 +104,7 @@ module _ (t : QuorumTable) (kinds : List Kind) (c object : ℕ) (pc : Pc) (xs : 
     ended law [] e false u path l = (Undecided, undecided_here u path e)
     ended law (k ∷ ks) e false u path l = (Going, passed_here law k ks e u path l)
 
-    -- if a turn goes on with the object's path, the claim's part goes on with it
+    -- if the turn goes on along a path of the object, the longer turns are a part of all objects
     pub goes_on :
         AreDeciding t
         → ((u : ℕ) (d : Bool) → IsPath t p.kind p.input (x ∷ p.turns) (answer d u) → u < t.values)
@@ -119,7 +121,8 @@ module _ (t : QuorumTable) (kinds : List Kind) (c object : ℕ) (pc : Pc) (xs : 
       })),
     )
 
--- the laws of one step of an object
+-- ---- the access that a place names may come next
+-- the objects over a table keep the laws of one step
 pub record AreStepping (t : QuorumTable) : Type 0 where
   pub steps :
       (kind : Kind) (inputs : ℕ → ℕ) (h : List Access) (p : ℕ) (pc : Pc) (op : Op) (word : ℕ)
@@ -141,13 +144,13 @@ module _ (t : QuorumTable) (law : AreDeciding t) (stepping : AreStepping t) (kin
     (c o w : ℕ) (turns : List Turn) (at : Here t kind hs c o w turns)
     (pc : Pc) (op : Op) (word : ℕ) (small : IsInWords (turn_after op word (hs o))) (place : PcIsAt t kind w pc turns)
     (is : IsOpAt t pc op) where
-  -- the turn goes on with the path of its process
+  -- the turn goes on along a path of its process
   own_step : IsPrefix t kind (at.inputs c) (turn_after op word (hs o) ∷ part c (hs o))
   own_step =
       stepping.steps kind at.inputs (hs o) c pc op word at.lawful
       (subst₂ (λ v ts. PcIsAt t kind v pc ts) (sym at.own) (sym at.same) place) is
 
-  -- the turn goes on with the claim's path on this object
+  -- the turn goes on along the claim's path on this object
   pub part_here : IsPrefix t kind w (turn_after op word (hs o) ∷ turns)
   part_here = subst₂ (λ v ts. IsPrefix t kind v (turn_after op word (hs o) ∷ ts)) at.own at.same own_step
 
@@ -169,7 +172,7 @@ module _ (t : QuorumTable) (law : AreDeciding t) (stepping : AreStepping t) (kin
       let from = (law kind at.inputs).validity (record { process = c; turn = turn } ∷ hs o) then c d u output in
       subst (λ n. n < t.values) from.2 (then.parts from.0 from.1).0
 
--- the object on which a claim stands, in a lawful history
+-- in a lawful history the object on which a claim stands has a lawful history
 stands_here :
     (cs : Claims) → AreDeciding cs.table → (h : List ClaimAccess) (c k object : ℕ) (pc : Pc)
     → IsClaimLawful cs h → (p : HasPlace cs c k object pc h)
@@ -203,7 +206,7 @@ may_follow cs law stepping h c k object pc op word lawful cell p is words =
           (part_here cs.table law stepping p.1.kind hs c object p.1.input p.1.turns at pc op word words p.1.place is);
     }
 
--- that access finds a value with which the place can go on
+-- the access that a claim's place names finds a value with which the place can go on
 pub finds_there :
     (cs : Claims) → AreDeciding cs.table → AreStepping cs.table
     → (h : List ClaimAccess) (c k object : ℕ) (pc : Pc) (op : Op)
@@ -214,7 +217,8 @@ finds_there cs law stepping h c k object pc op lawful p is =
     stepping.finds p.1.kind at.inputs (object_history k object h) c pc op at.lawful
     (subst₂ (λ v ts. PcIsAt cs.table p.1.kind v pc ts) (sym at.own) (sym at.same) p.1.place) is
 
--- the object on which a claim stands is one of the layout's
+-- ---- a claim that stands at a place is going
+-- the object on which a claim stands is one of the row's
 pub stands_on :
     (t : QuorumTable) (kinds : List Kind) (c object : ℕ) (pc : Pc) (xs : List ObjectTurn)
     (p : StandsAt t kinds c object pc xs)
@@ -228,7 +232,7 @@ open_by :
 open_by t kind v turns not ([], out, path) = absurd (not out path)
 open_by t kind v turns not (x ∷ more, out, path) = (x ∷ more, not_empty x more, (out, path))
 
--- what a claim at a place has made is a part that goes on
+-- the turns of a claim at a place are a part that is going
 pub stands_part :
     (t : QuorumTable) (kinds : List Kind) (c object : ℕ) (pc : Pc) (xs : List ObjectTurn)
     (p : StandsAt t kinds c object pc xs)

@@ -1,4 +1,5 @@
--- One access of a claim, made on words that a history leaves.
+-- One access of a claim, made on words that a history leaves. Also the words of the empty history, and words that are
+-- not the claims'.
 use Rattle.std.proofs.Common.{◌≡◌, ◌<◌, ◌≤◌, ◌⊎◌, ℕ, List, [], ◌∷◌, length, refl, sym, ◌∙◌, ap, ap₂, subst, subst₂, inl}
 use Rattle.std.proofs.Common.{inr, slice_index, slice_set, set, get_or-set_other, get_or-set_same, length-set, arith}
 use Rattle.std.proofs.lemmas.Bool.{cases_eq}
@@ -19,11 +20,11 @@ module _
   abbrev address : ℕ
   address = address_in cs k object (reg_of op)
 
-  -- what is found there
+  -- the value found at that address
   abbrev found : ℕ
   found = found_in cs k object op words
 
-  -- the access
+  -- the access, by what it finds in the words
   abbrev access : ClaimAccess
   access = access_in cs c k object op word words
 
@@ -33,11 +34,11 @@ module _
       let a = within cs.table.registers cs.kinds cs.cells k object (reg_of op) place cell in
       let b = memory.room in omega arith
 
-  -- what is found is what the history leaves in the word
+  -- the value found is the one that the history leaves in the word
   seen : found ≡ left_at k object (reg_of op) h
   seen = memory.left k object (reg_of op) cell place
 
-  -- so the access is the one that the op makes after the history
+  -- the access made on the words is the one that the op makes after the history
   pub same_access : access_after c k object op word h ≡ access
   same_access =
       ap (λ x. record {
@@ -47,12 +48,12 @@ module _
       })
       (same_act op found (object_history k object h) seen)
 
-  -- if the access may follow, it adds to the history
+  -- if the access may follow, it adds one step to the history
   pub access_adds : MayFollow cs (access_after c k object op word h) h → Adds cs access h
   access_adds may = adds cs h access memory.lawful (subst (λ a. MayFollow cs a h) same_access may)
 
   module _ (added : Adds cs access h) where
-    -- each word has what is left in it
+    -- after the access each word has what the longer history leaves in it, by whether it is the word of the access
     left_by :
         (j o : ℕ) (q : Reg) → IsWordIn cs o q → j < cs.cells
         → (address ≡ address_in cs j o q) ⊎ (address ≡ address_in cs j o q → ⊥)
@@ -74,7 +75,7 @@ module _
         ∙ other_place k object found (left_at j o q h) op j o q
         (λ a b e. ne (ap₂ (λ x y. address_in cs x y (reg_of op)) a b ∙ ap (address_in cs j o) e)))
 
-    -- the words are those that the longer history leaves
+    -- after the access the words are those that the longer history leaves
     pub memory_after : IsMemoryOf cs (words_after cs k object op words) (access ∷ h)
     memory_after =
         record {
@@ -89,7 +90,7 @@ module _
   module _
       (law : AreDeciding cs.table) (stepping : AreStepping cs.table) (pc : Pc) (stands : HasPlace cs c k object pc h)
       (is : IsOpAt cs.table pc op) where
-    -- the words after the access of a claim at its place
+    -- after the access of a claim at its place the words are those that the longer history leaves
     pub memory_step : IsInWords access.step.turn → IsMemoryOf cs (words_after cs k object op words) (access ∷ h)
     memory_step small =
         memory_after (access_adds (may_follow cs law stepping h c k object pc op word memory.lawful cell stands is
@@ -101,6 +102,7 @@ module _
         same_find cs.table pc op found (object_history k object h) is seen
         (finds_there cs law stepping h c k object pc op memory.lawful stands is)
 
+-- ---- the words of the empty history, and words after those of the cells
 -- words that are all 0 are those of the empty history
 pub memory_empty :
     (cs : Claims) (words : List ℕ) → words_in cs ≤ length words → ((i : ℕ) → slice_index words i ≡ 0)
@@ -112,7 +114,7 @@ memory_empty cs words room zeros =
       left = λ k o reg cell place. zeros (address_in cs k o reg);
     }
 
--- a word after those of the cells is none of the claims'
+-- a word after those of the cells may be stored to: the others are still those that the history leaves
 pub memory_beyond :
     (cs : Claims) (at n : ℕ) (words : List ℕ) (h : List ClaimAccess) → words_in cs ≤ at → IsMemoryOf cs words h
     → IsMemoryOf cs (slice_set words at n) h

@@ -7,7 +7,7 @@ use Rattle.mb_deciding.specs.Vocabulary.{turns_left, most_turns}
 use Rattle.mb_claim.specs.{Kind, Claim, Layout, Stage, Going, Won, Lost, Undecided, quorums_of, kinds_of}
 use Rattle.mb_claim.specs.{most_on_objects, steps_left, steps_left_at}
 
--- the objects from one on allow what it allows and what those after it allow
+-- the objects from object o on allow what object o allows and what those after it allow
 pub most_from :
     (t : QuorumTable) (kinds : List Kind) (o : ℕ) (kind : Kind) → slice_get kinds o ≡ Some kind
     → most_on_objects t (drop o kinds) ≡ most_turns t kind + most_on_objects t (drop (suc o) kinds)
@@ -15,7 +15,8 @@ most_from t [] o kind e = absurd (none-some kind e)
 most_from t (k ∷ ks) zero kind e = ap (λ j. most_turns t j + most_on_objects t ks) (same_Some k kind e)
 most_from t (k ∷ ks) (suc o) kind e = most_from t ks o kind e
 
--- the stages at an end
+-- ---- how many accesses are left, by the stage
+-- a claim that is won has ended
 pub won_ended : Won ≢ Going
 won_ended e = cc
 
@@ -23,7 +24,7 @@ won_ended e = cc
 pub lost_ended : (winner : ℕ) → Lost winner ≢ Going
 lost_ended winner e = cc
 
--- no access is left there
+-- no access is left to a claim that has ended
 pub ended_left : (layout : Layout) (claim : Claim) (s : Stage) → claim.stage ≡ s → s ≢ Going
     → steps_left layout claim ≡ 0
 ended_left layout claim Going e ended = absurd (ended refl)
@@ -31,14 +32,15 @@ ended_left layout claim Won e ended = ap (λ s. steps_left_at layout s claim.obj
 ended_left layout claim (Lost winner) e ended = ap (λ s. steps_left_at layout s claim.object claim.place) e
 ended_left layout claim Undecided e ended = ap (λ s. steps_left_at layout s claim.object claim.place) e
 
--- what is left to a claim that is going is by its object and place
+-- the accesses left to a claim that is going are those of its object and place
 pub going_left :
     (layout : Layout) (claim : Claim) → claim.stage ≡ Going
     → steps_left layout claim ≡ steps_left_at layout Going claim.object claim.place
 going_left layout claim e = ap (λ s. steps_left_at layout s claim.object claim.place) e
 
+-- ---- fewer accesses are left after one
 module _ (layout : Layout) (old now : Claim) (going : old.stage ≡ Going) where
-  -- the claim goes on with its object
+  -- fewer accesses are left if the claim stays on its object, at a place with fewer turns left
   pub fewer_here :
       now.stage ≡ Going → now.object ≡ old.object
       → turns_left (quorums_of layout) now.place < turns_left (quorums_of layout) old.place
@@ -47,12 +49,12 @@ module _ (layout : Layout) (old now : Claim) (going : old.stage ≡ Going) where
       let behind = ap (λ o. most_on_objects (quorums_of layout) (drop (suc o) (kinds_of layout))) same in
       omega (arith, going_left layout old going, going_left layout now goes, behind, fewer)
 
-  -- the claim has come to an end
+  -- fewer accesses are left if the claim has ended
   pub fewer_ended :
       now.stage ≢ Going → 0 < turns_left (quorums_of layout) old.place → steps_left layout now < steps_left layout old
   fewer_ended ended some = omega (arith, going_left layout old going, ended_left layout now now.stage refl ended, some)
 
-  -- the claim has passed to the next object, if there is one
+  -- fewer accesses are left if the claim has passed to the next object or, if there is none, is undecided
   pub fewer_passed :
       0 < turns_left (quorums_of layout) old.place
       → (next : Option Kind) → slice_get (kinds_of layout) (old.object + 1) ≡ next
@@ -62,6 +64,7 @@ module _ (layout : Layout) (old now : Claim) (going : old.stage ≡ Going) where
       → steps_left layout now < steps_left layout old
   fewer_passed some None is passed = fewer_ended (λ g. undecided_going (sym passed ∙ g)) some
     where
+      -- an undecided claim is not going
       undecided_going : Undecided ≡ Going → ⊥
       undecided_going e = cc
   fewer_passed some (Some kind) is passed =

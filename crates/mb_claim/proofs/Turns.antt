@@ -1,4 +1,4 @@
--- Turns, and the acts that they make.
+-- Turns and their acts, and what an act loads after a history.
 use Rattle.std.proofs.Common.{◌≡◌, ◌≢◌, ℕ, List, [], ◌∷◌, ◌++◌, map, refl, sym, ap, subst}
 use Rattle.std.proofs.lemmas.List.{map-append}
 use Rattle.mb_quorum.specs.Vocabulary.{QuorumTable}
@@ -7,7 +7,7 @@ use Rattle.mb_deciding.specs.Vocabulary.{ReadsLast, acts, Has, CanFind, act_of, 
 use Rattle.mb_claim.specs.{Access, Act, Op, Pc, Turn}
 use Rattle.mb_claim.proofs.Lists.{not_empty}
 
--- the acts of two lists of turns
+-- the acts of two lists of turns joined are those of both, joined
 pub acts-append : (xs ys : List Turn) → acts (xs ++ ys) ≡ acts xs ++ acts ys
 acts-append xs ys = map-append (λ (turn : Turn). turn.act) xs ys
 
@@ -15,7 +15,7 @@ acts-append xs ys = map-append (λ (turn : Turn). turn.act) xs ys
 pub turns_for : List Act → List Turn
 turns_for xs = map (λ x. record { act = x; word = 0 }) xs
 
--- they have these acts
+-- the acts of turns made for a list of acts are that list
 pub acts-turns_for : (xs : List Act) → acts (turns_for xs) ≡ xs
 unfolding turns_for
 acts-turns_for [] = refl
@@ -30,7 +30,7 @@ has_some (x ∷ xs) act has e = not_empty x xs e
 pub has_turns : (turns : List Turn) (act : Act) → Has (acts turns) act → turns ≢ []
 has_turns turns act has e = has_some (acts turns) act has (ap acts e)
 
--- a load of what a history leaves is true to memory
+-- an op that finds what a history leaves in its word is true to memory
 pub reads_seen : (op : Op) (h : List Access) → ReadsLast (act_of op (seen_by op h)) h
 reads_seen (to.Load reg) h = refl
 reads_seen (to.Store reg value) h = tt

@@ -1,4 +1,4 @@
--- A part has one stage.
+-- A part has one stage, and an object is used once.
 use Rattle.std.proofs.Common.{◌≡◌, ◌⊎◌, append_assoc, ℕ, suc, true, false, List, [], ◌∷◌, ◌++◌, refl, sym, ◌∙◌, ap}
 use Rattle.std.proofs.Common.{subst, subst₂, inl, inr}
 use Rattle.std.proofs.lemmas.Bool.{true≢false}
@@ -13,17 +13,17 @@ use Rattle.mb_claim.proofs.Lists.{append_nil_parts, append_nil_rest}
 use Rattle.mb_claim.proofs.Parts.{turns_at-turns_on, passed_turns}
 
 module _ (t : QuorumTable) (k : Kind) (law : OfKind t k) (v : ℕ) where
-  -- what goes on is no whole path
+  -- turns that go on are no whole path
   pub open_closed : (xs ys : List Turn) (out : Out) → xs ≡ ys → IsOpen t k v xs → IsPath t k v ys out → ⊥
   open_closed xs ys out e g p =
       g.1 ((law (λ p. p)).unique v xs g.0 out g.2.0 (subst (λ zs. IsPath t k v zs out) (sym e) p) g.2.1).0
 
-  -- one path has one output
+  -- a whole path has one output
   pub same_out : (xs ys : List Turn) (a b : Out) → xs ≡ ys → IsPath t k v xs a → IsPath t k v ys b → a ≡ b
   same_out xs ys a b e p q =
       ((law (λ p. p)).unique v xs [] a b p (subst (λ zs. IsPath t k v zs b) (sym e) q)).1
 
--- a part that went to one object has its turns there
+-- the turns of a part that went to object o alone are its turns on that object
 pub only :
     (t : QuorumTable) (k : Kind) (o v : ℕ) (xs : List ObjectTurn) (ts : List Turn) → xs ≡ turns_on o ts
     → ts ≡ turns_at o xs
@@ -31,11 +31,11 @@ only t k o v xs ts e = sym (turns_at-turns_on o ts) ∙ ap (turns_at o) (sym e)
 
 module _ (t : QuorumTable) (k : Kind) (law : OfKind t k) (c o v : ℕ) (xs : List ObjectTurn) (s : Stage)
     (ys : List Turn) (out : Out) (here : ys ≡ turns_at o xs) (path : IsPath t k v ys out) where
-  -- a part that goes on within its first object has no whole path there
+  -- a part with a whole path on its first object does not go on within that object
   pub not_ended : GoesOnIn t k o v xs s → ⊥
   not_ended x = open_closed t k law v x.turns ys out (only t k o v xs x.turns x.all ∙ sym here) x.going path
 
-  -- a part whose first object decided has no other output there
+  -- a part whose first object decided has the decided output there
   pub decided_as : (x : DecidesIn t c k o v xs s) → answer true x.value ≡ out
   decided_as x =
       same_out t k law v x.turns ys (answer true x.value) out (only t k o v xs x.turns x.all ∙ sym here) x.path path

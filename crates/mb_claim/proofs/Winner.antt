@@ -14,14 +14,15 @@ use Rattle.mb_claim.proofs.CellFamily.{start, competes, family}
 use Rattle.mb_claim.proofs.Agreeing.{winner_holds, agree}
 use Rattle.mb_claim.proofs.Contest.{Shown, Contest, contention}
 
--- the number of which a stage says that it was lost to
+-- ---- who has lost names another consumer
+-- the winner to whom a stage says that the claim was lost, or 0
 abbrev lost_to : Stage → ℕ
 lost_to Going = 0
 lost_to Won = 0
 lost_to (Lost u) = u
 lost_to Undecided = 0
 
--- a decided value that makes the loser is not its own number
+-- if consumer c has lost to w because u was decided, w is not c
 lost_by : (c u w : ℕ) (b : Bool) → eqb c u ≡ b → Lost w ≡ cond b Won (Lost u) → w ≢ c
 lost_by c u w true e is same = let h : Lost w ≡ Won = is in cc
 lost_by c u w false e is same =
@@ -36,9 +37,10 @@ lost_other t c (k ∷ ks) o v xs w (inl x) same = let h : Lost w ≡ Going = x.i
 lost_other t c (k ∷ ks) o v xs w (inr (inl x)) same = lost_by c x.value w (eqb c x.value) refl x.is same
 lost_other t c (k ∷ ks) o v xs w (inr (inr (u, rest, x, p))) same = lost_other t c ks (suc o) u rest w p same
 
+-- ---- the claims on cell k have one winner
 module _ (cs : Claims) (h : List ClaimAccess) (k : ℕ) (law : AreDeciding cs.table)
     (ratifying : AreRatifying cs.table) (lawful : IsClaimLawful cs h) where
-  -- the winner that a stage names is the one that the consumer's stage names
+  -- the winner that a stage of consumer c names is the one that its stage in the family names
   named :
       (c u : ℕ) (s : Stage) → HasStage cs c k s h → StageNames c s u
       → StageNames c (start cs h k law lawful c).stage u
@@ -48,7 +50,7 @@ module _ (cs : Claims) (h : List ClaimAccess) (k : ℕ) (law : AreDeciding cs.ta
   abbrev E : ℕ → ℕ → ℕ → Type 0
   E c n w = Enters cs.table cs.kinds 0 c (part_on c k h) n w
 
-  -- two values were shown in a ratifier
+  -- if a claim is undecided, two processes have announced different values to each ratifier of the row
   contest :
       (c o : ℕ) → HasStage cs c k Undecided h → slice_get cs.kinds o ≡ Some Ratifier
       → Contest cs.table (λ n. object_history k n h) E o
@@ -58,17 +60,17 @@ module _ (cs : Claims) (h : List ClaimAccess) (k : ℕ) (law : AreDeciding cs.ta
       (family cs h k law lawful) (λ d n w ne e. e) c o
       ((start cs h k law lawful c).is Undecided q) r)
 
-  -- what was shown was announced
+  -- a value that a process has shown was announced to the object
   shown_announced : (o u : ℕ) → Shown cs.table (λ n. object_history k n h) E o u → IsClaimAnnounced cs k o u h
   shown_announced o u x = (x.process, x.register, x.enters, x.member, x.stored)
 
-  -- who has shown a value has an access
+  -- a process that has shown a value has an access to the cell
   some_part : (o u : ℕ) (x : Shown cs.table (λ n. object_history k n h) E o u) → part_on x.process k h ≢ []
   some_part o u x e =
       has_turns (part x.process (object_history k o h)) _ x.stored
       (part-object_history x.process k o h ∙ ap (turns_at o) e)
 
-  -- one of two who have shown values is not this consumer
+  -- of two processes that have shown different values one is not consumer c
   company_by :
       (c o : ℕ) (x : Contest cs.table (λ n. object_history k n h) E o) → (x.one.process ≡ c) ⊎ (x.one.process ≡ c → ⊥)
       → (d : ℕ) × (d ≢ c) × (part_on d k h ≢ [])

@@ -1,4 +1,4 @@
--- What an op leaves in the words.
+-- What an op finds in its word, and what it leaves in that word and in others.
 use Rattle.std.proofs.Common.{◌≡◌, ℕ, Bool, true, false, cond, eqb, Option, Some, None, List, refl, sym, subst, ◌∙◌, ap}
 use Rattle.std.proofs.Common.{ap₂, ⊎_elim}
 use Rattle.std.proofs.lemmas.Bool.{eq-eqb, eqb-true, cases_Bool, false≢true}
@@ -11,14 +11,14 @@ use Rattle.mb_claim.specs.{Reg, Access, Op, Pc, Value, Proposal, Quorum, Last, L
 use Rattle.mb_claim.specs.{Exchange as Exchanged}
 use Rattle.mb_claim.specs.{after_op}
 
--- a name of a word is itself
+-- a name of a word is the same as itself
 same_reg-refl : (p : Reg) → is_same_reg p p ≡ true
 same_reg-refl Value = refl
 same_reg-refl Proposal = refl
 same_reg-refl (Quorum i) = eq-eqb i i refl
 same_reg-refl Last = refl
 
--- names that are one are equal
+-- names of words that are the same by the test are equal
 same_reg-true : (p q : Reg) → is_same_reg p q ≡ true → p ≡ q
 same_reg-true Value Value e = refl
 same_reg-true Proposal Proposal e = refl
@@ -43,31 +43,31 @@ reg_of-act_of (to.Load q) s = refl
 reg_of-act_of (to.Store q m) s = refl
 reg_of-act_of (to.Exchange q m) s = refl
 
--- what is stored stays if the word is the same
+-- an act to this word leaves what it stores, if it stores
 stored_here : (b : Bool) (stored : Option ℕ) (n : ℕ) → b ≡ true
     → option_map_or (λ value. cond b value n) stored n ≡ option_map_or (λ value. value) stored n
 stored_here b None n e = refl
 stored_here b (Some m) n e = ap (λ a. cond a m n) e
 
--- what is stored in another word changes nothing
+-- an act to another word leaves what was there
 stored_there : (b : Bool) (stored : Option ℕ) (n : ℕ) → b ≡ false
     → option_map_or (λ value. cond b value n) stored n ≡ n
 stored_there b None n e = refl
 stored_there b (Some m) n e = ap (λ a. cond a m n) e
 
--- what an op that finds n leaves in its word
+-- in its word an op that finds n leaves `after_op op n`
 own_word : (op : Op) (n : ℕ) → value_after (reg_of op) (act_of op n) n ≡ after_op op n
 own_word op n =
     stored_here (is_same_reg (reg_of_act (act_of op n)) (reg_of op)) (stored_by (act_of op n)) n
     (ap (λ p. is_same_reg p (reg_of op)) (reg_of-act_of op n) ∙ same_reg-refl (reg_of op))
 
--- what it leaves in another word
+-- in another word an op leaves what was there
 other_word : (op : Op) (s n : ℕ) (q : Reg) → is_same_reg (reg_of op) q ≡ false → value_after q (act_of op s) n ≡ n
 other_word op s n q e =
     stored_there (is_same_reg (reg_of_act (act_of op s)) q) (stored_by (act_of op s)) n
     (ap (λ p. is_same_reg p q) (reg_of-act_of op s) ∙ e)
 
--- what an op that finds n leaves in its word, at its cell and object
+-- in its word, on its cell and object, an op that finds n leaves `after_op op n`
 pub own_place :
     (k o s n : ℕ) (op : Op) → s ≡ n
     → cond (eqb k k) (cond (eqb o o) (value_after (reg_of op) (act_of op s) n) n) n ≡ after_op op n
@@ -75,13 +75,13 @@ own_place k o s n op e =
     ap₂ (λ a b. cond a (cond b (value_after (reg_of op) (act_of op s) n) n) n) (eq-eqb k k refl) (eq-eqb o o refl)
     ∙ (ap (λ m. value_after (reg_of op) (act_of op m) n) e ∙ own_word op n)
 
--- a value that stays if both tests pass stays
+-- a value that is n whenever both tests pass is n
 same_at : (a b : Bool) (x n : ℕ) → (a ≡ true → b ≡ true → x ≡ n) → cond a (cond b x n) n ≡ n
 same_at true true x n h = h refl refl
 same_at true false x n h = refl
 same_at false b x n h = refl
 
--- what it leaves in a word at another place
+-- in a word of another cell, object or name an op leaves what was there
 pub other_place :
     (k o s n : ℕ) (op : Op) (j m : ℕ) (q : Reg) → (k ≡ j → o ≡ m → reg_of op ≡ q → ⊥)
     → cond (eqb k j) (cond (eqb o m) (value_after q (act_of op s) n) n) n ≡ n
@@ -91,13 +91,13 @@ other_place k o s n op j m q ne =
     (λ t. absurd (ne (eqb-true k j a) (eqb-true o m b) (same_reg-true (reg_of op) q t))) (λ f. f)
     (cases_Bool (is_same_reg (reg_of op) q))))
 
--- an op makes the same act if it finds the same
+-- an op that finds what the history leaves makes the same act on the words as after the history
 pub same_act : (op : Op) (n : ℕ) (h : List Access) → n ≡ value_in (reg_of op) h → act_of op (seen_by op h) ≡ act_of op n
 same_act (to.Load q) n h e = ap (λ m. Loaded q m) (sym e)
 same_act (to.Store q m) n h e = refl
 same_act (to.Exchange q m) n h e = ap (λ k. Exchanged q m k) (sym e)
 
--- what an op may find in its word does not hang on how the word is named
+-- an op that finds what the history leaves finds what it may find, if it does so after the history
 pub same_find :
     (t : QuorumTable) (pc : Pc) (op : Op) (n : ℕ) (h : List Access) → IsOpAt t pc op → n ≡ value_in (reg_of op) h
     → CanFind t pc op (seen_by op h) → CanFind t pc op n

@@ -13,14 +13,15 @@ pub record BoardState : Type 0 where
   pub claims : List Claim
   pub entries : List ClaimEntry
 
--- a run after these steps
+-- the board is that of a run after these steps
 pub record IsBoard (layout : Layout) (steps : List (ℕ × ℕ)) (board : BoardState) : Type 0 where
-  -- the entries are those of the steps
+  -- the entries fit the steps
   pub fits : AreEntriesOf (claims_in layout 1) steps board.entries []
-  -- their accesses are one lawful history, which leaves the words
+  -- the accesses of the entries are one lawful history, which leaves the words
   pub memory : IsMemoryOf (claims_in layout 1) board.words (history_of steps board.entries)
   -- each consumer has a claim
   pub consumers : length board.claims ≡ consumer_count layout
+  -- the claim at place c is consumer c's
   pub own : (c : ℕ) (d : Claim) → c < length board.claims
       → consumer_of (slice_index_or board.claims c d) ≡ c
   -- the claim of a consumer has made the consumer's part

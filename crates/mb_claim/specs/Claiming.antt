@@ -7,13 +7,13 @@ use Rattle.mb_claim.specs.Types.{ClaimAccess, ObjectTurn, Stage}
 use Rattle.mb_claim.specs.History.{part_on, object_history, left_at, IsMemoryTrue, AreInWords}
 use Rattle.mb_claim.specs.Paths.{IsClaimPrefix}
 
--- what consumer c did on cell k belongs to a claim: c is a consumer, k is a cell of the claims, and the steps are a
--- prefix of c's claim path
+-- these steps of consumer c on cell k belong to a claim: c is a consumer and k a cell of the claims, and the steps are
+-- a prefix of c's claim path
 abbrev pub IsClaimPart : Claims → ℕ → ℕ → List ObjectTurn → Type 0
 IsClaimPart cs c k xs = (c < cs.table.values) × (k < cs.cells) × ((s : Stage)
     × IsClaimPrefix cs c xs s)
 
--- A lawful history of claims. Each load is true to memory. Values and random words are words of 64 bits. What a
+-- The history of claims is lawful. Each load is true to memory. Values and random words are below 2 ^ 64. What a
 -- consumer did on a cell is a prefix of its claim path there, with its own number as first input. There are no
 -- consumers and cells but those of the claims: the consumers are the values of the quorum table.
 pub record IsClaimLawful (cs : Claims) (h : List ClaimAccess) : Type 0 where
@@ -28,26 +28,26 @@ pub record IsClaimLawful (cs : Claims) (h : List ClaimAccess) : Type 0 where
 abbrev pub HasStage : Claims → ℕ → ℕ → Stage → List ClaimAccess → Type 0
 HasStage cs c k s h = (c < cs.table.values) × IsClaimPrefix cs c (part_on c k h) s
 
--- an access that may come next. It is of a consumer and a cell of the claims. A load gives what the history leaves in
--- its word. The consumer's part goes on along a claim path
+-- the access may come next in the history. It is of a consumer and a cell of the claims. A load finds what the history
+-- leaves in its word. The consumer's part goes on along a claim path
 pub record MayFollow (cs : Claims) (a : ClaimAccess) (h : List ClaimAccess) : Type 0 where
-  -- it is of one of the consumers
+  -- the access is of one of the consumers
   pub consumer : a.consumer < cs.table.values
-  -- it is on one of the cells
+  -- the access is on one of the cells
   pub cell : a.cell < cs.cells
-  -- its value and its random word are below 2 ^ 64
+  -- the access's value and random word are below 2 ^ 64
   pub words : IsInWords a.step.turn
   -- a load has what the history leaves in its word
   pub reads : ReadsLast a.step.turn.act (object_history a.cell a.step.object h)
-  -- with it, the consumer's part on the cell is a prefix of its claim path
+  -- with the access, the consumer's part on the cell is a prefix of its claim path
   pub prefix : (s : Stage) × IsClaimPrefix cs a.consumer (a.step ∷ part_on a.consumer a.cell h) s
 
--- what a word of object o of cell k that held n holds after an access
+-- what a word of object o of cell k holds after an access, if it held n before
 abbrev pub left_after : ℕ → ℕ → Reg → ClaimAccess → ℕ → ℕ
 left_after k o reg a n =
     if a.cell == k then (if a.step.object == o then value_after reg a.step.turn.act n else n) else n
 
--- what an access adds to a history: one step to one part, and at most one word
+-- the access adds one step to one part of the history, and changes at most one word
 pub record Adds (cs : Claims) (a : ClaimAccess) (h : List ClaimAccess) : Type 0 where
   -- the longer history is lawful
   pub lawful : IsClaimLawful cs (a ∷ h)

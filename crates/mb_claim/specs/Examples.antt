@@ -18,6 +18,7 @@ abbrev pub access_at : ℕ → ℕ → Act → ClaimAccess
 access_at c o act =
     record { consumer = c; cell = 0; step = record { object = o; turn = record { act = act; word = 0 } } }
 
+-- ---- histories that are lawful
 -- consumer 0 comes alone, and wins
 abbrev pub won_alone : List ClaimAccess
 won_alone =
@@ -25,7 +26,7 @@ won_alone =
     ∷ access_at 0 1 (Store (Quorum 0) 1)
     ∷ access_at 0 0 (Load Value 1) ∷ access_at 0 0 (Store Value 1) ∷ access_at 0 0 (Load Value 0) ∷ []
 
--- after that consumer 1 comes, and loses
+-- consumer 0 has won alone. Then consumer 1 comes, and loses
 abbrev pub won_and_lost : List ClaimAccess
 won_and_lost =
     access_at 1 1 (Load (Quorum 1) 0) ∷ access_at 1 1 (Load Proposal 1) ∷ access_at 1 1 (Store
@@ -75,7 +76,7 @@ step = (0, 0)
 abbrev pub eight_steps : List (ℕ × ℕ)
 eight_steps = step ∷ step ∷ step ∷ step ∷ step ∷ step ∷ step ∷ step ∷ []
 
--- the entries of `won_alone`, and this one
+-- the entries of the accesses of `won_alone`, in the order of time, and then this entry
 abbrev pub won_and : ClaimEntry → List ClaimEntry
 won_and e =
     entry.Access 0 0 (Load Value 0) ∷ entry.Access 0 0 (Store Value 1) ∷ entry.Access 0 0

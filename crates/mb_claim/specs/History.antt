@@ -1,13 +1,13 @@
 -- Histories of claims over many cells: lists of accesses, the newest first. An access is what one consumer did to one
 -- word of one object of one cell. Without the consumer and the cell it is a step: the object's number and the turn.
--- Without the object, too, it is a turn. A part, or the history of one object, has the accesses of that part or object
--- in the order of the history.
+-- Without the object, too, it is a turn. A part, or the history of one object, has its accesses in the order of the
+-- history.
 use Rattle.std.specs.Prelude.{ℕ, ◌==◌, if◌then◌else◌, Option, Some, None, List, [], ◌∷◌, filter_map}
 use Rattle.mb_deciding.specs.Vocabulary.{value_in, ReadsLast, IsInWords, part as object_part}
 use Rattle.mb_claim.specs.ObjectTypes.{Reg, Access, Turn}
 use Rattle.mb_claim.specs.Types.{ObjectTurn, ClaimAccess}
 
--- the step, if consumer c made it on cell k
+-- the step of the access, if consumer c made it on cell k
 abbrev pub step_by : ℕ → ℕ → ClaimAccess → Option ObjectTurn
 step_by c k a = if a.consumer == c then (if a.cell == k then Some a.step else None) else None
 
@@ -23,7 +23,7 @@ access_by c a = if a.consumer == c then Some a else None
 abbrev pub part : ℕ → List ClaimAccess → List ClaimAccess
 part c h = filter_map (access_by c) h
 
--- the access to object o of cell k, if it is one
+-- the access as one of the history of object o of cell k, if it is made there
 abbrev pub access_on : ℕ → ℕ → ClaimAccess → Option Access
 access_on k o a =
     if a.cell == k
@@ -48,7 +48,7 @@ IsMemoryTrue [] = Unit {0}
 IsMemoryTrue (a ∷ older) = ReadsLast a.step.turn.act (object_history a.cell a.step.object older)
     × IsMemoryTrue older
 
--- values and random words are words of 64 bits
+-- values and random words are below 2 ^ 64
 abbrev pub AreInWords : List ClaimAccess → Type 0
 AreInWords [] = Unit {0}
 AreInWords (a ∷ older) = IsInWords a.step.turn × AreInWords older

@@ -10,7 +10,7 @@ pub use Rattle.mb_claim.specs.Rows.{width, offset, words_before, row_words, shap
 use Rattle.mb_claim.specs.Types.{Layout, Shape}
 
 -- ---- what a layout is made of
--- the quorum table of a layout. Its values are the consumers
+-- the quorum table of a layout. The values of the table are the consumers' numbers
 abbrev pub quorums_of : Layout → QuorumTable
 quorums_of layout = chosen_table layout.table
 
@@ -22,7 +22,7 @@ pair_count layout = layout.pairs
 abbrev pub shape_of : Layout → Shape
 shape_of layout = layout.shape
 
--- the objects of each cell of a layout in their order
+-- the kinds of the objects of each cell of a layout, in their order
 abbrev pub kinds_of : Layout → List Kind
 kinds_of layout = row_of (shape_of layout) (spread (quorums_of layout).values) (pair_count layout)
 
@@ -31,11 +31,11 @@ kinds_of layout = row_of (shape_of layout) (spread (quorums_of layout).values) (
 abbrev pub words_in : Claims → ℕ
 words_in cs = cs.cells * row_words cs.table.registers cs.kinds
 
--- each cell of the claims has an object o, which has the word
+-- the word is one of object o, which each cell of the claims has
 abbrev pub IsWordIn : Claims → ℕ → Reg → Type 0
 IsWordIn cs o reg = IsWordOf cs.table.registers cs.kinds o reg
 
--- the address of a word of object o of cell k
+-- the address of a word of object o of cell k of the claims
 abbrev pub address_in : Claims → ℕ → ℕ → Reg → ℕ
 address_in cs k o reg = address_of cs.table.registers cs.kinds k o reg
 
@@ -78,11 +78,11 @@ consumer_count layout = (quorums_of layout).values
 abbrev pub cell_words : Layout → ℕ
 cell_words layout = row_words (quorums_of layout).registers (kinds_of layout)
 
--- a cell of a layout has an object o, which has the word
+-- the word is one of object o, which each cell of a layout has
 abbrev pub IsWordInLayout : Layout → ℕ → Reg → Type 0
 IsWordInLayout layout o reg = IsWordOf (quorums_of layout).registers (kinds_of layout) o reg
 
--- the address of a word of object o of cell k
+-- the address of a word of object o of cell k in a layout
 abbrev pub word_address : Layout → ℕ → ℕ → Reg → ℕ
 word_address layout k o reg = address_of (quorums_of layout).registers (kinds_of layout) k o reg
 

@@ -17,7 +17,7 @@ pub mod Boards
 pub mod Examples
 pub mod ShapedExamples
 pub mod Vocabulary
--- what clauses name is here, too
+-- clauses name these definitions after `Rattle.mb_claim.specs`
 pub use ObjectTypes.*
 pub use Types.*
 pub use History.*

@@ -11,13 +11,13 @@ stood_at pc begun claim =
     record { consumer = claim.consumer; object = claim.object; place = pc; stage = claim.stage; begun = begun }
 
 module _ {M : Type 0} where
-  -- a word was drawn, and an access was then made and found this value
+  -- a random word was drawn, and then an access was made, which found this value
   abbrev pub DrawsAndMakesNext : (M → ℕ → M → Type 0) → (M → ℕ → Op → ℕ → M → Type 0) → M → ℕ → ClaimOp → ℕ → M → Type 0
   DrawsAndMakesNext draws makes before word next seen now =
       (mid : M) × draws before word mid × makes mid next.object next.op seen now
 
-  -- from a claim and a memory, this number of accesses led to the claim that follows, and to another memory. Each is
-  -- the next one of a claim that goes on, with the random word that was drawn for it. The claim keeps its consumer
+  -- from a claim and a memory, this number of accesses led to the claim that follows, and to the memory `now`. Each is
+  -- the next access of a claim that is going, with a random word of its own. The claim keeps its consumer
   abbrev pub AreClaimSteps : Layout → (M → ℕ → ClaimOp → ℕ → M → Type 0) → Claim → M → ℕ → Claim → M → Type 0
   AreClaimSteps layout makes claim start zero follows now = (follows ≡ claim) × (now ≡ start)
   AreClaimSteps layout makes claim start (suc n) follows now =

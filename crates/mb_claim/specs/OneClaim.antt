@@ -16,7 +16,7 @@ consumer_of claim = claim.consumer
 abbrev pub claim_stage : Claim → Stage
 claim_stage claim = claim.stage
 
--- the claim, but at this place on its object
+-- the claim, but with this place on its object
 abbrev pub placed_at : Pc → Claim → Claim
 placed_at pc claim =
     record {
@@ -38,15 +38,15 @@ pub record IsOnObject (layout : Layout) (claim : Claim) : Type 0 where
   -- the place fits the layout's quorum table
   pub place : IsPlace (quorums_of layout) claim.place
 
--- while a claim is going, its calls may be made with this layout
+-- a claim that is going stands on one of the layout's objects, so its calls may be made with this layout
 abbrev pub FitsLayout : Layout → Claim → Type 0
 FitsLayout layout claim = claim_stage claim ≡ Going → IsOnObject layout claim
 
--- the access that a claim makes next
+-- the claim makes this access next
 pub record IsNextOp (layout : Layout) (claim : Claim) (next : ClaimOp) : Type 0 where
-  -- it is on the object on which the claim stands
+  -- the access is on the object on which the claim stands
   pub object : next.object ≡ claim.object
-  -- it is the load, store or exchange of the claim's place there
+  -- the access is the load, store or exchange of the claim's place there
   pub op : IsOpAt (quorums_of layout) claim.place next.op
 
 -- what a claim's next access may find: a load or an exchange finds a value that the word can hold. In a conciliator
@@ -54,7 +54,7 @@ pub record IsNextOp (layout : Layout) (claim : Claim) (next : ClaimOp) : Type 0 
 abbrev pub CanClaimFind : Layout → Claim → ClaimOp → ℕ → Type 0
 CanClaimFind layout claim next seen = CanFind (quorums_of layout) claim.place next.op seen
 
--- the claim belongs to a consumer of the layout, which has made these turns
+-- the claim belongs to a consumer of the layout, which has made these turns on the cell
 abbrev pub IsClaimIn : Layout → Claim → List ObjectTurn → Type 0
 IsClaimIn layout claim xs = IsClaimOf (quorums_of layout) (kinds_of layout) claim xs
 
@@ -66,17 +66,17 @@ pub record IsClaimStep (layout : Layout) (claim : Claim) (makes : ClaimOp → �
   -- the access, and the value that it found
   pub next : ClaimOp
   pub seen : ℕ
-  -- it is the one that comes next, and it was made
+  -- this access is the claim's next one, and it was made
   pub is : IsNextOp layout claim next
   pub made : makes next seen
-  -- if the access can find that value, it is one more on the claim's path
+  -- if the access can find that value, the turn that it makes is one more on the claim's path
   pub path :
       (xs : List ObjectTurn) → IsClaimIn layout claim xs → CanClaimFind layout claim next seen
       → IsClaimIn layout follows (step_of next.object next.op seen word ∷ xs)
 
 -- ---- the accesses that are left
--- how many a claim with this stage can still make from its place on this object, whatever its loads find: those that
--- are left on the object, and all that the objects after it allow
+-- how many accesses a claim with this stage can still make from its place on this object, whatever its loads find:
+-- those that are left on the object, and all that the objects after it allow
 abbrev pub steps_left_at : Layout → Stage → ℕ → Pc → ℕ
 steps_left_at layout Going object pc =
     turns_left (quorums_of layout) pc + most_on_objects (quorums_of layout) (drop (suc object) (kinds_of layout))
@@ -89,14 +89,14 @@ abbrev pub steps_left : Layout → Claim → ℕ
 steps_left layout claim = steps_left_at layout claim.stage claim.object claim.place
 
 -- ---- a claim, the words and a history
--- a step of the claim on cell k
+-- the access of the claim's consumer that makes this step on cell k
 abbrev pub claim_access : Claim → ℕ → ObjectTurn → ClaimAccess
 claim_access claim k step = record { consumer = consumer_of claim; cell = k; step = step }
 
 -- the words, and the claim on cell k, fit one lawful history of the layout's claims on `cells` cells
 pub record IsClaimOn (layout : Layout) (cells k : ℕ) (claim : Claim) (words : List ℕ)
     (h : List ClaimAccess) : Type 0 where
-  -- the cell is one of these
+  -- the cell is one of these cells
   pub cell : k < cells
   -- the history leaves the words
   pub memory : IsMemoryOf (claims_in layout cells) words h

@@ -6,7 +6,7 @@ use Rattle.mb_claim.specs.AllClaims.{Claims}
 use Rattle.mb_claim.specs.ObjectTypes.{Turn, Kind, Out}
 use Rattle.mb_claim.specs.Types.{ObjectTurn, Stage, Going, Won, Lost, Undecided}
 
--- turns made on object o
+-- these turns, each with the number o of their object
 abbrev pub turns_on : ℕ → List Turn → List ObjectTurn
 turns_on o turns = map (λ turn. record { object = o; turn = turn }) turns
 
@@ -31,10 +31,10 @@ IsClaimPath t (kind ∷ kinds) o v xs output =
     ⊎ ((d ≡ false) × IsClaimPath t kinds (suc o) u later output))
 
 -- ---- prefixes of paths, and their stages
--- the consumer has begun its path on object o, and goes on there
+-- the consumer is on object o, and its path there is not at its end
 pub record GoesOnIn (t : QuorumTable) (kind : Kind) (o v : ℕ) (xs : List ObjectTurn)
     (s : Stage) : Type 0 where
-  -- all that it did from here on, it did on this object
+  -- all that the consumer did from here on, it did on this object
   pub turns : List Turn
   pub all : xs ≡ turns_on o turns
   -- these turns go on to a whole path there
@@ -44,7 +44,7 @@ pub record GoesOnIn (t : QuorumTable) (kind : Kind) (o v : ℕ) (xs : List Objec
 -- object o has decided, and the stage is what its value makes of consumer c
 pub record DecidesIn (t : QuorumTable) (c : ℕ) (kind : Kind) (o v : ℕ) (xs : List ObjectTurn)
     (s : Stage) : Type 0 where
-  -- all that it did from here on, it did on this object
+  -- all that the consumer did from here on, it did on this object
   pub turns : List Turn
   pub value : ℕ
   pub all : xs ≡ turns_on o turns
@@ -56,13 +56,13 @@ pub record DecidesIn (t : QuorumTable) (c : ℕ) (kind : Kind) (o v : ℕ) (xs :
 pub record Passes
     (t : QuorumTable) (kind : Kind) (o v : ℕ) (xs : List ObjectTurn) (u : ℕ)
     (later : List ObjectTurn) : Type 0 where
-  -- its first turns are those on this object
+  -- the consumer's first turns are those on this object
   pub turns : List Turn
   pub all : xs ≡ later ++ turns_on o turns
   -- these turns are a whole path with an undecided output
   pub path : IsPath t kind v turns (answer false u)
 
--- a prefix of a path of consumer c through objects with numbers from o on, with input v, and its stage
+-- the turns are a prefix of a path of consumer c through objects with numbers from o on, with input v. It has the stage
 abbrev pub IsClaimPrefixFrom : QuorumTable → ℕ → List Kind → ℕ → ℕ → List ObjectTurn → Stage
     → Type 0
 IsClaimPrefixFrom t c [] o v xs s = (xs ≡ []) × (s ≡ Undecided)
@@ -72,7 +72,8 @@ IsClaimPrefixFrom t c (kind ∷ kinds) o v xs s =
     ⊎ ((u : ℕ) × (later : List ObjectTurn) × Passes t kind o v xs u later
     × IsClaimPrefixFrom t c kinds (suc o) u later s))
 
--- a part comes to object n with input w: whole paths through all objects before it, all undecided, lead there
+-- a part comes to object n with input w. It begins on object o with input v, and whole paths through all objects before
+-- object n, all undecided, lead there
 abbrev pub Enters : QuorumTable → List Kind → ℕ → ℕ → List ObjectTurn → ℕ → ℕ → Type 0
 Enters t [] o v xs n w = ⊥
 Enters t (kind ∷ kinds) o v xs n w =
@@ -81,10 +82,10 @@ Enters t (kind ∷ kinds) o v xs n w =
     × Enters t kinds (suc o) u later n w)
 
 -- ---- the paths of a claim, through all objects of its cell
--- a whole claim path of consumer c: its first input is its own number
+-- the turns are a whole claim path of consumer c, with this output: the first input is c's own number
 abbrev pub IsWholeClaim : Claims → ℕ → List ObjectTurn → Out → Type 0
 IsWholeClaim cs c xs output = IsClaimPath cs.table cs.kinds 0 c xs output
 
--- a prefix of a claim path of consumer c, and its stage
+-- the turns are a prefix of a claim path of consumer c, and this is its stage
 abbrev pub IsClaimPrefix : Claims → ℕ → List ObjectTurn → Stage → Type 0
 IsClaimPrefix cs c xs s = IsClaimPrefixFrom cs.table c cs.kinds 0 c xs s

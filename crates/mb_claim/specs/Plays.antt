@@ -31,12 +31,14 @@ history_from (step ∷ steps) (e ∷ entries) h = history_from steps entries (wi
 abbrev pub history_of : List (ℕ × ℕ) → List ClaimEntry → List ClaimAccess
 history_of steps entries = history_from steps entries []
 
--- an entry after a history. It is an access of a consumer whose claim is going, or `Done` of one whose claim has ended
+-- the entry may come after the history: it is an access of a consumer whose claim is going, or `Done` of one whose
+-- claim has ended
 abbrev pub IsEntryAfter : Claims → ClaimEntry → List ClaimAccess → Type 0
 IsEntryAfter cs (entry.Access consumer object act) h = HasStage cs consumer 0 Going h
 IsEntryAfter cs (entry.Done consumer) h = (s : Stage) × HasStage cs consumer 0 s h × (s ≢ Going)
 
--- one entry for each step, of that step's consumer, and after the accesses of the entries before it
+-- there is one entry for each step. It is of that step's consumer, and fits the history with the accesses of the
+-- entries before it
 abbrev pub AreEntriesOf : Claims → List (ℕ × ℕ) → List ClaimEntry → List ClaimAccess → Type 0
 AreEntriesOf cs [] [] h = Unit {0}
 AreEntriesOf cs [] (e ∷ entries) h = ⊥
@@ -45,7 +47,7 @@ AreEntriesOf cs (step ∷ steps) (e ∷ entries) h =
     (entry_consumer e ≡ step.0) × IsEntryAfter cs e h
     × AreEntriesOf cs steps entries (with_entry step.1 e h)
 
--- what steps make of the claims on one cell
+-- the entries and stages are what the steps make of the claims on one cell
 pub record IsPlayed (cs : Claims) (steps : List (ℕ × ℕ)) (entries : List ClaimEntry)
     (stages : List Stage)
     : Type 0 where
@@ -53,7 +55,7 @@ pub record IsPlayed (cs : Claims) (steps : List (ℕ × ℕ)) (entries : List Cl
   pub lawful : IsClaimLawful cs (history_of steps entries)
   -- there is one entry for each step, which is `Done` exactly if the claim has ended
   pub fits : AreEntriesOf cs steps entries []
-  -- each consumer has a stage, that of its claim in the history
+  -- each consumer has a stage, which is that of its claim in the history
   pub consumers : length stages ≡ cs.table.values
   pub reached :
       (c : ℕ) (d : Stage) → c < length stages

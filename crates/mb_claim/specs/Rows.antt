@@ -10,12 +10,12 @@ abbrev pub pairs_of : ℕ → ℕ → List Kind
 pairs_of s zero = []
 pairs_of s (suc n) = Conciliator s ∷ Ratifier ∷ pairs_of s n
 
--- what comes before the pairs: with a fast path two ratifiers
+-- the objects before the pairs: two ratifiers, if there is a fast path
 abbrev pub fast_row : Bool → List Kind
 fast_row true = Ratifier ∷ Ratifier ∷ []
 fast_row false = []
 
--- what comes after the pairs: the last object, if there is one
+-- the objects after the pairs: the last object, if there is one
 abbrev pub last_row : Bool → List Kind
 last_row true = LastObject ∷ []
 last_row false = []
@@ -48,7 +48,7 @@ words_before r [] o = 0
 words_before r (kind ∷ kinds) zero = 0
 words_before r (kind ∷ kinds) (suc o) = width r kind + words_before r kinds o
 
--- how many words a cell has
+-- how many words a cell with these objects has
 abbrev pub row_words : ℕ → List Kind → ℕ
 row_words r [] = 0
 row_words r (kind ∷ kinds) = width r kind + row_words r kinds
@@ -59,10 +59,10 @@ abbrev pub shaped_words : ℕ → Shape → ℕ → ℕ
 shaped_words r shape n =
     length (fast_row shape.fast) * (1 + r) + n * (2 + r) + length (last_row shape.last)
 
--- the address of a word of object o of cell k
+-- the address of a word of object o of cell k, if each cell has these kinds and r quorum registers
 abbrev pub address_of : ℕ → List Kind → ℕ → ℕ → Reg → ℕ
 address_of r kinds k o reg = k * row_words r kinds + (words_before r kinds o + offset reg)
 
--- a cell has an object o, which has the word
+-- the word is one of object o, which the row has
 abbrev pub IsWordOf : ℕ → List Kind → ℕ → Reg → Type 0
 IsWordOf r kinds o reg = (kind : Kind) × (slice_get kinds o ≡ Some kind) × HasReg r kind reg

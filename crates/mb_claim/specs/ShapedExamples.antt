@@ -19,8 +19,8 @@ won_at_once =
     access_at 0 0 (Load (Quorum 1) 0) ∷ access_at 0 0 (Store Proposal 1) ∷ access_at 0 0 (Load Proposal 0)
     ∷ access_at 0 0 (Store (Quorum 0) 1) ∷ []
 
--- lawful: then consumer 1 comes. The first ratifier leaves it undecided with the winner's number, and the second
--- decides that number
+-- lawful: consumer 0 has won at once. Then consumer 1 comes. The first ratifier leaves it undecided with the winner's
+-- number, and the second decides that number
 abbrev pub lost_at_second : List ClaimAccess
 lost_at_second =
     access_at 1 1 (Load (Quorum 1) 0) ∷ access_at 1 1 (Store Proposal 1) ∷ access_at 1 1 (Load Proposal 0)
@@ -45,7 +45,7 @@ abbrev pub last_decides : List ClaimAccess
 last_decides =
     access_at 1 2 (Exchange Last 2 1) ∷ access_at 0 2 (Exchange Last 1 0) ∷ both_undecided
 
--- not lawful: consumer 1 finds the word empty, too
+-- not lawful: both consumers find the last object's word empty
 abbrev pub last_found_empty_twice : List ClaimAccess
 last_found_empty_twice =
     access_at 1 2 (Exchange Last 2 0) ∷ access_at 0 2 (Exchange Last 1 0) ∷ both_undecided
@@ -70,7 +70,7 @@ through_three =
     ∷ access_at 0 2 (Load Value 1) ∷ access_at 0 2 (Store Value 1)
     ∷ access_at 1 2 (Load Value 0) ∷ access_at 0 2 (Load Value 0) ∷ both_pass 1 (both_pass 0 [])
 
--- lawful: the pair's ratifier leaves both undecided, too. The last object decides for consumer 0
+-- lawful: after that the pair's ratifier leaves both undecided, too. The last object decides for consumer 0
 abbrev pub through_all : List ClaimAccess
 through_all =
     access_at 1 4 (Exchange Last 2 1) ∷ access_at 0 4 (Exchange Last 1 0) ∷ both_pass 3 through_three

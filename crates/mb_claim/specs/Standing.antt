@@ -8,32 +8,33 @@ use Rattle.mb_claim.specs.Types.{ObjectTurn, ClaimAccess, Going, Claim}
 use Rattle.mb_claim.specs.History.{part_on, object_history}
 use Rattle.mb_claim.specs.Paths.{turns_on, Passes, IsClaimPrefixFrom}
 
--- whole paths through objects with numbers from o on, all undecided. The first input is v, the last output w
+-- the turns are whole paths through objects with numbers from o on, all undecided. The first input is v, the last
+-- output w
 abbrev pub PassesAll : QuorumTable → List Kind → ℕ → ℕ → List ObjectTurn → ℕ → Type 0
 PassesAll t [] o v xs w = (xs ≡ []) × (w ≡ v)
 PassesAll t (kind ∷ kinds) o v xs w =
     (u : ℕ) × (later : List ObjectTurn) × Passes t kind o v xs u later
     × PassesAll t kinds (suc o) u later w
 
--- a consumer c that has made these turns stands on the object with this number, at this place
+-- consumer c has made these turns, and stands on the object with this number, at this place
 pub record StandsAt (t : QuorumTable) (kinds : List Kind) (c object : ℕ) (pc : Pc)
     (xs : List ObjectTurn) : Type 0 where
-  -- the objects before it, its own, and those after it
+  -- the kinds of the objects before this one, its own kind, and the kinds of the objects after it
   pub before : List Kind
   pub kind : Kind
   pub after : List Kind
-  -- its steps on the objects before, and its turns on its own
+  -- the consumer's steps on the objects before this one, and its turns on this one
   pub front : List ObjectTurn
   pub turns : List Turn
-  -- its input there: the last output of the objects before, or its own number if there are none
+  -- the consumer's input to this object: the last output of the objects before, or its own number if there are none
   pub input : ℕ
-  -- the objects are these, and its own has the number
+  -- the cell's kinds are these in this order, and this object has the number
   pub order : kinds ≡ before ++ kind ∷ after
   pub number : object ≡ length before
-  -- it has passed those before, and all that it did since then it did on its own
+  -- the consumer has passed the objects before, and all that it did since then it did on this one
   pub passed : PassesAll t before 0 c front input
   pub all : xs ≡ turns_on object turns ++ front
-  -- its input is a value of the table, and its turns led to the place
+  -- the input is a value of the table, and the turns on this object led to the place
   pub within : input < t.values
   pub place : PcIsAt t kind input pc turns
 
@@ -47,14 +48,14 @@ pub record IsClaimOf (t : QuorumTable) (kinds : List Kind) (claim : Claim)
     (xs : List ObjectTurn) : Type 0 where
   -- the claim's consumer is one of the table's
   pub known : claim.consumer < t.values
-  -- the turns are a prefix of its claim path, with its stage
+  -- the turns are a prefix of the consumer's claim path, with the claim's stage
   pub prefix : IsClaimPrefixFrom t claim.consumer kinds 0 claim.consumer xs claim.stage
-  -- it is begun exactly if it has made any
+  -- the claim is begun exactly if any turn was made
   pub begun : (claim.begun ≡ true) ↔ (xs ≢ [])
-  -- while it goes on it stands at its place
+  -- while the claim is going, its consumer stands at the claim's place
   pub stands : claim.stage ≡ Going → StandsAt t kinds claim.consumer claim.object claim.place xs
 
--- the access of consumer c to object o of cell k that an op makes after a history
+-- the access that an op of consumer c makes to object o of cell k after a history, with a random word
 abbrev pub access_after : ℕ → ℕ → ℕ → Op → ℕ → List ClaimAccess → ClaimAccess
 access_after c k o op word h =
     record {

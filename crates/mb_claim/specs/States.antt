@@ -29,11 +29,11 @@ abbrev pub step_of : ℕ → Op → ℕ → ℕ → ObjectTurn
 step_of o op n word = record { object = o; turn = record { act = act_of op n; word = word } }
 
 -- ---- an op on object o of cell k, made on these words
--- what the op finds
+-- what the op finds in its word
 abbrev pub found_in : Claims → ℕ → ℕ → Op → List ℕ → ℕ
 found_in cs k o op words = slice_index words (address_in cs k o (reg_of op))
 
--- the access of consumer c with the random word
+-- the access of consumer c that the op makes, with the random word
 abbrev pub access_in : Claims → ℕ → ℕ → ℕ → Op → ℕ → List ℕ → ClaimAccess
 access_in cs c k o op word words = record {
   consumer = c;

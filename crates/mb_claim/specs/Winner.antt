@@ -36,13 +36,13 @@ pub record HasOneWinner (cs : Claims) (k : ℕ) (h : List ClaimAccess) : Type 0 
       → u ≡ w
   -- a consumer that has lost names another one
   pub other : (c w : ℕ) → HasStage cs c k (Lost w) h → w ≢ c
-  -- the winner has an access there
+  -- the winner has an access to the cell
   pub competed : (c u : ℕ) (s : Stage) → HasStage cs c k s h → StageNames c s u → part_on u k h ≢ []
   -- a claim is undecided only if in each ratifier two different values were announced
   pub contested :
       (c o : ℕ) → HasStage cs c k Undecided h → slice_get cs.kinds o ≡ Some Ratifier
       → IsClaimContested cs k o h
-  -- so, if there is a ratifier, a consumer that is alone is never undecided
+  -- if there is a ratifier, a consumer that is alone on the cell is never undecided
   pub company :
       (c o : ℕ) → HasStage cs c k Undecided h → slice_get cs.kinds o ≡ Some Ratifier
       → (d : ℕ) × (d ≢ c) × (part_on d k h ≢ [])

@@ -87,7 +87,7 @@ impl Claim {
         }
     }
 
-    /// Makes the next access in this memory, and returns how far the claim has come. It is [`Claim::next`],
+    /// Makes the next access in this memory, and returns how far the claim has come. The call is [`Claim::next`],
     /// [`Memory::perform`] and [`Claim::after`] in one match.
     #[inline(always)]
     pub fn step<M: Memory>(&mut self, layout: &Layout, memory: &mut M, word: u64) -> Stage
@@ -101,7 +101,7 @@ impl Claim {
         ensures stage { result ≡ claim_stage self.new }
         ensures fewer { steps_left layout.now self.new < steps_left layout.now self.old }
 
-        // It made the claim's next access, which is one more on the claim's path.
+        // The call made the claim's next access, which is one more on the claim's path.
         ensures step { IsClaimStep layout.now self.old
             (λ next seen. M.makes memory.old next.object next.op seen memory.new) word self.new }
     {
@@ -110,7 +110,7 @@ impl Claim {
     }
 
     /// Makes accesses, each with a random word drawn for it, until the claim has ended or `most` were made. Returns how
-    /// many. They are those of as many calls of [`Claim::step`]. The call goes straight through each object.
+    /// many. These are the accesses of as many calls of [`Claim::step`]. The call goes straight through each object.
     #[inline(always)]
     pub fn run<M: Drawing>(&mut self, layout: &Layout, memory: &mut M, most: u64) -> u64
         requires fits { FitsLayout layout.now self.old }

@@ -32,16 +32,16 @@ pub fn examples_are_lawful()
 
 /// Histories that are not lawful.
 pub fn counterexamples_are_unlawful()
-    // A claim begun again at its first object after a pause.
+    // Consumer 0 begins its claim again at the first object after a pause.
     ensures again { IsClaimLawful two_consumers begun_again → ⊥ }
 
-    // An access of a claim that was won.
+    // Consumer 0 makes an access after it has won.
     ensures won { IsClaimLawful two_consumers after_winning → ⊥ }
 
-    // The consumer's own number as next input, in place of the value of the output before.
+    // Consumer 1 takes its own number as next input, in place of the value of the output before.
     ensures own { IsClaimLawful two_consumers own_number_again → ⊥ }
 
-    // A consumer that the claims do not have.
+    // A third consumer comes, which the claims do not have.
     ensures stranger { IsClaimLawful two_consumers of_a_stranger → ⊥ }
 {
     objects_keep_their_promises();
@@ -54,15 +54,15 @@ pub fn fast_paths_come_first()
     ensures won { HasStage (two_with true false) 0 0 Won lost_at_second }
     ensures lost { HasStage (two_with true false) 1 0 (Lost 0) lost_at_second }
 
-    // A consumer that begins with the conciliator, and one that goes there after the first ratifier.
+    // No consumer may begin with the conciliator, or go there after the first ratifier.
     ensures none { IsClaimLawful (two_with true false) past_both_ratifiers → ⊥ }
     ensures one { IsClaimLawful (two_with true false) past_one_ratifier → ⊥ }
 {}
 
 /// Histories with a last object after the pair.
 pub fn last_objects_come_last()
-    // A consumer that would be undecided without it goes on. Consumer 0 is the first there and wins, and consumer 1
-    // loses to it.
+    // A consumer that would be undecided without the last object goes on. Consumer 0 is the first there and wins, and
+    // consumer 1 loses to it.
     ensures going { HasStage (two_with false true) 0 0 Going both_undecided }
     ensures lawful { IsClaimLawful (two_with false true) last_decides }
     ensures won { HasStage (two_with false true) 0 0 Won last_decides }
@@ -71,13 +71,13 @@ pub fn last_objects_come_last()
     // Consumer 0 is not undecided.
     ensures undecided { HasStage (two_with false true) 0 0 Undecided both_undecided → ⊥ }
 
-    // An exchange that found 0 and did not store.
+    // After consumer 0's exchange, that of consumer 1 does not find 0.
     ensures empty { IsClaimLawful (two_with false true) last_found_empty_twice → ⊥ }
 
-    // A consumer that begins with the last object.
+    // No consumer may begin with the last object.
     ensures first { IsClaimLawful (two_with false true) last_comes_first → ⊥ }
 
-    // A consumer that goes to a last object, although the row has none.
+    // No consumer may go to a last object if the row has none.
     ensures absent { IsClaimLawful two_consumers last_decides → ⊥ }
 {
     last_objects_decide_claims();
@@ -90,31 +90,32 @@ pub fn both_ends_may_be_there()
     ensures won { HasStage (two_with true true) 0 0 Won through_all }
     ensures lost { HasStage (two_with true true) 1 0 (Lost 0) through_all }
 
-    // A consumer that goes from the fast path to the last object.
+    // No consumer may go from the fast path to the last object.
     ensures past { IsClaimLawful (two_with true true) past_the_pair → ⊥ }
 {}
 
 /// A run, and entries and stages that do not make a run.
 pub fn runs_are_told_from_others()
+    // Consumer 0 wins in seven steps. Its eighth step makes no access.
     ensures won { IsPlayedByTwo eight_steps (won_and (entry.Done 0)) (Won ∷ Going ∷ []) }
 
-    // No entry for a step.
+    // A step has no entry.
     ensures silent { IsPlayedByTwo (step ∷ []) [] (Going ∷ Going ∷ []) → ⊥ }
 
-    // An entry of consumer 0 for a step of consumer 1.
+    // The step is consumer 1's, and the entry consumer 0's.
     ensures another { IsPlayedByTwo ((1, 0) ∷ []) (entry.Access 0 0 (Load Value 0) ∷ [])
         (Going ∷ Going ∷ []) → ⊥ }
 
-    // `Done` of a claim that is going, and an access of one that was won.
+    // An entry is `Done` although the claim is going, or an access although the claim was won.
     ensures early { IsPlayedByTwo (step ∷ []) (entry.Done 0 ∷ []) (Going ∷ Going ∷ []) → ⊥ }
     ensures late { IsPlayedByTwo eight_steps (won_and (entry.Access 0 1 (Load (Quorum 1) 0)))
         (Won ∷ Going ∷ []) → ⊥ }
 
-    // Stages that are not the history's, and a stage too few.
+    // The stages are not those of the history, or there is one too few.
     ensures boast { IsPlayedByTwo [] [] (Won ∷ Going ∷ []) → ⊥ }
     ensures few { IsPlayedByTwo [] [] (Going ∷ []) → ⊥ }
 
-    // A store on attempt 0, although the step's random word 3 does not store there.
+    // The entries store on attempt 0, although the step's random word 3 does not store there.
     ensures impatient { IsPlayedByTwo ((0, 3) ∷ (0, 3) ∷ [])
         (entry.Access 0 0 (Load Value 0) ∷ entry.Access 0 0 (Store Value 1) ∷ [])
         (Going ∷ Going ∷ []) → ⊥ }

@@ -98,7 +98,7 @@ pub fn claims_have_steps_left()
     ensures ended { (layout : Layout) (claim : Claim) → claim_stage claim ≢ Going
         → steps_left layout claim ≡ 0 }
 
-    // This bound holds of every later claim, too.
+    // The bound at first holds after each access, too.
     ensures most { (layout : Layout) (claim : Claim) (xs : List ObjectTurn)
         → IsClaimIn layout claim xs → steps_left layout claim ≤ most_accesses layout }
 {
@@ -122,7 +122,7 @@ pub fn fast_paths_take_two_ratifiers()
         → IsPath t Ratifier c (part_at c k 0 h) (answer true u) → (d o : ℕ) → 2 ≤ o
         → part_at d k o h ≡ [] }
 
-    // The same holds if a consumer has ended its claim before the first access of any other.
+    // Nobody goes on after the second, either, if a consumer has ended its claim before the first access of any other.
     ensures alone { (t : QuorumTable) (kinds : List Kind) (cells k c : ℕ) (s : Stage)
         (later h : List ClaimAccess)
         → IsQuorumTable t → let cs = claims_of t (Ratifier ∷ Ratifier ∷ kinds) cells in
@@ -147,7 +147,8 @@ pub fn last_objects_decide_claims()
 {}
 
 /// In a layout with a fast path: if object 0 has decided for one consumer, nobody comes to a conciliator of that cell.
-/// The same holds if a consumer has ended its claim before the first access of any other.
+/// Nobody does either if a consumer has ended its claim before the first access of any other. There `s` is the stage
+/// of that claim, and `i` the conciliator's number.
 pub fn fast_layouts_avoid_conciliators()
     ensures decided { (layout : Layout) (cells k c u : ℕ) (h : List ClaimAccess)
         → (shape_of layout).fast ≡ true → IsClaimLawful (claims_in layout cells) h
@@ -173,7 +174,7 @@ pub fn fast_layouts_avoid_conciliators()
     fast_paths_take_two_ratifiers();
 }
 
-/// An older part of a lawful history is lawful.
+/// A lawful history without its last accesses is lawful.
 pub fn older_histories_are_lawful()
     ensures { (cs : Claims) (later h : List ClaimAccess) → IsClaimLawful cs (later ++ h)
         → IsClaimLawful cs h }
@@ -204,8 +205,8 @@ pub fn limits_have_their_numbers()
     ensures large { MAX_LARGE_CELLS ≡ 2 ^ 24 }
 {}
 
-/// The claim of a consumer that has made no access goes on, on the first object. Without a fast path that is a
-/// conciliator, and its word is loaded first.
+/// The claim of a consumer that has made no access goes on, and stands on the first object. Without a fast path that
+/// object is a conciliator, and its word is loaded first.
 pub fn claims_begin_on_the_first_object()
     ensures fresh { (layout : Layout) (claim : Claim) → IsClaimIn layout claim []
         → (claim_stage claim ≡ Going) × (is_begun claim ≡ false) }
@@ -215,7 +216,7 @@ pub fn claims_begin_on_the_first_object()
         → (shape_of layout).fast ≡ false → IsClaimIn layout claim []
         → IsNextOp layout claim next → next.op ≡ to.Load Value }
 
-    // It finds at most the number of consumers there.
+    // The first load finds at most the number of consumers there.
     ensures found { (layout : Layout) (claim : Claim) (next : ClaimOp) (seen : ℕ)
         → (shape_of layout).fast ≡ false → IsClaimIn layout claim []
         → IsNextOp layout claim next → CanClaimFind layout claim next seen

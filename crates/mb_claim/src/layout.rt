@@ -25,8 +25,8 @@ pub const MAX_LARGE_CELLS: u32 = 16_777_216;
 const MAX_OBJECTS: usize = 2 * MAX_PAIRS as usize + 3;
 
 /// The deciding objects that each cell has: pairs of a conciliator and a ratifier, and what its [`Shape`] adds to them.
-/// They share a quorum table with a value for each consumer. It keeps their row and where each one's words begin, so it
-/// has some 1,300 bytes. It is not `Copy`, and a copy has to be asked for: [`Layout::copy`].
+/// The objects share a quorum table with a value for each consumer. A layout keeps the row of objects and where each
+/// one's words begin, so it has some 1,300 bytes. It is not `Copy`, and a copy has to be asked for: [`Layout::copy`].
 #[derive(PartialEq, Eq, Debug, Drop)]
 pub struct Layout {
     pub(crate) table: Table,
@@ -138,7 +138,7 @@ impl Layout {
         Layout::of(self.table.copy(), self.pairs, shape)
     }
 
-    /// What its cells have beside their pairs.
+    /// What the layout's cells have beside their pairs.
     pub fn shape(&self) -> Shape
         ensures { result ≡ shape_of self.now }
     {
@@ -168,7 +168,7 @@ impl Layout {
         shape.before() + 2 * pairs + shape.after()
     }
 
-    /// The kind of an object of the row: of the fast path, of a pair, or the last.
+    /// The kind of an object of the row, which is one of the fast path, one of a pair, or the last object.
     fn kind_in_row(shape: Shape, pairs: u32, last_turn: u32, object: u32) -> Kind
         requires few { pairs ≤ MAX_PAIRS }
         requires within { object < length (row_of shape last_turn pairs) }
@@ -278,6 +278,7 @@ impl Layout {
     }
 
     #[inline(always)]
+    /// How many words each cell has.
     fn words_of_cell(&self) -> usize
         ensures small { result ≤ 65 * MAX_OBJECTS }
         ensures exact { result ≡ cell_words self.now }

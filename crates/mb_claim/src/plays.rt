@@ -22,7 +22,7 @@ pub fn play<A: Allocator + Copy + Drop>(
     ensures played { IfOk result (λ run. IsPlayed
         (claims_in layout.now 1) steps.now run.entries.items run.stages.items) }
 
-    // What holds of the claims, whatever the steps and the random words.
+    // These laws hold of the claims, whatever the steps and the random words.
     ensures winner { IfOk result (λ run. HasOneWinner (claims_in layout.now 1) 0
         (history_of steps.now run.entries.items)) }
     ensures bound { IfOk result (λ run. (c : ℕ)

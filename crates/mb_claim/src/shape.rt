@@ -13,7 +13,7 @@ impl Shape {
     ghost use Rattle.std.specs.Prelude.{◌≡◌, ◌≤◌, length};
     ghost use Rattle.mb_claim.specs.Rows.{fast_row, last_row, plain};
 
-    /// Pairs alone.
+    /// The shape of a cell with pairs alone.
     pub const PLAIN: Shape = Shape {
         fast: false,
         last: false,
@@ -27,7 +27,7 @@ impl Shape {
         if self.fast { 2 } else { 0 }
     }
 
-    /// How many come after them.
+    /// How many objects come after the pairs.
     pub(crate) fn after(self) -> u32
         ensures exact { result ≡ length (last_row self.last) }
         ensures small { result ≤ 1 }

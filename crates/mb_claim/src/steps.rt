@@ -37,14 +37,14 @@ pub fn accesses_lengthen_one_part()
     ensures others { (c : ℕ) (a : ClaimAccess) (h : List ClaimAccess) → a.consumer ≢ c
         → part c (a ∷ h) ≡ part c h }
 
-    // The same holds of the part on one cell.
+    // The access lengthens the part on one cell, and no other part on a cell.
     ensures own_cell { (a : ClaimAccess) (h : List ClaimAccess)
         → part_on a.consumer a.cell (a ∷ h) ≡ a.step ∷ part_on a.consumer a.cell h }
     ensures other_cells { (c k : ℕ) (a : ClaimAccess) (h : List ClaimAccess) → (a.consumer ≡ c
         → a.cell ≡ k → ⊥)
         → part_on c k (a ∷ h) ≡ part_on c k h }
 
-    // That part can be taken from the consumer's whole part.
+    // The part on a cell can be taken from the consumer's whole part.
     ensures cells { (c k : ℕ) (h : List ClaimAccess) → part_on c k (part c h) ≡ part_on c k h }
 {}
 
@@ -90,7 +90,8 @@ pub fn places_make_steps()
     object_step();
 }
 
-/// The turns of a claim at a place are a prefix of its path, which goes on. Its next word is one of the cell's.
+/// The turns of a claim at a place are a prefix of its path, and the claim is going. The word of its next access is one
+/// of the cell's.
 pub fn places_show_prefixes()
     ensures prefix { (cs : Claims) (c object : ℕ) (pc : Pc) (xs : List ObjectTurn)
         → ClaimsAreSound cs → StandsAt cs.table cs.kinds c object pc xs
@@ -140,16 +141,16 @@ pub fn words_follow_steps()
 
 /// What a claim promises callers that make its accesses on words of their own.
 pub fn claims_make_steps()
-    // It can be called.
+    // The claim of a consumer that has made these turns can be called.
     ensures fits { (layout : Layout) (claim : Claim) (xs : List ObjectTurn)
         → IsClaimIn layout claim xs → FitsLayout layout claim }
 
-    // Its next word is one of the cell's.
+    // The word of the claim's next access is one of the cell's.
     ensures word { (layout : Layout) (claim : Claim) (next : ClaimOp) (xs : List ObjectTurn)
         → IsClaimIn layout claim xs → claim_stage claim ≡ Going → IsNextOp layout claim next
         → IsWordInLayout layout next.object (reg_of next.op) }
 
-    // It can go on with the value that it finds there.
+    // The claim can go on with the value that it finds there.
     ensures found { (layout : Layout) (cells k : ℕ) (claim : Claim) (next : ClaimOp)
         (words : List ℕ)
         (h : List ClaimAccess) → let cs = claims_in layout cells in IsMemoryOf cs words h
@@ -162,7 +163,7 @@ pub fn claims_make_steps()
     ensures stored { (layout : Layout) (claim : Claim) (next : ClaimOp) (reg : Reg) (value seen : ℕ)
         → next.op ≡ to.Store reg value → CanClaimFind layout claim next seen }
 
-    // If a lawful history has its access, it can go on with what that found.
+    // If a lawful history ends with the claim's next access, the claim can go on with the value that this found.
     ensures told { (layout : Layout) (cells k : ℕ) (claim : Claim) (next : ClaimOp) (seen word : ℕ)
         (h : List ClaimAccess)
         → IsClaimLawful (claims_in layout cells)
@@ -171,7 +172,7 @@ pub fn claims_make_steps()
         → claim_stage claim ≡ Going → IsNextOp layout claim next
         → CanClaimFind layout claim next seen }
 
-    // With its access the words are those that the longer history leaves.
+    // After the claim's access the words are those that the history with that access leaves.
     ensures memory { (layout : Layout) (cells k : ℕ) (claim : Claim) (next : ClaimOp) (word : ℕ)
         (words : List ℕ)
         (h : List ClaimAccess) → let cs = claims_in layout cells in IsMemoryOf cs words h
@@ -227,7 +228,7 @@ pub fn addresses_are_apart()
         address_of r (row_of shape s n) k (f + 2 * i + 1) (Quorum q)
         ≡ k * shaped_words r shape n + f * (1 + r) + i * (2 + r) + (2 + q) }
 
-    // And after the pairs the last object.
+    // After the pairs comes the last object.
     ensures last { (r s n k : ℕ) (shape : Shape) → let f = length (fast_row shape.fast) in
         address_of r (row_of shape s n) k (f + 2 * n) Last
         ≡ k * shaped_words r shape n + f * (1 + r) + n * (2 + r) }

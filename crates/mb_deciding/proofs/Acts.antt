@@ -1,19 +1,19 @@
--- Turns and their acts.
+-- Turns and their acts, and which acts a list has.
 use Rattle.std.proofs.Common.{◌≡◌, ◌≢◌, suc, List, [], ◌∷◌, ◌++◌, map, length, inr, refl, ap}
 use Rattle.mb_deciding.specs.{Act, Turn, acts, Has}
 use Rattle.mb_deciding.proofs.Histories.{not_empty}
 
--- the acts of two lists of turns
+-- the acts of two lists of turns joined are those of both, joined
 pub acts-append : (xs ys : List Turn) → acts (xs ++ ys) ≡ acts xs ++ acts ys
 acts-append [] ys = refl
 acts-append (x ∷ xs) ys = ap (λ zs. x.act ∷ zs) (acts-append xs ys)
 
--- each turn has one act
+-- the acts of a list of turns are as many as the turns
 pub length-acts : (xs : List Turn) → length (acts xs) ≡ length xs
 length-acts [] = refl
 length-acts (x ∷ xs) = ap suc (length-acts xs)
 
--- no acts, no turns
+-- if a list of turns has no acts, it is empty
 pub no_acts : (xs : List Turn) → acts xs ≡ [] → xs ≡ []
 no_acts [] e = refl
 no_acts (x ∷ xs) e = absurd (not_empty x.act (acts xs) e)
@@ -37,7 +37,7 @@ has_some (x ∷ xs) c k e = not_empty x xs e
 pub has_turns : (turns : List Turn) (c : Act) → Has (acts turns) c → turns ≢ []
 has_turns turns c k e = has_some (acts turns) c k (ap acts e)
 
--- what is in a list is in a longer one
+-- an act in a list is in the list with later acts before it
 pub has_later : (xs ys : List Act) (c : Act) → Has ys c → Has (xs ++ ys) c
 has_later [] ys c h = h
 has_later (x ∷ xs) ys c h = inr (has_later xs ys c h)

@@ -10,11 +10,11 @@ use Rattle.mb_deciding.specs.declared.access.Op.TheVariants as to
 use Rattle.mb_deciding.proofs.Registers.{member_below, none_empty, rest_whole, rest_least, rest_none, rest_taken}
 use Rattle.mb_deciding.proofs.Registers.{each_skip, each_next}
 
--- what is left of a mask without one register
+-- `after` has just the registers of `left` other than r
 abbrev pub IsTaken : ℕ → ℕ → ℕ → Type 0
 IsTaken left r after = (k : ℕ) → IsMember after k ↔ (IsMember left k × (k ≢ r))
 
--- ---- the op of each place
+-- ---- the op of each place, and what it may find
 -- a process that announces stores in the least register that is left, or loads the proposal
 pub announce_op :
     (t : QuorumTable) (input left : ℕ) (op : Op) → IsRatifierOp t (Announce input left) op
@@ -29,7 +29,7 @@ announce_op t input left (to.Store Value w) is = absurd is
 announce_op t input left (to.Store Proposal w) is = absurd is
 announce_op t input left (to.Store (Quorum r) w) is = inl (r, ap (λ n. to.Store (Quorum r) n) is.0, is.1)
 
--- at first the whole write quorum is left
+-- before its first access a process makes the op of one that has its whole write quorum left to announce
 pub begin_op :
     (t : QuorumTable) (input : ℕ) (op : Op)
     → IsRatifierOp t (Begin input) op ↔ IsRatifierOp t (Announce input (t.write input)) op
@@ -43,7 +43,7 @@ begin_op t input (to.Store Value w) = ((λ is. is), (λ is. is))
 begin_op t input (to.Store Proposal w) = ((λ is. is), (λ is. is))
 begin_op t input (to.Store (Quorum r) w) = ((λ is. is), (λ is. is))
 
--- what an op finds does not depend on the place in a ratifier
+-- what an op may find does not depend on the place in a ratifier
 pub find_anywhere :
     (t : QuorumTable) (a b : RatifierPlace) (op : Op) (seen : ℕ) → CanFind t (InRatifier a) op seen
     → CanFind t (InRatifier b) op seen
@@ -113,7 +113,7 @@ announced_next t q v input left r made within at least =
           (each_next (λ k. Store (Quorum k) 1) (t.write v) bound r from),
     )
 
--- after a store the register is no longer left to announce
+-- after the store of an announcement the process announces what is left without that register
 pub announced_more :
     (t : QuorumTable) → IsQuorumTable t → (v input left r after : ℕ) (made : List Act) (op : Op) (seen : ℕ)
     → v < t.values → IsInRatifier t v (Announce input left) made → IsRatifierOp t (Announce input left) op → left ≢ 0
@@ -124,6 +124,7 @@ announced_more t q v input left r after made op seen within at is some least tak
       | inr x ↦ absurd (some x.1)
     ]
   where
+    -- the longer acts lead to the place with `after` left, if x is the register stored
     more : {x : ℕ} → x ≡ r → IsInRatifier t v (Announce input after) (Store (Quorum x) 1 ∷ made)
     more {x} same =
         let next = announced_next t q v input left r made within at least in
@@ -131,7 +132,7 @@ announced_more t q v input left r after made op seen within at is some least tak
         ap (λ n. Store (Quorum n) 1 ∷ made) same ∙ next.1 in
         (at.0, (r + 1, next.0, rest_taken (t.write v) at.1.0 left r after at.1.2 least taken, stored))
 
--- if nothing is left, the whole quorum was stored, and the proposal is loaded
+-- if no register is left to announce, the whole write quorum was stored, and the proposal is loaded next
 pub announced_whole :
     (t : QuorumTable) (v input left : ℕ) (made : List Act) (op : Op) (seen : ℕ)
     → IsInRatifier t v (Announce input left) made → IsRatifierOp t (Announce input left) op → left ≡ 0
@@ -143,6 +144,7 @@ announced_whole t v input left made op seen at is none can =
       | inr x ↦ (let found = rw (x.0) at can in (rw (x.0) whole, found))
     ]
   where
+    -- the acts made are the whole announcement
     whole : Load Proposal seen ∷ made ≡ Load Proposal seen ∷ announcement t v
     whole =
         let bound = at.1.0 in
@@ -153,7 +155,7 @@ announced_whole t v input left made op seen at is none can =
         cc
 
 -- ---- a process that gets its preference
--- a store of the input in an empty proposal
+-- a process that stores its input in the proposal prefers its input
 pub prefers_own :
     (t : QuorumTable) (v input : ℕ) (made : List Act) (op : Op) (seen : ℕ) → IsInRatifier t v (Propose input) made
     → IsRatifierOp t (Propose input) op → ReadsClear t v input 0 (act_of op seen ∷ made)
@@ -163,7 +165,7 @@ prefers_own t v input made op seen at is =
     let before : made ≡ Load Proposal 0 ∷ announcement t v = at.1 in
     (Store Proposal (input + 1) ∷ made, inl (same, cc), refl))
 
--- a load of the value u from the proposal
+-- a process that loads the value u from the proposal prefers u
 pub prefers_found :
     (t : QuorumTable) (v u seen : ℕ) → seen ≡ u + 1 → ReadsClear t v u 0 (Load Proposal seen ∷ announcement t v)
 prefers_found t v u seen e =
@@ -182,7 +184,7 @@ checked_next t q v u left r made within at least =
     let before : made ≡ zeros_below at.0 (t.read u) ++ at.3.0 = at.3.2 in
     (omega arith, (at.3.0, at.3.1, rw next (cc)))
 
--- after a load of 0 the register is no longer left to check
+-- after a load of 0 the process checks what is left without that register
 pub checked_zero :
     (t : QuorumTable) → IsQuorumTable t → (v u left r after : ℕ) (made : List Act) (op : Op) (seen : ℕ) → u < t.values
     → IsInRatifier t v (Check u left) made → IsRatifierOp t (Check u left) op → seen ≡ 0 → IsLeast left r
@@ -200,7 +202,7 @@ checked_zero t q v u left r after made op seen within at is zero_seen least take
           (sym act) next.1,
     )
 
--- a load of 1 ends the path
+-- a load of 1 ends the path undecided
 pub checked_one :
     (t : QuorumTable) → IsQuorumTable t → (v u left : ℕ) (made : List Act) (op : Op) (seen : ℕ) → u < t.values
     → IsInRatifier t v (Check u left) made → IsRatifierOp t (Check u left) op
@@ -219,7 +221,7 @@ checked_one t q v u left made op seen within at is can some =
       (at.3.0, at.3.1, at.3.2 ∙ ap (λ xs. xs ++ at.3.0) (sym same)),
     )
 
--- if nothing is left, the whole read quorum was 0
+-- if no register is left to check, the whole read quorum was read clear
 pub checked_whole :
     (t : QuorumTable) (v u bound left : ℕ) (made : List Act) → bound ≤ t.registers → IsRest (t.read u) bound left
     → left ≡ 0 → ReadsClear t v u bound made → ReadsClear t v u t.registers made

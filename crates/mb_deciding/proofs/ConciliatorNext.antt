@@ -4,7 +4,7 @@ use Rattle.mb_deciding.specs.{IsSameOp, Value, Proposal, Quorum, Last, Act, Load
 use Rattle.mb_deciding.specs.{IsPut, IsConciliatorPath}
 use Rattle.mb_deciding.proofs.ConciliatorPaths.{missing_before}
 
--- all that a process with input v made before an act of its path
+-- the act follows the turns made: they are all that a process with input v makes before it
 abbrev pub Follows : ℕ → ℕ → Act → List Turn → Type 0
 Follows s v (Load Value x) made = (k : ℕ) × (IsMissing s k made ⊎ IsPut s v k made)
 Follows s v (Store Value w) made = (w ≡ v + 1) × ((k : ℕ) × IsDrawn s k made)
@@ -16,12 +16,12 @@ Follows s v (Load Last x) made = ⊥
 Follows s v (Store Last w) made = ⊥
 Follows s v (Exchange reg w f) made = ⊥
 
--- so it is with each turn of a list
+-- each turn of the list follows the turns before it
 abbrev AllFollow : ℕ → ℕ → List Turn → Type 0
 AllFollow s v [] = Unit {0}
 AllFollow s v (x ∷ made) = Follows s v x.act made × AllFollow s v made
 
--- the turns whose words did not store
+-- each turn of attempts that did not store follows the turns before it
 missing_follow : (s v k : ℕ) (turns : List Turn) → IsMissing s k turns → AllFollow s v turns
 missing_follow s v zero [] h = tt
 missing_follow s v zero (x ∷ older) h = absurd h
@@ -29,19 +29,19 @@ missing_follow s v (suc k) [] h = absurd h
 missing_follow s v (suc k) (x ∷ older) h =
     (subst (λ act. Follows s v act older) (sym h.0) (k, inl h.2), missing_follow s v k older h.2)
 
--- with the turn whose word stores they follow, too
+-- each turn of attempts, with the one whose random word stores, follows the turns before it
 drawn_follow : (s v k : ℕ) (turns : List Turn) → IsDrawn s k turns → AllFollow s v turns
 drawn_follow s v k [] h = absurd h
 drawn_follow s v k (x ∷ older) h =
     (subst (λ act. Follows s v act older) (sym h.0) (k, inl h.2), missing_follow s v k older h.2)
 
--- with the store they follow, too
+-- each turn of attempts and of the store follows the turns before it
 put_follow : (s v k : ℕ) (turns : List Turn) → IsPut s v k turns → AllFollow s v turns
 put_follow s v k [] h = absurd h
 put_follow s v k (x ∷ older) h =
     (subst (λ act. Follows s v act older) (sym h.0) (refl, (k, h.1)), drawn_follow s v k older h.1)
 
--- the turns of a whole path follow
+-- each turn of a whole path follows the turns before it
 path_follow : (s v : ℕ) (turns : List Turn) (u : ℕ) → IsConciliatorPath s v turns u → AllFollow s v turns
 path_follow s v [] u h = absurd h
 path_follow s v (x ∷ older) u h =
@@ -50,19 +50,19 @@ path_follow s v (x ∷ older) u h =
       | inr p ↦ (subst (λ act. Follows s v act older) (sym h.0) (h.1.0, inr p), put_follow s v h.1.0 older p)
     ]
 
--- the turns of an older part of a list follow
+-- if each turn of a list follows the turns before it, so does each of its older turns
 suffix_follow : (s v : ℕ) (later turns : List Turn) → AllFollow s v (later ++ turns) → AllFollow s v turns
 suffix_follow s v [] turns h = h
 suffix_follow s v (x ∷ later) turns h = suffix_follow s v later turns h.1
 
--- each turn of a path follows what was done before
+-- a turn of a path follows all that was done before
 pub turn_follows :
     (s v : ℕ) (later turns : List Turn) (x : Turn) (u : ℕ) → IsConciliatorPath s v (later ++ x ∷ turns) u
     → Follows s v x.act turns
 turn_follows s v later turns x u h = (suffix_follow s v later (x ∷ turns) (path_follow s v (later ++ x ∷ turns) u h)).0
 
 -- ---- what was done before names one op
--- the newest word stores, or it does not
+-- the same turns do not end both with attempts that did not store and with one whose random word stores
 missing_undrawn : (s j k : ℕ) (turns : List Turn) → IsMissing s j turns → IsDrawn s k turns → ⊥
 missing_undrawn s zero k [] h d = d
 missing_undrawn s zero k (x ∷ older) h d = h
@@ -71,7 +71,7 @@ missing_undrawn s (suc j) k (x ∷ older) h d =
     let same : k ≡ j = sym (missing_before s 0 k older d.2).1 ∙ (missing_before s 0 j older h.2).1 in
     h.1 (subst (λ n. StoresOn s n x.word) same d.1)
 
--- the newest act is a store, or it is a load
+-- the same turns do not end both with a store and with a load whose random word stores
 put_undrawn : (s v j k : ℕ) (turns : List Turn) → IsPut s v j turns → IsDrawn s k turns → ⊥
 put_undrawn s v j k [] h d = d
 put_undrawn s v j k (x ∷ older) h d = let other : Store Value (v + 1) ≡ Load Value 0 = sym h.0 ∙ d.0 in cc

@@ -1,10 +1,11 @@
--- What a process does on its path through a conciliator.
+-- What a process does on its path through a conciliator: how long the path is, that it ends once, and what it stores.
 use Rattle.std.proofs.Common.{◌≡◌, ℕ, zero, suc, ◌+◌, ◌≤◌, List, [], ◌∷◌, ◌++◌, length, inl, inr, sym, refl, ap, ◌∙◌}
 use Rattle.std.proofs.Common.{subst, arith}
 use Rattle.mb_deciding.specs.{Value, Proposal, Quorum, Last, Act, Load, Store, Exchange, Turn, IsMissing, IsDrawn, IsPut}
 use Rattle.mb_deciding.specs.{IsConciliatorPath}
 
--- before its end a process with input v loads 0 or stores v
+-- ---- the turns before the end of a path
+-- the act is one before the end of a path of input v: it loads 0 or stores v
 abbrev IsBefore : ℕ → Act → Type 0
 IsBefore v (Load reg x) = x ≡ 0
 IsBefore v (Store Value w) = w ≡ v + 1
@@ -13,12 +14,12 @@ IsBefore v (Store (Quorum r) w) = ⊥
 IsBefore v (Store Last w) = ⊥
 IsBefore v (Exchange reg w f) = ⊥
 
--- each turn of a list is such
+-- each act of a list is one before the end of a path
 abbrev AreBefore : ℕ → List Turn → Type 0
 AreBefore v [] = Unit {0}
 AreBefore v (x ∷ older) = IsBefore v x.act × AreBefore v older
 
--- the turns whose words did not store
+-- the turns of the attempts below k that did not store are k, all before the end
 pub missing_before : (s v k : ℕ) (turns : List Turn) → IsMissing s k turns → AreBefore v turns × (length turns ≡ k)
 missing_before s v zero [] h = (tt, refl)
 missing_before s v zero (x ∷ older) h = absurd h
@@ -27,21 +28,21 @@ missing_before s v (suc k) (x ∷ older) h =
     let deeper = missing_before s v k older h.2 in
     ((subst (λ act. IsBefore v act) (sym h.0) refl, deeper.0), ap suc deeper.1)
 
--- so is the turn whose word stores, and there is one for each attempt
+-- the turns of attempts up to k, with the one whose random word stores, are k + 1, all before the end
 found_before : (s v k : ℕ) (turns : List Turn) → IsDrawn s k turns → AreBefore v turns × (length turns ≡ suc k)
 found_before s v k [] h = absurd h
 found_before s v k (x ∷ older) h =
     let deeper = missing_before s v k older h.2 in
     ((subst (λ act. IsBefore v act) (sym h.0) refl, deeper.0), ap suc deeper.1)
 
--- so is the store
+-- the turns of attempts up to k and of the store are k + 2, all before the end
 put_before : (s v k : ℕ) (turns : List Turn) → IsPut s v k turns → AreBefore v turns × (length turns ≡ suc (suc k))
 put_before s v k [] h = absurd h
 put_before s v k (x ∷ older) h =
     let deeper = found_before s v k older h.1 in
     ((subst (λ act. IsBefore v act) (sym h.0) refl, deeper.0), ap suc deeper.1)
 
--- the turns after the last load of a path
+-- the turns of a path older than its last load are at most s + 2, all before the end
 behind_last :
     (s v : ℕ) (x : Turn) (older : List Turn) (u : ℕ) → IsConciliatorPath s v (x ∷ older) u
     → AreBefore v older × (length older ≤ s + 2)
@@ -52,21 +53,21 @@ behind_last s v x older u h =
       | inr w ↦ (let m = put_before s v h.1.0 older w in (m.0, omega (arith, m.1)))
     ]
 
--- a path has at most so many turns
+-- a path has at most s + 3 turns
 pub path_length : (s v : ℕ) (turns : List Turn) (u : ℕ) → IsConciliatorPath s v turns u → length turns ≤ s + 3
 path_length s v [] u h = absurd h
 path_length s v (x ∷ older) u h = omega (arith, (behind_last s v x older u h).1)
 
--- so is each turn of an older part of a list
+-- if each act of a list is one before the end, so is each of its older acts
 suffix_before : (v : ℕ) (later turns : List Turn) → AreBefore v (later ++ turns) → AreBefore v turns
 suffix_before v [] turns h = h
 suffix_before v (x ∷ later) turns h = suffix_before v later turns h.1
 
--- a load has one value
+-- equal loads are of equal values
 same_load : (u w : ℕ) → Load Value (u + 1) ≡ Load Value (w + 1) → u ≡ w
 same_load u w e = let n : u + 1 ≡ w + 1 = cc in omega arith
 
--- a path has no longer path, and one value
+-- no path goes on after its end, and a path has one value
 pub path_ends :
     (s v : ℕ) (turns later : List Turn) (u w : ℕ) → IsConciliatorPath s v turns u
     → IsConciliatorPath s v (later ++ turns) w → (later ≡ []) × (u ≡ w)
@@ -84,7 +85,8 @@ pub path_last :
 path_last s v [] u h = absurd h
 path_last s v (x ∷ older) u h = (x, older, h.0, refl)
 
--- if it is a store, it stores v in the word of a conciliator
+-- ---- what a path stores
+-- if the act stores, it stores v in the word of a conciliator
 abbrev pub StoresInput : ℕ → Act → Type 0
 StoresInput v (Load reg x) = Unit {0}
 StoresInput v (Store Value w) = w ≡ v + 1

@@ -11,21 +11,21 @@ use Rattle.mb_deciding.specs.{IsConciliatorPath, answer, IsOpen, HasLimits, IsIn
 use Rattle.mb_deciding.proofs.Histories.{not_empty}
 
 -- ---- the next turn
--- a number is below a bound or not
+-- no number is below a bound and at or above it
 never : (a b : ℕ) → a < b → b ≤ a → ⊥
 never a b l m = omega arith
 
--- on attempt s every word stores
+-- a number below 2 ^ s that is not below 2 ^ k shows that attempt k is not the last
 attempts_remain : (k s n : ℕ) → 2 ^ k ≤ n → n < 2 ^ s → suc k ≤ s
 attempts_remain k s n a b =
     elim (cases_lt k s) [ inl l ↦ l | inr l ↦ absurd (let m : 2 ^ s ≤ 2 ^ k = pow_mono l in omega arith) ]
 
--- a word that does not store on attempt k
+-- a random word that is not below the limit does not store on attempt k
 above_limit : (s k limit modulus word : ℕ) → HasLimits s k limit modulus → limit ≤ word % modulus → 2 ^ k ≤ word % 2 ^ s
 above_limit s k limit modulus word limits none =
     subst (λ n. 2 ^ k ≤ word % n) limits.2 (subst (λ n. n ≤ word % modulus) limits.1 none)
 
--- so that is not the last attempt, and the next limit is twice this one
+-- after an attempt that did not store there is another, whose limit is twice this one
 pub next_limits :
     (s k limit modulus word : ℕ) → HasLimits s k limit modulus → limit ≤ word % modulus
     → HasLimits s (suc k) (limit * 2) modulus
@@ -38,7 +38,7 @@ next_limits s k limit modulus word limits none =
       limits.2,
     )
 
--- the word is empty, and the random word does not store: the next turn
+-- if the word is empty and the random word does not store, the process is at the place of the next attempt
 pub draw_missed :
     (s v input limit modulus word : ℕ) (turns : List Turn) → IsInConciliator s v (Draw input limit modulus) turns
     → limit ≤ word % modulus
@@ -53,7 +53,7 @@ draw_missed s v input limit modulus word turns at none =
       ),
     )
 
--- the word is empty, and the random word stores
+-- if the word is empty and the random word stores, the process is about to store
 pub draw_found :
     (s v input limit modulus word : ℕ) (turns : List Turn) → IsInConciliator s v (Draw input limit modulus) turns
     → word % modulus < limit → IsInConciliator s v (Put input) (record { act = Load Value 0; word = word } ∷ turns)
@@ -71,7 +71,7 @@ draw_found s v input limit modulus word turns at stores = (
   ),
 )
 
--- the word is not empty: that is the end
+-- if the word is not empty, the load of it ends the path
 pub draw_ends :
     (s v input limit modulus seen word : ℕ) (turns : List Turn) → IsInConciliator s v (Draw input limit modulus) turns
     → 0 < seen
@@ -79,13 +79,13 @@ pub draw_ends :
 draw_ends s v input limit modulus seen word turns at some =
     (let e : seen ≡ seen - 1 + 1 = omega arith in ap (λ n. Load Value n) e, (at.1.0, at.1.1.0, inl at.1.2))
 
--- the store of the input
+-- after the store of the input the process is about to load the word once more
 pub put_looks :
     (s v input word : ℕ) (turns : List Turn) → IsInConciliator s v (Put input) turns
     → IsInConciliator s v (Look input) (record { act = Store Value (input + 1); word = word } ∷ turns)
 put_looks s v input word turns at = (at.0, (at.1.0, at.1.1, (ap (λ n. Store Value (n + 1)) at.0, at.1.2)))
 
--- the last load
+-- the load after the store ends the path
 pub look_ends :
     (s v input seen word : ℕ) (turns : List Turn) → IsInConciliator s v (Look input) turns → 0 < seen
     → IsConciliatorPath s v (record { act = Load Value seen; word = word } ∷ turns) (seen - 1)
@@ -93,11 +93,11 @@ look_ends s v input seen word turns at some =
     (let e : seen ≡ seen - 1 + 1 = omega arith in ap (λ n. Load Value n) e, (at.1.0, at.1.1, inr at.1.2))
 
 -- ---- each place goes on
--- a load of the value v
+-- the turn that loads the value v
 last_turn : ℕ → Turn
 last_turn v = record { act = Load Value (v + 1); word = 0 }
 
--- what was made at a place is a prefix of a path that has not come to its end
+-- the turns that led to a place are an open prefix of a path
 pub drawing_open :
     (t : QuorumTable) (s v : ℕ) (place : ConciliatorPlace) (turns : List Turn) → IsInConciliator s v place turns
     → IsOpen t (Conciliator s) v turns

@@ -10,13 +10,13 @@ use Rattle.mb_quorum.specs.Quorum.{QuorumTable}
 use Rattle.mb_deciding.proofs.Histories.{lawful_older, own_turns, own_some, some_kept, since_newest}
 use Rattle.mb_deciding.proofs.ConciliatorPaths.{StoresInput, path_stores, path_last}
 
--- the value is in the list
+-- n is in the list
 abbrev IsAmong : List ℕ → ℕ → Type 0
 IsAmong [] n = ⊥
 IsAmong (x ∷ xs) n = (n ≡ x) ⊎ IsAmong xs n
 
 -- ---- what one act stores and leaves
--- a value in the word was there before, or is the input
+-- after one act a value in the word was there before, or is the input of the process
 act_value :
     (v u : ℕ) (act : Act) (n : ℕ) → StoresInput v act → value_after Value act n ≡ u + 1 → (n ≡ u + 1) ⊎ (v ≡ u)
 act_value v u (Load at x) n b e = inl e
@@ -26,7 +26,7 @@ act_value v u (Store (Quorum r) w) n b e = inl e
 act_value v u (Store Last w) n b e = absurd b
 act_value v u (Exchange reg w f) n b e = absurd b
 
--- a value in the word was there before, or was stored
+-- after one act a value in the word is among the values stored, if it was so before
 act_stored :
     (v u : ℕ) (act : Act) (n : ℕ) (stored : List ℕ) → StoresInput v act → (n ≡ u + 1 → IsAmong stored (u + 1))
     → value_after Value act n ≡ u + 1 → IsAmong (cons_option (stored_by act) stored) (u + 1)
@@ -37,16 +37,16 @@ act_stored v u (Store (Quorum r) w) n stored b f e = absurd b
 act_stored v u (Store Last w) n stored b f e = absurd b
 act_stored v u (Exchange reg w m) n stored b f e = absurd b
 
--- what was stored stays among the stores
+-- what is in a list is in the list with perhaps one element more
 among_longer : (o : Option ℕ) (n : ℕ) (stored : List ℕ) → IsAmong stored n → IsAmong (cons_option o stored) n
 among_longer None n stored h = h
 among_longer (Some w) n stored h = inr h
 
--- a value that was stored is so after one more act
+-- a value among those stored is among them after one more act
 among_kept : (act : Act) (n : ℕ) (stored : List ℕ) → IsAmong stored n → IsAmong (cons_option (stored_by act) stored) n
 among_kept act n stored h = among_longer (stored_by act) n stored h
 
--- a word that is not empty stays so
+-- a conciliator's word that is not empty is still not empty after one more act
 filled_after : (v : ℕ) (act : Act) (n : ℕ) → StoresInput v act → 0 < n → 0 < value_after Value act n
 filled_after v (Load reg x) n b e = e
 filled_after v (Store Value w) n b e = let k : w ≡ v + 1 = b in omega arith
@@ -55,7 +55,7 @@ filled_after v (Store (Quorum r) w) n b e = absurd b
 filled_after v (Store Last w) n b e = absurd b
 filled_after v (Exchange reg w f) n b e = absurd b
 
--- a proposal stays empty
+-- an act on a conciliator leaves an empty proposal empty
 proposal_kept : (v : ℕ) (act : Act) (n : ℕ) → StoresInput v act → n ≡ 0 → value_after Proposal act n ≡ 0
 proposal_kept v (Load at x) n b e = e
 proposal_kept v (Store Value w) n b e = e
@@ -64,7 +64,7 @@ proposal_kept v (Store (Quorum r) w) n b e = absurd b
 proposal_kept v (Store Last w) n b e = absurd b
 proposal_kept v (Exchange reg w f) n b e = absurd b
 
--- quorum registers stay empty
+-- an act on a conciliator leaves an empty quorum register empty
 register_kept : (v r : ℕ) (act : Act) (n : ℕ) → StoresInput v act → n ≡ 0 → value_after (Quorum r) act n ≡ 0
 register_kept v r (Load at x) n b e = e
 register_kept v r (Store Value w) n b e = e
@@ -73,7 +73,7 @@ register_kept v r (Store (Quorum i) w) n b e = absurd b
 register_kept v r (Store Last w) n b e = absurd b
 register_kept v r (Exchange reg w f) n b e = absurd b
 
--- a last object's word stays empty
+-- an act on a conciliator leaves an empty word of a last object empty
 last_kept : (v : ℕ) (act : Act) (n : ℕ) → StoresInput v act → n ≡ 0 → value_after Last act n ≡ 0
 last_kept v (Load at x) n b e = e
 last_kept v (Store Value w) n b e = e
@@ -95,11 +95,11 @@ module _ (t : QuorumTable) (s : ℕ) (inputs : ℕ → ℕ) where
       (l.parts a.process (own_some a h)).1 in
       path_stores s (inputs a.process) a.turn (part a.process h) p.0 p.1.value p.2.1
 
-  -- the value is the input of a process with a turn
+  -- u is the input of a process with a turn
   abbrev IsFrom : List Access → ℕ → Type 0
   IsFrom h u = (b : ℕ) × (part b h ≢ []) × (inputs b ≡ u)
 
-  -- it is an input in a longer history, too
+  -- if u is the input of a process with a turn, it is so in a longer history
   from_kept : (a : Access) (h : List Access) (u : ℕ) → IsFrom h u → IsFrom (a ∷ h) u
   from_kept a h u f = (f.0, some_kept f.0 a h f.1, f.2)
 
@@ -112,7 +112,7 @@ module _ (t : QuorumTable) (s : ℕ) (inputs : ℕ → ℕ) where
         | inr k ↦ (a.process, own_some a h, k)
       ]
 
-  -- the value in the word was stored
+  -- the value in the word is among the values stored
   value_stored : (h : List Access) → L h → (u : ℕ) → value_in Value h ≡ u + 1 → IsAmong (stores_in h) (u + 1)
   value_stored [] l u e = absurd (omega arith)
   value_stored (a ∷ h) l u e =
@@ -125,7 +125,7 @@ module _ (t : QuorumTable) (s : ℕ) (inputs : ℕ → ℕ) where
       → a.turn ≡ last → value_in Value h ≡ u + 1
   newest_load a h l last u e same = sym (subst (λ act. ReadsLast act h) (ap (λ x. x.act) same ∙ e) l.memory.0)
 
-  -- validity
+  -- each output is the input of a process with an access
   pub valid : (h : List Access) → L h → IsValid (conciliator_of t s inputs) h
   valid h l p d u o =
       let end = path_last s (inputs p) (part p h) u o.1 in
@@ -135,7 +135,7 @@ module _ (t : QuorumTable) (s : ℕ) (inputs : ℕ → ℕ) where
       (λ a g k f. from_kept a g u f)
       h l p end.1 end.3
 
-  -- an output was stored
+  -- if a process loaded a value last, it is among the values stored
   output_stored :
       (h : List Access) → L h → (p u : ℕ) (last : Turn) (rest : List Turn) → last.act ≡ Load Value (u + 1)
       → part p h ≡ last ∷ rest → IsAmong (stores_in h) (u + 1)
@@ -146,14 +146,14 @@ module _ (t : QuorumTable) (s : ℕ) (inputs : ℕ → ℕ) where
       (λ a g k f. among_kept a.turn.act (u + 1) (stores_in g) f)
       h l p rest is
 
-  -- if one store was made, every output is its value
+  -- if only one store was made, every output is its value
   first_movers : (h : List Access) → L h → IsFirstMover (conciliator_of t s inputs) h
   first_movers h l w only p d u o =
       let end = path_last s (inputs p) (part p h) u o.1 in
       elim (subst (λ xs. IsAmong xs (u + 1)) only
       (output_stored h l p u end.0 end.1 end.2 end.3)) [ inl e ↦ sym e | inr none ↦ absurd none ]
 
-  -- who has stored left the word filled, and so it stays
+  -- if a process has made attempts and a store, the word is not empty
   pub put_filled :
       (h : List Access) → L h → (p k : ℕ) (turns : List Turn) → part p h ≡ turns → IsPut s (inputs p) k turns
       → 0 < value_in Value h
@@ -177,35 +177,35 @@ module _ (t : QuorumTable) (s : ℕ) (inputs : ℕ → ℕ) where
             omega arith)
       ]
 
-  -- a conciliator has no proposal
+  -- the proposal of a conciliator is empty
   no_proposal : (h : List Access) → L h → value_in Proposal h ≡ 0
   no_proposal [] l = refl
   no_proposal (a ∷ h) l =
       proposal_kept (inputs a.process) a.turn.act (value_in Proposal h) (newest_stores a h l)
       (no_proposal h (lawful_older (conciliator_of t s inputs) a h l))
 
-  -- no quorum register holds anything
+  -- the quorum registers of a conciliator are empty
   no_register : (r : ℕ) (h : List Access) → L h → value_in (Quorum r) h ≡ 0
   no_register r [] l = refl
   no_register r (a ∷ h) l =
       register_kept (inputs a.process) r a.turn.act (value_in (Quorum r) h) (newest_stores a h l)
       (no_register r h (lawful_older (conciliator_of t s inputs) a h l))
 
-  -- a last object's word holds nothing
+  -- the word of a last object is empty in a conciliator
   no_last : (h : List Access) → L h → value_in Last h ≡ 0
   no_last [] l = refl
   no_last (a ∷ h) l =
       last_kept (inputs a.process) a.turn.act (value_in Last h) (newest_stores a h l)
       (no_last h (lawful_older (conciliator_of t s inputs) a h l))
 
-  -- each word holds what it can
+  -- each word holds only values that a word of this name can hold
   pub fits : (h : List Access) (reg : Reg) → L h → CanHold t reg (value_in reg h)
   fits h Value l = value_small h l
   fits h Proposal l = omega (arith, no_proposal h l)
   fits h (Quorum r) l = omega (arith, no_register r h l)
   fits h Last l = omega (arith, no_last h l)
 
--- if one store was made to a conciliator, every output is its value
+-- in a lawful history of an object that is a conciliator: if only one store was made, every output is its value
 pub one_mover :
     (o : Object) (s : ℕ) (h : List Access) → o.kind ≡ Conciliator s → IsObjectLawful o h → IsFirstMover o h
 one_mover o s h is =

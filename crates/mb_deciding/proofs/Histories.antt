@@ -1,4 +1,4 @@
--- One access more, or one less, in a lawful history of an object of any kind.
+-- One access more, or one less, in a lawful history of an object of any kind. Also lists that are empty or are not.
 use Rattle.std.proofs.Common.{◌≡◌, ◌≢◌, ℕ, ◌<◌, ◌==◌, ◌⊎◌, cond, Bool, true, false, Some, None, List, [], ◌∷◌, ◌++◌}
 use Rattle.std.proofs.Common.{inl, inr, sym, refl, ap, ◌∙◌, subst, append_assoc}
 use Rattle.std.specs.List.{cons_option}
@@ -10,7 +10,7 @@ use Rattle.mb_quorum.specs.Quorum.{QuorumTable}
 pub not_empty : {A : Type 0} (x : A) (xs : List A) → x ∷ xs ≢ []
 not_empty x xs e = cc
 
--- a list is empty or not
+-- a list is empty or is not
 pub nil_or : {A : Type 0} (xs : List A) → (xs ≡ []) ⊎ (xs ≢ [])
 nil_or [] = inl refl
 nil_or (x ∷ xs) = inr (λ e. not_empty x xs e)
@@ -34,7 +34,7 @@ some_by : (own : Bool) (x : Turn) (turns : List Turn) → turns ≢ [] → cons_
 some_by true x turns some = not_empty x turns
 some_by false x turns some = some
 
--- a process with a turn has one in a longer history
+-- a process with a turn in a history has one in a longer history
 pub some_kept : (p : ℕ) (a : Access) (h : List Access) → part p h ≢ [] → part p (a ∷ h) ≢ []
 some_kept p a h some = some_by (a.process == p) a.turn (part p h) some
 
@@ -56,11 +56,11 @@ pub own_turns : (a : Access) (h : List Access) → part a.process (a ∷ h) ≡ 
 own_turns a h =
     ap (λ b. cons_option (cond b (Some a.turn) None) (part a.process h)) (eq-eqb a.process a.process refl)
 
--- so that process has a turn
+-- the process of the newest access has a turn
 pub own_some : (a : Access) (h : List Access) → part a.process (a ∷ h) ≢ []
 own_some a h e = not_empty a.turn (part a.process h) (sym (own_turns a h) ∙ e)
 
--- the part of each process after one more turn of process p
+-- after one more turn of process p the part of each process q is a prefix of a path, by whether q is p
 longer_by :
     (o : Object) (h : List Access) (p q : ℕ) (turn : Turn)
     → IsObjectLawful o h → o.inputs p < o.table.values → IsPrefix o.table o.kind (o.inputs p) (turn ∷ part p h)
@@ -89,7 +89,7 @@ longer o h p turn l within words reads prefix =
 pub none_lawful : (o : Object) → IsObjectLawful o []
 none_lawful o = record { memory = tt; words = tt; parts = λ p some. absurd (some refl) }
 
--- what holds once a turn is made, and stays, holds if that is the newest turn of a process
+-- P holds if the newest turn of some process is `last`: it holds once that turn is made, and later accesses keep it
 pub since_newest :
     (o : Object) (P : List Access → Type 0) (last : Turn)
     → ((a : Access) (h : List Access) → IsObjectLawful o (a ∷ h) → a.turn ≡ last → P (a ∷ h))
@@ -99,6 +99,7 @@ since_newest o P last made kept [] l p rest is = absurd (not_empty last rest (sy
 since_newest o P last made kept (a ∷ h) l p rest is =
     by (λ k. since_newest o P last made kept h (lawful_older o a h l) p rest k) (a.process == p) is
   where
+    -- P holds with the access a, by whether it is of process p
     by :
         (part p h ≡ last ∷ rest → P h) → (own : Bool)
         → cons_option (cond own (Some a.turn) None) (part p h) ≡ last ∷ rest → P (a ∷ h)

@@ -12,7 +12,7 @@ use Rattle.mb_deciding.specs.{CanFind, act_of, seen_by, most_turns}
 use Rattle.mb_deciding.proofs.Histories.{not_empty, lawful_older, own_turns, own_some, some_kept, since_newest}
 
 -- ---- the paths of a last object
--- a path is one turn
+-- a path has one turn, so nothing comes before or after it
 pub last_only :
     (v : ℕ) (later older : List Turn) (x : Turn) (u : ℕ) → IsLastPath v (later ++ x ∷ older) u
     → (later ≡ []) × (older ≡ []) × IsLastPath v (x ∷ []) u
@@ -21,13 +21,13 @@ last_only v [] (y ∷ older) x u h = absurd h
 last_only v (z ∷ []) older x u h = absurd h
 last_only v (z ∷ y ∷ later) older x u h = absurd h
 
--- a path's one turn exchanges the word for the input
+-- the one turn of a path exchanges the word for the input
 pub last_act :
     (v : ℕ) (x : Turn) (u : ℕ) → IsLastPath v (x ∷ []) u → (found : ℕ) × (x.act ≡ Exchange Last (v + 1) found)
 last_act v x u (inl h) = (0, h.1)
 last_act v x u (inr h) = (u + 1, h)
 
--- the two values of one turn are one
+-- two values of a path with the same turn are one
 pub same_value : (v : ℕ) (x : Turn) (u w : ℕ) → IsLastPath v (x ∷ []) u → IsLastPath v (x ∷ []) w → u ≡ w
 same_value v x u w (inl h) (inl k) = h.0 ∙ sym k.0
 same_value v x u w (inl h) (inr k) =
@@ -40,7 +40,7 @@ same_value v x u w (inr h) (inr k) =
     let e : Exchange Last (v + 1) (u + 1) ≡ Exchange Last (v + 1) (w + 1) = sym h ∙ k in
     let n : u + 1 ≡ w + 1 = cc in omega (arith, n)
 
--- a process that comes first decides its input
+-- each input has a path: a process that comes first decides its input
 pub opens_last : (t : QuorumTable) (v : ℕ) → IsOpen t LastObject v []
 opens_last t v =
     let x : Turn = record { act = Exchange Last (v + 1) 0; word = 0 } in
@@ -56,7 +56,7 @@ unique_last t v (x ∷ []) later a b h k =
     let only = last_only v later [] x b.value k.1 in
     (only.0, ap₂ answer (h.0 ∙ sym k.0) (same_value v x a.value b.value h.1 only.2))
 
--- a path has one turn at most
+-- a prefix of a path has one turn at most
 pub last_turns :
     (t : QuorumTable) (v : ℕ) (turns : List Turn) → IsPrefix t LastObject v turns
     → length turns ≤ most_turns t LastObject
@@ -65,7 +65,7 @@ last_turns t v (x ∷ turns) p =
     let none : length turns ≡ 0 = ap length (last_only v p.0 turns x p.1.value p.2.1).1 in
     omega (arith, none)
 
--- a turn of a path is the only one
+-- the newest turn of a prefix of a path is the only one, and exchanges the word for the input
 pub last_alone :
     (t : QuorumTable) (v : ℕ) (turns : List Turn) (x : Turn) → IsPrefix t LastObject v (x ∷ turns)
     → (turns ≡ []) × ((found : ℕ) × (x.act ≡ Exchange Last (v + 1) found))
@@ -73,7 +73,7 @@ last_alone t v turns x p =
     let only = last_only v p.0 turns x p.1.value p.2.1 in
     (only.1, last_act v x p.1.value only.2)
 
--- so after the same turns there is one op
+-- after the same turns there is one op
 pub last_op :
     (t : QuorumTable) (v : ℕ) (turns : List Turn) (a b : Turn) → IsPrefix t LastObject v (a ∷ turns)
     → IsPrefix t LastObject v (b ∷ turns) → IsSameOp a.act b.act
@@ -83,7 +83,7 @@ last_op t v turns a b p q =
     subst (λ act. IsSameOp act b.act) (sym x.1)
     (subst (λ act. IsSameOp (Exchange Last (v + 1) x.0) act) (sym y.1) (refl, refl))
 
--- whatever the exchange finds, it ends a path
+-- whatever an exchange for the input finds, it is a whole path
 pub last_path : (v found word : ℕ) → (u : ℕ)
     × IsLastPath v (record { act = Exchange Last (v + 1) found; word = word } ∷ []) u
 last_path v zero word = (v, inl (refl, refl))
@@ -91,7 +91,7 @@ last_path v (suc n) word =
     let e : suc n ≡ n + 1 = omega arith in
     (n, inr (ap (λ k. Exchange Last (v + 1) k) e))
 
--- so the next access of a process at its place goes on with a path
+-- the next access of a process at its place goes on along a path
 pub last_prefix :
     (t : QuorumTable) (v : ℕ) (place : LastPlace) (turns : List Turn) (op : Op) (seen word : ℕ)
     → PcIsAt t LastObject v (InLast place) turns → IsLastOp place op
@@ -105,28 +105,29 @@ last_prefix t v place turns op seen word at is =
     ([], answer true path.0, (refl, path.1)))
 
 -- ---- what one exchange leaves in the words
--- a word that a value may be stored in holds that value, or what it held
+-- a word holds the value that was stored in it if a test says so, and else what it held
 kept_by : (b : Bool) (w n : ℕ) → option_map_or (λ value. value) (cond b (Some w) None) n ≡ cond b w n
 kept_by true w n = refl
 kept_by false w n = refl
 
--- an exchange of an empty word stores
+-- an exchange of an empty word leaves its value there
 pub empty_exchanged : (w n : ℕ) → n ≡ 0 → value_after Last (Exchange Last w n) n ≡ w
 empty_exchanged w n none =
     kept_by (n == 0) w n ∙ ap (λ b. cond b w n) (eq-eqb n 0 none)
 
--- an exchange of a word that is not 0 leaves it
+-- an exchange of a word that is not empty leaves what it held
 pub filled_exchanged : (w n : ℕ) → n ≢ 0 → value_after Last (Exchange Last w n) n ≡ n
 filled_exchanged w n some =
     kept_by (n == 0) w n ∙ ap (λ b. cond b w n) (ne_eqb n 0 some)
 
--- of another object's words an exchange changes none
+-- an act to another word leaves what this one held
 untouched : (o : Option ℕ) (n : ℕ) → option_map_or (λ value. n) o n ≡ n
 untouched None n = refl
 untouched (Some w) n = refl
 
+-- ---- what stands in the word of a last object
 module _ (t : QuorumTable) (inputs : ℕ → ℕ) where
-  -- the history is lawful for this object
+  -- the history is lawful for this last object
   abbrev L : List Access → Type 0
   L h = IsObjectLawful (last_of t inputs) h
 
@@ -141,26 +142,26 @@ module _ (t : QuorumTable) (inputs : ℕ → ℕ) where
       let found : x.0 ≡ value_in Last h = subst (λ act. ReadsLast act h) x.1 l.memory.0 in
       x.1 ∙ ap (λ n. Exchange Last (inputs a.process + 1) n) found
 
-  -- what the newest exchange leaves in the word
+  -- the word holds what the newest exchange leaves in it
   after_newest :
       (a : Access) (h : List Access) → L (a ∷ h)
       → value_in Last (a ∷ h)
       ≡ value_after Last (Exchange Last (inputs a.process + 1) (value_in Last h)) (value_in Last h)
   after_newest a h l = ap (λ act. value_after Last act (value_in Last h)) (newest_exchange a h l)
 
-  -- a value in the word stays
+  -- a value in the word stays there after one more access
   pub value_stays : (a : Access) (h : List Access) → L (a ∷ h) → value_in Last h ≢ 0
       → value_in Last (a ∷ h) ≡ value_in Last h
   value_stays a h l some =
       after_newest a h l ∙ filled_exchanged (inputs a.process + 1) (value_in Last h) some
 
-  -- into an empty word goes the input
+  -- an access to an empty word leaves its process's input there
   pub value_comes : (a : Access) (h : List Access) → L (a ∷ h) → value_in Last h ≡ 0
       → value_in Last (a ∷ h) ≡ inputs a.process + 1
   value_comes a h l none =
       after_newest a h l ∙ empty_exchanged (inputs a.process + 1) (value_in Last h) none
 
-  -- the value is the input of a process with a turn
+  -- u is the input of a process with a turn
   abbrev IsFrom : List Access → ℕ → Type 0
   IsFrom h u = (b : ℕ) × (part b h ≢ []) × (inputs b ≡ u)
 
@@ -175,11 +176,13 @@ module _ (t : QuorumTable) (inputs : ℕ → ℕ) where
             (f.0, some_kept f.0 a h f.1, f.2))
       ]
 
-  -- after a whole path with the value u the word holds that
+  -- right after the one turn of a path with the value u the word holds that value
   module _ (v u : ℕ) (x : Turn) (path : IsLastPath v (x ∷ []) u) where
+    -- an access whose turn is this one leaves the value u in the word
     at_once : (a : Access) (h : List Access) → L (a ∷ h) → a.turn ≡ x → value_in Last (a ∷ h) ≡ u + 1
     at_once a h l same = by path
       where
+        -- the word holds u, by whether the exchange found 0
         by : IsLastPath v (x ∷ []) u → value_in Last (a ∷ h) ≡ u + 1
         by (inl k) =
             let e : Exchange Last (inputs a.process + 1) (value_in Last h) ≡ Exchange Last (v + 1) 0 =
@@ -193,7 +196,7 @@ module _ (t : QuorumTable) (inputs : ℕ → ℕ) where
             let holds : value_in Last h ≡ u + 1 = cc in
             value_stays a h l (λ none. omega (arith, none, holds)) ∙ holds
 
-  -- so it is after any history in which a process has the output
+  -- in each history in which a process has a whole path with the value u the word holds that value
   output_holds : (h : List Access) → L h → (p u : ℕ) (turns : List Turn) → part p h ≡ turns
       → IsLastPath (inputs p) turns u
       → value_in Last h ≡ u + 1
@@ -205,11 +208,11 @@ module _ (t : QuorumTable) (inputs : ℕ → ℕ) where
       (λ a g k holds. value_stays a g k (λ none. omega (arith, none, holds)) ∙ holds) h l p [] is
 
   -- ---- the promises of a last object
-  -- validity
+  -- each output is the input of a process with an access
   pub last_valid : (h : List Access) → L h → IsValid (last_of t inputs) h
   last_valid h l p d u o = value_from h l u (output_holds h l p u (part p h) refl o.1)
 
-  -- coherence
+  -- all outputs have one value
   pub last_coherent : (h : List Access) → L h → IsCoherent (last_of t inputs) h
   last_coherent h l p q d u w o other =
       let a = output_holds h l p u (part p h) refl o.1 in
@@ -229,35 +232,35 @@ module _ (t : QuorumTable) (inputs : ℕ → ℕ) where
             omega (arith, below, is))
       ]
 
-  -- there is no other word
+  -- the word of a conciliator is empty in a last object
   no_value : (h : List Access) → L h → value_in Value h ≡ 0
   no_value [] l = refl
   no_value (a ∷ h) l =
       ap (λ act. value_after Value act (value_in Value h)) (newest_exchange a h l)
       ∙ untouched _ (value_in Value h) ∙ no_value h (lawful_older (last_of t inputs) a h l)
 
-  -- a proposal is not there
+  -- the proposal is empty in a last object
   no_proposal : (h : List Access) → L h → value_in Proposal h ≡ 0
   no_proposal [] l = refl
   no_proposal (a ∷ h) l =
       ap (λ act. value_after Proposal act (value_in Proposal h)) (newest_exchange a h l)
       ∙ untouched _ (value_in Proposal h) ∙ no_proposal h (lawful_older (last_of t inputs) a h l)
 
-  -- a quorum register is not there
+  -- the quorum registers are empty in a last object
   no_register : (r : ℕ) (h : List Access) → L h → value_in (Quorum r) h ≡ 0
   no_register r [] l = refl
   no_register r (a ∷ h) l =
       ap (λ act. value_after (Quorum r) act (value_in (Quorum r) h)) (newest_exchange a h l)
       ∙ untouched _ (value_in (Quorum r) h) ∙ no_register r h (lawful_older (last_of t inputs) a h l)
 
-  -- each word holds what it can
+  -- each word holds only values that a word of this name can hold
   pub last_fits : (h : List Access) (reg : Reg) → L h → CanHold t reg (value_in reg h)
   last_fits h Value l = omega (arith, no_value h l)
   last_fits h Proposal l = omega (arith, no_proposal h l)
   last_fits h (Quorum r) l = omega (arith, no_register r h l)
   last_fits h Last l = last_small h l
 
-  -- the exchange finds a value that the word can hold
+  -- the exchange of a process at its place finds a value that the word can hold
   pub last_found :
       (h : List Access) → L h → (place : LastPlace) (op : Op) → IsLastOp place op
       → CanFind t (InLast place) op (seen_by op h)

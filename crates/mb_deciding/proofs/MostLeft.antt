@@ -12,7 +12,8 @@ use Rattle.mb_deciding.specs.{most_turns, turns_left}
 use Rattle.mb_deciding.proofs.Sizes.{each_exact, each_size, largest_bound}
 use Rattle.mb_deciding.proofs.TurnsLeft.{attempts_left}
 
--- an act for a register of the one mask goes with one for that register of the other
+-- ---- masks within others
+-- one act more in the one list goes with one more in the other, so the first stays no longer
 cond_within :
     (x : Act) (xs ys : List Act) (p q : Bool) → (p ≡ true → q ≡ true) → length xs ≤ length ys
     → length (cond p (x ∷ xs) xs) ≤ length (cond q (x ∷ ys) ys)
@@ -30,7 +31,7 @@ below_within act (suc n) a b within =
     cond_within (act n) (acts_below act n a) (acts_below act n b) (bit_at a n == 1) (bit_at b n == 1)
     (λ e. eq-eqb (bit_at b n) 1 (within n (eqb-true (bit_at a n) 1 e))) (below_within act n a b within)
 
--- a mask within another has no more registers
+-- a mask all of whose registers are in another has no more registers than that
 ones_within : (a b : ℕ) → ((k : ℕ) → IsMember a k → IsMember b k) → count_ones a ≤ count_ones b
 ones_within a b within =
     let act = λ (k : ℕ). Load (Quorum k) 0 in
@@ -42,6 +43,7 @@ ones_within a b within =
 rest_within : (mask bound left : ℕ) → IsRest mask bound left → count_ones left ≤ count_ones mask
 rest_within mask bound left rest = ones_within left mask (λ k member. ((rest k).0 member).1)
 
+-- ---- the accesses left at a place
 -- no more accesses are left at a place than an object of its kind allows
 pub most_left :
     (t : QuorumTable) (kind : Kind) (v : ℕ) (pc : Pc) (turns : List Turn) → v < t.values → PcIsAt t kind v pc turns

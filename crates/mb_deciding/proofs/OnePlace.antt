@@ -14,7 +14,7 @@ use Rattle.mb_deciding.proofs.Prefixes.{part_by_turns}
 use Rattle.mb_deciding.proofs.RatifierStepping.{checking_next}
 use Rattle.mb_deciding.proofs.ConciliatorStepping.{missed_open, open_turns}
 
--- ops whose acts are of one op are one
+-- two ops are one, if their acts are of one op
 same_ops : (op next : Op) (x y : ℕ) → IsSameOp (act_of op x) (act_of next y) → op ≡ next
 same_ops (to.Load reg) (to.Load other) x y e = ap to.Load e
 same_ops (to.Load reg) (to.Store other w) x y e = absurd e
@@ -26,7 +26,7 @@ same_ops (to.Exchange reg w) (to.Store other n) x y e = absurd e
 same_ops (to.Load reg) (to.Exchange other n) x y e = absurd e
 same_ops (to.Store reg w) (to.Exchange other n) x y e = absurd e
 
--- each op of a ratifier can find a 0
+-- at a place in a ratifier each op can find 0
 zero_found : (t : QuorumTable) (place : RatifierPlace) (op : Op) → CanFind t (InRatifier place) op 0
 zero_found t place (to.Load Value) = tt
 zero_found t place (to.Load Proposal) = omega arith
@@ -35,7 +35,7 @@ zero_found t place (to.Load Last) = tt
 zero_found t place (to.Store reg w) = tt
 zero_found t place (to.Exchange reg w) = tt
 
--- what the next op of a place finds there goes on with a path, for some value
+-- for some value that the next op of a place finds, its turn goes on along a path
 some_part :
     (t : QuorumTable) (kind : Kind) (v : ℕ) (turns : List Turn) (pc : Pc) (op : Op) → IsQuorumTable t
     → PcIsAt t kind v pc turns → IsOpAt t pc op → (x : ℕ) × IsPrefix t kind v

@@ -1,4 +1,4 @@
--- An access that was made at a place, and what it leads to, as one step.
+-- An access that was made at a place of one kind, and what it leads to, is one step.
 use Rattle.std.proofs.Common.{◌≡◌, ℕ, List, ◌∷◌, subst, sym}
 use Rattle.mb_quorum.specs.Quorum.{QuorumTable}
 use Rattle.mb_deciding.specs.{Op, Turn, Kind, Conciliator, Ratifier, LastObject, InConciliator, InRatifier, InLast, Next, ConciliatorPlace, LastPlace}
@@ -6,7 +6,7 @@ use Rattle.mb_deciding.specs.{RatifierPlace, Begin, Announce, PcIsAt, IsConcilia
 use Rattle.mb_deciding.specs.{ConciliatorReaches, RatifierReaches, LastReaches, IsLastOp, IsStep}
 use Rattle.mb_deciding.proofs.Advances.{find_anywhere, begin_op, begin_announces}
 
--- an access made at a place in a conciliator is one step
+-- an access made at a place in a conciliator is one step to what it leads to
 pub conciliator_step :
     (t : QuorumTable) (place : ConciliatorPlace) (makes : Op → ℕ → Type 0) (op : Op) (seen word : ℕ) (follows : Next)
     → IsConciliatorOp place op → makes op seen → ConciliatorReaches t place seen word follows
@@ -14,6 +14,7 @@ pub conciliator_step :
 conciliator_step t place makes op seen word follows is made reaches =
     record { op = op; seen = seen; is = is; made = made; reached = reached }
   where
+    -- what follows is reached, as only a conciliator has this place
     reached :
         (kind : Kind) (v : ℕ) (turns : List Turn) → PcIsAt t kind v (InConciliator place) turns
         → CanFind t (InConciliator place) op seen
@@ -22,7 +23,7 @@ conciliator_step t place makes op seen word follows is made reaches =
     reached Ratifier v turns at can = absurd at
     reached LastObject v turns at can = absurd at
 
--- an access made at a place in a ratifier is one step
+-- an access made at a place in a ratifier is one step to what it leads to
 pub ratifier_step :
     (t : QuorumTable) (place : RatifierPlace) (makes : Op → ℕ → Type 0) (op : Op) (seen word : ℕ) (follows : Next)
     → IsRatifierOp t place op → makes op seen → RatifierReaches t place seen follows
@@ -30,6 +31,7 @@ pub ratifier_step :
 ratifier_step t place makes op seen word follows is made reaches =
     record { op = op; seen = seen; is = is; made = made; reached = reached }
   where
+    -- what follows is reached, as only a ratifier has this place
     reached :
         (kind : Kind) (v : ℕ) (turns : List Turn) → PcIsAt t kind v (InRatifier place) turns
         → CanFind t (InRatifier place) op seen
@@ -38,7 +40,7 @@ ratifier_step t place makes op seen word follows is made reaches =
     reached LastObject v turns at can = absurd at
     reached Ratifier v turns at can = reaches v turns op word at is can
 
--- an access made at a place in a last object is one step
+-- an access made at a place in a last object is one step to what it leads to
 pub last_step :
     (t : QuorumTable) (place : LastPlace) (makes : Op → ℕ → Type 0) (op : Op) (seen word : ℕ) (follows : Next)
     → IsLastOp place op → makes op seen → LastReaches t place seen follows
@@ -46,6 +48,7 @@ pub last_step :
 last_step t place makes op seen word follows is made reaches =
     record { op = op; seen = seen; is = is; made = made; reached = reached }
   where
+    -- what follows is reached, as only a last object has this place
     reached :
         (kind : Kind) (v : ℕ) (turns : List Turn) → PcIsAt t kind v (InLast place) turns
         → CanFind t (InLast place) op seen
@@ -54,7 +57,7 @@ last_step t place makes op seen word follows is made reaches =
     reached Ratifier v turns at can = absurd at
     reached LastObject v turns at can = reaches v turns op word at is can
 
--- before the first access it is the same with and without the mask of the write quorum
+-- a step of a process that has its whole write quorum left to announce is one of a process before its first access
 pub begin_step :
     (t : QuorumTable) (input left : ℕ) (makes : Op → ℕ → Type 0) (word : ℕ) (follows : Next) → left ≡ t.write input
     → IsStep t (InRatifier (Announce input left)) makes word follows
@@ -62,9 +65,11 @@ pub begin_step :
 begin_step t input left makes word follows is step =
     record { op = step.op; seen = step.seen; is = (begin_op t input step.op).1 op; made = step.made; reached = reached }
   where
+    -- the op of the step is that of the whole write quorum
     op : IsRatifierOp t (Announce input (t.write input)) step.op
     op = subst (λ mask. IsRatifierOp t (Announce input mask) step.op) is step.is
 
+    -- what follows is reached from the place before the first access, too
     reached :
         (kind : Kind) (v : ℕ) (turns : List Turn) → PcIsAt t kind v (InRatifier (Begin input)) turns
         → CanFind t (InRatifier (Begin input)) step.op step.seen

@@ -17,7 +17,7 @@ use Rattle.mb_deciding.proofs.RatifierNext.{Follows, act_follows, one_op}
 use Rattle.mb_deciding.proofs.ConciliatorNext.{turn_follows, one_op as conciliator_op}
 
 -- ---- the next act
--- a turn of a ratifier's path follows what was done before
+-- a turn of a ratifier's path follows all that was done before
 ratifier_follows :
     (t : QuorumTable) (v : ℕ) (turns : List Turn) (x : Turn) → IsPrefix t Ratifier v (x ∷ turns)
     → Follows t v x.act (acts turns)
@@ -36,18 +36,18 @@ next_op t (Conciliator s) v turns a b p q =
     (turn_follows s v q.0 turns b q.1.value q.2.1)
 next_op t LastObject v turns a b p q = last_op t v turns a b p q
 
--- an access of process p with this random word
+-- the access of process p with this random word and act
 abbrev access : ℕ → ℕ → Act → Access
 access p word act = record { process = p; turn = record { act = act; word = word } }
 
--- the newest turn goes on with the path of its process
+-- the newest turn of a lawful history goes on along the path of its process
 newest_part :
     (o : Object) (a : Access) (h : List Access)
     → IsObjectLawful o (a ∷ h) → IsPrefix o.table o.kind (o.inputs a.process) (a.turn ∷ part a.process h)
 newest_part o a h l =
     subst (λ xs. IsPrefix o.table o.kind (o.inputs a.process) xs) (own_turns a h) (l.parts a.process (own_some a h)).1
 
--- so a process has one act after a history
+-- after a history a process has one act
 one_act :
     (o : Object) (word p : ℕ) (h : List Access) (a b : Act)
     → IsObjectLawful o (access p word a ∷ h) → IsObjectLawful o (access p word b ∷ h) → a ≡ b
@@ -59,7 +59,7 @@ one_act o word p h a b l m =
     same_act a b h op l.memory.0 m.memory.0
 
 -- ---- one entry
--- a process has one output, or none
+-- a process has one output, or has none
 one_out :
     (o : Object) (h : List Access) (p : ℕ) (a b : Option Out)
     → IsOutputOf o p a h → IsOutputOf o p b h → a ≡ b
@@ -69,7 +69,7 @@ one_out o h p (Some a) None x y = absurd (y (a.decided, a.value, x))
 one_out o h p (Some a) (Some b) x y =
     ap Some (one_end o.table o.kind (o.inputs p) (part p h) [] a b x y).1
 
--- a process has one entry with an access
+-- after a history a process has one entry with an access
 one_access :
     (o : Object) (word p : ℕ) (h : List Access) (a b : Act) (x y : Option Out)
     → IsObjectLawful o (access p word a ∷ h)
@@ -80,7 +80,7 @@ one_access o word p h a b x y l m out other =
     let found = subst (λ act. IsOutputOf o p y (access p word act ∷ h)) (sym same) other in
     ap₂ (λ act o. entry.Access p act o) same (one_out o (access p word a ∷ h) p x y out found)
 
--- a turn has one entry
+-- after a history a turn has one entry
 one_entry :
     (o : Object) (word : ℕ) (h : List Access) (e f : Entry)
     → IsObjectLawful o (with_entry word e h) → IsObjectLawful o (with_entry word f h)
@@ -98,14 +98,14 @@ one_entry o word h (entry.Access p a out) (entry.Access r b other) l m x y same 
     ∙ ap (λ n. entry.Access n b other) same
 
 -- ---- one trace
--- a history was lawful before an entry
+-- if a history is lawful with the access of an entry, it was lawful before
 entry_older :
     (o : Object) (word : ℕ) (e : Entry) (h : List Access)
     → IsObjectLawful o (with_entry word e h) → IsObjectLawful o h
 entry_older o word (entry.Done p) h l = l
 entry_older o word (entry.Access p a out) h l = lawful_older o (access p word a) h l
 
--- what came before the accesses of a schedule is lawful
+-- if a history is lawful with the accesses of a schedule, it was lawful before these
 entries_older :
     (o : Object) (schedule : List (ℕ × ℕ)) (es : List Entry) (h : List Access)
     → IsObjectLawful o (history_from schedule es h) → IsObjectLawful o h
@@ -114,7 +114,7 @@ entries_older o (turn ∷ schedule) [] h l = l
 entries_older o (turn ∷ schedule) (e ∷ es) h l =
     entry_older o turn.1 e h (entries_older o schedule es (with_entry turn.1 e h) l)
 
--- the turns of a schedule have one list of entries
+-- after a history the turns of a schedule have one list of entries
 one_list :
     (o : Object) (schedule : List (ℕ × ℕ)) (es fs : List Entry) (h : List Access)
     → IsObjectLawful o (history_from schedule es h)
@@ -147,6 +147,7 @@ one_trace u schedule es fs outs others a b =
     let long : length outs ≡ length others = a.processes ∙ sym b.processes in
     (entries, ext_get_or None outs others long (λ p below. same entries p below (subst (λ n. p < n) long below)))
   where
+    -- each process has one output, if the entries are one list
     same :
         es ≡ fs → (p : ℕ) → p < length outs → p < length others
         → slice_index_or outs p None ≡ slice_index_or others p None

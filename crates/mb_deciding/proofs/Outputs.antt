@@ -1,4 +1,4 @@
--- A whole path of a ratifier has one output.
+-- Which loads a ratifier's path has, how its preference shows in them, and that a whole path has one output.
 use Rattle.std.proofs.Common.{◌≡◌, ℕ, zero, suc, ◌+◌, ◌<◌, ◌==◌, cond, Bool, true, false, List, [], ◌∷◌, ◌++◌, ◌⊎◌, inl}
 use Rattle.std.proofs.Common.{inr, sym, refl, ap, ◌∙◌, subst, arith}
 use Rattle.std.specs.Int.{bit_at}
@@ -7,7 +7,8 @@ use Rattle.mb_deciding.specs.{Value, Proposal, Quorum, Last, Act, Load, Store, E
 use Rattle.mb_deciding.specs.{announcement, Prefers, ReadsClear, ReadsOne, IsRatifierPath}
 use Rattle.mb_deciding.proofs.Grammar.{has_cond_cases, one_chosen}
 
--- the values that the proposal gave, the newest first
+-- ---- which loads a path has
+-- the values that loads of the proposal gave, the newest first
 abbrev pub proposal_loads : List Act → List ℕ
 proposal_loads [] = []
 proposal_loads (Load Proposal x ∷ older) = x ∷ proposal_loads older
@@ -17,7 +18,7 @@ proposal_loads (Load Last x ∷ older) = proposal_loads older
 proposal_loads (Store reg w ∷ older) = proposal_loads older
 proposal_loads (Exchange reg w f ∷ older) = proposal_loads older
 
--- an act of a list that has an act for each register
+-- an act of a list with an act for each register is the act of some register
 has_each_cases :
     (act : ℕ → Act) (n mask : ℕ) (c : Act) → Has (acts_below act n mask) c → (r : ℕ) × (r < n) × (c ≡ act r)
 has_each_cases act zero mask c h = absurd h
@@ -27,21 +28,22 @@ has_each_cases act (suc n) mask c h =
       | inr w ↦ (let deeper = has_each_cases act n mask c w in (deeper.0, omega arith, deeper.2))
     ]
 
--- what is in two lists is in one of them
+-- an act in two lists joined is in one of them
 has_append_cases : (xs ys : List Act) (c : Act) → Has (xs ++ ys) c → Has xs c ⊎ Has ys c
 has_append_cases [] ys c h = inr h
 has_append_cases (x ∷ xs) ys c (inl e) = inl (inl e)
 has_append_cases (x ∷ xs) ys c (inr h) = elim (has_append_cases xs ys c h) [ inl k ↦ inl (inr k) | inr k ↦ inr k ]
 
--- the announcement has stores of registers alone
+-- an announcement has stores of 1 in registers alone
 stores_only : (n mask : ℕ) (c : Act) → Has (stores_below n mask) c → (r : ℕ) × (c ≡ Store (Quorum r) 1)
 stores_only n mask c h = let e = has_each_cases (λ k. Store (Quorum k) 1) n mask c h in (e.0, e.2)
 
--- a preference has no load of a register
+-- a path up to its preference has no load of a register
 prefers_no_load :
     (t : QuorumTable) (v u r x : ℕ) (begin : List Act) → Prefers t v u begin → Has begin (Load (Quorum r) x) → ⊥
 prefers_no_load t v u r x begin (inl p) h = stores (subst (λ xs. Has xs (Load (Quorum r) x)) p.1 h)
   where
+    -- the acts of a process that proposed its input have no load of a register
     stores : Has (Store Proposal (v + 1) ∷ Load Proposal 0 ∷ announcement t v) (Load (Quorum r) x) → ⊥
     stores (inl e) = cc
     stores (inr (inl e)) = cc
@@ -50,13 +52,14 @@ prefers_no_load t v u r x begin (inl p) h = stores (subst (λ xs. Has xs (Load (
         let e : Load (Quorum r) x ≡ Store (Quorum other.0) 1 = other.1 in cc
 prefers_no_load t v u r x begin (inr p) h = loads (subst (λ xs. Has xs (Load (Quorum r) x)) p h)
   where
+    -- the acts of a process that found a proposal have no load of a register
     loads : Has (Load Proposal (u + 1) ∷ announcement t v) (Load (Quorum r) x) → ⊥
     loads (inl e) = cc
     loads (inr k) =
         let other = stores_only t.registers (t.write v) (Load (Quorum r) x) k in
         let e : Load (Quorum r) x ≡ Store (Quorum other.0) 1 = other.1 in cc
 
--- clear loads are below the bound, and are of 0
+-- each load of a register in a clear check is below the bound, and is of 0
 pub clear_only :
     (t : QuorumTable) (v u n r x : ℕ) (made : List Act) → ReadsClear t v u n made → Has made (Load (Quorum r) x)
     → (r < n) × (x ≡ 0)
@@ -70,13 +73,15 @@ clear_only t v u n r x made clear h =
       | inr k ↦ absurd (prefers_no_load t v u r x clear.0 clear.1 k)
     ]
   where
+    -- equal loads are of one register
     register : (s : ℕ) → Load (Quorum r) x ≡ Load (Quorum s) 0 → r ≡ s
     register s e = cc
 
+    -- equal loads are of one value
     value : (s : ℕ) → Load (Quorum r) x ≡ Load (Quorum s) 0 → x ≡ 0
     value s e = cc
 
--- one more load of a register
+-- one more load of a register is none of the proposal
 cond_loads :
     (b : Bool) (r x : ℕ) (xs ys : List Act) → proposal_loads (xs ++ ys) ≡ proposal_loads ys
     → proposal_loads (cond b (Load (Quorum r) x ∷ xs) xs ++ ys) ≡ proposal_loads ys
@@ -88,18 +93,19 @@ pub zeros_loads : (n mask : ℕ) (ys : List Act) → proposal_loads (zeros_below
 zeros_loads zero mask ys = refl
 zeros_loads (suc n) mask ys = cond_loads (bit_at mask n == 1) n 0 (zeros_below n mask) ys (zeros_loads n mask ys)
 
--- the preference shows in the value that the proposal gave
+-- ---- the preference shows in what the proposal gave
+-- the newest load of the proposal shows the preference u: it gave 0 and u is the input, or it gave u
 abbrev pub IsFrom : ℕ → ℕ → List ℕ → List ℕ → Type 0
 IsFrom v u loads rest = ((u ≡ v) × (loads ≡ 0 ∷ rest)) ⊎ (loads ≡ (u + 1) ∷ rest)
 
--- with a preference just made, it is that of what was loaded from the proposal
+-- a preference that was just made shows in what was loaded from the proposal
 prefers_from :
     (t : QuorumTable) (v u : ℕ) (begin : List Act) → Prefers t v u begin
     → IsFrom v u (proposal_loads begin) (proposal_loads (announcement t v))
 prefers_from t v u begin (inl p) = inl (p.0, ap proposal_loads p.1)
 prefers_from t v u begin (inr p) = inr (ap proposal_loads p)
 
--- so there is one preference
+-- what was loaded from the proposal shows one preference
 pub from_unique : (v u w : ℕ) (loads rest : List ℕ) → IsFrom v u loads rest → IsFrom v w loads rest → u ≡ w
 from_unique v u w loads rest (inl h) (inl k) = h.0 ∙ sym k.0
 from_unique v u w loads rest (inl h) (inr k) =
@@ -109,7 +115,7 @@ from_unique v u w loads rest (inr h) (inl k) =
 from_unique v u w loads rest (inr h) (inr k) =
     let e : u + 1 ≡ w + 1 = (let f : (u + 1) ∷ rest ≡ (w + 1) ∷ rest = sym h ∙ k in cc) in omega arith
 
--- after clear loads the preference is that of what was loaded from the proposal
+-- after clear loads the preference shows in what was loaded from the proposal
 pub clear_from :
     (t : QuorumTable) (v u n : ℕ) (made : List Act) → ReadsClear t v u n made
     → IsFrom v u (proposal_loads made) (proposal_loads (announcement t v))
@@ -118,7 +124,7 @@ clear_from t v u n made clear =
     ap proposal_loads clear.2 ∙ zeros_loads n (t.read u) clear.0 in
     subst (λ xs. IsFrom v u xs (proposal_loads (announcement t v))) (sym e) (prefers_from t v u clear.0 clear.1)
 
--- after a 1, too, the preference is that of what was loaded from the proposal
+-- after a load of 1 the preference shows in what was loaded from the proposal
 pub one_from :
     (t : QuorumTable) (v u : ℕ) (made : List Act) → ReadsOne t v u made
     → IsFrom v u (proposal_loads made) (proposal_loads (announcement t v))
@@ -127,6 +133,7 @@ one_from t v u (act ∷ older) h =
     let e : proposal_loads (act ∷ older) ≡ proposal_loads older = ap (λ a. proposal_loads (a ∷ older)) h.1 in
     subst (λ xs. IsFrom v u xs (proposal_loads (announcement t v))) (sym e) (clear_from t v u h.0 older h.4)
 
+-- ---- one output
 -- a whole path has one output
 pub same_output :
     (t : QuorumTable) (v : ℕ) (made : List Act) (d e : Bool) (u w : ℕ) → IsRatifierPath t v made d u

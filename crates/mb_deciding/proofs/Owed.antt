@@ -17,12 +17,12 @@ use Rattle.mb_deciding.proofs.Sizes.{largest_bound}
 use Rattle.mb_deciding.proofs.ConciliatorPaths.{path_ends as conciliator_ends, path_length as conciliator_length}
 use Rattle.mb_deciding.proofs.Conciliators.{valid as conciliator_valid, fits as conciliator_fits}
 
--- answers with the same parts are one
+-- two outputs are one, if both are decided or neither is, and their values are one
 same_answer : (a b : Out) → (a.decided ≡ b.decided) × (a.value ≡ b.value) → a ≡ b
 same_answer a b e = ap₂ answer e.0 e.1
 
 -- ---- the paths of a ratifier
--- a path has an act
+-- a whole path has an act
 some_path : (t : QuorumTable) (v : ℕ) (made : List Act) (d : Bool) (u : ℕ) → IsRatifierPath t v made d u → made ≢ []
 some_path t v made d u h =
     elim (path_chosen t v made d u h) [
@@ -30,16 +30,16 @@ some_path t v made d u h =
       | inr k ↦ has_some made (Load Proposal (u + 1)) k
     ]
 
--- the path of a process that runs alone
+-- the acts of a process that runs alone
 lone_path : QuorumTable → ℕ → List Act
 lone_path t v = zeros_below t.registers (t.read v) ++ (Store Proposal (v + 1) ∷ Load Proposal 0 ∷ announcement t v)
 
--- such a process decides its input
+-- a process that runs alone decides its input
 lone_path_decides : (t : QuorumTable) (v : ℕ) → IsRatifierPath t v (lone_path t v) true v
 unfolding lone_path
 lone_path_decides t v = (Store Proposal (v + 1) ∷ Load Proposal 0 ∷ announcement t v, inl (refl, refl), refl)
 
--- so each input has a path
+-- each input has a path through a ratifier
 opens_ratifier : (t : QuorumTable) (v : ℕ) → IsOpen t Ratifier v []
 opens_ratifier t v =
     let is : acts (turns_for (lone_path t v)) ≡ lone_path t v = acts-turns_for (lone_path t v) in (
@@ -52,7 +52,7 @@ opens_ratifier t v =
       ),
     )
 
--- a path ends once, with one output
+-- a path through a ratifier ends once, with one output
 unique_ratifier :
     (t : QuorumTable) (v : ℕ) (turns later : List Turn) (a b : Out) → IsPath t Ratifier v turns a
     → IsPath t Ratifier v (later ++ turns) b → (later ≡ []) × (a ≡ b)
@@ -67,13 +67,13 @@ unique_ratifier t v turns later a b h k =
     )
 
 -- ---- the paths of a conciliator
--- each input has a path: a process that finds its input in the word at once
+-- each input has a path through a conciliator: that of a process that finds its input in the word at once
 opens_conciliator : (t : QuorumTable) (s v : ℕ) → IsOpen t (Conciliator s) v []
 opens_conciliator t s v =
     let x : Turn = record { act = Load Value (v + 1); word = 0 } in
     (x ∷ [], not_empty x [], (answer false v, (refl, (refl, (0, omega arith, inl tt)))))
 
--- a path ends once, with one output
+-- a path through a conciliator ends once, with one output
 unique_conciliator :
     (t : QuorumTable) (s v : ℕ) (turns later : List Turn) (a b : Out) → IsPath t (Conciliator s) v turns a
     → IsPath t (Conciliator s) v (later ++ turns) b → (later ≡ []) × (a ≡ b)
@@ -82,7 +82,7 @@ unique_conciliator t s v turns later a b h k =
     (e.0, same_answer a b (h.0 ∙ sym k.0, e.1))
 
 -- ---- objects of each kind
--- a path ends once, with one output
+-- a path through an object of any kind ends once, with one output
 pub one_end :
     (t : QuorumTable) (kind : Kind) (v : ℕ) (turns later : List Turn) (a b : Out) → IsPath t kind v turns a
     → IsPath t kind v (later ++ turns) b → (later ≡ []) × (a ≡ b)
@@ -90,7 +90,7 @@ one_end t (Conciliator s) = unique_conciliator t s
 one_end t Ratifier = unique_ratifier t
 one_end t LastObject = unique_last t
 
--- a process with an input of the table has no more turns on a ratifier
+-- a process with an input of the table has at most `most_turns` turns on a ratifier
 ratifier_turns :
     (t : QuorumTable) (inputs : ℕ → ℕ) (h : List Access) (p : ℕ) → IsObjectLawful (ratifier_of t inputs) h
     → inputs p < t.values → IsPrefix t Ratifier (inputs p) (part p h)
@@ -107,14 +107,14 @@ ratifier_turns t inputs h p l within prefix =
           omega (arith, length-acts (part p h), announces, long.1, largest_bound t.read t.values prefix.1.value known))
     ]
 
--- a process has no more turns on a conciliator
+-- a process has at most `most_turns` turns on a conciliator
 conciliator_turns :
     (t : QuorumTable) (s v : ℕ) (turns : List Turn) → IsPrefix t (Conciliator s) v turns
     → length turns ≤ most_turns t (Conciliator s)
 conciliator_turns t s v turns prefix =
     omega (arith, length-append prefix.0 turns, conciliator_length s v (prefix.0 ++ turns) prefix.1.value prefix.2.1)
 
--- a process has no more turns on an object of any kind
+-- a process has at most `most_turns` turns on an object of any kind
 pub bounded :
     (o : Object) (h : List Access) (p : ℕ) → IsObjectLawful o h
     → length (part p h) ≤ most_turns o.table o.kind
@@ -124,6 +124,7 @@ bounded o h p l =
       | inr some ↦ (let own = l.parts p some in by_kind o.kind l own.0 own.1)
     ]
   where
+    -- the bound holds of a process with a turn, by the kind of the object
     by_kind :
         (k : Kind) → IsObjectLawful (object_of o.table k o.inputs) h → o.inputs p < o.table.values → IsPrefix o.table k
         (o.inputs p) (part p h)
@@ -132,7 +133,7 @@ bounded o h p l =
     by_kind Ratifier lawful within prefix = ratifier_turns o.table o.inputs h p lawful within prefix
     by_kind LastObject lawful within prefix = last_turns o.table (o.inputs p) (part p h) prefix
 
--- an object of each kind keeps its promises
+-- an object of each kind over a quorum table keeps its promises
 promises_kept_by : (t : QuorumTable) (kind : Kind) (inputs : ℕ → ℕ) → IsQuorumTable t → IsDeciding
     (object_of t kind inputs)
 promises_kept_by t (Conciliator s) inputs law =
@@ -163,6 +164,6 @@ promises_kept_by t LastObject inputs law =
       coherence = last_coherent t inputs;
     }
 
--- every object over a quorum table keeps its promises
+-- every object whose table keeps the law of quorum tables keeps its promises
 pub promises_kept : (o : Object) → ObjectIsSound o → IsDeciding o
 promises_kept o law = promises_kept_by o.table o.kind o.inputs law

@@ -1,4 +1,4 @@
--- Beginnings of a ratifier's path, in acts.
+-- Prefixes of a ratifier's path, in acts, and the same in turns.
 use Rattle.std.proofs.Common.{◌≢◌, ℕ, ◌+◌, ◌≤◌, Bool, true, List, [], ◌∷◌, ◌++◌, inl, sym, refl, ap, ◌∙◌, subst}
 use Rattle.std.proofs.Common.{append_assoc, arith}
 use Rattle.mb_quorum.specs.Quorum.{QuorumTable}
@@ -8,16 +8,17 @@ use Rattle.mb_deciding.proofs.Histories.{not_empty}
 use Rattle.mb_deciding.proofs.Acts.{acts-append, turns_for, acts-turns_for}
 use Rattle.mb_deciding.proofs.Registers.{each_grow}
 
--- later acts, or none, complete it to a path
+-- ---- prefixes of paths, in acts
+-- the acts are a prefix of a path: later acts, or none, complete it
 abbrev pub IsRatifierPart : QuorumTable → ℕ → List Act → Type 0
 IsRatifierPart t v made = (later : List Act) × (decided : Bool) × (u : ℕ) × IsRatifierPath t v (later ++ made) decided u
 
--- later acts complete it to a path
+-- the acts are an open prefix of a path: later acts, at least one, complete it
 abbrev pub IsRatifierOpen : QuorumTable → ℕ → List Act → Type 0
 IsRatifierOpen t v made =
     (later : List Act) × (later ≢ []) × ((decided : Bool) × (u : ℕ) × IsRatifierPath t v (later ++ made) decided u)
 
--- what is open is a prefix
+-- an open prefix is a prefix
 pub open_part : (t : QuorumTable) (v : ℕ) (made : List Act) → IsRatifierOpen t v made → IsRatifierPart t v made
 open_part t v made h = (h.0, h.2.0, h.2.1, h.2.2)
 
@@ -26,7 +27,7 @@ some_snoc : (xs : List Act) (x : Act) → xs ++ x ∷ [] ≢ []
 some_snoc [] x = not_empty x []
 some_snoc (y ∷ xs) x = not_empty y (xs ++ x ∷ [])
 
--- a prefix without its newest act is open
+-- a prefix without its newest act is an open prefix
 pub part_older :
     (t : QuorumTable) (v : ℕ) (x : Act) (made : List Act) → IsRatifierPart t v (x ∷ made) → IsRatifierOpen t v made
 part_older t v x made h = (
@@ -40,7 +41,7 @@ part_older t v x made h = (
   ),
 )
 
--- an older part of what is open is open
+-- the older acts of an open prefix are an open prefix
 open_suffix :
     (t : QuorumTable) (v : ℕ) (later made : List Act) → IsRatifierOpen t v (later ++ made) → IsRatifierOpen t v made
 open_suffix t v [] made h = h
@@ -53,7 +54,7 @@ pub path_part :
     → IsRatifierPart t v made
 path_part t v made d u h = ([], d, u, h)
 
--- a check whose loads were clear up to a bound
+-- a check whose loads were clear up to a bound is a prefix
 pub clear_part :
     (t : QuorumTable) (v u n : ℕ) (made : List Act) → n ≤ t.registers → ReadsClear t v u n made
     → IsRatifierPart t v made
@@ -74,13 +75,13 @@ clear_part t v u n made within h =
 prefers_part : (t : QuorumTable) (v u : ℕ) (made : List Act) → Prefers t v u made → IsRatifierPart t v made
 prefers_part t v u made h = clear_part t v u 0 made (omega arith) (made, h, refl)
 
--- the load of an empty proposal
+-- the announcement and the load of an empty proposal are an open prefix
 pub empty_open : (t : QuorumTable) (v : ℕ) → IsRatifierOpen t v (Load Proposal 0 ∷ announcement t v)
 empty_open t v =
     part_older t v (Store Proposal (v + 1)) (Load Proposal 0 ∷ announcement t v)
     (prefers_part t v v (Store Proposal (v + 1) ∷ Load Proposal 0 ∷ announcement t v) (inl (refl, refl)))
 
--- the announcement up to a bound
+-- the announcement up to a bound is an open prefix
 pub stores_open : (t : QuorumTable) (v n : ℕ) → n ≤ t.registers → IsRatifierOpen t v (stores_below n (t.write v))
 stores_open t v n within =
     let grown = each_grow (λ r. Store (Quorum r) 1) t.registers (t.write v) n within in
@@ -88,7 +89,8 @@ stores_open t v n within =
     (open_part t v (Load Proposal 0 ∷ announcement t v) (empty_open t v)) in
     open_suffix t v grown.0 (stores_below n (t.write v)) (rw grown.1 whole)
 
--- a path in acts is one in turns
+-- ---- from acts to turns
+-- later acts that complete the acts of turns to a path give later turns that complete the turns
 path_by_turns :
     (t : QuorumTable) (v : ℕ) (later : List Act) (turns : List Turn) (d : Bool) (u : ℕ)
     → IsRatifierPath t v (later ++ acts turns) d u → IsPath t Ratifier v (turns_for later ++ turns) (answer d u)
@@ -96,12 +98,12 @@ path_by_turns t v later turns d u h =
     subst (λ xs. IsRatifierPath t v xs d u) (sym (acts-append (turns_for later) turns ∙ ap (λ xs. xs ++ acts turns)
     (acts-turns_for later))) h
 
--- a prefix in acts is one in turns
+-- if the acts of turns are a prefix of a path, so are the turns
 pub part_by_turns :
     (t : QuorumTable) (v : ℕ) (turns : List Turn) → IsRatifierPart t v (acts turns) → IsPrefix t Ratifier v turns
 part_by_turns t v turns p = (turns_for p.0, answer p.1 p.2, path_by_turns t v p.0 turns p.1 p.2 p.3)
 
--- what is open in acts is open in turns
+-- if the acts of turns are an open prefix of a path, so are the turns
 pub open_by_turns :
     (t : QuorumTable) (v : ℕ) (turns : List Turn) → IsRatifierOpen t v (acts turns) → IsOpen t Ratifier v turns
 open_by_turns t v turns p = (

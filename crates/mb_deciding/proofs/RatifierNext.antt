@@ -9,7 +9,7 @@ use Rattle.mb_deciding.specs.{zeros_below, announcement, Prefers, ReadsClear, Is
 use Rattle.mb_deciding.proofs.Lengths.{each_more, clear_same, empty_unclear}
 use Rattle.mb_deciding.proofs.Outputs.{proposal_loads, clear_from, from_unique}
 
--- all that a process with input v made before an act of its path
+-- the act follows the acts made: they are all that a process with input v makes before it
 abbrev pub Follows : QuorumTable → ℕ → Act → List Act → Type 0
 Follows t v (Store Value w) made = ⊥
 Follows t v (Store Proposal w) made = (w ≡ v + 1) × (made ≡ Load Proposal 0 ∷ announcement t v)
@@ -22,20 +22,20 @@ Follows t v (Exchange reg w f) made = ⊥
 Follows t v (Load Proposal x) made = made ≡ announcement t v
 Follows t v (Load (Quorum r) x) made = (u : ℕ) × IsMember (t.read u) r × ReadsClear t v u r made
 
--- so it is with each act of a list
+-- each act of the list follows the acts before it
 abbrev AllFollow : QuorumTable → ℕ → List Act → Type 0
 AllFollow t v [] = Unit {0}
 AllFollow t v (a ∷ made) = Follows t v a made × AllFollow t v made
 
 -- ---- each act of a path follows what was done before
--- one more store of the announcement
+-- one more act that follows those before it, if a test adds it, keeps this so
 follow_cond :
     (t : QuorumTable) (v : ℕ) (b : Bool) (x : Act) (xs : List Act) → (b ≡ true → Follows t v x xs) → AllFollow t v xs
     → AllFollow t v (cond b (x ∷ xs) xs)
 follow_cond t v true x xs f h = (f refl, h)
 follow_cond t v false x xs f h = h
 
--- the acts of the announcement follow
+-- each act of an announcement up to a bound follows the acts before it
 stores_follow : (t : QuorumTable) (v n : ℕ) → n ≤ t.registers → AllFollow t v (stores_below n (t.write v))
 stores_follow t v zero within = tt
 stores_follow t v (suc n) within =
@@ -43,21 +43,21 @@ stores_follow t v (suc n) within =
     (λ b. (refl, omega arith, eqb-true (bit_at (t.write v) n) 1 b, refl))
     (stores_follow t v n (omega arith))
 
--- the acts of a path up to its preference follow
+-- each act of a path up to its preference follows the acts before it
 prefers_follow : (t : QuorumTable) (v u : ℕ) (begin : List Act) → Prefers t v u begin → AllFollow t v begin
 prefers_follow t v u begin (inl h) =
     subst (λ made. AllFollow t v made) (sym h.1) ((refl, refl), (refl, stores_follow t v t.registers (omega arith)))
 prefers_follow t v u begin (inr h) =
     subst (λ made. AllFollow t v made) (sym h) (refl, stores_follow t v t.registers (omega arith))
 
--- one more load of a check
+-- each act still follows those before it with one more act among them, if a test adds it and it follows all before it
 check_cond :
     (t : QuorumTable) (v : ℕ) (b : Bool) (x : Act) (xs ys : List Act) → (b ≡ true → Follows t v x (xs ++ ys))
     → AllFollow t v (xs ++ ys) → AllFollow t v (cond b (x ∷ xs) xs ++ ys)
 check_cond t v true x xs ys f h = (f refl, h)
 check_cond t v false x xs ys f h = h
 
--- the loads of a check follow
+-- each load of a check follows the acts before it
 zeros_follow :
     (t : QuorumTable) (v u n : ℕ) (begin : List Act) → Prefers t v u begin
     → AllFollow t v (zeros_below n (t.read u) ++ begin)
@@ -67,11 +67,11 @@ zeros_follow t v u (suc n) begin p =
     (λ b. (u, eqb-true (bit_at (t.read u) n) 1 b, (begin, p, refl)))
     (zeros_follow t v u n begin p)
 
--- a path while its loads are clear
+-- each act of a path whose loads were clear so far follows the acts before it
 clear_follow : (t : QuorumTable) (v u n : ℕ) (made : List Act) → ReadsClear t v u n made → AllFollow t v made
 clear_follow t v u n made h = subst (λ xs. AllFollow t v xs) (sym h.2) (zeros_follow t v u n h.0 h.1)
 
--- the acts of a whole path follow
+-- each act of a whole path follows the acts before it
 path_follow :
     (t : QuorumTable) (v : ℕ) (made : List Act) (d : Bool) (u : ℕ) → IsRatifierPath t v made d u → AllFollow t v made
 path_follow t v made true u h = clear_follow t v u t.registers made h
@@ -79,12 +79,12 @@ path_follow t v [] false u h = tt
 path_follow t v (act ∷ older) false u h =
     (subst (λ a. Follows t v a older) (sym h.1) (u, h.2, h.4), clear_follow t v u h.0 older h.4)
 
--- the acts of an older part of a list follow
+-- if each act of a list follows the acts before it, so does each of its older acts
 suffix_follow : (t : QuorumTable) (v : ℕ) (later made : List Act) → AllFollow t v (later ++ made) → AllFollow t v made
 suffix_follow t v [] made h = h
 suffix_follow t v (x ∷ later) made h = suffix_follow t v later made h.1
 
--- each act of a path follows what was done before
+-- an act of a path follows all that was done before
 pub act_follows :
     (t : QuorumTable) (v : ℕ) (later made : List Act) (a : Act) (d : Bool) (u : ℕ)
     → IsRatifierPath t v (later ++ a ∷ made) d u → Follows t v a made
@@ -104,14 +104,14 @@ same_register act mask r s a b e =
       ])
     ]
 
--- a store of the announcement comes before its end
+-- before a store of the announcement fewer acts were made than the announcement has
 store_early :
     (t : QuorumTable) (v r w : ℕ) (made : List Act) → Follows t v (Store (Quorum r) w) made
     → length made < length (announcement t v)
 store_early t v r w made h =
     omega (arith, ap length h.3, each_more (λ k. Store (Quorum k) 1) t.registers (t.write v) r h.1 h.2)
 
--- a load of a check comes after it
+-- before a load of a check more acts were made than the announcement has
 check_late :
     (t : QuorumTable) (v u n : ℕ) (made : List Act) → ReadsClear t v u n made → length (announcement t v) < length made
 check_late t v u n made h =
@@ -120,7 +120,7 @@ check_late t v u n made h =
       | inr p ↦ omega (arith, ap length h.2, length-append (zeros_below n (t.read u)) h.0, ap length p)
     ]
 
--- loads of one check are of one register
+-- after the same acts two loads of a check are of one register
 same_check :
     (t : QuorumTable) (v u w r s : ℕ) (made : List Act) → IsMember (t.read u) r → IsMember (t.read w) s
     → ReadsClear t v u r made → ReadsClear t v w s made → r ≡ s
@@ -132,7 +132,7 @@ same_check t v u w r s made a b h k =
     clear_same t v u w r s made h k ∙ ap (λ x. length (zeros_below s (t.read x))) same in
     same_register (λ x. Load (Quorum x) 0) (t.read u) r s a (subst (λ x. IsMember (t.read x) s) same b) long
 
--- after a store in a proposal that was empty there is no load of a check
+-- after the acts that a store in the proposal follows, no load of a check comes
 put_unchecked :
     (t : QuorumTable) (v u n : ℕ) (made : List Act) → made ≡ Load Proposal 0 ∷ announcement t v
     → ReadsClear t v u n made → ⊥

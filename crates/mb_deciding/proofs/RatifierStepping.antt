@@ -1,4 +1,5 @@
--- A process at its place in a ratifier: what it made is an open prefix of a path, and its next turn goes on with it.
+-- A process at its place in a ratifier: its acts are an open prefix of a path, its next turn goes on along it, and what
+-- its load may find.
 use Rattle.std.proofs.Common.{◌≡◌, ap, ◌∙◌, ℕ, zero, suc, ◌+◌, ◌<◌, false, List, ◌∷◌, inl, inr}
 use Rattle.std.proofs.Common.{sym, subst, arith}
 use Rattle.std.proofs.Math.Numerals.{add-one}
@@ -19,7 +20,7 @@ use Rattle.mb_deciding.proofs.Advances.{find_anywhere, announce_op, begin_op, pr
 use Rattle.mb_deciding.proofs.Advances.{announced_next, announced_whole, prefers_own, prefers_found, checked_next}
 use Rattle.mb_deciding.proofs.Advances.{checked_one}
 
--- what was made at a place is an open prefix
+-- the acts that led to a place are an open prefix of a path
 pub checking_open :
     (t : QuorumTable) → IsQuorumTable t → (v : ℕ) (place : RatifierPlace) (made : List Act) → IsRatifierPlace t place
     → IsInRatifier t v place made → IsRatifierOpen t v made
@@ -31,14 +32,14 @@ checking_open t q v (Check u left) made fit at =
     let one = checked_one t q v u left made (to.Load (Quorum least.0)) 1 fit.0 at least.1 (omega arith) (omega arith) in
     part_older t v (Load (Quorum least.0) 1) made (path_part t v (Load (Quorum least.0) 1 ∷ made) false u one)
 
--- a load of the proposal after the announcement
+-- the announcement and a load of the proposal are a prefix of a path
 loaded_part : (t : QuorumTable) (v n : ℕ) → IsRatifierPart t v (Load Proposal n ∷ announcement t v)
 loaded_part t v zero = open_part t v (Load Proposal 0 ∷ announcement t v) (empty_open t v)
 loaded_part t v (suc u) =
     clear_part t v u 0 (Load Proposal (suc u) ∷ announcement t v) (omega arith)
     (prefers_found t v u (suc u) (sym (add-one u)))
 
--- the next act of an announcement goes on with a path
+-- the next act of an announcement goes on along a path
 announcing_next :
     (t : QuorumTable) → IsQuorumTable t → (v input left : ℕ) (made : List Act) (op : Op) (seen : ℕ) → v < t.values
     → IsInRatifier t v (Announce input left) made → IsRatifierOp t (Announce input left) op
@@ -52,7 +53,7 @@ announcing_next t q v input left made op seen within at is can =
       | inr x ↦ rw ((announced_whole t v input left made op seen at is x.1 can).0) (loaded_part t v seen)
     ]
 
--- the next act of a process at a place, with a value that it can find there, goes on with a path
+-- the next act of a process at a place, with a value that it can find there, goes on along a path
 pub checking_next :
     (t : QuorumTable) → IsQuorumTable t → (v : ℕ) (place : RatifierPlace) (made : List Act) (op : Op) (seen : ℕ)
     → IsRatifierPlace t place → IsInRatifier t v place made → IsRatifierOp t place op → CanFind t

@@ -11,19 +11,19 @@ use Rattle.mb_deciding.proofs.Acts.{has_turns}
 use Rattle.mb_deciding.proofs.Grammar.{Behind, AllBehind, HasPreference, IsChosen, part_behind, behind_at}
 
 -- ---- the acts of a process in a longer history
--- an access that may be of another process takes no act away
+-- one turn more, if a test adds it, takes no act away
 kept_by :
     (own : Bool) (x : Turn) (turns : List Turn) (c : Act) → Has (acts turns) c
     → Has (acts (cons_option (cond own (Some x) None) turns)) c
 kept_by true x turns c k = inr k
 kept_by false x turns c k = k
 
--- an access takes no act away
+-- one more access takes no act of a process away
 has_kept :
     (p : ℕ) (a : Access) (h : List Access) (c : Act) → Has (acts (part p h)) c → Has (acts (part p (a ∷ h))) c
 has_kept p a h c k = kept_by (a.process == p) a.turn (part p h) c k
 
--- an act is of an access that may be of another process, or older
+-- an act of turns with one more, if a test adds it, is of that turn, or older
 cases_by :
     (own : Bool) (x : Turn) (turns : List Turn) (c : Act) → Has (acts (cons_option (cond own (Some x) None) turns)) c
     → ((own ≡ true) × (c ≡ x.act)) ⊎ Has (acts turns) c
@@ -31,7 +31,7 @@ cases_by true x turns c (inl e) = inl (refl, e)
 cases_by true x turns c (inr k) = inr k
 cases_by false x turns c k = inr k
 
--- an act of a process is the newest access, or older
+-- an act of a process is that of the newest access, or older
 pub has_cases :
     (p : ℕ) (a : Access) (h : List Access) (c : Act) → Has (acts (part p (a ∷ h))) c
     → ((a.process ≡ p) × (c ≡ a.turn.act)) ⊎ Has (acts (part p h)) c
@@ -41,7 +41,7 @@ has_cases p a h c k =
       | inr w ↦ inr w
     ]
 
--- what came before an act of a process
+-- in a lawful history each act of a process has older acts, which have what has to come before it
 pub own_behind :
     (t : QuorumTable) (inputs : ℕ → ℕ) (h : List Access) → IsObjectLawful (ratifier_of t inputs) h → (p : ℕ) (c : Act)
     → Has (acts (part p h)) c
@@ -50,7 +50,7 @@ own_behind t inputs h l p c k =
     behind_at t (inputs p) (acts (part p h)) c
     (part_behind t (inputs p) (part p h) (l.parts p (has_turns (part p h) c k)).1) k
 
--- what came before the newest access
+-- in a lawful history its process has made what has to come before the newest access
 newest_behind :
     (t : QuorumTable) (inputs : ℕ → ℕ) (a : Access) (h : List Access) → IsObjectLawful (ratifier_of t inputs) (a ∷ h)
     → Behind t (inputs a.process) a.turn.act (acts (part a.process h))
@@ -59,16 +59,16 @@ newest_behind t inputs a h l =
     (part_behind t (inputs a.process) (part a.process (a ∷ h)) (l.parts a.process (own_some a h)).1)).0
 
 -- ---- what one access leaves in the words
--- a store leaves its value
+-- a store in a quorum register leaves its value there
 same_register : (r w n : ℕ) → value_after (Quorum r) (Store (Quorum r) w) n ≡ w
 same_register r w n = ap (λ b. cond b w n) (eq-eqb r r refl)
 
--- a 1 stays whether or not a 1 is stored there
+-- a word that holds 1 holds 1 whether or not a 1 is stored there
 cond_one : (b : Bool) (w n : ℕ) → w ≡ 1 → n ≡ 1 → cond b w n ≡ 1
 cond_one true w n e f = e
 cond_one false w n e f = f
 
--- a quorum register that holds 1 keeps it
+-- a quorum register that holds 1 holds 1 after one more act
 one_kept :
     (t : QuorumTable) (v r : ℕ) (act : Act) (older : List Act) (n : ℕ) → Behind t v act older → n ≡ 1
     → value_after (Quorum r) act n ≡ 1
@@ -79,7 +79,7 @@ one_kept t v r (Exchange reg w f) older n b e = absurd b
 one_kept t v r (Store Proposal w) older n b e = e
 one_kept t v r (Store (Quorum i) w) older n b e = cond_one (i == r) w n b.0 e
 
--- a proposal that is not empty stays so
+-- a proposal that is not empty is not empty after one more act
 filled_kept :
     (t : QuorumTable) (v : ℕ) (act : Act) (older : List Act) (n : ℕ) → Behind t v act older → 0 < n
     → 0 < value_after Proposal act n
@@ -90,7 +90,8 @@ filled_kept t v (Exchange reg w f) older n b e = absurd b
 filled_kept t v (Store Proposal w) older n b e = let k : w ≡ v + 1 = b.0 in omega arith
 filled_kept t v (Store (Quorum i) w) older n b e = e
 
--- a value in the proposal was there before, or was stored now
+-- after one act a value in the proposal was there before, or is the input of the process, which loaded an empty
+-- proposal
 proposal_origin :
     (t : QuorumTable) (v u : ℕ) (act : Act) (older : List Act) (n : ℕ) → Behind t v act older
     → value_after Proposal act n ≡ u + 1 → (n ≡ u + 1) ⊎ ((v ≡ u) × Has older (Load Proposal 0))
@@ -101,12 +102,12 @@ proposal_origin t v u (Exchange reg w f) older n b e = absurd b
 proposal_origin t v u (Store Proposal w) older n b e = let k : w ≡ v + 1 = b.0 in inr (omega arith, b.1)
 proposal_origin t v u (Store (Quorum i) w) older n b e = inl e
 
--- what a word holds was stored there, or it was there before
+-- a word that is not 0 was stored to, or was not 0 before
 cond_origin : (b : Bool) (w n : ℕ) → 0 < cond b w n → (b ≡ true) ⊎ (0 < n)
 cond_origin true w n h = inl refl
 cond_origin false w n h = inr h
 
--- a quorum register that is not 0 was so before, or was stored now
+-- after one act a quorum register that is not 0 was not 0 before, or the act stored 1 there
 register_origin :
     (t : QuorumTable) (v r : ℕ) (act : Act) (older : List Act) (n : ℕ) → Behind t v act older
     → 0 < value_after (Quorum r) act n → (0 < n) ⊎ (Store (Quorum r) 1 ≡ act)
@@ -136,7 +137,7 @@ stored_one t inputs (a ∷ h) l p r k =
           (stored_one t inputs h (lawful_older (ratifier_of t inputs) a h l) p r w)
     ]
 
--- once a process has stored a proposal, the proposal is never empty
+-- if a process has stored in the proposal, it is not empty
 stored_filled :
     (t : QuorumTable) (inputs : ℕ → ℕ) (h : List Access) → IsObjectLawful (ratifier_of t inputs) h → (p v : ℕ)
     → Has (acts (part p h)) (Store Proposal (v + 1)) → 0 < value_in Proposal h
@@ -155,7 +156,7 @@ pub newest_load :
     → IsObjectLawful (ratifier_of t inputs) (a ∷ h) → Load reg x ≡ a.turn.act → x ≡ value_in reg h
 newest_load t inputs a h reg x l e = subst (λ act. ReadsLast act h) (sym e) l.memory.0
 
--- once a process has loaded a value from the proposal, the proposal is never empty
+-- if a process has loaded a value from the proposal, it is not empty
 loaded_filled :
     (t : QuorumTable) (inputs : ℕ → ℕ) (h : List Access) → IsObjectLawful (ratifier_of t inputs) h → (p u : ℕ)
     → Has (acts (part p h)) (Load Proposal (u + 1)) → 0 < value_in Proposal h
@@ -177,16 +178,16 @@ pub preference_filled :
 preference_filled t inputs h l p v (inl k) = stored_filled t inputs h l p v k
 preference_filled t inputs h l p v (inr k) = loaded_filled t inputs h l p k.0 k.1
 
--- a process with this input loaded an empty proposal
+-- u has a founder: a process with the input u loaded an empty proposal
 abbrev pub IsFounded : (ℕ → ℕ) → List Access → ℕ → Type 0
 IsFounded inputs h u = (b : ℕ) × (inputs b ≡ u) × Has (acts (part b h)) (Load Proposal 0)
 
--- in a longer history, too, it has a founder
+-- a value with a founder has one in a longer history
 founded_kept :
     (inputs : ℕ → ℕ) (a : Access) (h : List Access) (u : ℕ) → IsFounded inputs h u → IsFounded inputs (a ∷ h) u
 founded_kept inputs a h u f = (f.0, f.1, has_kept f.0 a h (Load Proposal 0) f.2)
 
--- a value in the proposal is the input of a process that loaded an empty proposal
+-- a value in the proposal has a founder
 proposal_founded :
     (t : QuorumTable) (inputs : ℕ → ℕ) (h : List Access) → IsObjectLawful (ratifier_of t inputs) h → (u : ℕ)
     → value_in Proposal h ≡ u + 1 → IsFounded inputs h u
@@ -218,7 +219,7 @@ pub chosen_founded :
 chosen_founded t inputs h l p u (inl k) = (p, sym k.0, k.1)
 chosen_founded t inputs h l p u (inr k) = loaded_founded t inputs h l p u k
 
--- such a value is one of the table's
+-- a value with a founder is one of the table's
 pub founded_within :
     (t : QuorumTable) (inputs : ℕ → ℕ) (h : List Access) → IsObjectLawful (ratifier_of t inputs) h → (u : ℕ)
     → IsFounded inputs h u → u < t.values
@@ -294,7 +295,7 @@ proposal_small t inputs h l =
           omega arith)
     ]
 
--- no act of a ratifier's path stores in a conciliator's word
+-- an act on a ratifier leaves an empty word of a conciliator empty
 no_value :
     (t : QuorumTable) (v : ℕ) (act : Act) (older : List Act) (n : ℕ) → Behind t v act older → n ≤ 0
     → value_after Value act n ≤ 0
@@ -305,7 +306,7 @@ no_value t v (Store (Quorum i) w) older n b e = e
 no_value t v (Store Last w) older n b e = absurd b
 no_value t v (Exchange reg w f) older n b e = absurd b
 
--- a ratifier's act stores nothing in a last object's word
+-- an act on a ratifier leaves an empty word of a last object empty
 no_last :
     (t : QuorumTable) (v : ℕ) (act : Act) (older : List Act) (n : ℕ) → Behind t v act older → n ≤ 0
     → value_after Last act n ≤ 0
@@ -316,7 +317,7 @@ no_last t v (Store (Quorum i) w) older n b e = e
 no_last t v (Store Last w) older n b e = absurd b
 no_last t v (Exchange reg w f) older n b e = absurd b
 
--- so a last object's word is empty
+-- the word of a last object is empty in a ratifier
 last_empty :
     (t : QuorumTable) (inputs : ℕ → ℕ) (h : List Access) → IsObjectLawful (ratifier_of t inputs) h
     → value_in Last h ≤ 0
@@ -325,7 +326,7 @@ last_empty t inputs (a ∷ h) l =
     no_last t (inputs a.process) a.turn.act (acts (part a.process h)) (value_in Last h) (newest_behind t inputs a h l)
     (last_empty t inputs h (lawful_older (ratifier_of t inputs) a h l))
 
--- so that word is empty
+-- the word of a conciliator is empty in a ratifier
 value_empty :
     (t : QuorumTable) (inputs : ℕ → ℕ) (h : List Access) → IsObjectLawful (ratifier_of t inputs) h
     → value_in Value h ≤ 0
@@ -334,7 +335,7 @@ value_empty t inputs (a ∷ h) l =
     no_value t (inputs a.process) a.turn.act (acts (part a.process h)) (value_in Value h) (newest_behind t inputs a h l)
     (value_empty t inputs h (lawful_older (ratifier_of t inputs) a h l))
 
--- each word holds what it can
+-- each word holds only values that a word of this name can hold
 pub fits :
     (t : QuorumTable) (inputs : ℕ → ℕ) (h : List Access) (reg : Reg) → IsObjectLawful (ratifier_of t inputs) h
     → CanHold t reg (value_in reg h)

@@ -5,7 +5,7 @@ use Rattle.std.proofs.lemmas.Bool.{cond_above}
 use Rattle.mb_quorum.specs.declared.values.TheConstants.{MAX_VALUES}
 use Rattle.mb_deciding.specs.{BadValues, BadInput, NoSuchProcess, first_from, refusal_in, refusal_of}
 
--- no other reason comes before those of the inputs and the schedule
+-- if the number of values is in range, the first reason is one of the inputs and the schedule
 pub refusal_in-of :
     (m v : ℕ) (inputs processes others : List ℕ) → 1 ≤ m → m ≤ MAX_VALUES → v ≡ m → others ≡ processes
     → refusal_in v inputs others ≡ refusal_of m inputs processes
@@ -15,7 +15,7 @@ refusal_in-of m v inputs processes others least most same own =
     (refusal_in m inputs processes) most refl
     ∙ cond_above m 1 (Some BadValues) _ _ least refl))
 
--- the first of two reasons, if neither is one
+-- if there is no first of two reasons, there is neither
 none_of :
     (x y : Option ℕ)
     → option_map_or (λ i. Some (BadInput i)) x (option_map_or (λ i. Some (NoSuchProcess i)) y None) ≡ None
@@ -24,7 +24,7 @@ none_of None None e = (refl, refl)
 none_of None (Some j) e = absurd (let f : Some (NoSuchProcess j) ≡ None = e in cc)
 none_of (Some i) y e = absurd (let f : Some (BadInput i) ≡ None = e in cc)
 
--- if there is no reason, no input and no process is the first bad one
+-- if there is no reason to refuse, no input and no process is out of range
 pub none_first :
     (m : ℕ) (inputs processes : List ℕ) → None ≡ refusal_in m inputs processes
     → (None ≡ first_from m inputs) × (None ≡ first_from (length inputs) processes)

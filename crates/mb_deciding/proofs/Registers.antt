@@ -33,11 +33,11 @@ pub none_empty : (left k : ℕ) → left ≡ 0 → IsMember left k → ⊥
 none_empty left k e m =
     let z : bit_at 0 k ≡ 0 = bit_at-zero k in let one : bit_at 0 k ≡ 1 = subst (λ n. bit_at n k ≡ 1) e m in omega arith
 
--- at first the whole quorum is left
+-- at and above the bound 0 the whole quorum is left
 pub rest_whole : (mask : ℕ) → IsRest mask 0 mask
 rest_whole mask k = ((λ m. (omega arith, m)), (λ both. both.1))
 
--- the least of what is left is the least at or above the bound
+-- the least register of what is left is the least of the quorum at or above the bound
 pub rest_least : (mask bound left r : ℕ) → IsRest mask bound left → IsLeast left r → IsLeastFrom mask bound r
 rest_least mask bound left r rest least =
     let own = (rest r).0 least.member in
@@ -47,7 +47,7 @@ rest_least mask bound left r rest least =
 pub rest_none : (mask bound left : ℕ) → IsRest mask bound left → left ≡ 0 → IsNoneFrom mask bound
 rest_none mask bound left rest e k above m = none_empty left k e ((rest k).1 (above, m))
 
--- what is left after the least register is taken away
+-- without its least register r, what is left is the quorum at and above r + 1
 pub rest_taken :
     (mask bound left r after : ℕ) → IsRest mask bound left → IsLeast left r
     → ((k : ℕ) → IsMember after k ↔ (IsMember left k × (k ≢ r))) → IsRest mask (r + 1) after
@@ -58,10 +58,11 @@ rest_taken mask bound left r after rest least taken k = (
       (taken k).1 ((rest k).1 (omega arith, both.1), omega arith)),
 )
   where
+    -- another register that is left is above r
     above : IsMember left k → k ≢ r → r + 1 ≤ k
     above m other = elim (cases_lt k r) [ inl l ↦ absurd (least.least k l m) | inr l ↦ omega arith ]
 
--- a mask has a least register below a bound, or none
+-- a mask has a least register below a bound, or has none there
 least_below : (n mask : ℕ) → ((r : ℕ) × (r < n) × IsLeast mask r) ⊎ ((r : ℕ) → r < n → IsMember mask r → ⊥)
 least_below zero mask = inr (λ r l m. absurd (omega arith))
 least_below (suc n) mask =
@@ -77,7 +78,7 @@ least_below (suc n) mask =
       ])
     ]
 
--- a mask has a member, or none
+-- a mask has a register, or has none
 pub some_member : (mask : ℕ) → ((r : ℕ) × IsMember mask r) ⊎ ((r : ℕ) → IsMember mask r → ⊥)
 some_member mask =
     elim (least_below mask mask) [
@@ -93,6 +94,7 @@ some_least mask some =
       | inr none ↦ absurd (some (same_from_bits mask 0 (λ i. zeros none i ∙ sym (bit_at-zero i))))
     ]
   where
+    -- if no register is in the mask, all its bits are 0
     zeros : ((r : ℕ) → r < mask → IsMember mask r → ⊥) → (i : ℕ) → bit_at mask i ≡ 0
     zeros none i =
         elim (cases_lt i mask) [
@@ -102,12 +104,12 @@ some_least mask some =
         ]
 
 -- ---- lists with an act for each register
--- a register outside the mask adds nothing
+-- if the test fails, the act is not added
 skip_cond : (b : Bool) (x : Act) (xs : List Act) → b ≡ false → cond b (x ∷ xs) xs ≡ xs
 skip_cond true x xs e = cc
 skip_cond false x xs e = refl
 
--- a register of the mask adds its act
+-- if the test holds, the act is added
 take_cond : (b : Bool) (x : Act) (xs : List Act) → b ≡ true → cond b (x ∷ xs) xs ≡ x ∷ xs
 take_cond true x xs e = refl
 take_cond false x xs e = cc
@@ -125,7 +127,7 @@ each_skip act (suc n) mask bound h none =
           ∙ each_skip act n mask bound (omega arith) (λ k a b. none k a (omega arith))
     ]
 
--- the least register comes next
+-- up to the least register at or above the bound, the list has the act of that register more
 pub each_next :
     (act : ℕ → Act) (mask bound r : ℕ) → IsLeastFrom mask bound r
     → acts_below act (r + 1) mask ≡ act r ∷ acts_below act bound mask
@@ -133,14 +135,14 @@ each_next act mask bound r l =
     rw add-one (take_cond (bit_at mask r == 1) (act r) (acts_below act r mask) (eq-eqb (bit_at mask r) 1 l.member)
     ∙ ap (λ xs. act r ∷ xs) (each_skip act r mask bound l.above l.least))
 
--- one more register adds its act or nothing
+-- an act that a test adds or not stands before the list
 grow_cond :
     (b : Bool) (x : Act) (xs ys : List Act) → ((later : List Act) × (later ++ ys ≡ xs))
     → (later : List Act) × (later ++ ys ≡ cond b (x ∷ xs) xs)
 grow_cond true x xs ys h = (x ∷ h.0, ap (λ zs. x ∷ zs) h.1)
 grow_cond false x xs ys h = h
 
--- a higher bound adds acts on the left
+-- a higher bound adds acts before the list
 pub each_grow :
     (act : ℕ → Act) (n mask bound : ℕ) → bound ≤ n
     → (later : List Act) × (later ++ acts_below act bound mask ≡ acts_below act n mask)

@@ -1,4 +1,4 @@
--- One more turn of a run, over any kind of object.
+-- One more turn of a run over an object of any kind, and the trace of a run.
 use Rattle.std.proofs.Common.{◌≡◌, ◌≢◌, ℕ, ◌<◌, cond, List, [], ◌∷◌, ◌++◌, Option, Some, None, inl, inr, sym, refl}
 use Rattle.std.proofs.Common.{ap, ◌∙◌, subst, length, map, get_or, set, length-set, get_or-set_same, get_or-set_other}
 use Rattle.std.specs.List.{All, cons_option}
@@ -29,7 +29,7 @@ history_from-push o h (x ∷ schedule) [] turn e all = absurd all
 history_from-push o h (x ∷ schedule) (y ∷ entries) turn e all =
     history_from-push o (with_entry x.1 y h) schedule entries turn e all.2
 
--- the entries still fit, if the new one fits after the accesses of the others
+-- the entries with one more fit the schedule with one turn more, if the new entry fits after the others' accesses
 pub entries_push :
     (o : Object) (h : List Access) (schedule : List (ℕ × ℕ))
     (entries : List Entry) (turn : ℕ × ℕ) (e : Entry)
@@ -43,13 +43,13 @@ entries_push o h (x ∷ schedule) (y ∷ entries) turn e all is here =
     (all.0, all.1, entries_push o (with_entry x.1 y h) schedule entries turn e all.2 is here)
 
 -- ---- what a turn does to the places of processes
--- a load of what is left there is true to memory
+-- an op that finds what the history leaves in its word is true to memory
 pub reads_seen : (op : Op) (h : List Access) → ReadsLast (act_of op (seen_by op h)) h
 reads_seen (to.Load reg) h = refl
 reads_seen (to.Store reg value) h = tt
 reads_seen (to.Exchange reg value) h = refl
 
--- a turn of one process is none of another's
+-- a turn of process p leaves the part of another process as it is
 other_turns : (p k : ℕ) (turn : Turn) (h : List Access) → k ≢ p
     → part k (record { process = p; turn = turn } ∷ h) ≡ part k h
 other_turns p k turn h other =
@@ -63,7 +63,7 @@ pub not_ended :
 not_ended o q h p pc at ended =
     place_unfinished o.table o.kind (o.inputs p) pc (part p h) (answer ended.0 ended.1) q at ended.2
 
--- a whole path is an output
+-- a process whose part is a whole path has ended
 path_ended :
     (o : Object) (h : List Access) (p : ℕ) (out : Out) → IsPath o.table o.kind (o.inputs p) (part p h) out
     → HasEnded o p h
@@ -76,23 +76,23 @@ pub reached_output :
 reached_output o q h p (leads.Go pc) r = not_ended o q h p pc r
 reached_output o q h p (leads.Out out) r = r
 
--- an output is come to, and else the place
+-- from a place a process comes to the output, if there is one, or else to that place
 pub comes_from : (out : Option Out) (pc : Pc) → come_to out (leads.Go pc) ≡ next_from out pc
 comes_from None pc = refl
 comes_from (Some x) pc = refl
 
--- the output is the one that has been come to
+-- the output of what follows an access is the one of the access, if there is one
 pub out_from : (out : Option Out) (pc : Pc) → out_of (next_from out pc) ≡ out
 out_from None pc = refl
 out_from (Some x) pc = refl
 
 -- ---- a run after one more turn
 module _ (u : ObjectSetup) (schedule : List (ℕ × ℕ)) (state : RunState) (run : IsRun u schedule state) where
-  -- what the accesses of the entries were
+  -- the history of the run so far
   abbrev past : List Access
   past = history_of schedule state.entries
 
-  -- a turn of a process that has its output
+  -- with a turn of a process that has its output, which adds the entry `Done`, the run is that of the longer schedule
   pub run_done :
       (p word : ℕ) → HasEnded (object_in u) p past
       → IsRun u (schedule ++ (p, word) ∷ [])
@@ -109,14 +109,14 @@ module _ (u : ObjectSetup) (schedule : List (ℕ × ℕ)) (state : RunState) (ru
         reached = rw same run.reached;
       }
 
-  -- a process that the run has at a place is at it by its part
+  -- if the run keeps a place for a process, its part has led to that place
   pub place_at :
       (p : ℕ) (x : Next) (pc : Pc) → p < length state.places → x ≡ get_or state.places p x → x ≡ leads.Go pc
       → PcIsAt u.table u.kind (get_or u.inputs p 0) pc (part p past)
   place_at p x pc below is go =
       subst (λ n. IsReached u.table u.kind (get_or u.inputs p 0) n (part p past)) (sym is ∙ go) (run.reached p x below)
 
-  -- a process that the run has at an output has ended
+  -- if the run keeps an output for a process, it has ended
   pub ended_at :
       (p : ℕ) (x : Next) (out : Out) → p < length state.places → x ≡ get_or state.places p x → x ≡ leads.Out out
       → HasEnded (object_in u) p past
@@ -125,7 +125,7 @@ module _ (u : ObjectSetup) (schedule : List (ℕ × ℕ)) (state : RunState) (ru
       (subst (λ n. IsReached u.table u.kind (get_or u.inputs p 0) n (part p past)) (sym is ∙ go)
       (run.reached p x below))
 
-  -- an access of a process at a place
+  -- with an access of a process that has not ended, the run is that of the longer schedule
   pub run_accessed :
       IsTableFor u.kind u.table → (words : ObjectMemory) (p word : ℕ) (next : Next) (act : Act) → p < length state.places
       → (HasEnded (object_in u) p past → ⊥)
@@ -174,7 +174,7 @@ module _ (u : ObjectSetup) (schedule : List (ℕ × ℕ)) (state : RunState) (ru
       rw (get_or-map out_of state.places p first d inside)
       (reached_output (object_in u) q past p (get_or state.places p first) (run.reached p first inside))
 
-  -- the trace of a run
+  -- the entries and outputs of a run are the trace of its schedule
   pub run_trace :
       IsTableFor u.kind u.table → All (λ turn. turn.0 < length u.inputs) schedule
       → IsTrace u schedule state.entries (map out_of state.places)

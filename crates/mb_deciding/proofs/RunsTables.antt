@@ -1,4 +1,5 @@
--- A run over each table that does for its kind: a ratifier has one, a conciliator looks at none.
+-- Which tables an object can have: a ratifier has one, and a conciliator looks at none. Over each of them, what a
+-- process at a place does next.
 use Rattle.std.proofs.Common.{◌≡◌, ℕ, ◌≤◌, List, ◌∷◌, refl, ap, subst, sym, arith}
 use Rattle.mb_quorum.specs.Quorum.{QuorumTable}
 use Rattle.mb_deciding.specs.{Turn, Access, Op, Reg, Value, Proposal, Quorum, Last, Kind, Conciliator, Ratifier, LastObject, Out, Pc}
@@ -10,7 +11,7 @@ use Rattle.mb_deciding.proofs.ConciliatorPlaces.{drawing_open}
 use Rattle.mb_deciding.proofs.ConciliatorStepping.{drawing_next, drawing_found, drawing_word}
 use Rattle.mb_deciding.proofs.Stepping.{next_part, next_found, at_open, at_word}
 
--- a table does for itself
+-- for each kind a table is the same as itself
 pub same_self : (kind : Kind) (t : QuorumTable) → IsSameFor kind t t
 same_self (Conciliator s) t = refl
 same_self Ratifier t = refl
@@ -22,21 +23,21 @@ same_values (Conciliator s) t u same = same
 same_values Ratifier t u same = ap (λ (x : QuorumTable). x.values) same
 same_values LastObject t u same = ap (λ (x : QuorumTable). x.values) same
 
--- if an object does the same over two tables, and one is a table for its kind, the other is
+-- if an object does the same over two tables, and can have the one, it can have the other
 pub same_table : (kind : Kind) (t u : QuorumTable) → IsSameFor kind t u → IsTableFor kind u → IsTableFor kind t
 same_table (Conciliator s) t u same q = tt
 same_table Ratifier t u same q = subst (λ x. IsTableFor Ratifier x) (sym same) q
 same_table LastObject t u same q = subst (λ x. IsTableFor LastObject x) (sym same) q
 
 -- ---- a process at a place
--- in a ratifier it fits the table
+-- a place in a ratifier to which turns led fits the table
 pub ratifier_place :
     (t : QuorumTable) (v : ℕ) (pc : Pc) (turns : List Turn) → PcIsAt t Ratifier v pc turns → IsPlace t pc
 ratifier_place t v (InRatifier place) turns at = at.0
 ratifier_place t v (InConciliator place) turns at = absurd at
 ratifier_place t v (InLast place) turns at = absurd at
 
--- the next turn of a process at a place goes on with its path
+-- the next turn of a process at a place goes on along its path
 pub place_leads :
     (t : QuorumTable) (kind : Kind) (inputs : ℕ → ℕ) (h : List Access) (p : ℕ) (pc : Pc) (op : Op) (word : ℕ)
     → IsTableFor kind t → IsObjectLawful (object_of t kind inputs) h → PcIsAt t kind (inputs p) pc (part p h)
@@ -49,7 +50,7 @@ place_leads t (Conciliator s) inputs h p (InRatifier place) op word q l at is = 
 place_leads t (Conciliator s) inputs h p (InLast place) op word q l at is = absurd at
 place_leads t LastObject inputs h p pc op word q l at is = next_part t LastObject inputs h p pc op word q l at is
 
--- what it finds is a value with which the place can go on
+-- the next op of a place finds a value with which the place can go on
 pub place_finds :
     (t : QuorumTable) (kind : Kind) (inputs : ℕ → ℕ) (h : List Access) (p : ℕ) (pc : Pc) (op : Op) → IsTableFor kind t
     → IsObjectLawful (object_of t kind inputs) h → PcIsAt t kind (inputs p) pc (part p h) → IsOpAt t pc op
@@ -61,7 +62,7 @@ place_finds t (Conciliator s) inputs h p (InRatifier place) op q l at is = absur
 place_finds t (Conciliator s) inputs h p (InLast place) op q l at is = absurd at
 place_finds t LastObject inputs h p pc op q l at is = next_found t LastObject inputs h p pc op q l at is
 
--- what was made there is an open prefix
+-- the turns that led to a place are an open prefix of a path
 place_open :
     (t : QuorumTable) (kind : Kind) (v : ℕ) (pc : Pc) (turns : List Turn) → IsTableFor kind t → PcIsAt t kind v pc turns
     → IsOpen t kind v turns
@@ -71,7 +72,7 @@ place_open t (Conciliator s) v (InRatifier place) turns q at = absurd at
 place_open t (Conciliator s) v (InLast place) turns q at = absurd at
 place_open t LastObject v pc turns q at = at_open t LastObject v pc turns q at
 
--- what a process at a place has made is no whole path
+-- the turns that led to a place are no whole path
 pub place_unfinished :
     (t : QuorumTable) (kind : Kind) (v : ℕ) (pc : Pc) (turns : List Turn) (out : Out) → IsTableFor kind t
     → PcIsAt t kind v pc turns → IsPath t kind v turns out → ⊥
@@ -88,7 +89,7 @@ has_reg r (Conciliator s) (Quorum i) few has = absurd has
 has_reg r LastObject (Quorum i) few has = absurd has
 has_reg r kind Last few has = tt
 
--- a run keeps the word of its next op
+-- a run keeps the word of a place's next op
 pub place_word :
     (t : QuorumTable) (kind : Kind) (v : ℕ) (pc : Pc) (turns : List Turn) (op : Op) → IsTableFor kind t
     → PcIsAt t kind v pc turns → IsOpAt t pc op → IsReg (reg_of op)

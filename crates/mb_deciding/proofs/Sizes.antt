@@ -1,4 +1,4 @@
--- How many registers a quorum has.
+-- How many registers a quorum has, and how long a list with an act for each register is.
 use Rattle.std.proofs.Common.{◌≡◌, ◌≢◌, ℕ, zero, suc, ◌+◌, ◌*◌, ◌/◌, ◌%◌, ◌^◌, ◌<◌, ◌≤◌, ◌==◌, count_ones, cond, Bool}
 use Rattle.std.proofs.Common.{true, false, List, ◌∷◌, length, inl, inr, sym, refl, ap, ◌∙◌, subst, arith}
 use Rattle.std.specs.Int.{bit_at}
@@ -10,11 +10,11 @@ use Rattle.std.proofs.lemmas.Nat.{mod-pow-add, div-add-mod', ones_cat, ones_le_s
 use Rattle.std.proofs.lemmas.Nat.Bits.{bit_at-lt}
 use Rattle.mb_deciding.specs.{Act, acts_below, largest_quorum}
 
--- the empty quorum
+-- the empty quorum has no registers
 ones_none : count_ones 0 ≡ 0
 ones_none = omega (arith, ones_le_self 0)
 
--- a quorum of one register
+-- the mask 1 has one register
 ones_single : count_ones 1 ≡ 1
 ones_single =
     elim (cases_eq (count_ones 1) 0) [
@@ -22,7 +22,7 @@ ones_single =
       | inr some ↦ omega (arith, ones_le_self 1)
     ]
 
--- one more register, if it is in the quorum
+-- a list with an act more, if the register's bit is 1, is longer by the number of ones of that bit
 cond_size :
     (act : Act) (made : List Act) (bit n : ℕ) → bit < 2 → length made ≡ n → (is : Bool) → (bit == 1) ≡ is
     → length (cond is (act ∷ made) made) ≡ count_ones bit + n
@@ -34,13 +34,13 @@ cond_size act made bit n small e false is =
     let none : bit ≡ 0 = omega arith in
     omega (arith, ap count_ones none, ones_none)
 
--- the registers of the quorum below a bound, as a mask, and one register more
+-- a quorum has below n + 1 as many registers as below n, and one more if n is one of them
 below_next : (n mask : ℕ) → count_ones (mask % 2 ^ suc n) ≡ count_ones (bit_at mask n) + count_ones (mask % 2 ^ n)
 below_next n mask =
     let bits : mask % 2 ^ suc n ≡ bit_at mask n * 2 ^ n + mask % 2 ^ n = rw one-add at (mod-pow-add mask 1 n) in
     ap count_ones bits ∙ ones_cat n (bit_at mask n) (mask % 2 ^ n) (mod-lt mask (pow_pos n))
 
--- a list with an act for each register is as long as there are registers
+-- a list with an act for each register below a bound is as long as there are such registers
 pub each_exact : (act : ℕ → Act) (n mask : ℕ) → length (acts_below act n mask) ≡ count_ones (mask % 2 ^ n)
 each_exact act zero mask =
     let none : mask % 1 ≡ 0 = omega (arith, mod-lt mask (pow_pos 0)) in omega (arith, ap count_ones none, ones_none)
@@ -49,7 +49,7 @@ each_exact act (suc n) mask =
     (each_exact act n mask) (bit_at mask n == 1) refl
     ∙ sym (below_next n mask)
 
--- so a list with an act for each register has no more acts than the quorum has registers
+-- a list with an act for each register below a bound has no more acts than the quorum has registers
 pub each_size : (act : ℕ → Act) (n mask : ℕ) → length (acts_below act n mask) ≤ count_ones mask
 each_size act n mask =
     let whole : count_ones mask ≡ count_ones (mask / 2 ^ n) + count_ones (mask % 2 ^ n) =
@@ -57,7 +57,7 @@ each_size act n mask =
     (mod-lt mask (pow_pos n)) in
     omega (arith, each_exact act n mask)
 
--- no quorum of the values is larger than the largest
+-- no quorum of one of the first n values has more registers than `largest_quorum`
 pub largest_bound : (quorum : ℕ → ℕ) (n v : ℕ) → v < n → count_ones (quorum v) ≤ largest_quorum quorum n
 largest_bound quorum zero v below = absurd (omega arith)
 largest_bound quorum (suc n) v below =

@@ -13,19 +13,19 @@ use Rattle.mb_deciding.proofs.Histories.{not_empty}
 use Rattle.mb_deciding.proofs.Grammar.{part_behind}
 
 -- ---- the history of one process
--- the turns of process 0 are those that it made
+-- the part of process 0 in its history is the list of its turns
 own_turns : (turns : List Turn) → part 0 (history_of_one turns) ≡ turns
 own_turns [] = refl
 own_turns (x ∷ turns) = ap (λ xs. x ∷ xs) (own_turns turns)
 
--- no other process made a turn
+-- the part of any other process is empty
 no_turns : (p : ℕ) (turns : List Turn) → p ≢ 0 → part p (history_of_one turns) ≡ []
 no_turns p [] other = refl
 no_turns p (x ∷ turns) other =
     ap (λ b. cons_option (cond b (Some x) None) (part p (history_of_one turns))) (ne_eqb 0 p (λ e. other (sym e)))
     ∙ no_turns p turns other
 
--- a prefix of a path that is true to memory is lawful
+-- if the turns are a prefix of a path and true to memory, the history of process 0 alone is lawful
 lawful_alone :
     (t : QuorumTable) (kind : Kind) (turns : List Turn) → IsMemoryTrue (history_of_one turns) → AreInWords
     (history_of_one turns)
@@ -45,7 +45,7 @@ lawful_alone t kind turns memory words within prefix =
           ];
     }
 
--- the turns of a lawful history are a prefix of a path
+-- if the history of process 0 alone is lawful, its turns are a prefix of a path
 part_alone :
     (t : QuorumTable) (kind : Kind) (turns : List Turn) → turns ≢ []
     → IsObjectLawful (object_of t kind zero_inputs) (history_of_one turns) → IsPrefix t kind 0 turns
@@ -53,11 +53,11 @@ part_alone t kind turns some l =
     subst (IsPrefix t kind 0) (own_turns turns) (l.parts 0 (λ e. some (sym (own_turns turns) ∙ e))).1
 
 -- ---- histories of a ratifier
--- the run that met no 1 decides its input
+-- `clear_run`, which met no 1, is a whole path that decides its input
 pub clear_path : IsPath (unary_table 2) Ratifier 0 clear_run (answer true 0)
 clear_path = (Store Proposal 1 ∷ Load Proposal 0 ∷ Store (Quorum 0) 1 ∷ [], inl (refl, refl), refl)
 
--- the clear run is lawful
+-- the history of `clear_run` is lawful
 pub clear_lawful : IsObjectLawful (object_of (unary_table 2) Ratifier zero_inputs) (history_of_one clear_run)
 clear_lawful =
     lawful_alone (unary_table 2) Ratifier clear_run (refl, (tt, (refl, (tt, tt)))) (
@@ -70,22 +70,22 @@ clear_lawful =
     (omega arith)
     ([], answer true 0, clear_path)
 
--- the clear run decides its input
+-- in the history of `clear_run` process 0 has the output that decides its input
 pub clear_output : HasOutput (object_of (unary_table 2) Ratifier zero_inputs) 0 true 0 (history_of_one clear_run)
 clear_output = clear_path
 
--- who loads the proposal has set its write quorum
+-- the history of `hasty_run` is not lawful: who loads the proposal has set its write quorum before
 pub hasty_refused : IsObjectLawful (object_of (unary_table 2) Ratifier zero_inputs) (history_of_one hasty_run) → ⊥
 hasty_refused l =
     let prefix = part_alone (unary_table 2) Ratifier hasty_run (not_empty (turn 0 (Load Proposal 0)) []) l in
     (part_behind (unary_table 2) 0 hasty_run prefix).0 0 (omega arith) refl
 
--- a load has the value that was stored
+-- the history of `invented_run` is not lawful: a load finds the value that was stored last
 pub invented_refused : IsObjectLawful (object_of (unary_table 2) Ratifier zero_inputs) (history_of_one invented_run) → ⊥
 invented_refused l = let none : ◌≡◌ {A = ℕ} 1 0 = l.memory.0 in absurd (omega arith)
 
 -- ---- histories of a conciliator
--- the run that stores on attempt 2 has its input as its output
+-- `patient_run`, which stores on attempt 2, is a whole path with its input as output
 pub patient_path : IsPath (unary_table 2) (Conciliator 2) 0 patient_run (answer false 0)
 patient_path = (
   refl,
@@ -106,13 +106,15 @@ patient_path = (
   ),
 )
   where
+    -- the random word 3 does not store on attempt 1
     late : 3 % 2 ^ 2 < 2 ^ 1 → ⊥
     late stores = omega arith
 
+    -- the random word 3 does not store on attempt 0
     later : 3 % 2 ^ 2 < 2 ^ 0 → ⊥
     later stores = omega arith
 
--- it is lawful
+-- the history of `patient_run` is lawful
 pub patient_lawful : IsObjectLawful (object_of (unary_table 2) (Conciliator 2) zero_inputs) (history_of_one patient_run)
 patient_lawful =
     lawful_alone (unary_table 2) (Conciliator 2) patient_run (refl, (tt, (refl, (refl, (refl, tt))))) (
@@ -125,12 +127,12 @@ patient_lawful =
     (omega arith)
     ([], answer false 0, patient_path)
 
--- the patient run has its input as its output
+-- in the history of `patient_run` process 0 has its input as output
 pub patient_output : HasOutput (object_of (unary_table 2) (Conciliator 2) zero_inputs) 0 false 0
     (history_of_one patient_run)
 patient_output = patient_path
 
--- turns whose words do not store are loads
+-- among the turns of attempts that did not store there is no store
 missing_no_store :
     (s k v : ℕ) (xs ys : List Turn) (put : Turn) → put.act ≡ Store Value (v + 1) → IsMissing s k (xs ++ put ∷ ys) → ⊥
 missing_no_store s zero v [] ys put e h = h
@@ -138,12 +140,12 @@ missing_no_store s zero v (x ∷ xs) ys put e h = h
 missing_no_store s (suc k) v [] ys put e h = let same : Store Value (v + 1) ≡ Load Value 0 = sym e ∙ h.0 in cc
 missing_no_store s (suc k) v (x ∷ xs) ys put e h = missing_no_store s k v xs ys put e h.2
 
--- the word 3 does not store on attempt 0
+-- after one load no attempt stores with the random word 3
 found_late : (k : ℕ) → IsDrawn 2 k (turn 3 (Load Value 0) ∷ []) → ⊥
 found_late zero h = let stores : 3 % 2 ^ 2 < 2 ^ 0 = h.1 in omega arith
 found_late (suc k) h = h.2
 
--- so no path stores then
+-- no whole path begins with `impatient_run`
 impatient_no_path : (later : List Turn) (u : ℕ) → IsConciliatorPath 2 0 (later ++ impatient_run) u → ⊥
 impatient_no_path [] u h = let same : Store Value 1 ≡ Load Value (u + 1) = h.0 in cc
 impatient_no_path (x ∷ []) u h =
@@ -164,11 +166,11 @@ impatient_no_path (x ∷ y ∷ z ∷ later) u h =
       | inr put ↦ missing_no_store 2 h.1.0 0 later (turn 3 (Load Value 0) ∷ []) (turn 3 (Store Value 1)) refl put.1.2
     ]
 
--- the impatient run is no prefix of a path
+-- `impatient_run` is no prefix of a path
 pub impatient_no_part : IsPrefix (unary_table 2) (Conciliator 2) 0 impatient_run → ⊥
 impatient_no_part prefix = impatient_no_path prefix.0 prefix.1.value prefix.2.1
 
--- the history of the impatient run is not lawful
+-- the history of `impatient_run` is not lawful
 pub impatient_refused : IsObjectLawful (object_of (unary_table 2) (Conciliator 2) zero_inputs)
     (history_of_one impatient_run) → ⊥
 impatient_refused l =

@@ -15,7 +15,7 @@ skipped : (p q found : ℕ) (h : List Access) → q ≢ p → part p (exchange_b
 skipped p q found h other =
     ap (λ b. cons_option (cond b (Some (turn 0 (Exchange Last (q + 1) found))) None) (part p h)) (ne_eqb q p other)
 
--- each process has one turn, which is a whole path
+-- each process with a turn has one, which is a prefix of a path of its input
 first_part : (p : ℕ) → part p first_decides ≢ [] → (p < 3)
     × IsPrefix (unary_table 3) LastObject p (part p first_decides)
 first_part zero some = (omega arith, ([], answer true 0, (refl, inl (refl, refl))))
@@ -27,7 +27,7 @@ first_part (suc (suc (suc p))) some =
     let z = skipped (suc (suc (suc p))) 0 0 [] (λ e. omega (arith, e)) in
     absurd (some (x ∙ y ∙ z))
 
--- the history in which process 0 comes first is lawful
+-- `first_decides`, in which process 0 comes first, is lawful
 pub first_lawful : IsObjectLawful small_last first_decides
 first_lawful =
     record {
@@ -40,29 +40,29 @@ first_lawful =
     }
 
 -- ---- histories that are not lawful
--- the second exchange would find the value of the first
+-- `found_empty_twice` is not lawful: the second exchange would find the value of the first
 pub empty_refused : IsObjectLawful small_last found_empty_twice → ⊥
 empty_refused l = let none : ◌≡◌ {A = ℕ} 0 1 = l.memory.0 in absurd (omega (arith, none))
 
--- the third exchange would find the value of the first, too
+-- `stored_over` is not lawful: the third exchange would find the value of the first, too
 pub over_refused : IsObjectLawful small_last stored_over → ⊥
 over_refused l = let other : ◌≡◌ {A = ℕ} 2 1 = l.memory.0 in absurd (omega (arith, other))
 
 -- ---- turns that are no path
--- a path is one exchange
+-- a load and then a store are no prefix of a path, which is one exchange
 pub torn_refused : IsPrefix (unary_table 3) LastObject 0 loaded_then_stored → ⊥
 torn_refused p =
     let x = (last_alone (unary_table 3) 0 (turn 0 (Load Last 0) ∷ []) (turn 0 (Store Last 1)) p).1 in
     let same : Store Last 1 ≡ Exchange Last 1 x.0 = x.1 in cc
 
--- a process exchanges the word for its own input
+-- an exchange for another value than the input is no prefix of a path
 pub another_refused : IsPrefix (unary_table 3) LastObject 0 (turn 0 (Exchange Last 2 0) ∷ []) → ⊥
 another_refused p =
     let x = (last_alone (unary_table 3) 0 [] (turn 0 (Exchange Last 2 0)) p).1 in
     let same : Exchange Last 2 0 ≡ Exchange Last 1 x.0 = x.1 in
     let put : ◌≡◌ {A = ℕ} 2 1 = cc in absurd (omega (arith, put))
 
--- a process makes one exchange
+-- two exchanges are no prefix of a path
 pub twice_refused : IsPrefix (unary_table 3) LastObject 0
     (turn 0 (Exchange Last 1 1) ∷ turn 0 (Exchange Last 1 0) ∷ []) → ⊥
 twice_refused p =

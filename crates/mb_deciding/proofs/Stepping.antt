@@ -1,4 +1,5 @@
--- A process at its place: what it made is an open prefix of a path, and its next turn goes on with it.
+-- A process at its place in an object of any kind: its turns are an open prefix of a path, its next turn goes on
+-- along it, and what that may find.
 use Rattle.std.proofs.Common.{ℕ, List, ◌∷◌, sym, subst}
 use Rattle.mb_deciding.specs.{Op, Turn, Access, Out, Kind, Conciliator}
 use Rattle.mb_deciding.specs.{Ratifier, LastObject, Pc, InRatifier, InConciliator, InLast}
@@ -14,7 +15,7 @@ use Rattle.mb_deciding.proofs.ConciliatorPlaces.{drawing_open}
 use Rattle.mb_deciding.proofs.RatifierStepping.{checking_open, checking_next, checking_found, checking_word}
 use Rattle.mb_deciding.proofs.ConciliatorStepping.{open_turns, drawing_next, drawing_found, drawing_word}
 
--- the next turn goes on with a path
+-- the next turn of a process at a place goes on along a path
 pub next_part :
     (t : QuorumTable) (kind : Kind) (inputs : ℕ → ℕ) (h : List Access) (p : ℕ) (pc : Pc) (op : Op) (word : ℕ)
     → IsQuorumTable t → IsObjectLawful (object_of t kind inputs) h → PcIsAt t kind (inputs p) pc (part p h)
@@ -35,7 +36,7 @@ next_part t LastObject inputs h p (InConciliator place) op word q l at is = absu
 next_part t LastObject inputs h p (InLast place) op word q l at is =
     last_prefix t (inputs p) place (part p h) op (seen_by op h) word at is
 
--- what it finds is a value with which the place can go on
+-- the next op of a place finds a value with which the place can go on
 pub next_found :
     (t : QuorumTable) (kind : Kind) (inputs : ℕ → ℕ) (h : List Access) (p : ℕ) (pc : Pc) (op : Op) → IsQuorumTable t
     → IsObjectLawful (object_of t kind inputs) h → PcIsAt t kind (inputs p) pc (part p h) → IsOpAt t pc op
@@ -51,7 +52,7 @@ next_found t LastObject inputs h p (InRatifier place) op q l at is = absurd at
 next_found t LastObject inputs h p (InConciliator place) op q l at is = absurd at
 next_found t LastObject inputs h p (InLast place) op q l at is = last_found t inputs h l place op is
 
--- what was made at a place is an open prefix
+-- the turns that led to a place are an open prefix of a path
 pub at_open :
     (t : QuorumTable) (kind : Kind) (v : ℕ) (pc : Pc) (turns : List Turn) → IsQuorumTable t → PcIsAt t kind v pc turns
     → IsOpen t kind v turns
@@ -67,13 +68,13 @@ at_open t LastObject v (InConciliator place) turns q at = absurd at
 at_open t LastObject v (InLast place) turns q at =
     subst (λ xs. IsOpen t LastObject v xs) (sym at.1.1) (opens_last t v)
 
--- so what a process at a place has made is a prefix of a path
+-- the turns that led to a place are a prefix of a path
 pub at_part :
     (t : QuorumTable) (kind : Kind) (v : ℕ) (pc : Pc) (turns : List Turn) → IsQuorumTable t → PcIsAt t kind v pc turns
     → IsPrefix t kind v turns
 at_part t kind v pc turns q at = open_turns t kind v turns (at_open t kind v pc turns q at)
 
--- what a process at a place has made is no whole path
+-- the turns that led to a place are no whole path
 pub at_unfinished :
     (t : QuorumTable) (kind : Kind) (v : ℕ) (pc : Pc) (turns : List Turn) (out : Out) → IsQuorumTable t
     → PcIsAt t kind v pc turns → IsPath t kind v turns out → ⊥
@@ -81,7 +82,7 @@ at_unfinished t kind v pc turns out q at path =
     let further = at_open t kind v pc turns q at in
     further.1 (one_end t kind v turns further.0 out further.2.0 path further.2.1).0
 
--- the next op is on a word of the object
+-- the next op of a place is on a word of the object
 pub at_word :
     (t : QuorumTable) (kind : Kind) (v : ℕ) (pc : Pc) (turns : List Turn) (op : Op) → IsQuorumTable t
     → PcIsAt t kind v pc turns → IsOpAt t pc op → HasReg t.registers kind (reg_of op)

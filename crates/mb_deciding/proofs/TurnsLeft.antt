@@ -1,4 +1,4 @@
--- How many accesses are left at a place: one register less, one attempt less.
+-- How many accesses are left at a place: at least one, and one register or one attempt less after each.
 use Rattle.std.proofs.Common.{◌≡◌, ◌≢◌, ◌↔◌, ℕ, zero, suc, ◌+◌, ◌-◌, ◌*◌, ◌^◌, ◌<◌, ◌≤◌, ◌==◌, count_ones, cond}
 use Rattle.std.proofs.Common.{Bool, true, false, List, ◌∷◌, length, inl, inr, sym, refl, ap, ap₂, ◌∙◌, subst, arith}
 use Rattle.std.specs.Int.{bit_at}
@@ -15,11 +15,11 @@ use Rattle.mb_deciding.specs.{Put, Look, acts_below, IsPlace, HasLimits, turns_l
 use Rattle.mb_deciding.proofs.Sizes.{each_exact}
 
 -- ---- a mask without one register
--- what is left of a mask without one register
+-- `kept` has just the registers of the mask other than r
 abbrev pub IsWithout : ℕ → ℕ → ℕ → Type 0
 IsWithout mask r kept = (k : ℕ) → IsMember kept k ↔ (IsMember mask k × (k ≢ r))
 
--- two numbers of which both are 1, or neither, have one test
+-- if both numbers are 1, or neither is, a test for 1 says the same of both
 same_test : (a b : ℕ) → (a ≡ 1 → b ≡ 1) → (b ≡ 1 → a ≡ 1) → (a == 1) ≡ (b == 1)
 same_test a b f g =
     elim (cases_eq a 1) [
@@ -33,7 +33,7 @@ other_test :
 other_test mask r kept k without other =
     same_test (bit_at mask k) (bit_at kept k) (λ m. (without k).1 (m, other)) (λ m. ((without k).0 m).0)
 
--- below the register the masks are one
+-- below the register r both masks give the same list
 below_same :
     (act : ℕ → Act) (n mask r kept : ℕ) → IsWithout mask r kept → n ≤ r → acts_below act n mask ≡ acts_below act n kept
 below_same act zero mask r kept without le = refl
@@ -41,14 +41,14 @@ below_same act (suc n) mask r kept without le =
     ap₂ (λ b xs. cond b (act n ∷ xs) xs) (other_test mask r kept n without (omega arith))
     (below_same act n mask r kept without (omega arith))
 
--- one more act, or none, keeps a difference of one
+-- if one list is longer by one, it stays so with one act more in both, or in none
 cond_more :
     (b : Bool) (x : Act) (xs ys : List Act) → length xs ≡ suc (length ys)
     → length (cond b (x ∷ xs) xs) ≡ suc (length (cond b (x ∷ ys) ys))
 cond_more true x xs ys e = ap suc e
 cond_more false x xs ys e = e
 
--- above it there is one register less
+-- below a bound above r the mask without r gives one act less
 below_fewer :
     (act : ℕ → Act) (n mask r kept : ℕ) → IsWithout mask r kept → IsMember mask r → r < n
     → length (acts_below act n mask) ≡ suc (length (acts_below act n kept))
@@ -88,7 +88,7 @@ some_ones mask some =
     elim (cases_eq (count_ones mask) 0) [ inl e ↦ absurd (some (zero_from_ones mask e)) | inr more ↦ omega arith ]
 
 -- ---- how many attempts a limit leaves
--- a larger power has a larger exponent
+-- the smaller of two powers of two has the smaller exponent
 below_power : (k b : ℕ) → 2 ^ k ≤ 2 ^ b → k ≤ b
 below_power k b le =
     elim (cases_lt b k) [
@@ -105,12 +105,12 @@ width_of_power k =
     let least = width_is_least (2 ^ k) in
     omega (arith, least.least k (omega arith), below_power k (width_of (2 ^ k)) least.enough)
 
--- the attempts that are left
+-- on attempt k of a conciliator whose last attempt is s, the limits show that s - k attempts are left
 pub attempts_left : (s k limit modulus : ℕ) → HasLimits s k limit modulus → width_of modulus - width_of limit ≡ s - k
 attempts_left s k limit modulus (within, limit_is, modulus_is) =
     ap₂ (λ a b. a - b) (ap width_of modulus_is ∙ width_of_power s) (ap width_of limit_is ∙ width_of_power k)
 
--- one attempt less is left after one that did not store
+-- after an attempt that did not store, fewer attempts are left
 pub attempts_fewer :
     (s k limit modulus : ℕ) → HasLimits s k limit modulus → HasLimits s (suc k) (limit * 2) modulus
     → width_of modulus - width_of (limit * 2) + 3 < width_of modulus - width_of limit + 3
@@ -119,7 +119,7 @@ attempts_fewer s k limit modulus now next =
     omega (arith, attempts_left s k limit modulus now, attempts_left s (suc k) (limit * 2) modulus next)
 
 -- ---- each place has an access left
--- a place has an access left
+-- at each place that fits the table at least one access is left
 pub some_left : (t : QuorumTable) (pc : Pc) → IsPlace t pc → 0 < turns_left t pc
 some_left t (InRatifier (Begin input)) fit = omega arith
 some_left t (InRatifier (Announce input left)) fit = omega arith

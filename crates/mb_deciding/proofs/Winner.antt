@@ -35,7 +35,7 @@ loads_preference t inputs h l p r x k =
       | inr w ↦ inr (w.0, at.2 (Load Proposal (w.0 + 1)) w.1)
     ]
 
--- if a process loaded 0 from a register, no process that loaded an empty proposal has it in its write quorum
+-- if a process loaded 0 from a register, no process that loaded an empty proposal has that register in its write quorum
 clear_register :
     (t : QuorumTable) (inputs : ℕ → ℕ) (h : List Access) → IsQuorumTable t → IsObjectLawful (ratifier_of t inputs) h
     → (p b r : ℕ) → Has (acts (part p h)) (Load (Quorum r) 0) → Has (acts (part b h)) (Load Proposal 0)
@@ -58,7 +58,7 @@ clear_register t inputs (a ∷ h) q l p b r k f m =
       ])
     ]
 
--- a check that met no 1 keeps the others out, in every lawful history
+-- in every lawful history of a ratifier a check that met no 1 keeps the others out
 keeps_out :
     (t : QuorumTable) (inputs : ℕ → ℕ) (h : List Access) → IsQuorumTable t → IsObjectLawful (ratifier_of t inputs) h
     → ChecksKeepOut (ratifier_of t inputs) h
@@ -69,14 +69,14 @@ keeps_out t inputs h q l p u bound b r later made is clear empty other below in_
     clear_register t inputs h q l p b r loaded empty in_write
 
 -- ---- the promises of a ratifier
--- the value of an output is the input of a process that loaded an empty proposal
+-- the value of an output has a founder
 output_founded :
     (t : QuorumTable) (inputs : ℕ → ℕ) (h : List Access) → IsObjectLawful (ratifier_of t inputs) h
     → (p : ℕ) (d : Bool) (u : ℕ) → HasOutput (ratifier_of t inputs) p d u h → IsFounded inputs h u
 output_founded t inputs h l p d u o =
     chosen_founded t inputs h l p u (path_chosen t (inputs p) (acts (part p h)) d u o)
 
--- validity
+-- each output is the input of a process with an access
 pub valid :
     (t : QuorumTable) (inputs : ℕ → ℕ) (h : List Access) → IsObjectLawful (ratifier_of t inputs) h
     → IsValid (ratifier_of t inputs) h
@@ -84,7 +84,7 @@ valid t inputs h l p d u o =
     let f = output_founded t inputs h l p d u o in
     (f.0, has_turns (part f.0 h) (Load Proposal 0) f.2, f.1)
 
--- coherence
+-- if one output is decided, every output has its value
 pub coherent :
     (t : QuorumTable) → IsQuorumTable t → (inputs : ℕ → ℕ) (h : List Access) → IsObjectLawful (ratifier_of t inputs) h
     → IsCoherent (ratifier_of t inputs) h
@@ -115,7 +115,7 @@ other_announced t inputs h q l p u o =
       (b.0, one.0, refl, at.1.1, b.1),
     )
 
--- who put the undecided value into the proposal has announced it
+-- if an output is undecided, its value was announced
 own_announced :
     (t : QuorumTable) (inputs : ℕ → ℕ) (h : List Access) → IsQuorumTable t → IsObjectLawful (ratifier_of t inputs) h
     → (p u : ℕ) → HasOutput (ratifier_of t inputs) p false u h → (w : ℕ) × (w ≢ u) × IsAnnounced
@@ -140,7 +140,7 @@ own_announced t inputs h q l p u o other =
           (λ r in_write in_read. none r in_write))))
     ]
 
--- an undecided output was contested
+-- if an output is undecided, its value and another one were announced
 contested :
     (t : QuorumTable) → IsQuorumTable t → (inputs : ℕ → ℕ) (h : List Access) → IsObjectLawful (ratifier_of t inputs) h
     → IsContested (ratifier_of t inputs) h
@@ -148,7 +148,7 @@ contested t q inputs h l p u o =
     let other = other_announced t inputs h q l p u o in
     (own_announced t inputs h q l p u o other, other)
 
--- acceptance
+-- if all processes with an access have the input v, every output is (1, v)
 accepted :
     (t : QuorumTable) → IsQuorumTable t → (inputs : ℕ → ℕ) (h : List Access) → IsObjectLawful (ratifier_of t inputs) h
     → IsAccepted (ratifier_of t inputs) h
@@ -157,6 +157,7 @@ accepted t q inputs h l v all p d u o =
     let same : u ≡ v = sym from.2 ∙ all from.0 from.1 in
     (decided d u o same, same)
   where
+    -- an output with the value v is decided
     decided : (d : Bool) (u : ℕ) → HasOutput (ratifier_of t inputs) p d u h → u ≡ v → d ≡ true
     decided true u o same = refl
     decided false u o same =
@@ -164,13 +165,13 @@ accepted t q inputs h l v all p d u o =
         let a = n.2 in
         absurd (n.1 (sym a.2 ∙ (all a.0 (has_turns (part a.0 h) (Store (Quorum a.1) 1) a.4) ∙ sym same)))
 
--- what a ratifier owes besides what all objects do
+-- an object that is a ratifier keeps the further promises of ratifiers
 pub ratifies : (o : Object) → ObjectIsSound o → o.kind ≡ Ratifier → IsRatifying o
 ratifies o q is =
     subst (λ kind. IsRatifying (object_of o.table kind o.inputs)) (sym is)
     (record { acceptance = accepted o.table q o.inputs; contested = contested o.table q o.inputs })
 
--- a check that met no 1 keeps the others out, in every lawful history of a ratifier
+-- in every lawful history of an object that is a ratifier a check that met no 1 keeps the others out
 pub ratifier_keeps_out :
     (o : Object) (h : List Access) → ObjectIsSound o → o.kind ≡ Ratifier → IsObjectLawful o h → ChecksKeepOut o h
 ratifier_keeps_out o h q is =

@@ -7,8 +7,9 @@ use Rattle.mb_deciding.specs.Types.{Next, InLast}
 use Rattle.mb_deciding.specs.declared.place.pc.Next.TheVariants as leads
 use Rattle.mb_deciding.specs.Objects.{largest_quorum}
 
--- how many accesses are left at a place. In a ratifier: what is left to announce, a load and a store of the proposal,
--- and a check. In a conciliator: the attempts that are left, a store and a last load
+-- the most accesses that are left at a place. In a ratifier these are the registers left to announce, a load and a
+-- store of the proposal, and a check. In a conciliator they are the attempts left, a store and a last load. In a last
+-- object one is left
 abbrev pub turns_left : QuorumTable → Pc → ℕ
 turns_left t (InRatifier (Begin input)) =
     count_ones (t.write input) + 2 + largest_quorum t.read t.values
@@ -21,7 +22,7 @@ turns_left t (InConciliator (Put input)) = 2
 turns_left t (InConciliator (Look input)) = 1
 turns_left t (InLast place) = 1
 
--- how many accesses are left after an access that led here: none after an output
+-- the most accesses that are left after an access that led here: none after an output
 abbrev pub turns_after : QuorumTable → Next → ℕ
 turns_after t (leads.Go pc) = turns_left t pc
 turns_after t (leads.Out out) = 0

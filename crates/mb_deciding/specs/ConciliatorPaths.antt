@@ -2,11 +2,11 @@
 use Rattle.std.specs.Prelude.{◌≡◌, ℕ, zero, suc, ◌+◌, ◌<◌, ◌≤◌, ◌%◌, ◌^◌, List, [], ◌∷◌, ◌⊎◌}
 use Rattle.mb_deciding.specs.Types.{Value, Load, Store, Turn}
 
--- on attempt k the random word stores
+-- with this random word a process stores on attempt k
 abbrev pub StoresOn : ℕ → ℕ → ℕ → Type 0
 StoresOn s k word = word % 2 ^ s < 2 ^ k
 
--- the turns of the attempts below k that do not store: a load of 0 for each
+-- the turns are those of the attempts below k, of which none stores: a load of 0 for each
 abbrev pub IsMissing : ℕ → ℕ → List Turn → Type 0
 IsMissing s zero [] = Unit {0}
 IsMissing s zero (turn ∷ older) = ⊥
@@ -14,18 +14,19 @@ IsMissing s (suc k) [] = ⊥
 IsMissing s (suc k) (turn ∷ older) =
     (turn.act ≡ Load Value 0) × (StoresOn s k turn.word → ⊥) × IsMissing s k older
 
--- the turns of attempts that do not store, and then a load of 0 on attempt k, whose word stores
+-- the turns are those of attempts that do not store, and then a load of 0 on attempt k, whose random word stores
 abbrev pub IsDrawn : ℕ → ℕ → List Turn → Type 0
 IsDrawn s k [] = ⊥
 IsDrawn s k (turn ∷ older) =
     (turn.act ≡ Load Value 0) × StoresOn s k turn.word × IsMissing s k older
 
--- the turns of attempts, of which the last stores, and then a store of the input v
+-- the turns are those of attempts up to attempt k, whose random word stores, and then a store of the input v
 abbrev pub IsPut : ℕ → ℕ → ℕ → List Turn → Type 0
 IsPut s v k [] = ⊥
 IsPut s v k (turn ∷ older) = (turn.act ≡ Store Value (v + 1)) × IsDrawn s k older
 
--- a whole path of input v with the value u: at last u was loaded, either on attempt k, or after the store of attempt k
+-- the turns are a whole path of input v with the value u: at last u was loaded, either on attempt k, or after the store
+-- of attempt k
 abbrev pub IsConciliatorPath : ℕ → ℕ → List Turn → ℕ → Type 0
 IsConciliatorPath s v [] u = ⊥
 IsConciliatorPath s v (turn ∷ older) u =

@@ -30,9 +30,9 @@ IsContested o h =
     (p u : ℕ) → HasOutput o p false u h
     → IsAnnounced o u h × ((w : ℕ) × (w ≢ u) × IsAnnounced o w h)
 
--- what a clear read rules out, on a ratifier: if a process has read the read quorum of u below the bound and met no 1,
--- whatever it did later, then no process that loaded an empty proposal with an input other than u has such a register
--- in its write quorum
+-- What a clear read of a ratifier rules out. A process p has read the read quorum of u below the bound and met no 1,
+-- whatever it did later. Then no process b with an input other than u, which loaded an empty proposal, has one of these
+-- registers in its write quorum
 abbrev pub ChecksKeepOut : Object → List Access → Type 0
 ChecksKeepOut o h =
     (p u bound b r : ℕ) (later made : List Act)
@@ -40,7 +40,7 @@ ChecksKeepOut o h =
     → Has (acts (part b h)) (Load Proposal 0) → o.inputs b ≢ u
     → r < bound → IsMember (o.table.read u) r → IsMember (o.table.write (o.inputs b)) r → ⊥
 
--- the values that were stored, the newest first
+-- the values that the accesses of a history stored, the newest first
 abbrev pub stores_in : List Access → List ℕ
 stores_in h = filter_map (λ a. stored_by a.turn.act) h
 
@@ -49,7 +49,7 @@ abbrev pub IsFirstMover : Object → List Access → Type 0
 IsFirstMover o h =
     (w : ℕ) → stores_in h ≡ w ∷ [] → (p : ℕ) (d : Bool) (u : ℕ) → HasOutput o p d u h → w ≡ u + 1
 
--- what an object promises, of any kind
+-- an object of any kind keeps these promises
 pub record IsDeciding (o : Object) : Type 0 where
   -- each input has a path, with at least one turn
   pub opens : (v : ℕ) → v < o.table.values → IsOpen o.table o.kind v []
@@ -61,7 +61,7 @@ pub record IsDeciding (o : Object) : Type 0 where
   -- no process has more turns than the most of its kind
   pub bounded :
       (h : List Access) (p : ℕ) → IsObjectLawful o h → length (part p h) ≤ most_turns o.table o.kind
-  -- a word holds only values that it can hold
+  -- each word holds only values that a word of this name can hold
   pub fits :
       (h : List Access) (reg : Reg) → IsObjectLawful o h → CanHold o.table reg (value_in reg h)
   -- validity, in every lawful history
@@ -69,7 +69,7 @@ pub record IsDeciding (o : Object) : Type 0 where
   -- coherence, in every lawful history
   pub coherence : (h : List Access) → IsObjectLawful o h → IsCoherent o h
 
--- what a ratifier promises beside that
+-- a ratifier keeps these promises, too
 pub record IsRatifying (o : Object) : Type 0 where
   -- acceptance, in every lawful history
   pub acceptance : (h : List Access) → IsObjectLawful o h → IsAccepted o h

@@ -8,6 +8,7 @@ use Rattle.mb_deciding.specs.OneObject.{Object, ratifier_of, conciliator_of, las
 use Rattle.mb_deciding.specs.Objects.{answer}
 use Rattle.mb_deciding.specs.Trace.{IsTrace}
 
+-- ---- a ratifier and a conciliator
 -- every process has the input 0
 abbrev pub zero_inputs : ℕ → ℕ
 zero_inputs process = 0
@@ -20,38 +21,37 @@ small_ratifier = ratifier_of (unary_table 2) zero_inputs
 abbrev pub small_conciliator : Object
 small_conciliator = conciliator_of (unary_table 2) 2 zero_inputs
 
--- an act with this random word
+-- the turn with this act and this random word
 abbrev pub turn : ℕ → Act → Turn
 turn word act = record { act = act; word = word }
 
--- the history of process 0 alone
+-- the history in which process 0 alone makes these turns
 abbrev pub history_of_one : List Turn → List Access
 history_of_one turns = map (λ x. record { process = 0; turn = x }) turns
 
--- a ratifier over the unary table of two values: register 0 is set, the proposal is empty and gets 1, register 1 is
--- clear
+-- on the ratifier process 0 sets register 0, finds the proposal empty and stores 1 there, and finds register 1 clear
 abbrev pub clear_run : List Turn
 clear_run =
     turn 0 (Load (Quorum 1) 0) ∷ turn 0 (Store Proposal 1) ∷ turn 0 (Load Proposal 0) ∷ turn 0
     (Store (Quorum 0) 1) ∷ []
 
--- the proposal is loaded before the write quorum is set
+-- on the ratifier process 0 loads the proposal before it sets its write quorum
 abbrev pub hasty_run : List Turn
 hasty_run = turn 0 (Load Proposal 0) ∷ []
 
--- the load of register 1 finds 1, which no process stored
+-- on the ratifier the load of register 1 finds 1, which no process stored
 abbrev pub invented_run : List Turn
 invented_run =
     turn 0 (Load (Quorum 1) 1) ∷ turn 0 (Store Proposal 1) ∷ turn 0 (Load Proposal 0) ∷ turn 0
     (Store (Quorum 0) 1) ∷ []
 
--- a conciliator with s = 2: the random word 3 stores on attempt 2 and on no earlier one
+-- on the conciliator, with s = 2, process 0 has the random word 3, and stores on attempt 2 and on no earlier one
 abbrev pub patient_run : List Turn
 patient_run =
     turn 3 (Load Value 1) ∷ turn 3 (Store Value 1) ∷ turn 3 (Load Value 0) ∷ turn 3
     (Load Value 0) ∷ turn 3 (Load Value 0) ∷ []
 
--- a conciliator with s = 2: the random word 3 stores on attempt 0, which it may not
+-- on the conciliator process 0 has the random word 3, and stores on attempt 0, which it may not
 abbrev pub impatient_run : List Turn
 impatient_run = turn 3 (Store Value 1) ∷ turn 3 (Load Value 0) ∷ []
 
@@ -60,11 +60,11 @@ impatient_run = turn 3 (Store Value 1) ∷ turn 3 (Load Value 0) ∷ []
 abbrev pub own_inputs : ℕ → ℕ
 own_inputs process = process
 
--- a last object for three values
+-- a last object for three values. Each input is the process's own number
 abbrev pub small_last : Object
 small_last = last_of (unary_table 3) own_inputs
 
--- the process exchanges the word for its input, and finds `found`
+-- the exchange of the process for its input, which found `found`
 abbrev pub exchange_by : ℕ → ℕ → Access
 exchange_by process found = record { process = process; turn = turn 0 (Exchange Last (process + 1) found) }
 
@@ -80,7 +80,7 @@ found_empty_twice = exchange_by 1 0 ∷ exchange_by 0 0 ∷ []
 abbrev pub stored_over : List Access
 stored_over = exchange_by 2 2 ∷ exchange_by 1 1 ∷ exchange_by 0 0 ∷ []
 
--- the word is loaded, and then stored by an access of its own
+-- process 0 loads the word, and then stores in it by an access of its own
 abbrev pub loaded_then_stored : List Turn
 loaded_then_stored = turn 0 (Store Last 1) ∷ turn 0 (Load Last 0) ∷ []
 
@@ -90,16 +90,17 @@ abbrev pub turns_of_one : ℕ → ℕ → List (ℕ × ℕ)
 turns_of_one zero word = []
 turns_of_one (suc n) word = (0, word) ∷ turns_of_one n word
 
--- the entries of n such turns on one object over the unary table of two values, and the output of process 0
+-- these are the entries of n turns of process 0, each with this random word, and its output at the end. The object has
+-- this kind, over the unary table of two values
 abbrev pub IsTraceOfOne : Kind → ℕ → ℕ → List Entry → Option Out → Type 0
 IsTraceOfOne kind n word entries out =
     IsTrace (setup_of (unary_table 2) kind (0 ∷ [])) (turns_of_one n word) entries (out ∷ [])
 
--- an entry of process 0 without an output
+-- the entry of process 0 with this act and without an output
 abbrev pub entry_of_one : Act → Entry
 entry_of_one act = entry.Access 0 act None
 
--- the entries of `clear_run`
+-- the entries of `clear_run`, with its output
 abbrev pub clear_entries : List Entry
 clear_entries =
     entry_of_one (Store (Quorum 0) 1) ∷ entry_of_one (Load Proposal 0) ∷ entry_of_one
@@ -113,7 +114,7 @@ hidden_entries =
     (Store Proposal 1)
     ∷ entry_of_one (Load (Quorum 1) 0) ∷ []
 
--- the entries of `patient_run`
+-- the entries of `patient_run`, with its output
 abbrev pub patient_entries : List Entry
 patient_entries =
     entry_of_one (Load Value 0) ∷ entry_of_one (Load Value 0) ∷ entry_of_one

@@ -5,7 +5,7 @@ use Rattle.std.specs.Prelude.{List, [], ◌∷◌, ◌⊎◌, map, filter_map}
 use Rattle.std.specs.Option.{option_map_or}
 use Rattle.mb_deciding.specs.Types.{Reg, Value, Proposal, Quorum, Last, Act, Load, Store, Exchange, Turn, Access}
 
--- whether two names of words are one
+-- whether two names name one word
 abbrev pub is_same_reg : Reg → Reg → Bool
 is_same_reg Value Value = true
 is_same_reg Proposal Proposal = true
@@ -43,7 +43,7 @@ stored_by (Store reg value) = Some value
 stored_by (Exchange reg value found) = if found == 0 then Some value else None
 
 -- ---- memory, by what acts load and store alone
--- what a word that held n holds after an act
+-- what a word holds after an act, if it held n before
 abbrev pub value_after : Reg → Act → ℕ → ℕ
 value_after reg act n =
     option_map_or (λ value. if is_same_reg (reg_of_act act) reg then value else n) (stored_by act) n
@@ -53,18 +53,18 @@ abbrev pub value_in : Reg → List Access → ℕ
 value_in reg [] = 0
 value_in reg (a ∷ older) = value_after reg a.turn.act (value_in reg older)
 
--- an act that loads has the value that the older accesses left
+-- if the act loads, it found the value that the older accesses left in its word
 abbrev pub ReadsLast : Act → List Access → Type 0
 ReadsLast act older = IfSome (loaded_by act) (λ value. value ≡ value_in (reg_of_act act) older)
 
--- each act of a history that loads has the value that the older accesses left
+-- each act of a history that loads found the value that the older accesses left in its word
 abbrev pub IsMemoryTrue : List Access → Type 0
 IsMemoryTrue [] = Unit {0}
 IsMemoryTrue (a ∷ older) = ReadsLast a.turn.act older × IsMemoryTrue older
 
 -- ---- acts of one op, and words of 64 bits
--- two acts of one op: both load one word, or both store one value in one word, or both exchange it for one value. They
--- can differ only in what they find
+-- the acts are of one op: both load one word, or both store one value in one word, or both exchange one word for one
+-- value. They can differ only in what they find
 abbrev pub IsSameOp : Act → Act → Type 0
 IsSameOp (Load reg x) (Load other y) = reg ≡ other
 IsSameOp (Load reg x) (Store other y) = ⊥
@@ -76,23 +76,23 @@ IsSameOp (Exchange reg x found) (Store other y) = ⊥
 IsSameOp (Load reg x) (Exchange other y seen) = ⊥
 IsSameOp (Store reg x) (Exchange other y seen) = ⊥
 
--- what an act loads and stores are words of 64 bits
+-- what an act loads and stores is below 2 ^ 64
 abbrev pub IsActInWords : Act → Type 0
 IsActInWords act =
     IfSome (loaded_by act) (λ value. value < 2 ^ 64)
     × IfSome (stored_by act) (λ value. value < 2 ^ 64)
 
--- what a turn loads and stores, and its random word, are words of 64 bits
+-- what a turn loads and stores, and its random word, are below 2 ^ 64
 abbrev pub IsInWords : Turn → Type 0
 IsInWords turn = IsActInWords turn.act × (turn.word < 2 ^ 64)
 
--- each access of a history loads and stores words of 64 bits, and its random word is one
+-- what each access of a history loads and stores, and its random word, are below 2 ^ 64
 abbrev pub AreInWords : List Access → Type 0
 AreInWords [] = Unit {0}
 AreInWords (a ∷ older) = IsInWords a.turn × AreInWords older
 
 -- ---- what one process did
--- the turn, if the process made the access
+-- the turn of the access, if the process made it
 abbrev pub turn_by : ℕ → Access → Option Turn
 turn_by process a = if a.process == process then Some a.turn else None
 

@@ -17,6 +17,7 @@ pub mod Examples
 pub mod Memory
 pub mod Run
 pub mod Vocabulary
+-- clauses name these definitions after `Rattle.mb_deciding.specs`
 pub use Types.*
 pub use History.*
 pub use ConciliatorPaths.*

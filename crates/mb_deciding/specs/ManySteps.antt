@@ -7,14 +7,14 @@ use Rattle.mb_deciding.specs.Place.{IsPlace}
 use Rattle.mb_deciding.specs.OneStep.{IsStep}
 
 module _ {M : Type 0} where
-  -- a word was drawn, and an access to the object was then made and found this value
+  -- a random word was drawn, and then an access to the object was made, which found this value
   abbrev pub DrawsAndMakes : (M → ℕ → M → Type 0) → (M → ℕ → Op → ℕ → M → Type 0) → ℕ → M → ℕ → Op → ℕ → M
       → Type 0
   DrawsAndMakes draws makes object before word op seen now =
       (mid : M) × draws before word mid × makes mid object op seen now
 
-  -- from a place and a memory, this number of accesses led to what follows, and to another memory. Each is the next one
-  -- of its place, with the random word that was drawn for it
+  -- from a place and a memory, this number of accesses led to what follows, and to the memory `now`. Each is the next
+  -- access of its place, with a random word of its own
   abbrev pub AreSteps : QuorumTable → (M → ℕ → Op → ℕ → M → Type 0) → Pc → M → ℕ → Next → M → Type 0
   AreSteps t makes pc start zero follows now = (follows ≡ leads.Go pc) × (now ≡ start)
   AreSteps t makes pc start (suc n) follows now =

@@ -4,14 +4,14 @@ use Rattle.mb_deciding.specs.Types.{Reg, Value, Proposal, Quorum, Last, Op, Acce
 use Rattle.mb_deciding.specs.History.{value_in, IsActInWords}
 use Rattle.mb_deciding.specs.Place.{act_of, seen_by}
 
--- an object's memory has such a word
+-- the memory of an object has a word of this name
 abbrev pub IsReg : Reg → Type 0
 IsReg Value = Unit {0}
 IsReg Proposal = Unit {0}
 IsReg (Quorum r) = r < 64
 IsReg Last = Unit {0}
 
--- what a word holds
+-- what the memory holds in the word of this name
 abbrev pub word_of : ObjectMemory → Reg → ℕ
 word_of words Value = words.value
 word_of words Proposal = words.proposal
@@ -22,8 +22,8 @@ word_of words Last = words.last
 abbrev pub IsMemory : ObjectMemory → List Access → Type 0
 IsMemory words h = (reg : Reg) → IsReg reg → word_of words reg ≡ value_in reg h
 
--- the access was made to the words and found this value. For each history that the words fit before, they fit that
--- history with the access after it
+-- The access was made to the words and found this value. If the words fit a history before, they fit that history with
+-- the access afterwards, and the value is the one that the history leaves. What is loaded and stored is below 2 ^ 64
 pub record IsAccess (words : ObjectMemory) (op : Op) (seen : ℕ) (after : ObjectMemory) : Type 0 where
   pub memory :
       (h : List Access) → IsMemory words h → (p word : ℕ)

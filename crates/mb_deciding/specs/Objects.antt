@@ -10,12 +10,12 @@ use Rattle.mb_deciding.specs.RatifierPaths.{IsRatifierPath}
 use Rattle.mb_deciding.specs.ConciliatorPaths.{IsConciliatorPath}
 use Rattle.mb_deciding.specs.LastPaths.{IsLastPath}
 
--- the answer (d, u)
+-- the output (d, u)
 abbrev pub answer : Bool → ℕ → Out
 answer d u = record { decided = d; value = u }
 
--- the whole path of one process through an object, and its output. A conciliator never decides, and a last object
--- always does
+-- the turns are a whole path of one process through an object, with this input and output. A conciliator never decides,
+-- and a last object always does
 abbrev pub IsPath : QuorumTable → Kind → ℕ → List Turn → Out → Type 0
 IsPath t (Conciliator s) input turns output =
     (output.decided ≡ false) × IsConciliatorPath s input turns output.value
@@ -24,19 +24,19 @@ IsPath t Ratifier input turns output =
 IsPath t LastObject input turns output =
     (output.decided ≡ true) × IsLastPath input turns output.value
 
--- a prefix of a path: later turns, or none, complete it
+-- the turns are a prefix of a path: later turns, or none, complete it
 abbrev pub IsPrefix : QuorumTable → Kind → ℕ → List Turn → Type 0
 IsPrefix t kind input turns =
     (later : List Turn) × (output : Out) × IsPath t kind input (later ++ turns) output
 
--- a prefix of a path that has not ended
+-- the turns are an open prefix of a path: later turns, at least one, complete it
 abbrev pub IsOpen : QuorumTable → Kind → ℕ → List Turn → Type 0
 IsOpen t kind input turns =
     (later : List Turn) × (later ≢ [])
     × ((output : Out) × IsPath t kind input (later ++ turns) output)
 
--- a lawful history of one object: each load is true to memory, values and random words are words of 64 bits, and each
--- process's part is a prefix of a path of its input, which is one of the table's values
+-- The history is a lawful one of the object. Each load is true to memory. Values and random words are below 2 ^ 64.
+-- Each process's part is a prefix of a path of its input, which is one of the table's values
 pub record IsObjectLawful (o : Object) (h : List Access) : Type 0 where
   pub memory : IsMemoryTrue h
   pub words : AreInWords h
@@ -54,7 +54,7 @@ IsAnnounced o u h =
     (p r : ℕ) × (o.inputs p ≡ u) × IsMember (o.table.write u) r
     × Has (acts (part p h)) (Store (Quorum r) 1)
 
--- the word of an object can hold the value
+-- a word of this name can hold the value
 abbrev pub CanHold : QuorumTable → Reg → ℕ → Type 0
 CanHold t Value n = n ≤ t.values
 CanHold t Proposal n = n ≤ t.values

@@ -13,7 +13,7 @@ pub record Object : Type 0 where
 abbrev pub object_of : QuorumTable → Kind → (ℕ → ℕ) → Object
 object_of t kind inputs = record { table = t; kind = kind; inputs = inputs }
 
--- a ratifier
+-- a ratifier over the table
 abbrev pub ratifier_of : QuorumTable → (ℕ → ℕ) → Object
 ratifier_of t inputs = object_of t Ratifier inputs
 
@@ -21,11 +21,11 @@ ratifier_of t inputs = object_of t Ratifier inputs
 abbrev pub conciliator_of : QuorumTable → ℕ → (ℕ → ℕ) → Object
 conciliator_of t s inputs = object_of t (Conciliator s) inputs
 
--- a last object
+-- a last object for the table's values
 abbrev pub last_of : QuorumTable → (ℕ → ℕ) → Object
 last_of t inputs = object_of t LastObject inputs
 
--- the object's table is a quorum table
+-- the object's table keeps the law of quorum tables
 abbrev pub ObjectIsSound : Object → Type 0
 ObjectIsSound o = IsQuorumTable o.table
 

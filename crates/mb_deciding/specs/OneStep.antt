@@ -1,4 +1,4 @@
--- What an access leads to, whatever it finds, as one step.
+-- What the next access of a place leads to, by what it finds.
 use Rattle.std.specs.Prelude.{ℕ, List, ◌∷◌, Option, None, Some}
 use Rattle.mb_quorum.specs.Quorum.{QuorumTable}
 use Rattle.mb_deciding.specs.Types.{Op, Turn, Kind, Conciliator, Ratifier, Pc, InConciliator, InRatifier, InLast, Next, Out}
@@ -6,7 +6,7 @@ use Rattle.mb_deciding.specs.Types.{RatifierPlace, ConciliatorPlace, LastPlace, 
 use Rattle.mb_deciding.specs.declared.place.pc.Next.TheVariants as leads
 use Rattle.mb_deciding.specs.Place.{PcIsAt, IsOpAt, IsRatifierOp, IsConciliatorOp, IsLastOp, IsReached, CanFind, act_of}
 
--- what follows: the output, if there is one, or else the place
+-- what follows an access: the output, if there is one, or else the place
 abbrev pub next_from : Option Out → Pc → Next
 next_from None pc = leads.Go pc
 next_from (Some out) pc = leads.Out out
@@ -44,7 +44,7 @@ pub record IsStep (t : QuorumTable) (pc : Pc) (makes : Op → ℕ → Type 0) (w
   -- the access, and the value that it found
   pub op : Op
   pub seen : ℕ
-  -- it is the one that comes next, and it was made
+  -- this access is the one that comes next, and it was made
   pub is : IsOpAt t pc op
   pub made : makes op seen
   -- if the access can find that value, a process that was at the place has reached what follows

@@ -12,15 +12,17 @@ use Rattle.mb_deciding.specs.RatifierPaths.{stores_below, announcement, ReadsCle
 use Rattle.mb_deciding.specs.ConciliatorPaths.{IsMissing, IsDrawn, IsPut}
 use Rattle.mb_deciding.specs.Objects.{IsPath}
 
+-- ---- registers of a quorum, as a mask
 -- r is the least register of the quorum
 pub record IsLeast (mask r : ℕ) : Type 0 where
   pub member : IsMember mask r
   pub least : (k : ℕ) → k < r → IsMember mask k → ⊥
 
--- `left` is what the quorum has at and above the bound
+-- `left` has just the registers of the quorum at and above the bound
 abbrev pub IsRest : ℕ → ℕ → ℕ → Type 0
 IsRest mask bound left = (k : ℕ) → IsMember left k ↔ ((bound ≤ k) × IsMember mask k)
 
+-- ---- places that fit a table
 -- the place in a ratifier fits the table
 abbrev pub IsRatifierPlace : QuorumTable → RatifierPlace → Type 0
 IsRatifierPlace t (Begin input) = input < t.values
@@ -45,6 +47,7 @@ IsPlace t (InRatifier place) = IsRatifierPlace t place
 IsPlace t (InConciliator place) = IsConciliatorPlace t.values place
 IsPlace t (InLast place) = place.input < t.values
 
+-- ---- the turns that lead to a place
 -- a process with input v that has made these acts on a ratifier is at the place
 abbrev pub IsInRatifier : QuorumTable → ℕ → RatifierPlace → List Act → Type 0
 IsInRatifier t v (Begin input) made = (input ≡ v) × (made ≡ [])
@@ -79,7 +82,8 @@ PcIsAt t LastObject v (InRatifier place) turns = ⊥
 PcIsAt t Ratifier v (InLast place) turns = ⊥
 PcIsAt t (Conciliator s) v (InLast place) turns = ⊥
 
--- the access that comes next in a ratifier
+-- ---- the access that comes next, its act and its word
+-- at this place in a ratifier this op comes next
 abbrev pub IsRatifierOp : QuorumTable → RatifierPlace → Op → Type 0
 IsRatifierOp t (Begin input) (to.Store (Quorum r) value) = (value ≡ 1) × IsLeast (t.write input) r
 IsRatifierOp t (Begin input) (to.Load Proposal) = t.write input ≡ 0
@@ -89,17 +93,17 @@ IsRatifierOp t (Propose input) (to.Store Proposal value) = value ≡ input + 1
 IsRatifierOp t (Check preference left) (to.Load (Quorum r)) = IsLeast left r
 IsRatifierOp t place op = ⊥
 
--- the access that comes next in a conciliator
+-- at this place in a conciliator this op comes next
 abbrev pub IsConciliatorOp : ConciliatorPlace → Op → Type 0
 IsConciliatorOp (Draw input limit modulus) op = op ≡ to.Load Value
 IsConciliatorOp (Put input) op = op ≡ to.Store Value (input + 1)
 IsConciliatorOp (Look input) op = op ≡ to.Load Value
 
--- the only access in a last object
+-- at this place in a last object this op comes next: the exchange for the input
 abbrev pub IsLastOp : LastPlace → Op → Type 0
 IsLastOp place op = op ≡ to.Exchange Last (place.input + 1)
 
--- the access that comes next
+-- at this place this op comes next
 abbrev pub IsOpAt : QuorumTable → Pc → Op → Type 0
 IsOpAt t (InRatifier place) op = IsRatifierOp t place op
 IsOpAt t (InConciliator place) op = IsConciliatorOp place op
@@ -125,13 +129,14 @@ HasReg r Ratifier (Quorum i) = i < r
 HasReg r LastObject Last = Unit {0}
 HasReg r _ _ = ⊥
 
--- what a load of a conciliator's word may find: one of `values` values, or none if the process itself has not stored
+-- ---- what the access may find, and what it leads to
+-- a load of a conciliator's word may find this: one of `values` values, or 0 if the process itself has not stored
 abbrev pub CanMeet : ℕ → ConciliatorPlace → ℕ → Type 0
 CanMeet values (Draw input limit modulus) seen = seen ≤ values
 CanMeet values (Put input) seen = Unit {0}
 CanMeet values (Look input) seen = (0 < seen) × (seen ≤ values)
 
--- what the op of a process at the place may find. For a store any value will do, since it finds none. A load or an
+-- the op of a process at the place may find this. For a store any value will do, since it finds none. A load or an
 -- exchange finds a value that the word can hold. In a conciliator that is not 0 if the process itself has stored
 abbrev pub CanFind : QuorumTable → Pc → Op → ℕ → Type 0
 CanFind t pc (to.Store reg value) seen = Unit {0}
@@ -150,17 +155,17 @@ abbrev pub IsReached : QuorumTable → Kind → ℕ → Next → List Turn → T
 IsReached t kind v (leads.Go pc) turns = PcIsAt t kind v pc turns
 IsReached t kind v (leads.Out out) turns = IsPath t kind v turns out
 
--- a place that fits the table, or an output that is one of its values
+-- what follows is a place that fits the table, or an output with one of its values
 abbrev pub IsNext : QuorumTable → Next → Type 0
 IsNext t (leads.Go pc) = IsPlace t pc
 IsNext t (leads.Out out) = out.value < t.values
 
--- the value that a history leaves in the word of a load or of an exchange
+-- the value that a history leaves in the word of a load or of an exchange, and 0 for a store
 abbrev pub seen_by : Op → List Access → ℕ
 seen_by (to.Load reg) h = value_in reg h
 seen_by (to.Store reg value) h = 0
 seen_by (to.Exchange reg value) h = value_in reg h
 
--- the turn that an op makes after a history
+-- the turn that an op makes after a history, with a random word
 abbrev pub turn_after : Op → ℕ → List Access → Turn
 turn_after op word h = record { act = act_of op (seen_by op h); word = word }

@@ -5,7 +5,7 @@ use Rattle.std.specs.Int.{bit_at}
 use Rattle.mb_quorum.specs.Quorum.{QuorumTable, IsMember}
 use Rattle.mb_deciding.specs.Types.{Proposal, Quorum, Act, Load, Store}
 
--- an act for each register of the quorum below the bound. The registers rise with time
+-- `act` for each register of the quorum below the bound. The registers rise with time
 abbrev pub acts_below : (ℕ → Act) → ℕ → ℕ → List Act
 acts_below act zero mask = []
 acts_below act (suc r) mask =
@@ -19,30 +19,32 @@ stores_below bound mask = acts_below (λ r. Store (Quorum r) 1) bound mask
 abbrev pub zeros_below : ℕ → ℕ → List Act
 zeros_below bound mask = acts_below (λ r. Load (Quorum r) 0) bound mask
 
--- the value v is announced: 1 is stored in all of its write quorum
+-- the acts that announce the value v: stores of 1 in all registers of its write quorum
 abbrev pub announcement : QuorumTable → ℕ → List Act
 announcement t v = stores_below t.registers (t.write v)
 
--- a process with input v announced it and has the preference u: it loaded 0 from the proposal and stored its own
--- value, or it loaded the value u
+-- by these acts a process with input v announced it and has the preference u: it loaded 0 from the proposal and stored
+-- its own value, or it loaded the value u
 abbrev pub Prefers : QuorumTable → ℕ → ℕ → List Act → Type 0
 Prefers t v u acts =
     ((u ≡ v) × (acts ≡ Store Proposal (v + 1) ∷ Load Proposal 0 ∷ announcement t v))
     ⊎ (acts ≡ Load Proposal (u + 1) ∷ announcement t v)
 
--- a process has its preference, and then loaded the registers of its read quorum below the bound, and all were 0
+-- by these acts a process with input v has the preference u, then loaded the registers of u's read quorum below the
+-- bound, and found 0 in all
 abbrev pub ReadsClear : QuorumTable → ℕ → ℕ → ℕ → List Act → Type 0
 ReadsClear t v u bound acts =
     (begin : List Act) × Prefers t v u begin × (acts ≡ zeros_below bound (t.read u) ++ begin)
 
--- a process has its preference, loaded 0 from some registers of its read quorum, and then 1 from a register of it
+-- by these acts a process with input v has the preference u. It then loaded 0 from the registers of u's read quorum
+-- below one of them, and 1 from that one
 abbrev pub ReadsOne : QuorumTable → ℕ → ℕ → List Act → Type 0
 ReadsOne t v u [] = ⊥
 ReadsOne t v u (act ∷ older) =
     (r : ℕ) × (act ≡ Load (Quorum r) 1) × IsMember (t.read u) r × (r < t.registers)
     × ReadsClear t v u r older
 
--- a whole path of input v with output (decided, u)
+-- the acts are a whole path of input v with the output (decided, u)
 abbrev pub IsRatifierPath : QuorumTable → ℕ → List Act → Bool → ℕ → Type 0
 IsRatifierPath t v acts true u = ReadsClear t v u t.registers acts
 IsRatifierPath t v acts false u = ReadsOne t v u acts

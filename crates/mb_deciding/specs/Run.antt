@@ -11,13 +11,13 @@ use Rattle.mb_deciding.specs.Trace.{history_of, AreEntriesOf}
 use Rattle.mb_deciding.specs.Memory.{IsMemory}
 
 -- ---- the kind of an object, and its table
--- the number of attempts fits a place
+-- the last attempt of a conciliator of this kind is at most 63, so a place can hold its limits
 abbrev pub IsFitKind : Kind → Type 0
 IsFitKind (Conciliator s) = s ≤ 63
 IsFitKind Ratifier = Unit {0}
 IsFitKind LastObject = Unit {0}
 
--- an object of this kind can have the table. A conciliator has none, so any table does
+-- an object of this kind can have the table. A conciliator has none, so any table will do
 abbrev pub IsTableFor : Kind → QuorumTable → Type 0
 IsTableFor (Conciliator s) t = Unit {0}
 IsTableFor Ratifier t = IsQuorumTable t
@@ -34,7 +34,7 @@ abbrev pub bare_table : ℕ → QuorumTable
 bare_table m = record { values = m; registers = 0; write = λ v. 0; read = λ v. 0 }
 
 -- ---- what a run holds after the turns of a schedule
--- the output, if the process has it
+-- the output, if what a process has reached is one
 abbrev pub out_of : Next → Option Out
 out_of (leads.Go pc) = None
 out_of (leads.Out out) = Some out
@@ -45,17 +45,17 @@ pub record RunState : Type 0 where
   pub places : List Next
   pub entries : List Entry
 
--- a run after the turns of a schedule
+-- the run is one after the turns of the schedule
 pub record IsRun (u : ObjectSetup) (schedule : List (ℕ × ℕ)) (run : RunState) : Type 0 where
-  -- the entries are those of the turns
+  -- the entries fit the turns
   pub fits : AreEntriesOf (object_in u) schedule run.entries []
-  -- their accesses are one lawful history, which leaves the words
+  -- the accesses of the entries are one lawful history, which leaves the words
   pub lawful : IsObjectLawful (object_in u) (history_of schedule run.entries)
   pub memory : IsMemory run.words (history_of schedule run.entries)
   -- each process has an input of the table
   pub processes : length run.places ≡ length u.inputs
   pub within : (p : ℕ) → p < length u.inputs → slice_index u.inputs p < u.table.values
-  -- each process is where its part leads
+  -- each process has reached what its part leads to
   pub reached :
       (p : ℕ) (d : Next) → p < length run.places
       → IsReached u.table u.kind (slice_index u.inputs p) (slice_index_or run.places p d)

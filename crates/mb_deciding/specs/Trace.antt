@@ -28,7 +28,7 @@ history_from (turn ∷ schedule) (e ∷ entries) h =
 abbrev pub history_of : List (ℕ × ℕ) → List Entry → List Access
 history_of schedule entries = history_from schedule entries []
 
--- turns without random words
+-- the turns of these processes, each with the random word 0
 abbrev pub plain_schedule : List ℕ → List (ℕ × ℕ)
 plain_schedule schedule = map (λ process. (process, 0)) schedule
 
@@ -36,20 +36,21 @@ plain_schedule schedule = map (λ process. (process, 0)) schedule
 abbrev pub HasEnded : Object → ℕ → List Access → Type 0
 HasEnded o p h = (decided : Bool) × (u : ℕ) × HasOutput o p decided u h
 
--- the output of a process, if it has one
+-- this is the output of process p, or none if it has not ended
 abbrev pub IsOutputOf : Object → ℕ → Option Out → List Access → Type 0
 IsOutputOf o p None h = HasEnded o p h → ⊥
 IsOutputOf o p (Some out) h = HasOutput o p out.decided out.value h
 
--- an entry after a history. It is an access of a process without an output, with the output that it gives, or `Done` of
--- a process that has its output
+-- the entry may come after the history. It is an access of a process without an output, with the output that it gives,
+-- or `Done` of a process that has its output
 abbrev pub IsEntryAfter : Object → ℕ → Entry → List Access → Type 0
 IsEntryAfter o word (entry.Access process act out) h =
     (HasEnded o process h → ⊥)
     × IsOutputOf o process out (with_entry word (entry.Access process act out) h)
 IsEntryAfter o word (entry.Done process) h = HasEnded o process h
 
--- one entry for each turn of the schedule, of that turn's process, and after the accesses of the entries before it
+-- there is one entry for each turn of the schedule. It is of that turn's process, and may come after the accesses of
+-- the entries before it
 abbrev pub AreEntriesOf : Object → List (ℕ × ℕ) → List Entry → List Access → Type 0
 AreEntriesOf o [] [] h = Unit {0}
 AreEntriesOf o [] (e ∷ entries) h = ⊥
@@ -58,9 +59,9 @@ AreEntriesOf o (turn ∷ schedule) (e ∷ entries) h =
     (process_of e ≡ turn.0) × IsEntryAfter o turn.1 e h
     × AreEntriesOf o schedule entries (with_entry turn.1 e h)
 
--- what a schedule makes of one object. Each turn is of a process with an input, and has one entry, of that process. The
--- accesses are lawful for the object. An entry is `Done` exactly if the process has its output. The outputs are those
--- of the paths
+-- The entries and outputs are what a schedule makes of one object. Each turn is of a process with an input, and has one
+-- entry, of that process. The accesses are lawful for the object. An entry is `Done` exactly if the process has its
+-- output. The outputs are those of the paths
 pub record IsTrace (u : ObjectSetup) (schedule : List (ℕ × ℕ)) (es : List Entry)
     (outs : List (Option Out)) : Type 0 where
   pub known : All (λ turn. turn.0 < length u.inputs) schedule

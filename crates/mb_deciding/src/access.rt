@@ -48,9 +48,9 @@ pub struct Turn {
 /// A turn in the history of one object, and the process that made it.
 #[derive(Clone, Copy, PartialEq, Eq, Debug)]
 pub struct Access {
-    /// The process that made it. Processes count from 0.
+    /// The process that made the turn. Processes count from 0.
     pub process: usize,
-    /// What it did.
+    /// What the process did.
     pub turn: Turn,
 }
 

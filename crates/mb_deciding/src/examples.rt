@@ -15,26 +15,28 @@ ghost use Rattle.mb_deciding.specs.{invented_run, patient_run, impatient_run, Is
 ghost use Rattle.mb_deciding.specs.{clear_entries, hidden_entries, patient_entries, impatient_entries};
 ghost use Rattle.mb_deciding.specs.declared.trace.Entry.TheVariants as entry;
 
-/// Small histories of one process with the input 0.
+/// Small histories of one process with the input 0. Those with `→ ⊥` are not lawful.
 pub fn small_histories()
+    // Process 0 announces its input, finds the proposal empty, proposes it, and checks it.
     ensures clear { IsObjectLawful small_ratifier (history_of_one clear_run) }
     ensures clear_output { HasOutput small_ratifier 0 true 0 (history_of_one clear_run) }
 
     // The proposal is loaded before the write quorum is set.
     ensures hasty { IsObjectLawful small_ratifier (history_of_one hasty_run) → ⊥ }
 
-    // A load gives a value that no process stored.
+    // A load finds a value that no process stored.
     ensures invented { IsObjectLawful small_ratifier (history_of_one invented_run) → ⊥ }
 
+    // With the random word 3 process 0 stores on attempt 2, the last.
     ensures patient { IsObjectLawful small_conciliator (history_of_one patient_run) }
     ensures patient_output { HasOutput small_conciliator 0 false 0 (history_of_one patient_run) }
 
-    // It stores on attempt 0, although the random word 3 does not store there.
+    // Process 0 stores on attempt 0, although the random word 3 does not store there.
     ensures impatient { IsObjectLawful small_conciliator (history_of_one impatient_run) → ⊥ }
     ensures impatient_part { IsPrefix (unary_table 2) (Conciliator 2) 0 impatient_run → ⊥ }
 {}
 
-/// Small histories of a last object. Each process has its own number as its input.
+/// Small histories of a last object. Those with `→ ⊥` are not lawful. Each process has its own number as its input.
 pub fn small_last_objects()
     // Process 0 puts its value into the empty word. The others find that, and leave it there.
     ensures lawful { IsObjectLawful small_last first_decides }
@@ -43,63 +45,64 @@ pub fn small_last_objects()
     ensures third { HasOutput small_last 2 true 0 first_decides }
     ensures left { value_in Last first_decides ≡ 1 }
 
-    // An exchange that found 0 and did not store.
+    // Process 1 finds the word empty, although process 0 has stored there.
     ensures empty { IsObjectLawful small_last found_empty_twice → ⊥ }
 
-    // An exchange that found a value and stored over it.
+    // Process 2 finds the value of process 1, which had found the word filled and did not store.
     ensures over { IsObjectLawful small_last stored_over → ⊥ }
 
-    // A load and then a store, in place of the exchange.
+    // A process makes a load and then a store in place of the exchange.
     ensures torn { IsPrefix (unary_table 3) LastObject 0 loaded_then_stored → ⊥ }
 
-    // An exchange for another value than the input, and a second one.
+    // A process exchanges the word for another value than its input, or makes a second exchange.
     ensures another { IsPrefix (unary_table 3) LastObject 0 (turn 0 (Exchange Last 2 0) ∷ [])
         → ⊥ }
     ensures twice { IsPrefix (unary_table 3) LastObject 0
         (turn 0 (Exchange Last 1 1) ∷ turn 0 (Exchange Last 1 0) ∷ []) → ⊥ }
 
-    // A process that found 0 outputs its own input, one that found a value outputs that. Both have decided.
+    // A process that found 0 has its own input as output, and one that found a value has that. Both are decided.
     ensures own { (d : Bool) (u : ℕ) → IsPath (unary_table 3) LastObject 1
         (turn 0 (Exchange Last 2 0) ∷ []) (answer d u) → (d ≡ true) × (u ≡ 1) }
     ensures met { (d : Bool) (u : ℕ) → IsPath (unary_table 3) LastObject 1
         (turn 0 (Exchange Last 2 1) ∷ []) (answer d u) → (d ≡ true) × (u ≡ 0) }
 {}
 
-/// Small traces of one process with the input 0.
+/// Small traces of one process with the input 0. With `→ ⊥`, the entries and outputs are not the schedule's trace.
 pub fn small_traces()
+    // Process 0 uses the ratifier, and has one turn after its output. On the conciliator it stores on the last attempt.
     ensures clear { IsTraceOfOne Ratifier 5 0
         (clear_entries ++ entry.Done 0 ∷ []) (Some (answer true 0)) }
     ensures patient { IsTraceOfOne (Conciliator 2) 5 3 patient_entries (Some (answer false 0)) }
 
-    // No entry for a turn.
+    // A turn has no entry.
     ensures silent { IsTraceOfOne Ratifier 1 0 [] None → ⊥ }
 
-    // An entry of process 0 for a turn of process 1.
+    // The turn is process 1's, and the entry process 0's.
     ensures another { IsTrace (setup_of (unary_table 2) Ratifier (0 ∷ 0 ∷ [])) ((1, 0) ∷ [])
         (entry_of_one (Store (Quorum 0) 1) ∷ []) (None ∷ None ∷ []) → ⊥ }
 
-    // A turn of a process without an input.
+    // A process without an input has a turn.
     ensures stranger { IsTrace (setup_of (unary_table 2) Ratifier []) ((0, 0) ∷ [])
         (entry_of_one (Store (Quorum 0) 1) ∷ []) [] → ⊥ }
 
-    // `Done` before the output, and an access after it.
+    // The entry `Done` comes before the output, or an access after it.
     ensures early { IsTraceOfOne Ratifier 1 0 (entry.Done 0 ∷ []) None → ⊥ }
     ensures late { IsTraceOfOne Ratifier 5 0
         (clear_entries ++ entry_of_one (Load (Quorum 1) 0) ∷ []) (Some (answer true 0)) → ⊥ }
 
-    // An output at the first access, and none at the last.
+    // The first access has an output, or the last has none.
     ensures hasty { IsTraceOfOne Ratifier 1 0
         (entry.Access 0 (Store (Quorum 0) 1) (Some (answer true 0)) ∷ []) (Some (answer true 0))
         → ⊥ }
     ensures hidden { IsTraceOfOne Ratifier 4 0 hidden_entries (Some (answer true 0)) → ⊥ }
 
-    // No output of a process that has one.
+    // The process has an output, which is left out.
     ensures withheld { IsTraceOfOne Ratifier 4 0 clear_entries None → ⊥ }
 
-    // A store on attempt 0, although the schedule's random word 3 does not store there.
+    // The entries store on attempt 0, although the schedule's random word 3 does not store there.
     ensures impatient { IsTraceOfOne (Conciliator 2) 2 3 impatient_entries None → ⊥ }
 
-    // What the words of a run hold after the four accesses.
+    // After the four accesses of `clear_run` the proposal and register 0 hold 1, and register 1 holds 0.
     ensures words { (words : ObjectMemory) → IsMemory words (history_of_one clear_run)
         → (word_of words Proposal ≡ 1) × (word_of words (Quorum 0) ≡ 1) ×
         (word_of words (Quorum 1) ≡ 0) }
@@ -111,7 +114,7 @@ pub fn rows_of_accesses()
     ensures none { (t : QuorumTable) (pc : Pc) (m : ℕ)
         → AreSteps t (λ before word op seen now. now ≡ before + 1) pc m 0 (leads.Go pc) m }
 
-    // No access gives no output.
+    // Without an access there is no output.
     ensures output { (t : QuorumTable) (pc : Pc) (out : Out) (m now : ℕ)
         → AreSteps t (λ before word op seen now. now ≡ before + 1) pc m 0 (leads.Out out) now → ⊥ }
 

@@ -11,8 +11,8 @@ pub fn objects_keep_their_promises()
     ensures { (o : Object) → ObjectIsSound o → IsDeciding o }
 {}
 
-/// What a ratifier promises besides. It decides if all inputs are one value. An output is undecided only if two values
-/// were announced.
+/// What a ratifier promises besides. It decides if all processes with an access have one input. An output is undecided
+/// only if two values were announced.
 pub fn ratifiers_decide_unless_contested()
     ensures { (o : Object) → ObjectIsSound o → o.kind ≡ Ratifier → IsRatifying o }
 {}
@@ -23,8 +23,8 @@ pub fn first_movers_win()
         → o.kind ≡ Conciliator s → IsObjectLawful o h → IsFirstMover o h }
 {}
 
-/// The fact on which the one winner rests. It holds at first, and each access that goes on with a ratifier path keeps
-/// it.
+/// What a clear read rules out (`ChecksKeepOut`): the fact on which the one winner rests. It holds at first, and each
+/// access that goes on along a ratifier path keeps it.
 pub fn checks_keep_out()
     ensures empty { (o : Object) → ChecksKeepOut o [] }
     ensures kept { (o : Object) (h : List Access) (p : ℕ) (turn : Turn)
@@ -33,7 +33,7 @@ pub fn checks_keep_out()
         → IsPrefix o.table o.kind (o.inputs p) (turn ∷ part p h)
         → ChecksKeepOut o (record { process = p; turn = turn } ∷ h) }
 
-    // So it holds of every lawful history.
+    // So this fact holds of every lawful history.
     ensures lawful { (o : Object) (h : List Access)
         → ObjectIsSound o → o.kind ≡ Ratifier → IsObjectLawful o h → ChecksKeepOut o h }
 {}

@@ -9,9 +9,9 @@ pub trait Memory {
     /// This access to the object with this number may be made.
     ghost can_make: { Self → ℕ → Op → Type 0 };
 
-    /// It was made and found this value, which may be any if the access only stores. The last argument is the memory
-    /// after it. A memory has to say here what a load or an exchange found: all that a step promises of the place after
-    /// it follows from that.
+    /// This access to the object with this number was made and found this value, which may be any if the access only
+    /// stores. The last argument is the memory after the access. A memory has to say here what a load or an exchange
+    /// found: all that a step promises of the place after it follows from that.
     ghost makes: { Self → ℕ → Op → ℕ → Self → Type 0 };
 
     /// Makes the access. Returns the value that a load or an exchange finds, and any value after a store.
@@ -24,7 +24,7 @@ pub trait Memory {
 pub trait Drawing: Memory {
     ghost use Rattle.std.specs.Prelude.{ℕ};
 
-    /// This word was drawn. The last argument is the memory after it.
+    /// This random word was drawn. The last argument is the memory after that.
     ghost draws: { Self → ℕ → Self → Type 0 };
 
     /// Draws the random word of the next access.

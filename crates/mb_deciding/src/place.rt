@@ -33,7 +33,8 @@ impl Pc {
         Pc::InRatifier(RatifierPlace::Begin { input })
     }
 
-    /// The same place, with the registers of the input's write quorum already taken from the table.
+    /// The place of a process with this input before its first access to a ratifier, with the registers of its write
+    /// quorum already taken from the table.
     #[inline(always)]
     pub fn announcing<Q: Quorums>(q: &Q, input: u32) -> Pc
         requires { input < (Q.table q.now).values }
@@ -93,7 +94,7 @@ impl Pc {
         requires { IsPlace (Q.table q.now) self }
         ensures fits { IsNext (Q.table q.now) result }
 
-        // Fewer accesses are left from there, whatever it loaded. So the process ends.
+        // Fewer accesses are left after it, whatever it found. So the process ends.
         ensures fewer { turns_after (Q.table q.now) result < turns_left (Q.table q.now) self }
 
         // A process that was at this place is now at the next one, or has its output.
@@ -117,8 +118,8 @@ impl Pc {
     }
 
     /// Makes the next access, to the object with this number in this memory. Goes on to the place that it leads to, or
-    /// returns the output. It is [`Pc::next`], [`Memory::perform`] and [`Pc::after`] in one match. After an output the
-    /// place does not count any more.
+    /// returns the output. The call is [`Pc::next`], [`Memory::perform`] and [`Pc::after`] in one match. After an
+    /// output the place does not count any more.
     #[inline(always)]
     pub fn step<Q: Quorums, M: Memory>(
         &mut self,
@@ -134,7 +135,8 @@ impl Pc {
         ensures fewer { turns_after (Q.table q.now) (next_from result self.new)
             < turns_left (Q.table q.now) self.old }
 
-        // It made the place's next access. A process that was at this place is now at the next one, or has its output.
+        // The call made the place's next access. A process that was at this place is now at the next one, or has its
+        // output.
         ensures step { IsStep (Q.table q.now) self.old
             (λ op seen. M.makes memory.old object op seen memory.new) word
             (next_from result self.new) }

@@ -1,6 +1,6 @@
 //! Laws for builders of worlds and of tables of shared words: one more step of a lawful history, and the places of
-//! processes. A table that keeps the words of an object needs `history_extends` for its rule, and `places_lead_on` for the
-//! step that a place makes there. The functions compute nothing: their contracts are the laws. The proofs begin in
+//! processes. A table that keeps the words of an object needs `history_extends` for its rule, and `places_lead_on` for
+//! the step that a place makes there. The functions compute nothing: their contracts are the laws. The proofs begin in
 //! `proofs/steps`, in a folder of the law's name.
 ghost use Rattle.std.specs.Prelude.{ℕ, ◌≡◌, ◌<◌, ◌≤◌, List, [], ◌∷◌};
 ghost use Rattle.mb_quorum.specs.Quorum.{QuorumTable, IsQuorumTable};
@@ -18,20 +18,20 @@ pub fn history_extends()
         → IsObjectLawful o (record { process = p; turn = turn } ∷ h) }
 {}
 
-/// A process at its place goes on with its path by its next turn, with the value that the history leaves in its word.
+/// A process at its place goes on along its path by its next turn, with the value that the history leaves in its word.
 pub fn places_lead_on()
     ensures prefix { (o : Object) (h : List Access) (p : ℕ) (pc : Pc) (op : Op) (word : ℕ)
         → ObjectIsSound o → IsObjectLawful o h
         → PcIsAt o.table o.kind (o.inputs p) pc (part p h) → IsOpAt o.table pc op
         → IsPrefix o.table o.kind (o.inputs p) (turn_after op word h ∷ part p h) }
 
-    // The place can go on with the value that it finds there.
+    // The place can go on with the value that the history leaves there.
     ensures found { (o : Object) (h : List Access) (p : ℕ) (pc : Pc) (op : Op)
         → ObjectIsSound o → IsObjectLawful o h
         → PcIsAt o.table o.kind (o.inputs p) pc (part p h) → IsOpAt o.table pc op
         → CanFind o.table pc op (seen_by op h) }
 
-    // And its act is true to memory.
+    // The act of such a turn is true to memory.
     ensures reads { (op : Op) (word : ℕ) (h : List Access)
         → ReadsLast (turn_after op word h).act h }
 {}
@@ -61,7 +61,7 @@ pub fn turns_name_the_next_op()
         → IsQuorumTable t → PcIsAt t kind v pc turns → PcIsAt t kind v other turns
         → IsOpAt t pc op → IsOpAt t other next → op ≡ next }
 
-    // And after one history, two acts of one op are the same act.
+    // After one history, two acts of one op are the same act.
     ensures act { (a b : Act) (h : List Access)
         → IsSameOp a b → ReadsLast a h → ReadsLast b h → a ≡ b }
 {}
@@ -71,7 +71,7 @@ pub fn turns_name_the_next_op()
 pub fn places_have_turns_left()
     ensures some { (t : QuorumTable) (pc : Pc) → IsPlace t pc → 0 < turns_left t pc }
 
-    // It is no more than a whole path through its object may have.
+    // No more accesses are left than a whole path through the object may have.
     ensures most { (t : QuorumTable) (kind : Kind) (v : ℕ) (pc : Pc) (turns : List Turn)
         → v < t.values → PcIsAt t kind v pc turns → turns_left t pc ≤ most_turns t kind }
 {}

@@ -16,9 +16,9 @@ pub enum Entry {
     Access {
         /// Whose turn it was.
         process: usize,
-        /// What it did.
+        /// What the process did.
         act: Act,
-        /// Its output, if this was its last access.
+        /// The process's output, if this was its last access.
         out: Option<Out>,
     },
     /// The process had its output before and made no access.

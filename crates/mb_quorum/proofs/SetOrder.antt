@@ -6,11 +6,11 @@ use Rattle.std.proofs.lemmas.Nat.{ones_cat, ones_le_self, zero_from_ones}
 use Rattle.mb_quorum.specs.Middle.{choose, set_number}
 use Rattle.mb_quorum.specs.MiddleLaw.{double, set_below, without_last, with_last}
 
--- the empty set
+-- the empty set has no registers
 no_ones : count_ones 0 ≡ 0
 no_ones = omega (arith, ones_le_self 0)
 
--- a set of one register
+-- the mask 1 has one register
 one_one : count_ones 1 ≡ 1
 one_one =
     elim (cases_eq (count_ones 1) 0) [
@@ -18,13 +18,13 @@ one_one =
       | inr some ↦ omega (arith, ones_le_self 1, some)
     ]
 
--- one register more in front
+-- a set of n and of lower registers has one register more than those
 ones_with_last : (n x : ℕ) → x < 2 ^ n → count_ones (2 ^ n + x) ≡ suc (count_ones x)
 ones_with_last n x small =
     let shape : 2 ^ n + x ≡ 1 * 2 ^ n + x = omega arith in
     omega (arith, ap count_ones shape, ones_cat n 1 x small, one_one)
 
--- a set has so many registers
+-- each numbered set of h registers has h registers
 pub set_size : (n h v : ℕ) → v < choose n h → count_ones (set_number n h v) ≡ h
 set_size zero zero v known = no_ones
 set_size zero (suc h) v known = absurd (omega (arith, known))
@@ -43,7 +43,7 @@ set_size (suc n) (suc h) v known =
           ))
     ]
 
--- a larger number has a larger mask
+-- of two sets the one with the larger number has the larger mask
 pub set_rises : (n h v w : ℕ) → v < w → w < choose n h → set_number n h v < set_number n h w
 set_rises zero zero v w less known = absurd (omega (arith, less, known))
 set_rises zero (suc h) v w less known = absurd (omega (arith, known))
@@ -68,15 +68,15 @@ set_rises (suc n) (suc h) v w less known =
       ]
     ]
 
--- the set that the mask stands for has a number
+-- x is the mask of a numbered set of h registers among n
 abbrev pub HasNumber : ℕ → ℕ → ℕ → Type 0
 HasNumber n h x = (v : ℕ) × (v < choose n h) × (x ≡ set_number n h v)
 
--- without the last register
+-- a numbered set among n registers has a number among n + 1
 number_without : (n h x : ℕ) → HasNumber n (suc h) x → HasNumber (suc n) (suc h) x
 number_without n h x (v, known, is) = (v, omega (arith, known), is ∙ sym (without_last n h v known))
 
--- with it
+-- a numbered set, with register n as one register more, has a number among n + 1
 number_with : (n h x : ℕ) → HasNumber n h x → HasNumber (suc n) (suc h) (2 ^ n + x)
 number_with n h x (v, known, is) =
     let all : ℕ = choose n (suc h) + v in
@@ -87,7 +87,7 @@ number_with n h x (v, known, is) =
           ∙ sym (with_last n h all (omega arith)),
     )
 
--- each set of so many registers has a number
+-- each set of h registers among n has a number
 pub set_numbered : (n h x : ℕ) → x < 2 ^ n → count_ones x ≡ h → HasNumber n h x
 set_numbered zero zero x small size = (0, omega arith, omega (arith, small))
 set_numbered zero (suc h) x small size =

@@ -1,9 +1,9 @@
--- Sets of registers as the code numbers them.
+-- Sets of registers as the code counts and numbers them.
 use Rattle.std.proofs.Common.{◌≡◌, ◌≢◌, ℕ, zero, suc, ◌+◌, ◌-◌, ◌^◌, ◌<◌, ◌≤◌, refl, sym, ◌∙◌, ap, ap₂, subst, arith}
 use Rattle.mb_quorum.specs.Middle.{choose, set_number}
 use Rattle.mb_quorum.specs.MiddleLaw.{without_last, with_last}
 
--- with and without the last register
+-- the sets of h registers among n are those without the last register and those with it
 pub choose_by_last :
     (n h : ℕ) → n ≢ 0 → h ≢ 0 → choose n h ≡ choose (n - 1) h + choose (n - 1) (h - 1)
 choose_by_last zero h some more = absurd (some refl)
@@ -13,7 +13,7 @@ choose_by_last (suc n) (suc h) some more =
     let less : h ≡ suc h - 1 = omega arith in
     ap₂ (λ k i. choose k (suc h) + choose k i) before less
 
--- a set without the last register is one of the others
+-- a set without the last register is the set of this number among the others
 pub set_of_others :
     (n h v : ℕ) → n ≢ 0 → h ≢ 0 → v < choose (n - 1) h → set_number n h v ≡ set_number (n - 1) h v
 set_of_others zero h v some more less = absurd (some refl)
@@ -23,7 +23,7 @@ set_of_others (suc n) (suc h) v some more less =
     without_last n h v (subst (λ k. v < choose k (suc h)) before less)
     ∙ ap (λ k. set_number k (suc h) v) (sym before)
 
--- one with it is that register, and one of the others with one register less
+-- a set with the last register is that register, and a set of the others with one register less
 pub set_with_last :
     (n h v : ℕ) → n ≢ 0 → h ≢ 0 → choose (n - 1) h ≤ v
     → set_number n h v ≡ 2 ^ (n - 1) + set_number (n - 1) (h - 1) (v - choose (n - 1) h)
@@ -35,7 +35,7 @@ set_with_last (suc n) (suc h) v some more past =
     with_last n h v (subst (λ k. choose k (suc h) ≤ v) (sym before) past)
     ∙ ap₂ (λ k i. 2 ^ k + set_number k i (v - choose k (suc h))) before less
 
--- without any register in the set it is empty
+-- a set of 0 registers is empty
 pub empty_set : (n v : ℕ) → set_number n 0 v ≡ 0
 empty_set zero v = refl
 empty_set (suc n) v = refl

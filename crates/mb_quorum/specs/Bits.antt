@@ -5,15 +5,16 @@ use Rattle.mb_quorum.specs.Quorum.{QuorumTable}
 use Rattle.mb_quorum.specs.Width.{width_of}
 use Rattle.mb_quorum.specs.Mask.{mask_of}
 
--- of the two registers for bit i, the one that bit i of v names
+-- the one of the two registers for bit i that bit i of v names
 abbrev pub named_register : ℕ → ℕ → ℕ
 named_register v i = 2 * i + bit_at v i
 
--- and the other of the two
+-- the one of the two registers for bit i that bit i of v does not name
 abbrev pub other_register : ℕ → ℕ → ℕ
 other_register v i = 2 * i + 1 - bit_at v i
 
--- for each bit of v, its write quorum holds the register that the bit names, its read quorum the other
+-- the bit table of m values. For each bit of v, the write quorum of v holds the register that the bit names, and its
+-- read quorum the other
 abbrev pub bits_table : ℕ → QuorumTable
 bits_table m =
     record {

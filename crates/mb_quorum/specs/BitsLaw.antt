@@ -1,4 +1,4 @@
--- The bit table is a quorum table.
+-- The bit table keeps the law of quorum tables.
 use Rattle.std.proofs.Common.{◌≡◌, ℕ, ◌*◌, ◌<◌, ◌≤◌, subst, ap₂, inl, inr, arith}
 use Rattle.std.specs.Int.{bit_at}
 use Rattle.std.proofs.lemmas.Bool.{cases_eq}
@@ -36,14 +36,14 @@ same_bit m v w i within disjoint =
           absurd (disjoint (named_register v i) written (subst (IsMember ((bits_table m).read w)) shared seen)))
     ]
 
--- so they are one value
+-- if the quorums of two values share no register, the values are one
 meet : (m v w : ℕ) → v < m → w < m → AreDisjoint ((bits_table m).write v) ((bits_table m).read w) → v ≡ w
 meet m v w written seen disjoint =
     let enough = (width_is_least m).enough in
     same_from_bits_below (width_of m) v w (omega (arith, enough, written)) (omega (arith, enough, seen))
     (λ i within. same_bit m v w i within disjoint)
 
--- the bit table of m values is a quorum table, if m is at most `MAX_VALUES`
+-- the bit table of m values keeps the law of quorum tables, if m is at most `MAX_VALUES`
 pub bits_lawful : (m : ℕ) → m ≤ MAX_VALUES → IsQuorumTable (bits_table m)
 bits_lawful m most =
     let narrow : width_of m ≤ 6 = (width_is_least m).least 6 (omega (arith, most)) in

@@ -1,4 +1,5 @@
 pub mod Bits
+-- beside each table stand the lemmas that it keeps the law of quorum tables, in a file named after it
 pub mod BitsLaw
 pub mod Chosen
 pub mod Mask

@@ -1,4 +1,4 @@
--- Masks: register r is the bit of worth 2 ^ r.
+-- Masks of registers: register r is the bit of worth 2 ^ r.
 use Rattle.std.specs.Prelude.{ℕ, zero, suc, ◌^◌, bit_or}
 
 -- the mask of the registers `register 0`, `register 1`, .., `register (n - 1)`

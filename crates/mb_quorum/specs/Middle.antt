@@ -1,4 +1,4 @@
--- The middle table: a write quorum is a set of half of the registers, rounded down. Its read quorum is the rest.
+-- The middle table: a write quorum is a set of half of the registers, rounded down, and the read quorum is the rest.
 use Rattle.std.specs.Prelude.{ℕ, zero, suc, ◌+◌, ◌-◌, ◌/◌, ◌^◌, ◌≤◌, nat_lt, if◌then◌else◌}
 use Rattle.mb_quorum.specs.Quorum.{QuorumTable}
 
@@ -17,7 +17,7 @@ abbrev pub halves_below : ℕ → ℕ → ℕ
 halves_below zero m = 0
 halves_below (suc n) m = if nat_lt (halves n) m then suc (halves_below n m) else halves_below n m
 
--- the least n with m ≤ halves n. Halves never falls, so it is how many of halves 0, .., halves (m - 1) are below m
+-- the least n with m ≤ halves n. It is how many of the first m numbers of halves are below m, since they never fall
 abbrev pub breadth_of : ℕ → ℕ
 breadth_of m = halves_below m m
 
@@ -26,16 +26,16 @@ pub record IsLeastBreadth (m n : ℕ) : Type 0 where
   pub enough : m ≤ halves n
   pub least : (c : ℕ) → m ≤ halves c → n ≤ c
 
--- the mask of set number v, from 0, of the sets of h registers among n. Masks rise with v, so the sets without the last
--- register come first
+-- the mask of set number v, from 0, of the sets of h registers among n. The masks rise with v, so the sets without the
+-- last register come first
 abbrev pub set_number : ℕ → ℕ → ℕ → ℕ
 set_number zero h v = 0
 set_number (suc n) zero v = 0
 set_number (suc n) (suc h) v =
     if nat_lt v (choose n (suc h)) then set_number n (suc h) v else 2 ^ n + set_number n h (v - choose n (suc h))
 
--- the write quorum of v is set number v of the sets of half of the registers, rounded down. Its read quorum is all
--- other registers
+-- the middle table of m values. The write quorum of v is set number v of the sets of half of the registers, rounded
+-- down. Its read quorum is all other registers
 abbrev pub middle_table : ℕ → QuorumTable
 middle_table m =
     record {

@@ -1,4 +1,4 @@
--- The middle table is a quorum table.
+-- The middle table keeps the law of quorum tables.
 use Rattle.std.proofs.Common.{◌≡◌, ℕ, zero, suc, ◌+◌, ◌-◌, ◌*◌, ◌/◌, ◌^◌, ◌<◌, ◌≤◌, sym, ◌∙◌, ap, subst, inl, inr, refl}
 use Rattle.std.proofs.Common.{arith}
 use Rattle.std.specs.Int.{bit_at}
@@ -11,18 +11,18 @@ use Rattle.mb_quorum.specs.declared.values.TheConstants.{MAX_VALUES}
 use Rattle.mb_quorum.specs.Quorum.{IsQuorumTable, IsMember, AreDisjoint}
 use Rattle.mb_quorum.specs.Middle.{choose, halves, halves_below, breadth_of, IsLeastBreadth, set_number, middle_table}
 
--- ---- sets
--- a power is twice the one before
+-- ---- sets with and without the last register
+-- a power of two is twice the one before
 pub double : (n : ℕ) → 2 ^ suc n ≡ 2 * 2 ^ n
 double n = rw one-add at (pow-add 2 1 n)
 
--- a set without the last register
+-- a set without the last register is the set of this number among the other registers
 pub without_last :
     (n h v : ℕ) → v < choose n (suc h) → set_number (suc n) (suc h) v ≡ set_number n (suc h) v
 without_last n h v less =
     sym (cond_below v (choose n (suc h)) (set_number n (suc h) v) (2 ^ n + set_number n h (v - choose n (suc h))) less)
 
--- a set with it
+-- a set with the last register is that register, and a set of the others with one register less
 pub with_last :
     (n h v : ℕ) → choose n (suc h) ≤ v
     → set_number (suc n) (suc h) v ≡ 2 ^ n + set_number n h (v - choose n (suc h))
@@ -30,7 +30,7 @@ with_last n h v more =
     let rest : ℕ = 2 ^ n + set_number n h (v - choose n (suc h)) in
     sym (cond_above v (choose n (suc h)) (set_number n (suc h) v) rest rest more refl)
 
--- its registers are among the n
+-- the registers of a set are among the n
 pub set_below : (n h v : ℕ) → set_number n h v < 2 ^ n
 set_below zero h v = pow_pos 0
 set_below (suc n) zero v = pow_pos (suc n)
@@ -41,25 +41,25 @@ set_below (suc n) (suc h) v =
           omega (arith, with_last n h v more, set_below n h (v - choose n (suc h)), double n)
     ]
 
--- the last register is not in a set of others
+-- register n is in no set among the first n registers
 out_of : (n h v : ℕ) → IsMember (set_number n h v) n → ⊥
 out_of n h v member = omega (arith, member, bit_at_above (set_number n h v) n n (set_below n h v) (omega arith))
 
--- it is in a set with it
+-- register n is in a set of n and of lower registers
 last_in : (n x : ℕ) → x < 2 ^ n → IsMember (2 ^ n + x) n
 last_in n x small =
     let shape : 2 ^ n + x ≡ 1 * 2 ^ n + x = omega arith in
     let same : n - n ≡ 0 = omega arith in
     ap (λ k. bit_at k n) shape ∙ bit_at_cat_high 1 n x n small (omega arith) ∙ ap (bit_at 1) same ∙ bit_at_lowest 1
 
--- another register is in it exactly if it is in the rest of the set
+-- a register below n is in a set of n and of lower registers exactly if it is in the rest of that set
 other_in : (n x r : ℕ) → r < n → bit_at (2 ^ n + x) r ≡ bit_at x r
 other_in n x r below =
     let shape : 2 ^ n + x ≡ 1 * 2 ^ n + x = omega arith in
     ap (λ k. bit_at k r) shape ∙ bit_at_cat_low 1 n x r below
 
 -- ---- one set within another
--- each register of the one is in the other
+-- each register of the set a is in the set b
 abbrev IsWithin : ℕ → ℕ → Type 0
 IsWithin a b = (r : ℕ) → IsMember a r → IsMember b r
 
@@ -72,7 +72,7 @@ rests_within n x y small little within r member =
       | inr above ↦ absurd (omega (arith, member, bit_at_above x n r small above))
     ]
 
--- a set within another is no larger, and if it is as large it is the same one
+-- a set within another has no more registers, and if it has as many, both have one number
 pub one_within :
     (n a b v w : ℕ) → v < choose n a → w < choose n b → IsWithin (set_number n a v) (set_number n b w)
     → (a ≤ b) × (a ≡ b → v ≡ w)
@@ -151,7 +151,7 @@ one_within (suc n) (suc a) (suc b) v w written seen within =
     ]
 
 -- ---- the registers that are not in a set
--- the complement of a number below a power has the opposite bits
+-- the complement of a number below 2 ^ k has the opposite bits
 pub others_have : (k n i : ℕ) → n < 2 ^ k → i < k → bit_at (2 ^ k - 1 - n) i ≡ 1 - bit_at n i
 others_have zero n i fits within = absurd (omega (arith, within))
 others_have (suc k) n zero fits within =
@@ -162,17 +162,17 @@ others_have (suc k) n (suc i) fits within =
     ∙ others_have k (n / 2) i (omega (arith, double k, fits)) (omega (arith, within))
     ∙ ap (λ d. 1 - d) (sym (bit_at-suc n i))
 
--- ---- how many registers
--- one register more gives no fewer sets
+-- ---- how many sets there are
+-- n + 1 registers have no fewer sets of h of them than n registers
 more_sets : (n h : ℕ) → choose n h ≤ choose (suc n) h
 more_sets n zero = omega arith
 more_sets n (suc h) = omega arith
 
--- one register more, with one more in the set, gives no fewer sets
+-- n + 1 registers have no fewer sets of h + 1 of them than n registers have of h
 more_in_sets : (n h : ℕ) → choose n h ≤ choose (suc n) (suc h)
 more_in_sets n h = omega arith
 
--- so half of the registers gives no fewer, either
+-- n + 1 registers have no fewer sets of half of them than n registers
 halves_rise : (n : ℕ) → halves n ≤ halves (suc n)
 halves_rise n =
     elim (cases_eq (suc n / 2) (n / 2)) [
@@ -182,6 +182,7 @@ halves_rise n =
           subst (λ h. halves n ≤ choose (suc n) h) (sym next) (more_in_sets n (n / 2)))
     ]
 
+-- d + n registers have no fewer sets of half of them than n registers
 pub halves_mono : (n d : ℕ) → halves n ≤ halves (d + n)
 halves_mono n zero =
     let same : n ≡ 0 + n = omega arith in
@@ -190,13 +191,13 @@ halves_mono n (suc d) =
     let next : suc (d + n) ≡ suc d + n = omega arith in
     subst (λ k. halves n ≤ halves k) next (omega (arith, halves_mono n d, halves_rise (d + n)))
 
--- there is a set if there are enough registers
+-- n registers have a set of h of them, if h is at most n
 pub some_set : (n h : ℕ) → h ≤ n → 0 < choose n h
 some_set n zero few = omega arith
 some_set zero (suc h) few = absurd (omega (arith, few))
 some_set (suc n) (suc h) few = omega (arith, some_set n h (omega (arith, few)))
 
--- from one register on, one register more gives more sets
+-- n + 2 registers have more sets of half of them than n + 1 registers
 halves_grow : (n : ℕ) → halves (suc n) < halves (suc (suc n))
 halves_grow n =
     elim (cases_eq (suc (suc n) / 2) (suc n / 2)) [
@@ -213,18 +214,18 @@ halves_grow n =
           subst (λ h. halves (suc n) < choose (suc (suc n)) h) (sym next) more)
     ]
 
--- so there are at least as many sets as registers
+-- n registers have at least n sets of half of them
 self_within : (n : ℕ) → n ≤ halves n
 self_within zero = omega arith
 self_within (suc zero) = omega arith
 self_within (suc (suc n)) = omega (arith, self_within (suc n), halves_grow n)
 
 -- ---- the least number of registers
--- a number of halves that is below m counts
+-- if `halves n` is below m, `halves_below` counts it
 counted : (n m : ℕ) → halves n < m → halves_below (suc n) m ≡ suc (halves_below n m)
 counted n m h = sym (cond_below (halves n) m (suc (halves_below n m)) (halves_below n m) h)
 
--- and no other does
+-- if `halves n` is not below m, `halves_below` does not count it
 passed_over : (n m : ℕ) → m ≤ halves n → halves_below (suc n) m ≡ halves_below n m
 passed_over n m h = sym (cond_above (halves n) m (suc (halves_below n m)) (halves_below n m) (halves_below n m) h refl)
 
@@ -237,14 +238,14 @@ halves_below-le (suc n) m =
       | inr h ↦ omega (arith, passed_over n m h, halves_below-le n m)
     ]
 
--- if the largest is below m, all are
+-- if `halves n` is below m, so are the n numbers of halves before it
 all_below : (n m : ℕ) → halves n < m → halves_below n m ≡ n
 all_below zero m h = refl
 all_below (suc n) m h =
     let before : halves n < m = omega (arith, halves_rise n, h) in
     omega (arith, counted n m before, all_below n m before)
 
--- the count is enough, if one of at most n is
+-- if n registers have m sets of half of them, so have `halves_below n m` registers
 enough_halves : (n m : ℕ) → m ≤ halves n → m ≤ halves (halves_below n m)
 enough_halves zero m h = h
 enough_halves (suc n) m h =
@@ -266,7 +267,7 @@ registers_below n c lower =
           absurd (omega (arith, higher, lower)))
     ]
 
--- no number that is enough is less than the count
+-- if c registers have m sets of half of them, c is at least `halves_below n m`
 least_halves : (n m c : ℕ) → m ≤ halves c → halves_below n m ≤ c
 least_halves zero m c h = omega arith
 least_halves (suc n) m c h =
@@ -276,15 +277,15 @@ least_halves (suc n) m c h =
       | inr reached ↦ rw (passed_over n m reached) (least_halves n m c h)
     ]
 
--- `breadth_of m` is the least number of registers that is enough
+-- `breadth_of m` is the least number of registers with m sets of half of them
 pub breadth_is_least : (m : ℕ) → IsLeastBreadth m (breadth_of m)
 breadth_is_least m = record { enough = enough_halves m m (self_within m); least = least_halves m m }
 
--- it is the only one
+-- there is one least number of registers with m sets of half of them
 pub one_breadth : (m a b : ℕ) → IsLeastBreadth m a → IsLeastBreadth m b → a ≡ b
 one_breadth m a b x y = omega (arith, x.least b y.enough, y.least a x.enough)
 
--- if all that are smaller are below m, a number that is enough is the least
+-- n is the least number, if n registers have m sets of half of them and fewer registers have not
 pub least_so_far : (m n : ℕ) → m ≤ halves n → ((c : ℕ) → c < n → halves c < m) → n ≡ breadth_of m
 least_so_far m n enough smaller =
     one_breadth m n (breadth_of m)
@@ -297,24 +298,24 @@ least_so_far m n enough smaller =
     })
     (breadth_is_least m)
 
--- there are at most as many sets as masks
+-- n registers have at most 2 ^ n sets of h of them
 pub few_sets : (n h : ℕ) → choose n h ≤ 2 ^ n
 few_sets n zero = omega (arith, pow_pos n)
 few_sets zero (suc h) = omega arith
 few_sets (suc n) (suc h) = omega (arith, few_sets n (suc h), few_sets n h, double n)
 
--- 64 values need at most 8 registers
+-- at most 64 values need at most 8 registers
 pub breadth_small : (m : ℕ) → m ≤ 64 → breadth_of m ≤ 8
 breadth_small m most =
     let all : halves 8 ≡ 70 = refl in
     (breadth_is_least m).least 8 (omega (arith, most, all))
 
 -- ---- the law
--- in the table of m values, each value has a set
+-- in the table of m values, each value is the number of a set
 pub in_table : (m v : ℕ) → v < m → v < choose (breadth_of m) (breadth_of m / 2)
 in_table m v value = omega (arith, value, (breadth_is_least m).enough)
 
--- each register of a set is a register of the table
+-- each register of a write quorum is a register of the table
 register_in : (m v r : ℕ) → IsMember ((middle_table m).write v) r → r < breadth_of m
 register_in m v r member =
     let k : ℕ = breadth_of m in
@@ -324,7 +325,7 @@ register_in m v r member =
           absurd (omega (arith, member, bit_at_above (set_number k (k / 2) v) k r (set_below k (k / 2) v) more))
     ]
 
--- a register that is in no read quorum is in the write quorum
+-- a register of the table that is not in w's read quorum is in w's write quorum
 not_read :
     (m w r : ℕ) → r < breadth_of m → (IsMember ((middle_table m).read w) r → ⊥) → IsMember ((middle_table m).write w) r
 not_read m w r below out =
@@ -353,7 +354,7 @@ meet m v w written seen disjoint =
     (one_within k (k / 2) (k / 2) v w (in_table m v written) (in_table m w seen)
     (λ r member. not_read m w r (register_in m v r member) (λ in_read. disjoint r member in_read))).1 refl
 
--- the middle table of m values is a quorum table, if m is at most `MAX_VALUES`
+-- the middle table of m values keeps the law of quorum tables, if m is at most `MAX_VALUES`
 pub middle_lawful : (m : ℕ) → m ≤ MAX_VALUES → IsQuorumTable (middle_table m)
 middle_lawful m most =
     let k : ℕ = breadth_of m in

@@ -2,7 +2,8 @@
 use Rattle.std.specs.Prelude.{◌≡◌, ℕ, ◌^◌, ◌<◌, ◌≤◌, ◌↔◌}
 use Rattle.std.specs.Int.{bit_at}
 
--- the number of registers, the number of values, and for each value its write quorum and its read quorum as masks
+-- a quorum table: the number of registers, the number of values, and for each value its write quorum and its read
+-- quorum as masks
 pub record QuorumTable : Type 0 where
   pub registers : ℕ
   pub values : ℕ
@@ -13,12 +14,12 @@ pub record QuorumTable : Type 0 where
 abbrev pub IsMember : ℕ → ℕ → Type 0
 IsMember mask register = bit_at mask register ≡ 1
 
--- no register is in both
+-- no register is in both quorums
 abbrev pub AreDisjoint : ℕ → ℕ → Type 0
 AreDisjoint a b = (register : ℕ) → IsMember a register → IsMember b register → ⊥
 
--- there are at most 64 registers and 64 values. Masks are below 2 ^ registers. A write quorum and a read quorum are
--- disjoint exactly when they belong to one value
+-- The table keeps the law of quorum tables. There are at most 64 registers and 64 values. Masks are below
+-- 2 ^ registers. A write quorum and a read quorum are disjoint exactly if they belong to one value
 pub record IsQuorumTable (t : QuorumTable) : Type 0 where
   pub limit : t.registers ≤ 64
   pub few : t.values ≤ 64

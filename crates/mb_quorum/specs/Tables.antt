@@ -1,4 +1,4 @@
--- The tables by name.
+-- The tables that have a name.
 use Rattle.std.specs.Prelude.{ℕ}
 use Rattle.mb_quorum.specs.declared.table.TableName.{TableName}
 use Rattle.mb_quorum.specs.declared.table.TableName.TheVariants.{Unary, Bits, Middle}

@@ -1,4 +1,4 @@
--- The words of this crate's clauses in one place, for clauses here and in the crates above.
+-- The definitions that clauses name, in one place, for clauses here and in the crates above.
 pub use Rattle.mb_quorum.specs.Bits.{bits_table, named_register, other_register}
 pub use Rattle.mb_quorum.specs.Chosen.{chosen_table}
 pub use Rattle.mb_quorum.specs.Mask.{mask_of}

@@ -1,4 +1,4 @@
--- How many bits tell m values apart.
+-- How many bits tell m values apart: the least width.
 use Rattle.std.specs.Prelude.{ℕ, zero, suc, ◌^◌, ◌≤◌, nat_lt, if◌then◌else◌}
 
 -- how many of the powers 2 ^ 0, 2 ^ 1, .., 2 ^ (n - 1) are below m

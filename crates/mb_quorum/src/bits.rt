@@ -1,3 +1,4 @@
+//! The bit table.
 ghost use Rattle.std.specs.Prelude.{◌≡◌, ◌≤◌};
 ghost use Rattle.mb_quorum.specs.Bits.{named_register};
 ghost use Rattle.mb_quorum.specs.Mask.{mask_of};

@@ -15,24 +15,24 @@ ghost use Rattle.mb_quorum.specs.Vocabulary.{choose, set_number, IsLeastBreadth}
 
 use crate::Quorums;
 
-/// Every value of a table's type is a quorum table.
+/// Every value of a table's type keeps the law of quorum tables.
 pub fn every_table_is_lawful<Q: Quorums>(table: &Q)
     ensures { IsQuorumTable (Q.table table.now) }
 {}
 
-/// In every quorum table, a write quorum and a read quorum share no bit exactly when they belong to one value.
+/// In every lawful table, a write quorum and a read quorum share no bit exactly if they belong to one value.
 pub fn masks_tell_values_apart()
     ensures { (t : QuorumTable) (v w : ℕ) → IsQuorumTable t → v < t.values → w < t.values
         → (bit_and (t.write v) (t.read w) ≡ 0) ↔ (v ≡ w) }
 {}
 
-/// Each named table is a quorum table, and has the number of values that it is asked for.
+/// Each named table keeps the law of quorum tables, and has the number of values that it is asked for.
 pub fn named_tables_are_lawful()
     ensures lawful { (name : TableName) (m : ℕ) → m ≤ MAX_VALUES → IsQuorumTable (table_of name m) }
     ensures values { (name : TableName) (m : ℕ) → (table_of name m).values ≡ m }
 {}
 
-/// A table chosen by name is a quorum table. It has at least one value and at most `MAX_VALUES`.
+/// A table chosen by name keeps the law of quorum tables. It has at least one value and at most `MAX_VALUES`.
 pub fn chosen_tables_are_lawful()
     ensures lawful { (table : Table) → IsQuorumTable (chosen_table table) }
     ensures least { (table : Table) → 1 ≤ (chosen_table table).values }
@@ -45,8 +45,8 @@ pub fn unary_quorums_are_own_and_others()
     ensures read { (m v r : ℕ) → v < m → IsMember ((unary_table m).read v) r ↔ ((r < m) × (r ≢ v)) }
 {}
 
-/// In the bit table, a write quorum holds the register that each bit names, of the two for that bit. A read quorum
-/// holds the other.
+/// In the bit table, a write quorum holds for each bit of its value the register that the bit names, of the two for
+/// that bit. A read quorum holds the other one.
 pub fn bits_quorums_follow_the_bits()
     ensures write { (m v r : ℕ) → IsMember ((bits_table m).write v) r
         ↔ ((i : ℕ) × (i < width_of m) × (r ≡ 2 * i + bit_at v i)) }
@@ -54,9 +54,9 @@ pub fn bits_quorums_follow_the_bits()
         ↔ ((i : ℕ) × (i < width_of m) × (r ≡ 2 * i + 1 - bit_at v i)) }
 {}
 
-/// The quorums of the middle table. The sets of h registers among n are numbered from 0, by rising mask, each once.
-/// The write quorum of v is set number v of the sets of half of the registers, rounded down. Its read quorum holds
-/// all others. No fewer registers have a set for each value.
+/// The sets of h registers among n are numbered from 0, by rising mask, each once. In the middle table the write quorum
+/// of v is set number v of the sets of half of the registers, rounded down. Its read quorum holds all other registers.
+/// No fewer registers have a set for each value.
 pub fn middle_quorums_are_sets_by_rising_mask()
     ensures within { (n h v : ℕ) → set_number n h v < 2 ^ n }
     ensures size { (n h v : ℕ) → v < choose n h → count_ones (set_number n h v) ≡ h }
@@ -75,7 +75,7 @@ pub fn width_is_the_least()
     ensures { (m : ℕ) → IsLeastWidth m (width_of m) }
 {}
 
-/// The most values that a table can have.
+/// A table can have at most 64 values.
 pub fn max_values_is_sixty_four()
     ensures { MAX_VALUES ≡ 64 }
 {}

@@ -1,5 +1,5 @@
 //! Quorum tables: each value has a write quorum and a read quorum of registers. A write quorum and a read quorum share
-//! no register exactly when they belong to one value.
+//! no register exactly if they belong to one value.
 //!
 //! A process announces its value by setting the registers of the value's write quorum. If it then finds all
 //! registers of the value's read quorum unset, nobody has announced any other value. The idea is that of James

@@ -1,3 +1,4 @@
+//! The middle table, and the numbering of sets of registers.
 ghost use Rattle.std.specs.Prelude.{◌≡◌, ◌≤◌, ◌<◌, ◌^◌, ℕ};
 ghost use Rattle.mb_quorum.specs.Middle.{choose, halves, breadth_of, set_number};
 ghost use Rattle.mb_quorum.specs.declared.values.TheConstants.{MAX_VALUES};

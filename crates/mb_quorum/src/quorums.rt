@@ -1,3 +1,4 @@
+//! What a type has to offer to serve as a quorum table.
 /// A quorum table. Values and registers count from 0, and a quorum is a mask: register i is the bit of worth `2^i`.
 ///
 /// No call allocates. Each table proves the law `lawful` for itself. A user of a table needs that law alone: a ratifier

@@ -1,3 +1,4 @@
+//! Tables that are chosen by name when the program runs.
 ghost use Rattle.std.specs.Prelude.{◌≡◌, ◌<◌, ◌≤◌, ℕ, slice_index};
 ghost use Rattle.mb_quorum.specs.declared.values.TheConstants.{MAX_VALUES};
 ghost use Rattle.mb_quorum.specs.Tables.{table_of};
@@ -7,20 +8,20 @@ use crate::{BadValues, Bits, MAX_VALUES, Middle, Quorums, Unary, checked_values}
 /// The name of a table of this crate.
 #[derive(Clone, Copy, Debug, PartialEq, Eq, Hash)]
 pub enum TableName {
-    /// [`Unary`](crate::Unary)
+    /// The table of type [`Unary`](crate::Unary).
     Unary,
 
-    /// [`Bits`](crate::Bits)
+    /// The table of type [`Bits`](crate::Bits).
     Bits,
 
-    /// [`Middle`](crate::Middle)
+    /// The table of type [`Middle`](crate::Middle).
     Middle,
 }
 
 /// A table chosen by its name when the program runs.
 ///
-/// It keeps the quorums of each value, so that they are computed once. With them it has some 1,040 bytes. It is not
-/// `Copy`, and a copy has to be asked for: [`Table::copy`].
+/// A table keeps the quorums of each value, so that they are computed once. With them it has some 1,040 bytes. It is
+/// not `Copy`, and a copy has to be asked for: [`Table::copy`].
 #[derive(Debug, PartialEq, Eq, Hash, Drop)]
 pub struct Table {
     name: TableName,

@@ -1,9 +1,10 @@
+//! The unary table.
 ghost use Rattle.std.specs.Prelude.{◌≤◌};
 ghost use Rattle.mb_quorum.specs.declared.values.TheConstants.{MAX_VALUES};
 
 use crate::{BadValues, Quorums, checked_values};
 
-/// The unary table: a register for each value. The write quorum of v is register v, its read quorum all others.
+/// The unary table: a register for each value. The write quorum of v is register v, and its read quorum all others.
 #[derive(Clone, Copy, Debug, PartialEq, Eq, Hash)]
 pub struct Unary {
     values: u32,

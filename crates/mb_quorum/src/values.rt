@@ -1,3 +1,4 @@
+//! The number of values of a table, and how many bits tell so many values apart.
 ghost use Rattle.std.specs.Prelude.{◌≡◌, ◌≤◌, ◌↔◌, IsOk, IfOk};
 ghost use Rattle.mb_quorum.specs.Width.{width_of, IsLeastWidth};
 

@@ -3,8 +3,8 @@
 /// The place of one process in a conciliator.
 #[derive(Clone, Copy, PartialEq, Eq, Debug)]
 pub enum ConciliatorPlace {
-    /// It is about to load the word. If that is empty, and the random word modulo `modulus` is below `limit`, it stores
-    /// next.
+    /// The process has not stored, and is about to load the word. If that is empty, and the random word modulo
+    /// `modulus` is below `limit`, it stores next.
     Draw {
         /// The process's own value.
         input: u32,
@@ -13,12 +13,12 @@ pub enum ConciliatorPlace {
         /// 2^s, where s is the last attempt.
         modulus: u64,
     },
-    /// It is about to store its input.
+    /// The process is about to store its input.
     Put {
         /// The process's own value.
         input: u32,
     },
-    /// It has stored, and is about to load the word once more.
+    /// The process has stored, and is about to load the word once more.
     Look {
         /// The process's own value.
         input: u32,

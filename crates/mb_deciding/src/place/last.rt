@@ -24,8 +24,8 @@ impl LastPlace {
         Op::Exchange(Reg::Last, u64::from(self.input) + 1)
     }
 
-    /// The output, in a last object for `values` values. `seen` is what the exchange found. The output is that value,
-    /// or the process's own input if the word was empty or cannot hold `seen`.
+    /// The output, in a last object for `values` values. `seen` is what the exchange found. The output has the value
+    /// that this means, or the process's own input if the word was empty or cannot hold `seen`.
     #[inline(always)]
     pub(crate) fn after(self, values: u32, seen: u64) -> Out
         requires { self.input < values }
@@ -40,7 +40,7 @@ impl LastPlace {
         })
     }
 
-    /// Makes that access, and returns the output.
+    /// Makes the process's only access, and returns the output.
     #[inline(always)]
     pub(crate) fn step<M: Memory>(self, values: u32, memory: &mut M, object: u32) -> Out
         requires place { self.input < values }

@@ -8,11 +8,11 @@ use crate::object::Out;
 /// little that it has to keep.
 #[derive(Clone, Copy, PartialEq, Eq, Debug)]
 pub enum Pc {
-    /// In a conciliator.
+    /// The process is in a conciliator.
     InConciliator(ConciliatorPlace),
-    /// In a ratifier.
+    /// The process is in a ratifier.
     InRatifier(RatifierPlace),
-    /// In a last object.
+    /// The process is in a last object.
     InLast(LastPlace),
 }
 
@@ -21,7 +21,7 @@ pub enum Pc {
 pub enum Next {
     /// The process goes on from this place.
     Go(Pc),
-    /// That was its last access, and this is its output.
+    /// The access was the process's last, and this is its output.
     Out(Out),
 }
 
@@ -40,7 +40,7 @@ impl Next {
         }
     }
 
-    /// Goes to the output, if there is one.
+    /// Changes what follows to the output, if there is one.
     #[inline(always)]
     pub(crate) fn end(&mut self, out: Option<Out>)
         ensures { self.new ≡ come_to out self.old }

@@ -3,26 +3,26 @@
 /// The place of one process in a ratifier.
 #[derive(Clone, Copy, PartialEq, Eq, Debug)]
 pub enum RatifierPlace {
-    /// It has made no access.
+    /// The process has made no access.
     Begin {
         /// The process's own value.
         input: u32,
     },
-    /// It announces its input.
+    /// The process announces its input.
     Announce {
         /// The process's own value.
         input: u32,
         /// The registers of the write quorum that are still to be stored, as a mask.
         left: u64,
     },
-    /// It loaded an empty proposal and is about to store its input there.
+    /// The process loaded an empty proposal and is about to store its input there.
     Propose {
         /// The process's own value.
         input: u32,
     },
-    /// It checks its preference.
+    /// The process checks its preference.
     Check {
-        /// The value that it stored in the proposal, or found there.
+        /// The value that the process stored in the proposal, or found there.
         preference: u32,
         /// The registers of the read quorum that are still to be loaded, as a mask. There is at least one.
         left: u64,

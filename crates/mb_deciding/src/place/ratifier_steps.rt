@@ -212,7 +212,7 @@ impl RatifierPlace {
         }
     }
 
-    /// What follows that access.
+    /// What follows the next access of a process that still has to set these registers.
     #[inline(always)]
     fn announced<Q: Quorums>(&mut self, q: &Q, input: u32, left: u64, seen: u64) -> Option<Out>
         requires { input < (Q.table q.now).values }
@@ -229,7 +229,8 @@ impl RatifierPlace {
         }
     }
 
-    /// Makes that access. Goes on to the place that it leads to, or returns the output.
+    /// Makes the next access of a process that still has to set these registers. Goes on to the place that it leads to,
+    /// or returns the output.
     #[inline(always)]
     fn announce<Q: Quorums, M: Memory>(
         &mut self,
@@ -258,7 +259,7 @@ impl RatifierPlace {
         }
     }
 
-    /// What follows the store in the least of these registers: it is no longer left.
+    /// What follows the store in the least of these registers: that register is no longer left.
     #[inline(always)]
     fn stored<Q: Quorums>(&mut self, q: &Q, input: u32, left: u64) -> Option<Out>
         requires input { input < (Q.table q.now).values }
@@ -324,7 +325,8 @@ impl RatifierPlace {
         }
     }
 
-    /// Goes on to the registers that are left of the preference's read quorum. If none is left, it has decided.
+    /// Goes on to the registers that are left of the preference's read quorum. If none is left, the preference is
+    /// decided.
     #[inline(always)]
     fn checks(&mut self, preference: u32, left: u64) -> Option<Out>
         ensures fits { (t : QuorumTable) → preference < t.values

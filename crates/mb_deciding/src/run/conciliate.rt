@@ -30,7 +30,7 @@ pub fn conciliate<A: Allocator + Copy + Drop>(
         IsTrace (setup_of t (Conciliator (spread m)) inputs.now) schedule.now
         trace.entries.items trace.outputs.items) }
 
-    // What holds of the outputs, whatever the schedule and the random words.
+    // These laws hold of the outputs, whatever the schedule and the random words.
     ensures validity { (t : QuorumTable) → t.values ≡ m
         → IfOk result (λ trace. IsValid (conciliator_of t (spread m) (slice_index inputs.now))
         (history_of schedule.now trace.entries.items)) }
@@ -38,7 +38,7 @@ pub fn conciliate<A: Allocator + Copy + Drop>(
         → IfOk result (λ trace. IsFirstMover (conciliator_of t (spread m) (slice_index inputs.now))
         (history_of schedule.now trace.entries.items)) }
 
-    // No process makes more accesses.
+    // No process makes more accesses than this.
     ensures bound { IfOk result (λ trace. (p : ℕ)
         → length (part p (history_of schedule.now trace.entries.items)) ≤ spread m + 3) }
     ensures refused { RefusesOnlyFor

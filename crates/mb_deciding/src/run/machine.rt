@@ -15,7 +15,7 @@ pub trait Machine {
     /// The kind of the object.
     ghost kind: { Self → Kind };
 
-    /// A table of it. Any table that is the same for this kind would do.
+    /// A table of the object. Any table that is the same for this kind would do.
     ghost table: { Self → QuorumTable };
 
     /// How many values there are.

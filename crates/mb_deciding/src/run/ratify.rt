@@ -28,7 +28,7 @@ pub fn ratify<A: Allocator + Copy + Drop>(
         IsTrace (setup_of (table_of name m) Ratifier inputs.now) (plain_schedule schedule.now)
         trace.entries.items trace.outputs.items) }
 
-    // What holds of the outputs, whatever the schedule.
+    // These laws hold of the outputs, whatever the schedule.
     ensures validity { IfOk result (λ trace.
         IsValid (ratifier_of (table_of name m) (slice_index inputs.now))
         (history_of (plain_schedule schedule.now) trace.entries.items)) }
@@ -42,7 +42,7 @@ pub fn ratify<A: Allocator + Copy + Drop>(
         IsContested (ratifier_of (table_of name m) (slice_index inputs.now))
         (history_of (plain_schedule schedule.now) trace.entries.items)) }
 
-    // No process makes more accesses.
+    // No process makes more accesses than this.
     ensures bound { IfOk result (λ trace. (p : ℕ)
         → length (part p (history_of (plain_schedule schedule.now) trace.entries.items))
         ≤ most_turns (table_of name m) Ratifier) }

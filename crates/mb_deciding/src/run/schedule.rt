@@ -35,6 +35,7 @@ impl ScheduledTurn for u64 {
     }
 }
 
+/// A turn with its random word.
 impl ScheduledTurn for (u64, u64) {
     ghost turn = { λ turn. turn };
 

@@ -1,5 +1,5 @@
--- Proof of `laws::claims_begin_on_the_first_object`: the claim of a consumer that has made no access goes on, on the
--- first object.
+-- Proof of `laws::claims_begin_on_the_first_object`: the claim of a consumer that has made no access goes on, and
+-- stands on the first object.
 use Rattle.std.proofs.Common.{◌∙◌}
 use Rattle.mb_deciding.specs.Vocabulary.{object_of}
 use Rattle.mb_claim.specs.{Layout, quorums_of}
@@ -8,7 +8,7 @@ use Rattle.mb_claim.proofs.FirstAccess.{fresh_going, fresh_begun, fresh_next, fr
 use Rattle.mb_claim.proofs.LayoutObjects.{quorums_lawful}
 use Rattle.mb_claim.proofs.laws.claims_begin_on_the_first_object.Goals as goal
 
--- the laws of the layout's objects
+-- the objects over the layout's table keep the laws of deciding objects
 law : goal.After-objects_keep_their_promises → (layout : Layout) → AreDeciding (quorums_of layout)
 law c layout kind inputs =
     c.objects_keep_their_promises.ensures (object_of (quorums_of layout) kind inputs) (quorums_lawful layout)

@@ -14,9 +14,11 @@ use Rattle.mb_claim.proofs.laws.fast_layouts_avoid_conciliators.Goals as goal
 abbrev behind : Layout → List Kind
 behind layout = pairs_of (spread (quorums_of layout).values) layout.pairs ++ last_row layout.shape.last
 
+-- a layout with a fast path begins with two ratifiers
 row : (layout : Layout) → layout.shape.fast ≡ true → kinds_of layout ≡ Ratifier ∷ Ratifier ∷ behind layout
 row layout fast = begins_fast layout.shape (spread (quorums_of layout).values) layout.pairs fast
 
+-- in a layout with a fast path each conciliator comes after the two ratifiers
 past : (layout : Layout) (o s : ℕ) → layout.shape.fast ≡ true → slice_get (kinds_of layout) o
     ≡ Some (Conciliator s) → 2 ≤ o
 past layout o s fast is =

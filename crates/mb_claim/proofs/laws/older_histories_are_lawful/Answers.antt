@@ -1,4 +1,4 @@
--- Proof of `laws::older_histories_are_lawful`: an older part of a lawful history is lawful.
+-- Proof of `laws::older_histories_are_lawful`: a lawful history without its last accesses is lawful.
 use Rattle.mb_claim.proofs.OlderHistories.{older_history_lawful}
 use Rattle.mb_claim.proofs.laws.older_histories_are_lawful.Goals as goal
 

@@ -6,7 +6,7 @@ use Rattle.mb_claim.proofs.Standing.{AreStepping, stands_on}
 use Rattle.mb_claim.proofs.States.{memory_step, memory_found}
 use Rattle.mb_claim.proofs.steps.words_follow_steps.Goals as goal
 
--- the laws of one step of the objects
+-- the objects over the claims' table keep the laws of one step
 stepping : goal.After-places_are_unfinished → (cs : Claims) → ClaimsAreSound cs → AreStepping cs.table
 stepping c cs quorum =
     record {
@@ -16,7 +16,7 @@ stepping c cs quorum =
       longer = λ kind inputs xs q turn. c.history_extends.ensures.longer (object_of cs.table kind inputs) xs q turn;
     }
 
--- the word of the place's op is one of the cell's
+-- the word of the op that the place names is one of the cell's
 place_word :
     goal.After-places_are_unfinished → (cs : Claims) (d k object : ℕ) (pc : Pc) (op : Op) (h : List ClaimAccess)
     → ClaimsAreSound cs

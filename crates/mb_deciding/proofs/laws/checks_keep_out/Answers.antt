@@ -1,4 +1,5 @@
--- Proof of `laws::checks_keep_out`: the fact on which the one winner rests.
+-- Proof of `laws::checks_keep_out`: what a clear read rules out (`ChecksKeepOut`): the fact on which the one
+-- winner rests.
 use Rattle.std.proofs.Common.{◌∷◌}
 use Rattle.mb_deciding.proofs.Histories.{longer}
 use Rattle.mb_deciding.proofs.Winner.{ratifier_keeps_out}

@@ -1,3 +1,4 @@
+-- Loop invariants of `mask_of_bits`: for each i below the width, register 2i + bit i of `bits`, as a mask.
 use Rattle.std.proofs.Common.{◌≡◌}
 use Rattle.mb_quorum.specs.Bits.{named_register}
 use Rattle.mb_quorum.specs.Mask.{mask_of}

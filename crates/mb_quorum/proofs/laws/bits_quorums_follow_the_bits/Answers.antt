@@ -1,3 +1,5 @@
+-- Proof of `laws::bits_quorums_follow_the_bits`: in the bit table, a write quorum holds for each bit of its value the
+-- register that the bit names, of the two for that bit.
 use Rattle.mb_quorum.specs.Bits.{named_register, other_register}
 use Rattle.mb_quorum.specs.Width.{width_of}
 use Rattle.mb_quorum.specs.MaskLaw.{mask_of-member}

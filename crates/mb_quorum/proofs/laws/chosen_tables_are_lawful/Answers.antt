@@ -1,3 +1,4 @@
+-- Proof of `laws::chosen_tables_are_lawful`: a table chosen by name keeps the law of quorum tables.
 use Rattle.mb_quorum.specs.TablesLaw.{chosen_lawful, chosen_within}
 use Rattle.mb_quorum.proofs.laws.chosen_tables_are_lawful.Goals as goal
 

@@ -1,3 +1,5 @@
+-- Proof of `laws::masks_tell_values_apart`: in every lawful table, a write quorum and a read quorum share no bit
+-- exactly if they belong to one value.
 use Rattle.mb_quorum.proofs.Disjoint.{disjoint_as_and}
 use Rattle.mb_quorum.proofs.laws.masks_tell_values_apart.Goals as goal
 

@@ -1,3 +1,5 @@
+-- Proof of `laws::middle_quorums_are_sets_by_rising_mask`: the sets of h registers among n are numbered from 0, by
+-- rising mask, each once.
 use Rattle.std.proofs.Common.{◌-◌, ◌/◌, ◌^◌, inl, inr, refl, arith}
 use Rattle.std.specs.Int.{bit_at}
 use Rattle.std.proofs.Math.Pow.{pow_pos}
@@ -26,7 +28,7 @@ returns-clause-registers c = breadth_is_least
 pub returns-clause-write : goal.returns-clause-write
 returns-clause-write c m v value = refl
 
--- the complement has no register past the last one
+-- a read quorum, as a complement, has no register past the last one
 pub returns-clause-read : goal.returns-clause-read
 returns-clause-read c m v r value =
     let k = breadth_of m in

@@ -1,3 +1,5 @@
+-- Proof of `laws::unary_quorums_are_own_and_others`: in the unary table, a write quorum holds the value's own register,
+-- and a read quorum holds all others.
 use Rattle.std.proofs.Common.{◌≢◌, sym, subst}
 use Rattle.mb_quorum.specs.Quorum.{IsMember}
 use Rattle.mb_quorum.specs.Unary.{unary_table}

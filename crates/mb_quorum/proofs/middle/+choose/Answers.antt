@@ -1,3 +1,4 @@
+-- Proof of `choose`: how many sets of `size` registers there are among the first `registers`.
 use Rattle.std.proofs.Common.{arith}
 use Rattle.mb_quorum.specs.MiddleLaw.{few_sets}
 use Rattle.mb_quorum.proofs.Sets.{choose_by_last}

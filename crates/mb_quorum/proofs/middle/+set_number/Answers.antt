@@ -1,3 +1,4 @@
+-- Proof of `set_number`: set number v, by rising mask, of the sets of `size` registers among the first `registers`.
 use Rattle.std.proofs.Common.{◌≤◌, ◌-◌, ◌^◌, arith}
 use Rattle.std.proofs.Math.Pow.{pow_mono}
 use Rattle.std.proofs.lemmas.Nat.{one_shl}

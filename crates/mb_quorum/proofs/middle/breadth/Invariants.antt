@@ -1,3 +1,5 @@
+-- Loop invariants of `breadth`: the least number of registers that have at least `values` sets of half of them, rounded
+-- down.
 use Rattle.std.proofs.Common.{◌≤◌, ◌<◌, ◌-◌, ℕ}
 use Rattle.mb_quorum.specs.Middle.{halves}
 use Rattle.mb_quorum.proofs.middle.breadth.Given as goal

@@ -1,3 +1,4 @@
+-- Proof of `width`: how many bits tell m values apart: the least b with `m <= 2^b`.
 use Rattle.std.proofs.Common.{sym, subst, arith}
 use Rattle.std.proofs.lemmas.Nat.{leading_length}
 use Rattle.mb_quorum.specs.Width.{IsLeastWidth}

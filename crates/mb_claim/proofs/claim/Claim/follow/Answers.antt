@@ -15,15 +15,17 @@ use Rattle.mb_claim.proofs.ClaimSteps.{PartsOf, same_object, claim_going, claim_
 use Rattle.mb_claim.proofs.StepsLeft.{fewer_here, fewer_passed, fewer_ended}
 use Rattle.mb_claim.proofs.claim.Claim.follow.Goals as goal
 
--- the arms of a match speak of one output
+-- two arms of a match have the same output
 same_out : (out : Option Out) (a b : Out) → out ≡ Some a → out ≡ Some b → a ≡ b
 same_out out a b e f = let is : Some a ≡ Some b = sym e ∙ f in cc
 
--- a path's output, with what is known of it
+-- the output of a path is `answer d` of its value, if d says whether it is decided
 as_answer : (t : QuorumTable) (kind : Kind) (v : ℕ) (turns : List Turn) (out : Out) (d : Bool) → out.decided ≡ d
     → IsPath t kind v turns out → IsPath t kind v turns (answer d out.value)
 as_answer t kind v turns out d e path = subst (λ b. IsPath t kind v turns (answer b out.value)) e path
 
+-- ---- the claim has made the longer turns: `None` is a place, `Some` an undecided output, `Some-2` a decided one
+-- Each proof begins with where the claim stood (`p`) and what the access led to there (`reached`, `come`).
 pub returns-in-None-clause-path : goal.returns-in-None-clause-path
 returns-in-None-clause-path c pc begun xs x of reaches =
     let layout = c.args.layout.now in
@@ -77,6 +79,7 @@ returns-in-Some-2-clause-path c pc begun xs x of reaches =
     (as_answer t p.kind p.input (x ∷ p.turns) c.in-Some-2.out true
     (ap (λ (o : Out). o.decided) (sym same) ∙ not-false c.in-Some.out.decided c.if-not-out.false) come)
 
+-- ---- fewer accesses are left, in the same three cases
 pub returns-in-None-clause-fewer : goal.returns-in-None-clause-fewer
 returns-in-None-clause-fewer c pc fewer =
     let layout = c.args.layout.now in

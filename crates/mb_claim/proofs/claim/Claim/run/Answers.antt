@@ -5,6 +5,8 @@ use Rattle.mb_claim.specs.{AreClaimSteps, DrawsAndMakesNext}
 use Rattle.mb_claim.proofs.ManyClaimSteps.{joined}
 use Rattle.mb_claim.proofs.claim.Claim.run.Goals as goal
 
+-- `joined` makes one row of the accesses before this pass of the loop and those of its calls: `first` has those of
+-- `conciliate`, `both` those of `ratify`, too.
 pub conciliate-requires-clause-may : goal.conciliate-requires-clause-may
 conciliate-requires-clause-may g c n word at before mid next steps going drawn is =
     let inv = c.objects.invariant in

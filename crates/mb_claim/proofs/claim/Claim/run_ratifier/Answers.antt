@@ -13,6 +13,7 @@ pub run-requires-clause-place : goal.run-requires-clause-place
 run-requires-clause-place g c =
     subst (λ pc. IsPlace (quorums_of c.args.layout.now) pc) c.requires.place (c.requires.fits c.requires.going).place
 
+-- Below, `parts` says that a claim at a place is going, and `all` are the accesses made from the claim's place on.
 pub run-requires-clause-may : goal.run-requires-clause-may
 run-requires-clause-may g c n word at before mid op steps drawn is =
     let layout = c.args.layout.now in

@@ -8,7 +8,7 @@ use Rattle.mb_claim.specs.Layouts.{quorums_of, kinds_of, cell_words, word_addres
 use Rattle.mb_claim.proofs.Addresses.{within}
 use Rattle.mb_claim.proofs.claim_words.CellWordsMemory.perform.Goals as goal
 
--- the word lies among those of so many cells
+-- the word of a cell below `cells` lies among the words, if these are enough for so many cells
 inside :
     (layout : Layout) (cells cell object : ℕ) (reg : Reg) (words : List ℕ) (at : ℕ) → IsWordInLayout layout object reg
     → cell < cells → cells * cell_words layout ≤ length words → at
@@ -17,7 +17,7 @@ inside layout cells cell object reg words at word below room is =
     let lies = within (quorums_of layout).registers (kinds_of layout) cells cell object reg word below in
     rw is (omega (arith, lies, room))
 
--- what is noted of an act
+-- the step on this object that makes the act, with the random word
 abbrev turn_of : ℕ → ℕ → Act → ObjectTurn
 turn_of object word act = record { object = object; turn = record { act = act; word = word } }
 

@@ -11,11 +11,11 @@ use Rattle.mb_claim.proofs.LayoutObjects.{objects_few, cell_small}
 use Rattle.mb_claim.proofs.layout.Layout.address.Goals as goal
 
 module _ (layout : Layout) (o : ℕ) (reg : Reg) (word : IsWordInLayout layout o reg) where
-  -- the object is one of the row
+  -- the object is one of the layout's row
   in_row : o < length (kinds_of layout)
   in_row = slice_get_within (kinds_of layout) o word.0 word.1
 
-  -- so its words begin where the layout says
+  -- the object's words begin where the layout says
   begin_is : slice_index layout.begins o ≡ words_before (quorums_of layout).registers (kinds_of layout) o
   begin_is = let below = in_row in layout.begin o (omega (arith, below, layout.counted))
 

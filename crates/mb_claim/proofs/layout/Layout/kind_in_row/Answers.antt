@@ -1,4 +1,5 @@
--- Proof of `Layout::kind_in_row`: the kind of an object of the row: of the fast path, of a pair, or the last.
+-- Proof of `Layout::kind_in_row`: the kind of an object of the row, which is one of the fast path, one of a
+-- pair, or the last object.
 use Rattle.std.proofs.Common.{◌<◌, ◌*◌, ◌-◌, ◌∙◌, ◌/◌, arith}
 use Rattle.mb_claim.proofs.LayoutObjects.{length-row_of, last_few, first_of_pair, second_of_pair, in_pairs, at_last}
 use Rattle.mb_claim.proofs.layout.Layout.kind_in_row.Goals as goal

@@ -1,4 +1,4 @@
--- Proof of `Layout::words_of_cell`: how many words a cell has.
+-- Proof of `Layout::words_of_cell`: how many words each cell has.
 use Rattle.std.proofs.Common.{arith}
 use Rattle.mb_claim.proofs.LayoutObjects.{cell_small}
 use Rattle.mb_claim.proofs.layout.Layout.words_of_cell.Goals as goal

@@ -12,7 +12,7 @@ use Rattle.mb_deciding.proofs.run.Run.turn.Goals as goal
 below_same : (state run : RunState) (p : ℕ) → state ≡ run → p < length run.places → p < length state.places
 below_same state run p same below = subst (λ (s : RunState). p < length s.places) (sym same) below
 
--- what equals a run of a schedule is one
+-- a state that equals a run of a schedule is a run of it
 run_same :
     (state run : RunState) (u : ObjectSetup) (schedule : List (ℕ × ℕ)) → state ≡ run → IsRun u schedule run
     → IsRun u schedule state

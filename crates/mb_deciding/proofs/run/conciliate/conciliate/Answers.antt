@@ -11,7 +11,7 @@ use Rattle.mb_deciding.proofs.Owed.{bounded}
 use Rattle.mb_deciding.proofs.run.conciliate.conciliate.Given
 use Rattle.mb_deciding.proofs.run.conciliate.conciliate.Goals as goal
 
--- the answer of a schedule, with another name for the last attempt and for the schedule
+-- a result that is a trace is one for an equal last attempt and an equal schedule, too
 named_by :
     {X E : Type 0} (t : QuorumTable) (s r : ℕ) (inputs : List ℕ) (schedule given : List (ℕ × ℕ))
     (entries : X → List Entry) (outs : X → List (Option Out)) (result : Result X E) → s ≡ r → schedule ≡ given
@@ -22,7 +22,7 @@ named_by t s r inputs schedule given entries outs result turns own answer =
     (subst (λ (xs : List (ℕ × ℕ)). IfOk result (λ x. IsTrace (setup_of t (Conciliator s) inputs) xs (entries x)
     (outs x))) own answer)
 
--- the answer is a trace over each table with so many values
+-- the result is a trace over each table with m values
 answer_trace :
     (g : Given.Over) (c : goal.After-trace g) (t : QuorumTable) → t.values ≡ c.args.m
     → IfOk c.trace.result

@@ -11,21 +11,21 @@ use Rattle.mb_deciding.proofs.Refused.{refusal_in-of}
 use Rattle.mb_deciding.proofs.run.ratify.ratify.Given
 use Rattle.mb_deciding.proofs.run.ratify.ratify.Goals as goal
 
--- the answer is a trace over the named table
+-- the result is a trace over the named table
 answer_trace : (g : Given.Over) (c : goal.After-trace g)
     → IfOk c.trace.result
     (λ trace. IsTrace (setup_of (table_of c.args.name c.args.m) Ratifier c.args.inputs.now)
     (plain_schedule c.args.schedule.now) trace.entries.items trace.outputs.items)
 answer_trace g c = c.trace.ensures.trace (table_of c.args.name c.args.m) (sym c.in_ok-table.ensures.table)
 
--- so its accesses are lawful for the table
+-- the accesses of the trace are lawful for the named table
 answer_lawful : (g : Given.Over) (c : goal.After-trace g)
     → IfOk c.trace.result
     (λ trace. IsObjectLawful (ratifier_of (table_of c.args.name c.args.m) (λ k. get_or c.args.inputs.now k 0))
     (history_of (plain_schedule c.args.schedule.now) trace.entries.items))
 answer_lawful g c = IfOk-weaker c.trace.result _ _ (λ x trace. trace.lawful) (answer_trace g c)
 
--- and the table is a quorum table
+-- the named table keeps the law of quorum tables
 table_lawful : (g : Given.Over) (c : goal.After-trace g) → IsQuorumTable (table_of c.args.name c.args.m)
 table_lawful g c = named_lawful c.args.name c.args.m (c.in_ok-table.ensures.range.0 refl).1
 

@@ -9,7 +9,7 @@ use Rattle.mb_deciding.proofs.Refused.{none_first}
 use Rattle.mb_deciding.proofs.FirstPlaces.{below_by_test, none_inside}
 use Rattle.mb_deciding.proofs.run.schedule.trace.Goals as goal
 
--- if no number is the first that is not below the bound, each is below it
+-- if there is no first number that is not below the bound, each number is below it
 all_below : (bound : ℕ) (numbers : List ℕ) → None ≡ first_from bound numbers → (k d : ℕ) → k < length numbers
     → get_or numbers k d < bound
 all_below bound numbers none k d inside =

@@ -1,3 +1,4 @@
+-- Proof of `Bits::width`: the least b with `2^b >= values`.
 use Rattle.std.proofs.Common.{arith}
 use Rattle.mb_quorum.proofs.bits.Bits.width.Goals as goal
 

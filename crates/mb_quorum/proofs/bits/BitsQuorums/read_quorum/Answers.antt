@@ -1,3 +1,4 @@
+-- Proof of `Bits::read_quorum`: for each bit of the value, the register that the bit does not name, as a mask.
 use Rattle.std.proofs.Common.{◌∙◌, ap}
 use Rattle.mb_quorum.specs.Bits.{other_register}
 use Rattle.mb_quorum.specs.Mask.{mask_of}

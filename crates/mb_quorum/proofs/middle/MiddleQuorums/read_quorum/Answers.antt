@@ -1,3 +1,4 @@
+-- Proof of `Middle::read_quorum`: the registers that are not in the value's set, as a mask.
 use Rattle.std.proofs.Common.{◌<◌, ◌/◌, ◌^◌, ◌-◌, sym, ap, ◌∙◌, subst, arith}
 use Rattle.std.proofs.lemmas.Nat.{one_shl, pow_pos}
 use Rattle.mb_quorum.specs.Middle.{choose, set_number}

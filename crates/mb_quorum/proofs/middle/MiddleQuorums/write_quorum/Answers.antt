@@ -1,3 +1,4 @@
+-- Proof of `Middle::write_quorum`: the set of registers that has the value as its number, as a mask.
 use Rattle.std.proofs.Common.{◌<◌, ◌/◌, sym, subst}
 use Rattle.mb_quorum.specs.Middle.{choose}
 use Rattle.mb_quorum.specs.MiddleLaw.{in_table}

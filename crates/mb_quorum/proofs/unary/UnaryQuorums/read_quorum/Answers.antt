@@ -1,3 +1,4 @@
+-- Proof of `Unary::read_quorum`: all registers but the value's own, as a mask.
 use Rattle.std.proofs.Common.{◌<◌, ◌≤◌, ◌^◌, arith}
 use Rattle.std.proofs.Math.Pow.{pow-lt}
 use Rattle.std.proofs.lemmas.Nat.{one_shl}

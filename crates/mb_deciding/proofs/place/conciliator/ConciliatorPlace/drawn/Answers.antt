@@ -12,7 +12,7 @@ use Rattle.mb_deciding.proofs.place.conciliator.ConciliatorPlace.drawn.Goals as 
 low_bits : (s k limit modulus word : ℕ) → HasLimits s k limit modulus → bit_and word (modulus - 1) ≡ word % modulus
 low_bits s k limit modulus word limits = rw (limits.2) (and_mask word s)
 
--- a load of an empty word
+-- the load of a conciliator's word that finds 0 is a load of 0
 empty_load : (op : Op) (seen : ℕ) → op ≡ to.Load Value → seen ≡ 0 → act_of op seen ≡ Load Value 0
 empty_load op seen is e = ap (λ o. act_of o seen) is ∙ ap (λ n. Load Value n) e
 

@@ -9,6 +9,8 @@ use Rattle.mb_deciding.proofs.ManySteps.{joined, one_more}
 use Rattle.mb_deciding.proofs.OneStep.{conciliator_step}
 use Rattle.mb_deciding.proofs.place.conciliator.ConciliatorPlace.run.Goals as goal
 
+-- In each proof `place` is that before the load of this pass of the loop. `one_more` adds this load to the accesses
+-- before it, and `first` are they together. `joined` adds those of `finish`.
 pub returns-in-Some-clause-steps : goal.returns-in-Some-clause-steps
 returns-in-Some-clause-steps g c =
     let t : QuorumTable = g.Q.Quorums.table c.args.q.now in

@@ -1,5 +1,5 @@
--- Proof of `Pc::announcing`: the same place, with the registers of the input's write quorum already taken from the
--- table.
+-- Proof of `Pc::announcing`: the place of a process with this input before its first access to a ratifier, with the
+-- registers of its write quorum already taken from the table.
 use Rattle.std.proofs.Common.{count_ones, ap, arith}
 use Rattle.mb_deciding.proofs.Sizes.{largest_bound}
 use Rattle.mb_deciding.proofs.place.pc.Pc.announcing.Goals as goal

@@ -6,7 +6,7 @@ use Rattle.mb_deciding.specs.{HasLimits}
 use Rattle.mb_deciding.proofs.TurnsLeft.{attempts_left}
 use Rattle.mb_deciding.proofs.place.pc.Pc.conciliator.Goals as goal
 
--- the limits of attempt 0
+-- 1 and 2 ^ s are the limits of attempt 0
 first_limits : (s modulus : ℕ) → modulus ≡ 2 ^ s → HasLimits s 0 1 modulus
 first_limits s modulus is = (omega arith, refl, is)
 

@@ -4,6 +4,7 @@ use Rattle.std.proofs.Common.{◌≡◌, ◌+◌, arith, suc}
 use Rattle.mb_deciding.proofs.ManySteps.{one_more}
 use Rattle.mb_deciding.proofs.place.ratifier.RatifierPlace.check.Goals as goal
 
+-- In each proof `one_more` adds the access of this pass of the loop to those made before it.
 pub returns-in-Some-clause-steps : goal.returns-in-Some-clause-steps
 returns-in-Some-clause-steps g c =
     let t = g.Q.Quorums.table c.args.q.now in (

@@ -6,6 +6,7 @@ use Rattle.mb_deciding.specs.declared.place.pc.Next.TheVariants as leads
 use Rattle.mb_deciding.proofs.ManySteps.{joined, one_more}
 use Rattle.mb_deciding.proofs.place.ratifier.RatifierPlace.find.Goals as goal
 
+-- In each proof `one_more` makes a row of this one access, which `first` names, and `joined` adds those of `check`.
 pub step-requires-clause-may : goal.step-requires-clause-may
 step-requires-clause-may g c op is =
     c.requires.may 0 c.draw.result (InRatifier c.args.self) c.args.memory.now c.draw.new.self op

@@ -7,6 +7,7 @@ use Rattle.mb_deciding.specs.declared.place.pc.Next.TheVariants as leads
 use Rattle.mb_deciding.proofs.ManySteps.{announce_step, joined, one_more}
 use Rattle.mb_deciding.proofs.place.ratifier.RatifierPlace.run.Goals as goal
 
+-- `one_more` adds the store of this pass of the loop to the accesses before it, and `joined` adds those of `find`.
 pub announces-preserved : goal.announces-preserved
 announces-preserved g c =
     let t : QuorumTable = g.Q.Quorums.table c.args.q.now in

@@ -1,4 +1,5 @@
--- Proof of `RatifierPlace::stored`: what follows the store in the least of these registers: it is no longer left.
+-- Proof of `RatifierPlace::stored`: what follows the store in the least of these registers: that register is no longer
+-- left.
 use Rattle.std.proofs.Common.{◌≡◌, ◌<◌, arith}
 use Rattle.mb_quorum.specs.Quorum.{IsQuorumTable}
 use Rattle.mb_deciding.specs.{acts}

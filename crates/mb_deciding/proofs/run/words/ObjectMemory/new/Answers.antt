@@ -4,7 +4,7 @@ use Rattle.std.proofs.lemmas.List.{get_or-replicate}
 use Rattle.mb_deciding.specs.{Reg, Value, Proposal, Quorum, Last, IsReg, word_of}
 use Rattle.mb_deciding.proofs.run.words.ObjectMemory.new.Goals as goal
 
--- each word is 0
+-- each word of a memory that is all 0 holds 0
 zero_words : (reg : Reg) → IsReg reg → word_of (record {
   value = 0;
   proposal = 0;
