@@ -48,7 +48,7 @@ new_after = empty_after 1 1 (0 ∷ []) (0 ∷ []) (0 ∷ []) (new_lane ∷ []) (
 pub offer_one : OfferMeets new_pool 0 8 (offer.Cell 0) taken_pool
 offer_one = offer_made new_pool 0 8 new_lane (omega arith) refl refl (omega arith) (omega arith)
 
--- after which the pool has it taken
+-- after the offer the pool has the cell taken
 pub taken_after : IsAfter one_taken taken_pool
 taken_after = (offer_one [] new_lane new_after (new_after.lanes 0 new_lane (omega arith))).1
 
@@ -61,7 +61,7 @@ taken_sound =
 pub fill_one : PushMeets taken_pool 0 (push.Item 0) filled_pool
 fill_one = push_made taken_pool 0 taken_place (Item 0, 8) (omega arith) taken_sound refl refl
 
--- after which the pool has it stored
+-- after that push the pool has the item stored
 filled_after : IsAfter (store 0 (Item 0) 8 ∷ one_taken) filled_pool
 filled_after = (fill_one one_taken taken_place taken_after (taken_after.lanes 0 taken_place (omega arith))).1
 
@@ -79,7 +79,7 @@ filled_sound = record {
 pub link_one : PushMeets filled_pool 0 (push.Link 0) put_pool
 link_one = push_made filled_pool 0 filled_place (Head 0, 1) (omega arith) filled_sound refl refl
 
--- after which the pool has it put
+-- after that push the pool has the item put
 pub put_after : IsAfter one_put put_pool
 put_after =
     (link_one (store 0 (Item 0) 8 ∷ one_taken) filled_place filled_after
@@ -94,7 +94,7 @@ put_sound =
 pub end_one : FinishMeets put_pool 0 finish.Ended ended_pool
 end_one = finish_made put_pool 0 put_place (omega arith) put_sound refl refl
 
--- after which the pool has it ended
+-- after the finish the pool has the lane ended
 pub ended_after : IsAfter (store 0 (Link 0) END ∷ one_put) ended_pool
 ended_after = (end_one one_put put_place put_after (put_after.lanes 0 put_place (omega arith))).1
 
@@ -102,10 +102,10 @@ ended_after = (end_one one_put put_place put_after (put_after.lanes 0 put_place 
 pub no_cell_after : IsAfter [] (no_cell 0 stage.Open)
 no_cell_after = empty_after 1 0 (0 ∷ []) [] [] (new_lane ∷ []) (omega arith) (omega arith) refl refl refl refl
 
--- the offer finds no cell
+-- an offer in that pool finds no cell
 pub offer_none : OfferMeets (no_cell 0 stage.Open) 0 8 offer.Full full_pool
 offer_none = offer_made (no_cell 0 stage.Open) 0 8 new_lane (omega arith) refl refl (omega arith) (omega arith)
 
--- after which the pool has a full lane
+-- after that offer the pool has a full lane
 pub full_after : IsAfter one_taken full_pool
 full_after = (offer_none [] new_lane no_cell_after (no_cell_after.lanes 0 new_lane (omega arith))).1

@@ -22,6 +22,7 @@ load-link-requires g c =
     subst (λ (z : PoolState). IsWithin c.args.cursor z) (sym c.self.view_is) c.requires in
     rw (c.word.ensures) (cursor_word s c.args.cursor c.self.invariant within)
 
+-- equal answers of a look have equal cells
 same_cell : (n m : ℕ) → Cell n ≡ Cell m → n ≡ m
 same_cell n m e = cc
 

@@ -1,4 +1,4 @@
--- Proof of `Pool::push`: stores the item that was offered on lane `p`, and at the next call its link.
+-- Proof of `Pool::push`: stores the item that was offered on lane `p`, and at the next call the link to its cell.
 use Rattle.std.proofs.Common.{subst, sym, ◌<◌, ◌∙◌}
 use Rattle.mb_cells.proofs.pool.Pool.push.Goals as goal
 use Rattle.mb_cells.specs.{PoolState, history_after_push, lane_after_push, lane_count}
