@@ -19,7 +19,7 @@ use Rattle.mb_shared_cells.proofs.Seatings.{Spares, enrolled_out, fits_still, mo
 use Rattle.mb_shared_cells.proofs.Seatings.{with_part-had, with_part-has, with_part-here, with_part-lanes, with_part-readers}
 use Rattle.mb_shared_cells.proofs.ViewLists.{all_set, at_within, none_past}
 
--- the hub joins the seat of a process to its own
+-- the hub may join the seat of a process to its own
 takes_in : (size : PoolSize) (id other : ℕ) (own its : PoolSize) (roll : Roll) (who : Process) (known : PartList)
     (done : History)
     → Joins (KeepsCells size) id (Hub own roll) other (Member its who known done) (HubJoins own roll who done) Empty
@@ -187,7 +187,7 @@ load_allows size slots id own roll who done s h _ at _ =
       ((mine.3, (t.history, roll_history size s.words views t id own (roll_with_part who done roll) r hub_now)), refl),
     )
 
--- the hub may put the part in, if it is known by equations
+-- the hub may put the part in, if its seat is known by an equation
 pub load_asked : (key : PoolSize) (slots id : ℕ) (me : SeatState) (own : PoolSize) (roll : Roll) (who : Process)
     (done : History) → me ≡ (HubJoins own roll who done, [])
     → Allows (KeepsCells key) slots id me 0 (λ n. n) (λ n w. WasOut me.0 × (w ≡ (hub_after_load me.0, me.1)))

@@ -43,12 +43,15 @@ overflow_cast-result g c =
     let few = c.load-link.ensures.few in
     omega arith
 
+-- a value that is neither 0 nor the end mark says a cell
 tells_cell : (v : ℕ) → v ≢ 0 → v ≢ END → Cell (v - 1) ≡ look_of v
 tells_cell v some no_end = rw (ne_eqb v 0 some, ne_eqb v END no_end) refl
 
+-- equal answers of a look have equal cells
 same_cell : (n m : ℕ) → Cell n ≡ Cell m → n ≡ m
 same_cell n m e = cc
 
+-- the answers Nothing and Ended are no cells
 none_cell : (k : ℕ) → Nothing ≡ Cell k → ⊥
 none_cell k e = cc
 

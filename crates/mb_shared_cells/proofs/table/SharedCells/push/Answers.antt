@@ -1,4 +1,4 @@
--- Proof of `SharedCells::push`: stores the item that was offered, and at the next call its link.
+-- Proof of `SharedCells::push`: stores the item that was offered, and at the next call the link to its cell.
 use Rattle.std.proofs.Common.{ap, refl, subst, sym, ◌∙◌, ◌∷◌}
 use Rattle.mb_cells.specs.Vocabulary.{IsLaneAfter, store}
 use Rattle.mb_cells.specs.declared.access.PoolAct.TheVariants.{Store}
