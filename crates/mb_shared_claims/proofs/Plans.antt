@@ -35,7 +35,7 @@ fits_apart k plan other drawn more seat apart Spent f = f
 abbrev pub longer : ClaimAccess → Plan → Plan
 longer a plan = record { history = a ∷ plan.history; given = plan.given; hub = plan.hub; place = plan.place }
 
--- the plan with one number more, which stands at this seat
+-- the plan with one number more given, whose part is at this seat
 abbrev pub with_number : ℕ → Plan → Plan
 with_number seat plan = record {
   history = plan.history;
@@ -44,7 +44,7 @@ with_number seat plan = record {
   place = moved plan.place plan.given seat;
 }
 
--- the plan in which number c stands at this seat
+-- the plan in which the part of number c is at this seat
 abbrev pub with_place : ℕ → ℕ → Plan → Plan
 with_place c seat plan = record {
   history = plan.history;
@@ -191,7 +191,7 @@ module _ (k : TableSize) (words : List ℕ) (views : List View) (plan : Plan) (s
         (kept_at views id (plan.place c) c (Drawing size roll) left (part c plan.history) is
         (get_front roll (None ∷ []) c (Some (part c plan.history))) (s.stands c (omega arith))))
 
-    -- a part that stood before stands where it stood
+    -- a part that a seat had before is where the plan with the number has it
     parts_before :
         (j d : ℕ) (ys : List ClaimAccess) → HasPartAt views j d ys
         → (d < suc plan.given) × (given_plan.place d ≡ j) × (ys ≡ part d plan.history)
@@ -272,7 +272,7 @@ module _ (k : TableSize) (words : List ℕ) (views : List View) (plan : Plan) (s
     handing_fits : FitsTable k plan count id (Handing size roll)
     handing_fits = s.fits id (Handing size roll) is
 
-    -- who stands at another seat than the one that is taken in is another consumer
+    -- a number whose part is at another seat than the one taken in is another number
     elsewhere : (j d : ℕ) → j ≢ other → plan.place d ≡ j → d ≢ own
     elsewhere j d far at same = far (sym at ∙ ap plan.place same ∙ theirs.1)
 
@@ -302,7 +302,7 @@ module _ (k : TableSize) (words : List ℕ) (views : List View) (plan : Plan) (s
         (λ has. absurd (far has.0))
         (kept_at views id (plan.place c) c (Handing size roll) both (part c plan.history) is inr (s.stands c below)))
 
-    -- a part that stood at another seat stands where it stood
+    -- a part that another seat had is where the plan has it after the join
     parts_apart :
         (j d : ℕ) (ys : List ClaimAccess) → j ≢ other → HasPartAt views j d ys
         → (d < plan.given) × (taken_plan.place d ≡ j) × (ys ≡ part d plan.history)
@@ -334,7 +334,7 @@ module _ (k : TableSize) (words : List ℕ) (views : List View) (plan : Plan) (s
         (λ d ys h. absurd h)
         seat has.0 has.1 c xs has.2
 
-    -- after a seat is joined the plan in which its consumer stands at the hub explains the table
+    -- after a seat is joined the plan in which its part is at the hub explains the table
     pub after_taking : IsStateOf k words joined taken_plan
     after_taking = record {
       memory = s.memory;

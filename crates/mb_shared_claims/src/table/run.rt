@@ -19,8 +19,8 @@ impl<A: Allocator + Drop> SharedClaims<A> {
     ghost use Rattle.mb_shared_claims.specs.{Going, name_of, AreSeatSteps};
 
     /// Makes accesses of a claim of the seat's consumer on a cell, each with the next word of `rng`. It stops if the
-    /// claim has ended or `most` were made. Returns how many. They are those of as many calls of
-    /// [`SharedClaims::step`].
+    /// claim has ended or `most` were made. Returns how many it made. As many calls of [`SharedClaims::step`] make the
+    /// same accesses.
     #[inline(always)]
     pub fn run<R: Rng>(
         &self,

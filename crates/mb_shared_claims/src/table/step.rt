@@ -115,7 +115,7 @@ fn is_word(value: u64)
     let _ = value;
 }
 
-/// The words of a cell while a seat makes one access to them.
+/// The words of a cell as the memory of one access from a seat.
 #[derive(Drop)]
 struct SeatWords<'a, A: Allocator + Drop> {
     table: &'a SharedClaims<A>,

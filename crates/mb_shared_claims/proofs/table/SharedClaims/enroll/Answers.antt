@@ -30,12 +30,12 @@ fetch_add-number-requires g c =
           (roll_of c.hub.inside.seat.me.0) table.told hub.is is_at (omega arith) (omega arith),
     )
 
--- the hub's seat after the fetch-add
+-- after the fetch-add the hub's view says that a number was drawn
 has_drawn : (size : TableSize) (me now : Seated) → me ≡ (Handing size (roll_of me.0), []) → now ≡ (drawn me.0, me.1)
     → now ≡ (Drawing size (roll_of me.0), [])
 has_drawn size me now is e = e ∙ ap (λ (z : Seated). (drawn z.0, z.1)) is
 
--- the hub after the split
+-- after the split the hub's roll has a place for that number, and its seat is out
 has_given : (size : TableSize) (me now after : Seated) → now ≡ (Drawing size (roll_of me.0), [])
     → after ≡ (given_out now.0, now.1) → after ≡ (Handing size (roll_of me.0 ++ None ∷ []), [])
 has_given size me now after is e = e ∙ ap (λ (z : Seated). (given_out z.0, z.1)) is
