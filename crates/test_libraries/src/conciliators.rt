@@ -33,6 +33,7 @@ fn two_stores_leave_two_values(rt: HostRuntime) {
     assert!(rt; shows(&rt, returned, &entries, &outputs));
 }
 
+// With one value the first attempt stores if its random word is even. If it is odd, the second attempt stores.
 #[test]
 fn one_value(rt: HostRuntime) {
     let entries = [

@@ -15,7 +15,7 @@ fn late_input_agrees(rt: HostRuntime) {
     assert!(rt; shows(&rt, returned, &late_input(), &outputs));
 }
 
-/// Why a ratifier over the unary table is refused.
+/// Why a schedule of a ratifier over the unary table is refused, if it is.
 fn fault(alloc: Global, m: u64, inputs: &[u64], schedule: &[u64]) -> Option<Fault> {
     ratify(alloc, TableName::Unary, m, inputs, schedule).err()
 }
