@@ -51,14 +51,14 @@ fn one_value(rt: HostRuntime) {
 
 #[test]
 fn first_reason_refuses(rt: HostRuntime) {
-    let a = rt.alloc();
+    let alloc = rt.alloc();
     for (m, inputs, turns, want) in [
         (0, [5].as_slice(), [(9, 0)].as_slice(), Fault::BadValues),
         (65, &[], &[], Fault::BadValues),
         (2, &[0, 2], &[], Fault::BadInput(1)),
         (2, &[0], &[(1, 0)], Fault::NoSuchProcess(0)),
     ] {
-        same(&rt, &conciliate(a, m, inputs, turns).err(), &Some(want));
+        same(&rt, &conciliate(alloc, m, inputs, turns).err(), &Some(want));
     }
 }
 

@@ -22,7 +22,7 @@ fn fault(alloc: Global, m: u64, inputs: &[u64], schedule: &[u64]) -> Option<Faul
 
 #[test]
 fn first_reason_refuses(rt: HostRuntime) {
-    let a = rt.alloc();
+    let alloc = rt.alloc();
     for (m, inputs, turns, want) in [
         (0, [].as_slice(), [].as_slice(), Fault::BadValues),
         (65, &[65], &[9], Fault::BadValues),
@@ -31,7 +31,7 @@ fn first_reason_refuses(rt: HostRuntime) {
         (2, &[0, 3, 2], &[5], Fault::BadInput(1)),
         (2, &[0], &[0, 2, 1], Fault::NoSuchProcess(1)),
     ] {
-        same(&rt, &fault(a, m, inputs, turns), &Some(want));
+        same(&rt, &fault(alloc, m, inputs, turns), &Some(want));
     }
 }
 
