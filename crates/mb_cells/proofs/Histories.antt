@@ -220,7 +220,7 @@ pub cells_at : (size : PoolSize) (p : ℕ) (h : History) (es : List Entry) (phas
 cells_at size p h es phase c at =
     linked_cells-part p h ∙ ap (linked_cells p) at.is ∙ linked_cells-part_at p size.cells es phase c at.below
 
--- the cell that follows a start of a chain: the word past the start holds it
+-- a cell of the chain follows these first ones: the word past them leads to it
 pub record IsFollowed (m : Word → ℕ) (p cells : ℕ) (es : List Entry) (ks : List ℕ) : Type 0 where
   pub cell : ℕ
   pub below : cell < cells
@@ -228,7 +228,7 @@ pub record IsFollowed (m : Word → ℕ) (p cells : ℕ) (es : List Entry) (ks :
   pub later : List ℕ
   pub whole : later ++ cell ∷ ks ≡ cells_of es
 
--- a start of a chain is all of it, or a cell follows
+-- the first cells of a chain are all of it, or a cell follows them
 chain-next : (m : Word → ℕ) (p cells : ℕ) (es : List Entry) (later ks : List ℕ) → IsChained m p es
     → AllCellsBelow cells es → later ++ ks ≡ cells_of es
     → ((later ≡ []) × (place_past p ks ≡ place_after p es)) ⊎ IsFollowed m p cells es ks
@@ -256,7 +256,7 @@ chain-next m p cells (e ∷ es) (x ∷ later) ks ch b is =
       })
     ]
 
--- a step that stores to a link word stores to the next one, before the end mark is there
+-- a step that stores to a head or link stores to the word past the entries, before the end mark is there
 link_step : (cells q : ℕ) (es fs : List Entry) (was now : Phase) (a : PoolAccess) (v : ℕ)
     → Steps cells q es was a fs now → a.act ≡ Store v → IsLinkWord a.word
     → (end_value was ≡ 0) × (a.word ≡ place_after q es)
@@ -288,7 +288,7 @@ written_once size h a v l stores w =
         ap (λ x. value_in x h) step.1
         ∙ next_is size q h before.entries before.was (lawful-tail size a h l) before.at ∙ step.0
 
--- what a reader loaded from a link word stays there
+-- what a reader loaded from a head or link, if not 0, stays there
 pub stays : (size : PoolSize) (h : History) (r : ℕ) (w : Word) (v : ℕ) → IsPoolLawful size h → IsLinkWord w
     → HasLoaded r w v h → (v ≡ 0 → ⊥) → value_in w h ≡ v
 stays size [] r w v l link has some = absurd has
@@ -352,7 +352,7 @@ met_start size h r p (k ∷ ks) l met =
           (more.later, subst (λ x. more.later ++ x ∷ ks ≡ linked_cells p h) same (more.whole ∙ sym all))
     ]
 
--- a load of a link word gives 0 or what the word holds from then on
+-- a load of a head or link gives 0, or what the word holds from then on
 pub link_load : (size : PoolSize) (h : History) (r v : ℕ) (w : Word) → IsPoolLawful size h → IsLinkWord w
     → HasLoaded r w v h → (v ≡ 0) ⊎ (v ≡ value_in w h)
 link_load size h r v w l link has =

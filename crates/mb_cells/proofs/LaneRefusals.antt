@@ -104,7 +104,7 @@ done_at (Full x) e f = refl
 done_at (Ended r) e f = absurd (cc)
 
 -- ---- which numbers a producer's fetch-adds gave, by its phase
--- the number that an act of the counter gave
+-- the number that a fetch-add gave, and 0 for any other act
 abbrev number_of : PoolAct → ℕ
 number_of (FetchAdd x n) = n
 number_of (Store v) = 0

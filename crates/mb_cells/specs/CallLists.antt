@@ -15,7 +15,7 @@ use Rattle.mb_cells.specs.Calls.{FinishMeets, OfferMeets, PushMeets}
 
 -- a call on a lane that may change the pool, with its answer
 pub data Call : Type 0 where
-  -- lane, item, answer
+  -- an offer on a lane, with its item and its answer. The others have a lane and an answer
   Offered : ℕ → ℕ → Offer → Call
   Pushed : ℕ → Push → Call
   Finished : ℕ → Finish → Call
