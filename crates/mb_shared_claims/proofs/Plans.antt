@@ -54,10 +54,11 @@ with_place c seat plan = record {
 }
 
 module _ (k : TableSize) (words : List ℕ) (views : List View) (plan : Plan) (s : IsStateOf k words views plan) where
+  -- how many numbers were drawn
   abbrev count : ℕ
   count = slice_index words (roster k)
 
-  -- ---- an access of a consumer's seat
+  -- ---- an access of a consumer's seat: its views before and after, its part, and where all parts are then
   module _ (size : TableSize) (id own at n : ℕ) (done : List ClaimAccess) (a : ClaimAccess)
       (is : IsViewAt views id (Standing size own done)) (of_own : a.consumer ≡ own) (own_part : OwnPart)
       (other_parts : OtherParts) where
@@ -67,6 +68,7 @@ module _ (k : TableSize) (words : List ℕ) (views : List View) (plan : Plan) (s
     abbrev after : View
     after = Standing size own (a ∷ done)
 
+    -- the seat's number was given, and the plan has the part at this seat
     mine : (own < plan.given) × (plan.place own ≡ id) × (done ≡ part own plan.history)
     mine = s.parts id own done (before, is, (refl, refl))
 
@@ -123,7 +125,7 @@ module _ (k : TableSize) (words : List ℕ) (views : List View) (plan : Plan) (s
             (s.fits id before is));
       }
 
-  -- ---- the hub draws a number
+  -- ---- the hub draws a number: its view fits before, and the roster then counts one more
   module _ (size : TableSize) (id more : ℕ) (roll : Roll) (is : IsViewAt views id (Handing size roll))
       (is_more : more ≡ suc count) (room : count < consumer_count k.layout)
       (memory : IsMemoryOf (claims_of_size k) (set words (roster k) more) plan.history) where
@@ -158,7 +160,7 @@ module _ (k : TableSize) (words : List ℕ) (views : List View) (plan : Plan) (s
           (hub_fits.0, hub_fits.1, is_more ∙ ap suc hub_fits.2));
     }
 
-  -- ---- the hub gives out the number that it has drawn
+  -- ---- the hub gives out the number that it has drawn: all views and the plan then, and where all parts are
   module _ (size : TableSize) (id : ℕ) (roll : Roll) (is : IsViewAt views id (Drawing size roll)) where
     drawing_fits : FitsTable k plan count id (Drawing size roll)
     drawing_fits = s.fits id (Drawing size roll) is
@@ -247,7 +249,7 @@ module _ (k : TableSize) (words : List ℕ) (views : List View) (plan : Plan) (s
               drawing_fits.0;
         }
 
-  -- ---- the hub takes a seat in
+  -- ---- the hub takes a seat in: its view, all views and the plan then, whose seat that was, and where all parts are
   module _ (size its : TableSize) (id other own : ℕ) (roll : Roll) (done : List ClaimAccess) (apart : other ≢ id)
       (is : IsViewAt views id (Handing size roll))
       (there : IsViewAt (set views id (Taking size roll own done)) other (Standing its own done)) where
@@ -353,7 +355,7 @@ module _ (k : TableSize) (words : List ℕ) (views : List View) (plan : Plan) (s
           tt;
     }
 
-  -- ---- the hub puts the part of the seat taken in into its roll
+  -- ---- the hub puts the part of the seat taken in into its roll: which parts the roll then has
   module _ (size : TableSize) (id own : ℕ) (roll : Roll) (done : List ClaimAccess)
       (is : IsViewAt views id (Taking size roll own done)) where
     taking_fits : FitsTable k plan count id (Taking size roll own done)
