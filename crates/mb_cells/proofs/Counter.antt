@@ -12,7 +12,7 @@ pub record IsCounted (h : History) : Type 0 where
   pub adds : (a : PoolAccess) (v : ℕ) → Has h a → a.word ≡ Counter → stored_by a.act ≡ Some v
       → is_fetch_add a.act ≡ true
 
--- the same holds without the newest access
+-- without its newest access such a history still has a true memory and a counter that is only added to
 pub counted-tail : (a : PoolAccess) (h : History) → IsCounted (a ∷ h) → IsCounted h
 counted-tail a h c = record { memory = c.memory.1; adds = λ b v has. c.adds b v (inr has) }
 
@@ -103,7 +103,7 @@ fetch-found a h p e c is =
     let read : ReadsLast Counter (FetchAdd e.value e.cell) h = subst (λ x. ReadsLast x.word x.act h) is c.memory.0 in
     read
 
--- so the number that a fetch-add gave is below the counter from then on
+-- the number that a fetch-add gave is below the counter from then on
 pub fetch-below : (h : History) (p : ℕ) (e : Entry) → IsCounted h → Has h (fetch p e) → e.cell < value_in Counter h
 fetch-below [] p e c has = absurd has
 fetch-below (b ∷ h) p e c (inl is) =

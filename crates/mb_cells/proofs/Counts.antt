@@ -84,7 +84,7 @@ refused-part p cells (a ∷ h) =
       | inr other ↦ rw other (refused-part p cells h)
     ]
 
--- groups have no refusal of a cell
+-- a producer that has made groups alone was not refused a cell
 none-groups : (p cells : ℕ) (es : List Entry) → AllCellsBelow cells es → has_refused p cells (groups p es) ≡ false
 none-groups p cells [] b = refl
 none-groups p cells (e ∷ es) b =
@@ -154,7 +154,7 @@ counted size (a ∷ h) l =
           ]
     ]
 
--- so the counter is at most the cells and the lanes
+-- the counter is at most the cells and the lanes together
 pub counter_bound : (size : PoolSize) (h : History) → IsPoolLawful size h → value_in Counter h ≤ size.cells + size.lanes
 counter_bound size h l = omega (arith, counted size h l, refusals-bound size.cells size.lanes h)
 

@@ -326,7 +326,7 @@ cell_within size h p k l has =
       lower size.cells k place.entries place.at.below (subst (λ z. Has z k) is has),
     )
 
--- the producer's own part tells the item of a cell that it took
+-- the producer's own part tells the item of a cell that it got
 item_of-part : (h : History) (p : ℕ) (e : Entry) → IsCounted h → Has h (fetch p e)
     → item_of e.cell (part (Producer p) h) ≡ e.value
 item_of-part [] p e m has = absurd has

@@ -58,7 +58,7 @@ one_cell counter head link item last at = record {
 abbrev pub new_pool : PoolState
 new_pool = one_cell 0 0 0 0 None stage.Open
 
--- the pool after the offer: the cell was taken
+-- the pool after the offer: the cell was handed out
 abbrev pub taken_pool : PoolState
 taken_pool = one_cell 1 0 0 0 None (stage.Offered 0 8)
 

@@ -40,7 +40,7 @@ pub fn readers_follow_lanes()
     ensures chains { (size : PoolSize) (h : History) (r k : ℕ) → IsPoolLawful size h
         → Gave k (part (Reader r) h) → (p : ℕ) × ((ks : List ℕ) × HasMet r p (k ∷ ks) h) }
 
-    // It was given each cell whose words it loaded.
+    // A reader was given each cell whose words it loaded.
     ensures link { (size : PoolSize) (h : History) (r k v : ℕ) → IsPoolLawful size h
         → HasLoaded r (Link k) v h → Gave k (part (Reader r) h) }
     ensures item { (size : PoolSize) (h : History) (r k v : ℕ) → IsPoolLawful size h
@@ -222,7 +222,7 @@ pub fn readers_keep_to_lanes()
     ensures all { (size : PoolSize) (h : History) (r : ℕ) (a : PoolAccess) → IsPoolLawful size h
         → Has (part (Reader r) h) a → (p : ℕ) × (is_of_lane p (linked_cells p h) a.word ≡ true) }
 
-    // And if the parts are reader paths, however they are cut, the whole is one.
+    // Accesses are a reader path if each of them is in some part, and all parts are reader paths.
     ensures whole { (lanes : ℕ) (test : ℕ → PoolAccess → Bool) (done : History)
         → ((a : PoolAccess) → Has done a → (p : ℕ) × (test p a ≡ true))
         → ((p : ℕ) → IsReaderPath lanes (filter (test p) done)) → IsReaderPath lanes done }
@@ -235,7 +235,7 @@ pub fn parts_tell_lanes()
         → ((a : PoolAccess) (v : ℕ) → Has h a → a.word ≡ w → stored_by a.act ≡ Some v
         → a.process ≡ Producer p) → value_in w h ≡ value_in w (part (Producer p) h) }
 
-    // Such words are its head, and the item and the link of each cell that it took.
+    // A producer alone stores to its head, and to the item and the link of each cell that it got.
     ensures head { (size : PoolSize) (h : History) (p : ℕ) → IsPoolLawful size h
         → value_in (Head p) h ≡ value_in (Head p) (part (Producer p) h) }
     ensures item { (size : PoolSize) (h : History) (p : ℕ) (e : Entry) → IsPoolLawful size h
@@ -245,7 +245,7 @@ pub fn parts_tell_lanes()
         → Has h (fetch p e)
         → value_in (Link e.cell) h ≡ value_in (Link e.cell) (part (Producer p) h) }
 
-    // Its part also says which cells are linked, whether the lane has ended, and which items are put.
+    // A producer's part also says which cells are linked, whether the lane has ended, and which items are put.
     ensures linked { (h : History) (p : ℕ)
         → linked_cells p h ≡ linked_cells p (part (Producer p) h) }
     ensures ended { (h : History) (p : ℕ)
@@ -253,7 +253,7 @@ pub fn parts_tell_lanes()
     ensures put { (size : PoolSize) (h : History) (p : ℕ) → IsPoolLawful size h
         → put_list p h ≡ put_list p (part (Producer p) h) }
 
-    // It took each cell that it linked. So its part says what the words of these cells hold.
+    // A producer got each cell that it linked. So its part says what the words of these cells hold.
     ensures taken { (size : PoolSize) (h : History) (p k : ℕ) → IsPoolLawful size h
         → Has (linked_cells p h) k → (e : Entry) × ((e.cell ≡ k) × Has h (fetch p e)) }
     ensures linked_item { (size : PoolSize) (h : History) (p k : ℕ) → IsPoolLawful size h

@@ -6,18 +6,18 @@ use Rattle.mb_cells.specs.Place.{Ended, Offered, Open, Stored}
 use Rattle.mb_cells.proofs.OneStep.{empty_lawful, producer_step, reader_step}
 use Rattle.mb_cells.proofs.Places.{prefix_at}
 
--- `one_read` is lawful, shown access by access: first the fetch-add
+-- `one_read` is lawful, shown access by access. The fetch-add alone is a lawful history
 taken : IsPoolLawful (pool_size 1 1) one_taken
 taken =
     let at : LaneIsAt 1 0 [] (Offered eight) one_taken = record { below = tt; fits = omega arith; is = refl } in
     producer_step (pool_size 1 1) [] (fetch 0 eight) 0 (empty_lawful (pool_size 1 1) (omega arith)) refl (omega arith)
     (omega arith, omega arith) refl (prefix_at 1 0 [] (Offered eight) one_taken at)
 
--- then the reader's first load of the head
+-- with the reader's first load of the head the history is lawful
 looked : IsPoolLawful (pool_size 1 1) (load 5 (Head 0) 0 ∷ one_taken)
 looked = reader_step (pool_size 1 1) one_taken 5 (Head 0) taken (omega arith)
 
--- then the store of the item
+-- with the store of the item the history is lawful
 filled : IsPoolLawful (pool_size 1 1) (store 0 (Item 0) 8 ∷ load 5 (Head 0) 0 ∷ one_taken)
 filled =
     let at : LaneIsAt 1 0 [] (Stored eight) (store 0 (Item 0) 8 ∷ one_taken) =
@@ -29,7 +29,7 @@ filled =
 abbrev pub linked_history : History
 linked_history = store 0 (Head 0) 1 ∷ store 0 (Item 0) 8 ∷ load 5 (Head 0) 0 ∷ one_taken
 
--- these accesses are lawful
+-- with the store of that link the history is lawful
 linked_now : IsPoolLawful (pool_size 1 1) linked_history
 linked_now =
     let at : LaneIsAt 1 0 (eight ∷ []) Open one_put = record { below = (omega arith, tt); fits = tt; is = refl } in
@@ -37,7 +37,7 @@ linked_now =
     (store 0 (Head 0) 1) 0 filled refl
     (omega arith) (omega arith) tt (prefix_at 1 0 (eight ∷ []) Open one_put at)
 
--- then the reader loads the head again
+-- with the reader's second load of the head the history is lawful
 found : IsPoolLawful (pool_size 1 1) (load 5 (Head 0) 1 ∷ linked_history)
 found = reader_step (pool_size 1 1) linked_history 5 (Head 0) linked_now (omega arith)
 
@@ -45,11 +45,11 @@ found = reader_step (pool_size 1 1) linked_history 5 (Head 0) linked_now (omega 
 given_zero : Gave 0 (load 5 (Head 0) 1 ∷ load 5 (Head 0) 0 ∷ [])
 given_zero = inl (refl, λ e. absurd (omega arith))
 
--- then the reader loads the item
+-- with the reader's load of the item the history is lawful
 took : IsPoolLawful (pool_size 1 1) (load 5 (Item 0) 8 ∷ load 5 (Head 0) 1 ∷ linked_history)
 took = reader_step (pool_size 1 1) (load 5 (Head 0) 1 ∷ linked_history) 5 (Item 0) found given_zero
 
--- then the producer stores the end mark
+-- with the store of the end mark the history is lawful
 finished : IsPoolLawful (pool_size 1 1) (store 0 (Link 0) END ∷ load 5 (Item 0) 8 ∷ load 5 (Head 0) 1 ∷ linked_history)
 finished =
     let at : LaneIsAt 1 0 (eight ∷ []) (Ended None) (store 0 (Link 0) END ∷ one_put) =

@@ -8,11 +8,11 @@ use Rattle.mb_cells.specs.Place as phase
 use Rattle.mb_cells.specs.{END, Head, IsLaneAfter, IsLanePrefix, Item, Lane, Link, Word, eight, one_put, one_taken, push_store, store}
 use Rattle.mb_cells.proofs.NextAccesses.{fetches_only, stores_only}
 
--- a producer that has taken the cell
+-- the place of a producer that got cell 0 for the item 8
 abbrev pub taken_lane : Lane
 taken_lane = record { last = None; stage = stage.Offered 0 8 }
 
--- the producer stands there after `one_taken`
+-- after `one_taken` the producer stands at that place, if the pool has a cell
 taken_at : (cells : ℕ) → 0 < cells → IsLaneAfter cells 0 taken_lane one_taken
 taken_at cells b =
     record {
@@ -23,7 +23,7 @@ taken_at cells b =
       stage = refl;
     }
 
--- in a pool without cells the producer is refused after `one_taken`
+-- after `one_taken` the producer stands at the stage Full, if the pool has no cell
 full_at_start : IsLaneAfter 0 0 (record { last = None; stage = stage.Full }) one_taken
 full_at_start =
     record {
