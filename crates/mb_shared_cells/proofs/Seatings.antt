@@ -142,7 +142,7 @@ fits_still size t u roster more seat s (Member own who known done) h = (
 )
 fits_still size t u roster more seat s Empty h = tt
 
--- a process that stands at a seat stands there still after one view is replaced by one with the same processes
+-- a process that stands at a seat stands there still after a view is replaced, if the new view keeps that process
 pub stands_then : (views : List View) (at : ℕ) (was new : View) (seat : ℕ) (who : Process)
     → get_elem? views at ≡ some was → (HasProcess was who → HasProcess new who)
     → StandsAt views seat who → StandsAt (slice_set views at new) seat who

@@ -92,7 +92,7 @@ holds (Link (suc k)) b = absurd (omega (arith, b))
 holds (Item zero) b = refl
 holds (Item (suc k)) b = absurd (omega (arith, b))
 
--- that roll has no part
+-- the roll in which lane 0 is out has no part
 none_taken : (who : Process) (done : History) → roll_at who one_out ≡ Some (Some done)
     → (putting.seat_of who ≡ 0) × (done ≡ part who putting.history)
 none_taken (Producer zero) done e = absurd (cc)
@@ -128,7 +128,7 @@ put_seat = (
   λ p theirs e. absurd (cc),
 )
 
--- so each view fits
+-- each view fits the seating
 put_fits : (seat : ℕ) (v : View) → get_elem? (hub_of_one ∷ lane_with one_put ∷ []) seat ≡ some v
     → FitsView one_by_one putting 1 seat v
 put_fits zero v e = subst (λ x. FitsView one_by_one putting 1 0 x) (some-injective hub_of_one v e) put_hub
