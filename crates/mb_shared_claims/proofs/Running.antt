@@ -158,7 +158,7 @@ module _ (t : TableView) (cell : ℕ) {M : Type 0} {K : Type 0} (seat : M → Se
           d.3 ∙ p.keeps,
         )
 
-    -- such a chain has no more accesses than the layout allows
+    -- a chain of accesses of the claim has no more of them than the layout allows
     pub few_steps :
         ((h : List ClaimAccess) (c k : ℕ) → IsClaimLawful (claims_in t.layout t.cells) h
         → length (part_on c k h) ≤ most_accesses t.layout)

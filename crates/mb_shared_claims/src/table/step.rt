@@ -31,7 +31,7 @@ impl<A: Allocator + Drop> SharedClaims<A> {
         requires going { claim_stage claim.old ≡ Going }
 
         // The seat's part has one access more: the one that the claim names, with the value found and the random word.
-        // It came after a lawful history, and the claim is the one after it.
+        // The access came after a lawful history, and the claim is then the one after that access.
         ensures step { IsSeatStep self.now.layout cell word claim.old seat.old claim.new seat.new }
 
         // So the claim has made all that its consumer has done on the cell, and can be stepped again.
@@ -115,7 +115,7 @@ fn is_word(value: u64)
     let _ = value;
 }
 
-/// The words of a cell as the memory of one access from a seat.
+/// The words of a cell while a seat makes one access to them.
 #[derive(Drop)]
 struct SeatWords<'a, A: Allocator + Drop> {
     table: &'a SharedClaims<A>,
