@@ -54,7 +54,7 @@ one_cell counter head link item last at = record {
   lanes = record { last = last; stage = at } ∷ [];
 }
 
--- the new pool
+-- the pool before any call
 abbrev pub new_pool : PoolState
 new_pool = one_cell 0 0 0 0 None stage.Open
 
@@ -70,7 +70,7 @@ put_pool = one_cell 1 1 0 8 (Some 0) stage.Open
 abbrev pub ended_pool : PoolState
 ended_pool = one_cell 1 1 END 8 (Some 0) (stage.Ended false)
 
--- a pool of one lane and no cell, with this counter
+-- a pool of one lane and no cell, with this counter, whose producer stands at this stage
 abbrev pub no_cell : ℕ → LaneStage → PoolState
 no_cell counter at = record {
   words = record { counter = counter; heads = 0 ∷ []; links = []; items = [] };
