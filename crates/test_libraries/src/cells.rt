@@ -81,6 +81,7 @@ fn calls_join_a_list(rt: HostRuntime) -> Result<(), Fail> {
     Ok(())
 }
 
+// Two lanes get the cells of one pool in turns. Looks find each lane's own cells.
 #[test]
 fn two_lanes_draw_from_one_pool(rt: HostRuntime) -> Result<(), Fail> {
     let mut pool = Calls::new(rt.alloc(), 2, 4)?;
@@ -167,6 +168,7 @@ fn two_cells_on(p: u32, last: u32) -> [PoolCall; 3] {
     ]
 }
 
+// Sixteen lanes get forty cells in turns, so the first eight have three cells and the others two.
 #[test]
 fn sixteen_lanes_until_full(rt: HostRuntime) -> Result<(), Fail> {
     let mut pool = Calls::new(rt.alloc(), 16, 40)?;

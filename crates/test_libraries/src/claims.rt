@@ -101,6 +101,7 @@ fn layouts_out_of_range(rt: HostRuntime) {
     }
 }
 
+// A layout tells how many words one and two cells have, where a word lies, and the most accesses of a claim.
 #[test]
 fn two_consumers_and_three_pairs(rt: HostRuntime) -> Result<(), Fail> {
     let layout = Layout::new(2, 3, TableName::Bits)?;
@@ -188,6 +189,7 @@ fn both_stay_undecided(rt: HostRuntime) -> Result<(), Fail> {
     Ok(())
 }
 
+// The conciliator's first attempt has the random word 1 and does not store. The second has 0 and stores.
 #[test]
 fn the_first_random_word_does_not_store(rt: HostRuntime) -> Result<(), Fail> {
     let layout = Layout::new(1, 1, TableName::Bits)?;
@@ -246,6 +248,7 @@ fn are_done_from(rt: &impl Abort, entries: &[ClaimEntry], first: usize) {
     }
 }
 
+// There are many more steps than accesses. Each claim ends, and its later steps make no access.
 #[test]
 fn two_thousand_steps_of_sixteen_consumers(rt: HostRuntime) -> Result<(), Fail> {
     let layout = Layout::new(16, 8, TableName::Bits)?;

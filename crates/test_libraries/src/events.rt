@@ -47,6 +47,7 @@ fn lose_five() -> [(Event, Answer); 16] {
     ]
 }
 
+// Events of no lane or of no consumer change nothing. If both are missing, the answer names the lane.
 #[test]
 fn a_lane_is_looked_for_before_a_consumer(rt: HostRuntime) {
     let mut world = one_pair(&rt, 1, 2, 1);

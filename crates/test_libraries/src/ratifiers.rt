@@ -7,6 +7,7 @@ use mb_quorum::TableName;
 use std::alloc::Global;
 use std::test::Fail;
 
+// Process 1 comes after process 0 has decided its value 0. It returns that value, undecided.
 #[test]
 fn late_input_agrees(rt: HostRuntime) {
     let turns = [0, 0, 0, 0, 1, 1, 1];
@@ -20,6 +21,7 @@ fn fault(alloc: Global, m: u64, inputs: &[u64], schedule: &[u64]) -> Option<Faul
     ratify(alloc, TableName::Unary, m, inputs, schedule).err()
 }
 
+// The number of values is looked at first, then the inputs, then the turns.
 #[test]
 fn first_reason_refuses(rt: HostRuntime) {
     let alloc = rt.alloc();
@@ -47,6 +49,7 @@ fn turns_in_order() -> [u64; TURNS] {
     turns
 }
 
+// There are many more turns than accesses. Each process has its output, and its later turns make no access.
 #[test]
 fn two_thousand_turns_of_sixteen_processes(rt: HostRuntime) -> Result<(), Fail> {
     let trace = ratify(

@@ -15,6 +15,8 @@ use std::test::Fail;
 use test_alloc::{FaultyHeap, Refuse, growths_refused};
 use test_support::check_report;
 
+// In each of these tests an allocator refuses one request, or all from one on, and the call returns that fault. With
+// memory it returns what it should.
 #[test]
 fn each_growth_of_ratify_refused(rt: HostRuntime) -> Result<(), Fail> {
     let outputs = [Some(Out::decided(0)), Some(Out::undecided(0))];

@@ -29,6 +29,7 @@ fn named(name: TableName, m: u64, v: u32) -> Result<Shape, BadValues> {
     Ok(shape(&Table::new(name, m)?, v))
 }
 
+// A table that is made by its name has the registers, values and quorums of its kind.
 #[test]
 fn named_tables(rt: HostRuntime) {
     let (unary, bits, middle) = (TableName::Unary, TableName::Bits, TableName::Middle);

@@ -31,6 +31,7 @@ pub(crate) fn ends<R: Abort + AllocGlobal>(
     same(rt, &check_report(&report, lanes, diaries), &Ok(()));
 }
 
+// Producers are looked at first, then consumers, cells and pairs.
 #[test]
 fn the_first_number_out_of_range_refuses(rt: HostRuntime) {
     let (bits, middle) = (TableName::Bits, TableName::Middle);
