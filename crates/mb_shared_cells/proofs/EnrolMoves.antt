@@ -216,7 +216,7 @@ unfolding IsNext
 next_not_enrolled size seat own roll (Producer p) t h is e = let n = h.lanes in omega arith
 next_not_enrolled size seat own roll (Reader r) t h is e = let n = h.readers in omega arith
 
--- who is enrolled now was so before, or is the newcomer
+-- each process enrolled in that seating was enrolled before, or is the new one
 enrolled_before : (size : PoolSize) (seat : ℕ) (own : PoolSize) (roll : Roll) (who : Process) (to : ℕ) (t : Seating)
     (x : Process) → IsHub size t seat own roll → IsNext who roll → IsEnrolled (seating_after who to t) x
     → (IsEnrolled t x) ⊎ (who ≡ x)
@@ -260,7 +260,7 @@ unfolding before grown
 before_keeps (Producer p) own roll x h = (h.0, with_lane-has roll x (Some h.0) h.1)
 before_keeps (Reader p) own roll x h = (h.0, with_reader-has roll x (Some h.0) h.1)
 
--- the hub's view before fits as a hub's, and so does the roster
+-- if the hub's view before the split fits, it is the hub's, and the roster counts the lanes enrolled with the process
 before_fits : (size : PoolSize) (t : Seating) (roster seat : ℕ) (who : Process) (own : PoolSize) (roll : Roll)
     → FitsView size t roster seat (before who own roll)
     → IsHub size t seat own roll × (roster ≡ lanes_after who t.lanes)

@@ -70,7 +70,7 @@ pub record Spares (t u : Seating) (roster more seat : ℕ) : Type 0 where
   pub stand : (who : Process) → IsEnrolled t who → (t.seat_of who ≡ seat) ⊎ (t.seat_of who ≡ t.hub)
       → (u.seat_of who ≡ t.seat_of who) × (part who u.history ≡ part who t.history)
 
--- whoever has a place in the roll was enrolled
+-- a process with a place in the roll was enrolled
 pub roll_enrolled : (size : PoolSize) (t : Seating) (seat : ℕ) (own : PoolSize) (roll : Roll) (who : Process)
     (b : Option History) → IsHub size t seat own roll → roll_at who roll ≡ Some b → IsEnrolled t who
 roll_enrolled size t seat own roll (Producer p) b h e =
@@ -78,7 +78,7 @@ roll_enrolled size t seat own roll (Producer p) b h e =
 roll_enrolled size t seat own roll (Reader r) b h e =
     let low = slice_get_within roll.readers r b e in let is = h.readers in omega arith
 
--- whoever was enrolled is out, or was taken in
+-- the seat of a process that was enrolled is out, or was taken in
 pub enrolled_out : (size : PoolSize) (t : Seating) (seat : ℕ) (own : PoolSize) (roll : Roll) (who : Process)
     → IsHub size t seat own roll → IsEnrolled t who
     → (roll_at who roll ≡ Some None) ⊎ ((done : History) × (roll_at who roll ≡ Some (Some done)))
