@@ -34,12 +34,12 @@ address-within size (Head p) b = omega (arith, b)
 address-within size (Link k) b = omega (arith, b)
 address-within size (Item k) b = omega (arith, b)
 
--- what an access leaves in its word
+-- an access leaves in its word what it stores, or else what was there
 pub value_in-here : (a : PoolAccess) (h : History)
     → value_in a.word (a ∷ h) ≡ unwrap_or (stored_by a.act) (value_in a.word h)
 value_in-here a h = rw (is_same_word-refl a.word) refl
 
--- the block after an access that goes on
+-- after an access that may follow, the block holds what the longer history leaves
 pub memory_after : (size : PoolSize) (words : List ℕ) (h : History) (a : PoolAccess) → IsMemoryOf size words h
     → IsPoolLawful size (a ∷ h) → IsMemoryOf size (block_after size a words) (a ∷ h)
 memory_after size words h a m l =
@@ -62,7 +62,7 @@ memory_after size words h a m l =
       ];
     }
 
--- the words and the parts after an access that goes on
+-- after an access that may follow, the words and the parts are those of the longer history
 pub state_after : (size : PoolSize) (words : List ℕ) (parts : Process → History) (h : History) (a : PoolAccess)
     → IsStateOf size words parts h → IsPoolLawful size (a ∷ h)
     → IsStateOf size (block_after size a words) (parts_after a parts) (a ∷ h)
@@ -80,7 +80,7 @@ state_empty size words few room empty = record {
   same = λ who. refl;
 }
 
--- the state is that of the words in the block alone
+-- what words past those of the pool hold makes no difference
 pub state_more : (size : PoolSize) (words more : List ℕ) (parts : Process → History) (h : History)
     → IsStateOf size words parts h
     → ((i : ℕ) → i < pool_words size → slice_index more i ≡ slice_index words i)

@@ -1,4 +1,4 @@
--- What a list of calls says is what the history of its accesses says.
+-- What a list of calls says is what the history of its accesses says. A call is *told* if this still holds with it.
 use Rattle.std.proofs.Common.{List, None, Option, Some, [], ap, arith, cond, eq-eqb, false, inl, inr, ne_eqb, refl, subst, sym, true, ℕ, ◌+◌, ◌-◌, ◌<◌, ◌∙◌, ◌∷◌, ◌≡◌, ◌≢◌, ◌≤◌}
 use Rattle.std.specs.Prelude.{if◌then◌else◌, is_some, nat_eq, nat_lt, unwrap_or}
 use Rattle.std.proofs.lemmas.Bool.{cases_Bool, cases_eq, ltb-false}
@@ -19,7 +19,7 @@ use Rattle.mb_cells.proofs.LaneSteps.{finished_lane, offered_lane, pushed_lane, 
 use Rattle.mb_cells.proofs.Names.{own_process, same_twice}
 use Rattle.mb_cells.proofs.Parts.{part-other, part-own}
 
--- the calls say what the history says
+-- the calls say of counter, items, linked cells, ends and stages what the history says
 pub record Tells (cells : ℕ) (calls : List Call) (h : History) : Type 0 where
   pub adds : value_in Counter h ≡ fetch_adds_by calls
   pub items : (k : ℕ) → k < cells → item_of k h ≡ item_by k calls
@@ -37,7 +37,7 @@ told_nothing cells = record {
   stages = λ p lane at. ap (λ (l : Lane). l.stage) (same_lane cells p lane new_lane [] at (start_lane cells p));
 }
 
--- the stages of other producers' lanes stay
+-- an access of producer p leaves the stages of other producers
 stage_other : (cells : ℕ) (calls : List Call) (h : History) (a : PoolAccess) (p q : ℕ) (lane : Lane)
     → Tells cells calls h → a.process ≡ Producer p → q ≢ p
     → IsLaneAfter cells q lane (part (Producer q) (a ∷ h)) → lane.stage ≡ stage_by q calls
@@ -89,7 +89,7 @@ stages_kept cells calls h p f keeps t q lane at =
           rw not_own (t.stages q lane at)
     ]
 
--- an offer with an answer that gives no cell, raises no counter and leaves the stage
+-- an offer whose answer gives no cell, counts no fetch-add and leaves the stage is told
 told_no_offer : (cells : ℕ) (calls : List Call) (h : History) (p x : ℕ) (r : Offer)
     → ((k y : ℕ) → item_by_offer k x r y ≡ y) → fetch_adds_by_offer r (stage_by p calls) ≡ 0
     → stage_by_offer x r (stage_by p calls) ≡ stage_by p calls → Tells cells calls h
@@ -130,7 +130,7 @@ told_refusal cells calls h p x lane r t here is =
         (sym full) t)
     by stage.Open e n = absurd (cc)
 
--- an offer is not refused in the first stage alone
+-- only at the stage Open an offer is not refused
 open_stage : (z : LaneStage) → stage_offer_refusal z ≡ None → z ≡ stage.Open
 open_stage (stage.Ended full) n = absurd (cc)
 open_stage (stage.Offered cell item) n = absurd (cc)
@@ -138,7 +138,7 @@ open_stage (stage.Stored cell) n = absurd (cc)
 open_stage stage.Full n = absurd (cc)
 open_stage stage.Open n = refl
 
--- an offer that makes a fetch-add
+-- an offer that makes a fetch-add is told
 told_fetch : (cells : ℕ) (calls : List Call) (h : History) (p x : ℕ) (lane : Lane) → Tells cells calls h
     → IsLaneAfter cells p lane (part (Producer p) h) → offer_refusal lane ≡ None
     → Tells cells (Offered p x (offer_by_found cells (value_in Counter h)) ∷ calls)
@@ -191,13 +191,13 @@ told_offer cells calls h p x lane t here =
     by None is = rw is (told_fetch cells calls h p x lane t here is)
     by (Some r) is = rw is (told_refusal cells calls h p x lane r t here is)
 
--- a link store is no fetch-add
+-- a store to a head or link leaves the counter
 value_in-link : (p : ℕ) (last : Option ℕ) (v : ℕ) (h : History)
     → value_in Counter (store p (link_after p last) v ∷ h) ≡ value_in Counter h
 value_in-link p None v h = refl
 value_in-link p (Some k) v h = refl
 
--- a link store offers nothing
+-- a store to a head or link leaves the items
 item_of-link : (p : ℕ) (last : Option ℕ) (v k : ℕ) (h : History)
     → item_of k (store p (link_after p last) v ∷ h) ≡ item_of k h
 item_of-link p None v k h = refl
@@ -221,13 +221,13 @@ has_ended-link p q None k h ne = let no_end : nat_eq (k + 1) END ≡ false = ne_
 has_ended-link p q (Some j) k h ne = let no_end : nat_eq (k + 1) END ≡ false = ne_eqb (k + 1) END ne in
     rw no_end (same_twice (nat_eq q p) (has_ended q h))
 
--- the end mark links nothing
+-- a store of the end mark links no cell
 linked_cells-end : (p q : ℕ) (last : Option ℕ) (h : History)
     → linked_cells q (store p (link_after p last) END ∷ h) ≡ linked_cells q h
 linked_cells-end p q None h = same_twice (nat_eq q p) (linked_cells q h)
 linked_cells-end p q (Some j) h = same_twice (nat_eq q p) (linked_cells q h)
 
--- the end mark ends its lane
+-- a store of the end mark ends its lane
 has_ended-end : (p q : ℕ) (last : Option ℕ) (h : History)
     → has_ended q (store p (link_after p last) END ∷ h) ≡ cond (nat_eq q p) true (has_ended q h)
 has_ended-end p q None h = refl
@@ -310,7 +310,7 @@ told_push cells calls h p lane sized t here =
     by stage.Full is = rw is (told_idle cells calls h p t)
     by stage.Open is = rw is (told_idle cells calls h p t)
 
--- a finish that makes no access
+-- a finish that makes no access is told
 told_no_finish : (cells : ℕ) (calls : List Call) (h : History) (p : ℕ) (r : Finish) → is_end r ≡ false
     → stage_by_finish r (stage_by p calls) ≡ stage_by p calls
     → Tells cells calls h → Tells cells (Finished p r ∷ calls) h
@@ -322,7 +322,7 @@ told_no_finish cells calls h p r no_end keeps t = record {
   stages = stages_kept cells calls h p (stage_by_finish r) keeps t;
 }
 
--- a finish that stores the end mark
+-- a finish that stores the end mark is told
 told_end : (cells : ℕ) (calls : List Call) (h : History) (p : ℕ) (lane : Lane) → Tells cells calls h
     → IsLaneAfter cells p lane (part (Producer p) h) → finish_refusal lane ≡ None
     → Tells cells (Finished p finish.Ended ∷ calls) (store p (next_link p lane) END ∷ h)

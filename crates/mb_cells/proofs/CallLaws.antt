@@ -168,7 +168,7 @@ calls_once_each size p calls s made =
     let b = made_stands size calls s made in
     subst IsOnceEach (b.tells.cells_linked p) (once_each (size_of s) b.history p b.after.lawful)
 
--- of a lane and with a cell of the pool
+-- each linked cell is one of the pool, and so is its lane
 pub calls_within : (size : PoolSize) (p k : ℕ) (calls : List Call) (s : PoolState) → HasMade size calls s
     → Has (linked_cells_by p calls) k → (p < lane_count s) × (k < cell_count s)
 calls_within size p k calls s made has =

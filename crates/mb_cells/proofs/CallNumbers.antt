@@ -13,7 +13,7 @@ use Rattle.mb_cells.proofs.Counter.{IsCounted, fetch-below}
 use Rattle.mb_cells.proofs.Histories.{lawful-counted}
 use Rattle.mb_cells.proofs.Parts.{Has-of_part}
 
--- an answer of a cell is that of a fetch-add, and so is the first Full
+-- if an offer returns a cell, it is the one that the fetch-add gave, and one of the pool
 given_cell : (cells n k : ℕ) (z : LaneStage) → offer.Cell k ≡ unwrap_or (stage_offer_refusal z) (offer_by_found cells n)
     → (k ≡ n) × (k < cells)
 given_cell cells n k (stage.Ended full) is = absurd (cc)

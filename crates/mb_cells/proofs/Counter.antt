@@ -12,16 +12,16 @@ pub record IsCounted (h : History) : Type 0 where
   pub adds : (a : PoolAccess) (v : ℕ) → Has h a → a.word ≡ Counter → stored_by a.act ≡ Some v
       → is_fetch_add a.act ≡ true
 
--- so it was before the last access
+-- without its newest access such a history still has a true memory and a counter that is only added to
 pub counted-tail : (a : PoolAccess) (h : History) → IsCounted (a ∷ h) → IsCounted h
 counted-tail a h c = record { memory = c.memory.1; adds = λ b v has. c.adds b v (inr has) }
 
--- an access that leaves the counter
+-- the access leaves the counter, and is no fetch-add of it
 pub record IsNoAdd (a : PoolAccess) (h : History) : Type 0 where
   pub value : value_in Counter (a ∷ h) ≡ value_in Counter h
   pub adds : fetch_adds_on Counter (a ∷ h) ≡ fetch_adds_on Counter h
 
--- an access that adds to the counter
+-- the access is a fetch-add of the counter, and raises it by one
 pub record IsAdd (a : PoolAccess) (h : History) : Type 0 where
   pub item : ℕ
   pub word : a.word ≡ Counter
@@ -29,13 +29,13 @@ pub record IsAdd (a : PoolAccess) (h : History) : Type 0 where
   pub value : value_in Counter (a ∷ h) ≡ value_in Counter h + 1
   pub adds : fetch_adds_on Counter (a ∷ h) ≡ fetch_adds_on Counter h + 1
 
--- what a fetch-add is of and what it found
+-- the act is a fetch-add, with this item and this number found
 pub record IsFetchAdd (act : PoolAct) : Type 0 where
   pub item : ℕ
   pub found : ℕ
   pub is : act ≡ FetchAdd item found
 
--- the test for a fetch-add tells one
+-- an act that passes the test is a fetch-add
 pub fetch-add : (act : PoolAct) → is_fetch_add act ≡ true → IsFetchAdd act
 fetch-add (FetchAdd x n) is = record { item = x; found = n; is = refl }
 fetch-add _ is = absurd (false≢true is)
@@ -103,7 +103,7 @@ fetch-found a h p e c is =
     let read : ReadsLast Counter (FetchAdd e.value e.cell) h = subst (λ x. ReadsLast x.word x.act h) is c.memory.0 in
     read
 
--- so the number that a fetch-add gave is below the counter from then on
+-- the number that a fetch-add gave is below the counter from then on
 pub fetch-below : (h : History) (p : ℕ) (e : Entry) → IsCounted h → Has h (fetch p e) → e.cell < value_in Counter h
 fetch-below [] p e c has = absurd has
 fetch-below (b ∷ h) p e c (inl is) =
@@ -116,7 +116,7 @@ fetch-below (b ∷ h) p e c (inr has) =
     let rest = fetch-below h p e (counted-tail b h c) has in
     omega (arith, rest, counter-grows b h c)
 
--- one number is given once
+-- fetch-adds that gave one number are one access
 pub fetch-one : (h : History) (p q : ℕ) (e f : Entry) → IsCounted h → Has h (fetch p e) → Has h (fetch q f)
     → e.cell ≡ f.cell → fetch p e ≡ fetch q f
 fetch-one [] p q e f c x y s = absurd x

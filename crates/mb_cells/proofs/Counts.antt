@@ -58,7 +58,7 @@ refusals-more cells (suc n) a h =
       one-more (has_refused n cells h) (has_refused n cells (a ∷ h)) (refused-more n cells a h),
     )
 
--- it rises with a producer that is refused for the first time
+-- the count rises with a producer that is refused for the first time
 refusals-new : (cells n p : ℕ) (a : PoolAccess) (h : History) → p < n → has_refused p cells h ≡ false
     → has_refused p cells (a ∷ h) ≡ true → refusals cells n h + 1 ≤ refusals cells n (a ∷ h)
 refusals-new cells zero p a h lt before now = absurd (omega arith)
@@ -84,7 +84,7 @@ refused-part p cells (a ∷ h) =
       | inr other ↦ rw other (refused-part p cells h)
     ]
 
--- groups are not refused
+-- a producer that has made groups alone was not refused a cell
 none-groups : (p cells : ℕ) (es : List Entry) → AllCellsBelow cells es → has_refused p cells (groups p es) ≡ false
 none-groups p cells [] b = refl
 none-groups p cells (e ∷ es) b =
@@ -154,7 +154,7 @@ counted size (a ∷ h) l =
           ]
     ]
 
--- so the counter is at most the cells and the lanes
+-- the counter is at most the cells and the lanes together
 pub counter_bound : (size : PoolSize) (h : History) → IsPoolLawful size h → value_in Counter h ≤ size.cells + size.lanes
 counter_bound size h l = omega (arith, counted size h l, refusals-bound size.cells size.lanes h)
 

@@ -11,7 +11,7 @@ use Rattle.mb_cells.proofs.Parts.{part-other, part-own}
 use Rattle.mb_cells.proofs.Places.{steps_only}
 use Rattle.mb_cells.proofs.ProducerWords.{end_value}
 
--- the part of two histories in a row
+-- the part of two joined histories is their parts joined
 part-append : (who : Process) (x y : History) → part who (x ++ y) ≡ part who x ++ part who y
 part-append who [] y = refl
 part-append who (a ∷ x) y =
@@ -20,7 +20,7 @@ part-append who (a ∷ x) y =
       | inr other ↦ rw other (part-append who x y)
     ]
 
--- the producer has stored its end mark
+-- whether the producer has stored its end mark, by the phase
 abbrev pub is_ended : Phase → Bool
 is_ended Open = false
 is_ended (Offered _) = false
@@ -38,7 +38,7 @@ steps_open cells p es fs was now a (links_cell _ e) = refl
 steps_open cells p es fs was now a (ends_lane _) = refl
 steps_open cells p es fs was now a (ends_refused _ e) = refl
 
--- whether a lane has ended is told by the own part
+-- a producer's own part tells whether its lane has ended
 pub has_ended-part : (p : ℕ) (h : History) → has_ended p h ≡ has_ended p (part (Producer p) h)
 has_ended-part p [] = refl
 has_ended-part p (a ∷ h) =
@@ -99,12 +99,12 @@ after_end size (a ∷ later) older p l ended =
       | inr other ↦ part-other (Producer p) a later other ∙ none
     ]
 
--- the place past cells is that past their entries
+-- the word past the cells is the word past their entries
 place_cells : (p : ℕ) (es : List Entry) → place_past p (cells_of es) ≡ place_after p es
 place_cells p [] = refl
 place_cells p (e ∷ es) = refl
 
--- the word past the last cell, by the end
+-- what the word past the last cell holds, by whether the phase is the end
 ended-value : (phase : Phase) → end_value phase ≡ cond (is_ended phase) END 0
 ended-value Open = refl
 ended-value (Offered _) = refl
@@ -112,7 +112,7 @@ ended-value (Stored _) = refl
 ended-value (Full _) = refl
 ended-value (Ended _) = refl
 
--- the word past the last cell of a lane
+-- the word past the last cell of a lane holds the end mark if the lane has ended, else 0
 pub end_word : (size : PoolSize) (h : History) (p : ℕ) → IsPoolLawful size h
     → value_in (place_past p (linked_cells p h)) h ≡ cond (has_ended p h) END 0
 end_word size h p l =

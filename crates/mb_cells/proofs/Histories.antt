@@ -14,7 +14,7 @@ use Rattle.mb_cells.proofs.Parts.{Has-of_part, Has-part, part-own, value_in-part
 use Rattle.mb_cells.proofs.Places.{IsSomewhere, came_from, kind_at, somewhere}
 use Rattle.mb_cells.proofs.ProducerWords.{IsChained, IsFallingAt, IsOwned, chain_owned, chained-agree, chained_at, end_value, falling_at, next_at, owned-more, owned_next, stores_owned}
 
--- what came before is lawful too
+-- without its newest access a prefix of a lane path is still one
 tail-prefix : (cells p : ℕ) (a : PoolAccess) (d : History) → IsLanePrefix cells p (a ∷ d) → IsLanePrefix cells p d
 tail-prefix cells p a d h = record {
   path = h.path;
@@ -23,7 +23,7 @@ tail-prefix cells p a d h = record {
   is = append_assoc h.later (a ∷ []) d ∙ h.is;
 }
 
--- what came before in a lawful history is lawful
+-- without its newest access a lawful history is still lawful
 pub lawful-tail : (size : PoolSize) (a : PoolAccess) (h : History) → IsPoolLawful size (a ∷ h) → IsPoolLawful size h
 lawful-tail size a h l = record {
   sized = l.sized;
@@ -53,12 +53,12 @@ pub place_of : (size : PoolSize) (h : History) (p : ℕ) → IsPoolLawful size h
     → IsSomewhere size.cells p (part (Producer p) h)
 place_of size h p l = somewhere size.cells p (part (Producer p) h) (l.producers p)
 
--- what a reader does stores nothing
+-- a load stores nothing
 load-stores : (act : PoolAct) → IsLoad act → stored_by act ≡ None
 load-stores (Load v) is = refl
 load-stores _ is = absurd is
 
--- who stored a value in a word, and how
+-- the producer whose access stored the value, and how
 pub record IsStorer (h : History) (a : PoolAccess) (v : ℕ) : Type 0 where
   pub maker : ℕ
   pub process : a.process ≡ Producer maker
@@ -66,7 +66,7 @@ pub record IsStorer (h : History) (a : PoolAccess) (v : ℕ) : Type 0 where
   pub how :
       ((e : Entry) × (a ≡ fetch maker e)) ⊎ ((a.act ≡ Store v) × IsOwned maker h a.word)
 
--- who stores a value is a producer
+-- each access that stores a value is a producer's
 pub storer_of : (size : PoolSize) (h : History) (a : PoolAccess) (v : ℕ) → IsPoolLawful size h → Has h a
     → stored_by a.act ≡ Some v → IsStorer h a v
 storer_of size h a v l has stores =
@@ -116,7 +116,7 @@ owned-one h p q (Head k) m x y = x ∙ sym y
 owned-one h p q (Link k) m x y = same-maker p q x.0 y.0 (fetch-one h p q x.0 y.0 m x.1.1 y.1.1 (x.1.0 ∙ sym y.1.0))
 owned-one h p q (Item k) m x y = same-maker p q x.0 y.0 (fetch-one h p q x.0 y.0 m x.1.1 y.1.1 (x.1.0 ∙ sym y.1.0))
 
--- the cells of each producer fall
+-- the cells that a producer got fall, from the newest to the oldest
 pub falls : (size : PoolSize) (p : ℕ) (h : History) (es : List Entry) (phase : Phase) → IsPoolLawful size h
     → LaneIsAt size.cells p es phase (part (Producer p) h) → IsFallingAt es phase
 falls size p h es phase l at =
@@ -139,7 +139,7 @@ local size h p w l o =
           own_process (Producer p) a (s.process ∙ ap Producer same)
     ])
 
--- what the part of a producer owns the history owns
+-- a word that a producer owns by its part it owns by the history
 owned_part : (p : ℕ) (h d : History) (w : Word) → part (Producer p) h ≡ d → IsOwned p d w → IsOwned p h w
 owned_part p h d w e o = owned-more p (part (Producer p) h) h w (Has-of_part (Producer p) h)
     (subst (λ x. IsOwned p x w) (sym e) o)
@@ -168,7 +168,7 @@ abbrev pub cells_of : List Entry → List ℕ
 cells_of [] = []
 cells_of (e ∷ es) = e.cell ∷ cells_of es
 
--- the cells linked are told by the own part
+-- a producer's own part tells which cells it linked
 pub linked_cells-part : (p : ℕ) (h : History) → linked_cells p h ≡ linked_cells p (part (Producer p) h)
 linked_cells-part p [] = refl
 linked_cells-part p (a ∷ h) =
@@ -189,7 +189,7 @@ link_of-cell p (e ∷ es) k cells c b =
     let m : (k + 1) - 1 ≡ k = omega arith in
     rw (ne, m)
 
--- the end mark links none
+-- a store of the end mark links no cell
 link_of-end : (p : ℕ) (es : List Entry) → link_of (place_after p es) (Store END) ≡ None
 link_of-end p [] = refl
 link_of-end p (e ∷ es) = refl
@@ -220,7 +220,7 @@ pub cells_at : (size : PoolSize) (p : ℕ) (h : History) (es : List Entry) (phas
 cells_at size p h es phase c at =
     linked_cells-part p h ∙ ap (linked_cells p) at.is ∙ linked_cells-part_at p size.cells es phase c at.below
 
--- the cell that follows a start of a chain: the word past the start holds it
+-- a cell of the chain follows these first ones: the word past them leads to it
 pub record IsFollowed (m : Word → ℕ) (p cells : ℕ) (es : List Entry) (ks : List ℕ) : Type 0 where
   pub cell : ℕ
   pub below : cell < cells
@@ -228,7 +228,7 @@ pub record IsFollowed (m : Word → ℕ) (p cells : ℕ) (es : List Entry) (ks :
   pub later : List ℕ
   pub whole : later ++ cell ∷ ks ≡ cells_of es
 
--- a start of a chain is all of it, or a cell follows
+-- the first cells of a chain are all of it, or a cell follows them
 chain-next : (m : Word → ℕ) (p cells : ℕ) (es : List Entry) (later ks : List ℕ) → IsChained m p es
     → AllCellsBelow cells es → later ++ ks ≡ cells_of es
     → ((later ≡ []) × (place_past p ks ≡ place_after p es)) ⊎ IsFollowed m p cells es ks
@@ -256,7 +256,7 @@ chain-next m p cells (e ∷ es) (x ∷ later) ks ch b is =
       })
     ]
 
--- a step that stores to a link word stores to the next one, before the end mark is there
+-- a step that stores to a head or link stores to the word past the entries, before the end mark is there
 link_step : (cells q : ℕ) (es fs : List Entry) (was now : Phase) (a : PoolAccess) (v : ℕ)
     → Steps cells q es was a fs now → a.act ≡ Store v → IsLinkWord a.word
     → (end_value was ≡ 0) × (a.word ≡ place_after q es)
@@ -267,7 +267,7 @@ link_step cells q es fs was now a v (links_cell _ e) is w = (refl, refl)
 link_step cells q es fs was now a v (ends_lane _) is w = (refl, refl)
 link_step cells q es fs was now a v (ends_refused _ e) is w = (refl, refl)
 
--- a link word is written once
+-- an access that stores to a head or link finds 0 there
 written_once : (size : PoolSize) (h : History) (a : PoolAccess) (v : ℕ) → IsPoolLawful size (a ∷ h)
     → stored_by a.act ≡ Some v → IsLinkWord a.word → value_in a.word h ≡ 0
 written_once size h a v l stores w =
@@ -288,7 +288,7 @@ written_once size h a v l stores w =
         ap (λ x. value_in x h) step.1
         ∙ next_is size q h before.entries before.was (lawful-tail size a h l) before.at ∙ step.0
 
--- what a reader loaded from a link word stays there
+-- what a reader loaded from a head or link, if not 0, stays there
 pub stays : (size : PoolSize) (h : History) (r : ℕ) (w : Word) (v : ℕ) → IsPoolLawful size h → IsLinkWord w
     → HasLoaded r w v h → (v ≡ 0 → ⊥) → value_in w h ≡ v
 stays size [] r w v l link has some = absurd has
@@ -310,12 +310,12 @@ stays size (a ∷ h) r w v l link (inr has) some =
       | inr other ↦ value_in-other a h w other ∙ before
     ]
 
--- the place past cells is a head or link
+-- the word past these cells is a head or link
 pub link-place : (p : ℕ) (ks : List ℕ) → IsLinkWord (place_past p ks)
 link-place p [] = tt
 link-place p (k ∷ ks) = tt
 
--- a list with nothing past it is itself
+-- a list with nothing joined at its end is itself
 append-nil : (ks : List ℕ) → ks ++ [] ≡ ks
 append-nil [] = refl
 append-nil (k ∷ ks) = ap (λ l. k ∷ l) (append-nil ks)
@@ -328,7 +328,7 @@ end-or-zero (Stored _) = inl refl
 end-or-zero (Full _) = inl refl
 end-or-zero (Ended _) = inr refl
 
--- a reader has met a start of the cells put
+-- the cells that a reader has met are the first ones of the lane
 pub met_start : (size : PoolSize) (h : History) (r p : ℕ) (ks : List ℕ) → IsPoolLawful size h → HasMet r p ks h
     → IsStart ks (linked_cells p h)
 met_start size h r p [] l met = (linked_cells p h, append-nil (linked_cells p h))
@@ -352,7 +352,7 @@ met_start size h r p (k ∷ ks) l met =
           (more.later, subst (λ x. more.later ++ x ∷ ks ≡ linked_cells p h) same (more.whole ∙ sym all))
     ]
 
--- a load of a link word gives 0 or what the word holds from then on
+-- a load of a head or link gives 0, or what the word holds from then on
 pub link_load : (size : PoolSize) (h : History) (r v : ℕ) (w : Word) → IsPoolLawful size h → IsLinkWord w
     → HasLoaded r w v h → (v ≡ 0) ⊎ (v ≡ value_in w h)
 link_load size h r v w l link has =
@@ -361,7 +361,7 @@ link_load size h r v w l link has =
       | inr ne ↦ inr (sym (stays size h r w v l link has ne))
     ]
 
--- a word that one producer alone stores to
+-- a word that one producer alone stores to is as that producer's part leaves it
 pub left_alone : (h : History) (p : ℕ) (w : Word)
     → ((a : PoolAccess) (v : ℕ) → Has h a → a.word ≡ w → stored_by a.act ≡ Some v → a.process ≡ Producer p)
     → value_in w h ≡ value_in w (part (Producer p) h)
@@ -369,7 +369,7 @@ left_alone h p w only =
     value_in-part (Producer p) w h
     (λ a v has at is. own_process (Producer p) a (only a v has at is))
 
--- a reader that loaded the end mark has met all
+-- a reader that loaded the end mark past the cells that it met has met all cells of the lane
 pub met_all : (size : PoolSize) (h : History) (r p : ℕ) (ks : List ℕ) → IsPoolLawful size h → HasMet r p ks h
     → HasLoaded r (place_past p ks) END h → ks ≡ linked_cells p h
 met_all size h r p ks l met end =

@@ -12,7 +12,7 @@ use Rattle.mb_cells.proofs.Names.{access_is, is_same_word-eq, own_process, store
 use Rattle.mb_cells.proofs.Parts.{Has-of_part, part-own, part_by}
 use Rattle.mb_cells.proofs.ProducerWords.{AreFalling, IsChained, groups_in}
 
--- the entry of a cell that is linked
+-- the entry of cell k among these, its fetch-add, and what a chain holds in its item word
 record IsEntryOf (p k : ℕ) (es : List Entry) : Type 0 where
   pub entry : Entry
   pub cell : entry.cell ≡ k
@@ -76,7 +76,7 @@ lower n k [] b has = absurd has
 lower n k (e ∷ es) b (inl is) = subst (λ x. x < n) is b.0
 lower n k (e ∷ es) b (inr has) = lower n k es b.1 has
 
--- falling cells stand once each
+-- if the cells fall, none of them stands twice
 once : (es : List Entry) → AreFalling es → IsOnceEach (cells_of es)
 once [] f = tt
 once (e ∷ es) f = (λ has. let l : e.cell < e.cell = lower e.cell e.cell es f.0 has in absurd (omega arith), once es f.1)
@@ -143,7 +143,7 @@ was_stored (b ∷ h) w v is some =
       | inr other ↦ deeper (sym (value_in-other b h w other) ∙ is)
     ]
 
--- a store of k + 1 links cell k, the end mark apart
+-- a store of k + 1 to a head or link links cell k, if k + 1 is not the end mark
 pub link_of-store : (w : Word) (k : ℕ) → IsLinkWord w → (k + 1 ≡ END → ⊥) → link_of w (Store (k + 1)) ≡ Some k
 link_of-store Counter k l n = absurd l
 link_of-store (Head p) k l n = let ne : nat_eq (k + 1) END ≡ false = ne_eqb (k + 1) END n in
@@ -152,7 +152,7 @@ link_of-store (Link j) k l n = let ne : nat_eq (k + 1) END ≡ false = ne_eqb (k
     let m : (k + 1) - 1 ≡ k = omega arith in rw (ne, m)
 link_of-store (Item j) k l n = absurd l
 
--- a longer list has the cell still
+-- with one cell more or none in front, the list has cell k still
 Has-push : (o : Option ℕ) (ks : List ℕ) (k : ℕ) → Has ks k → Has (push_if o ks) k
 Has-push None ks k has = has
 Has-push (Some j) ks k has = inr has
@@ -177,7 +177,7 @@ stored_linked (b ∷ h) a q k (inl e) who w is n =
     rw (own, some) (inl refl)
 stored_linked (b ∷ h) a q k (inr has) who w is n = linked_cells-more q b h k (stored_linked h a q k has who w is n)
 
--- what a link word holds is linked by some lane
+-- a cell that a head or link leads to is linked by some producer
 pub leads_to : (size : PoolSize) (h : History) (w : Word) (k : ℕ) → IsPoolLawful size h → IsLinkWord w
     → value_in w h ≡ k + 1 → (k + 1 ≡ END → ⊥) → (q : ℕ) × Has (linked_cells q h) k
 leads_to size h w k l link is n =
@@ -196,7 +196,7 @@ pub record IsLeading (k : ℕ) (w : Word) (act : PoolAct) : Type 0 where
   pub loads : act ≡ Load (k + 1)
   pub no_end : k + 1 ≡ END → ⊥
 
--- a gift is such a load
+-- a gift of cell k is a load that leads to it
 pub gift-load : (k : ℕ) (w : Word) (act : PoolAct) → IsGift k w act → IsLeading k w act
 gift-load k (Head p) (Load v) g = record { link = tt; loads = ap Load g.0; no_end = λ e. g.1 (g.0 ∙ e) }
 gift-load k (Link p) (Load v) g = record { link = tt; loads = ap Load g.0; no_end = λ e. g.1 (g.0 ∙ e) }
@@ -208,7 +208,7 @@ record IsGiver (h : History) (k : ℕ) : Type 0 where
   pub has : Has h access
   pub leads : IsLeading k access.word access.act
 
--- what gave a cell is a load of a head or link
+-- each cell that was given has such an access
 gave-load : (h : History) (k : ℕ) → Gave k h → IsGiver h k
 gave-load [] k g = absurd g
 gave-load (a ∷ h) k (inl g) = record { access = a; has = inl refl; leads = gift-load k a.word a.act g }
@@ -228,7 +228,7 @@ given size h r k l g =
     let holds = stays size h r a.word (k + 1) l link has (λ e. absurd (omega arith)) in
     leads_to size h a.word k l link holds x.leads.no_end
 
--- an item load gives the item put there
+-- cell k is linked, and v is the item of its entry
 pub record IsItemOf (h : History) (k v : ℕ) : Type 0 where
   pub lane : ℕ
   pub entry : Entry
@@ -309,7 +309,7 @@ item_left size h p k l has =
     let x = is_put_at size h p k l has in
     x.holds ∙ sym (item_of-fetch h p x.entry (lawful-counted size h l) x.fetched) ∙ ap (λ k. item_of k h) x.cell
 
--- each process of the history is in range
+-- the process of each access is in range
 all-fit : (lanes : ℕ) (h : History) (a : PoolAccess) → AllFit lanes h → Has h a → ProcessFits lanes a.process
 all-fit lanes [] a f has = absurd has
 all-fit lanes (b ∷ h) a f (inl is) = subst (λ (x : PoolAccess). ProcessFits lanes x.process) is f.1
@@ -326,7 +326,7 @@ cell_within size h p k l has =
       lower size.cells k place.entries place.at.below (subst (λ z. Has z k) is has),
     )
 
--- the producer's own part tells the item of a cell that it took
+-- the producer's own part tells the item of a cell that it got
 item_of-part : (h : History) (p : ℕ) (e : Entry) → IsCounted h → Has h (fetch p e)
     → item_of e.cell (part (Producer p) h) ≡ e.value
 item_of-part [] p e m has = absurd has

@@ -16,12 +16,12 @@ abbrev pub cursor_past : ℕ → List ℕ → Cursor
 cursor_past p [] = cursor.Head p
 cursor_past p (k ∷ _) = cursor.Past k
 
--- the word of the cursor is the place
+-- the word at the cursor past these cells is the word past them
 word_past : (p : ℕ) (ks : List ℕ) → word_of (cursor_past p ks) ≡ place_past p ks
 word_past p [] = refl
 word_past p (k ∷ ks) = refl
 
--- a link tells its cell
+-- a look that finds k + 1 returns cell k, if k + 1 is not the end mark
 pub look-cell : (k : ℕ) → (k + 1 ≢ END) → look_of (k + 1) ≡ look.Cell k
 look-cell k ne =
     let zero_no : nat_eq (k + 1) 0 ≡ false = ne_eqb (k + 1) 0 (λ e. absurd (omega arith)) in
@@ -47,7 +47,7 @@ below_end : (cells : ℕ) (k : ℕ) (es : List Entry) → cells < END → AllCel
     → k + 1 ≢ END
 below_end cells k es c b has = let low : k < cells = lower cells k es b has in λ e. absurd (omega arith)
 
--- the word past the last cell tells the end
+-- a look that finds the end mark returns Ended, and one that finds 0 Nothing
 pub end_look : (b : Bool) → look_of (cond b END 0) ≡ (if b then look.Ended else look.Nothing)
 end_look true = refl
 end_look false = refl
@@ -79,7 +79,7 @@ next_cell size h p k later ks l is =
     lead-at (λ w. value_in w h) p k later ks
     (subst (LeadThrough (λ w. value_in w h) p) (sym is) (lead_through size h p l))
 
--- what a load gives along a lane
+-- a load of the word after the first cells of a lane gives 0 or the next cell
 pub next_load : (size : PoolSize) (h : History) (r p k v : ℕ) (later ks : List ℕ) → IsPoolLawful size h
     → later ++ k ∷ ks ≡ linked_cells p h → HasLoaded r (place_past p ks) v h → (v ≡ 0) ⊎ (v ≡ k + 1)
 next_load size h r p k v later ks l is has =

@@ -103,14 +103,14 @@ done_at (Stored x) e f = absurd (cc)
 done_at (Full x) e f = refl
 done_at (Ended r) e f = absurd (cc)
 
--- ---- what the phase says of the history: what is pending, and what found no cell
--- the number that an act of the counter gave
+-- ---- which numbers a producer's fetch-adds gave, by its phase
+-- the number that a fetch-add gave, and 0 for any other act
 abbrev number_of : PoolAct → ℕ
 number_of (FetchAdd x n) = n
 number_of (Store v) = 0
 number_of (Load v) = 0
 
--- one fetch-add gave one cell
+-- equal fetch-adds gave equal numbers
 same_cell : (p : ℕ) (e f : Entry) → fetch p e ≡ fetch p f → e.cell ≡ f.cell
 same_cell p e f is = ap (λ (a : PoolAccess). number_of a.act) is
 
@@ -132,7 +132,7 @@ add_in p (x ∷ es) e (inr (inl is)) = absurd (no_store p x.value (Item x.cell) 
 add_in p (x ∷ es) e (inr (inr (inl is))) = inl (same_cell p x e is)
 add_in p (x ∷ es) e (inr (inr (inr has))) = inr (add_in p es e has)
 
--- a fetch-add gave the cell of an entry, or the number of the phase, which found no cell or is pending
+-- the last fetch-add gave n, and its item is not linked: n is past the cells, or it is a cell that is pending
 abbrev IsLast : ℕ → Phase → ℕ → Type 0
 IsLast cells Open n = ⊥
 IsLast cells (Offered x) n = n < cells
@@ -140,7 +140,7 @@ IsLast cells (Stored x) n = n < cells
 IsLast cells (Full x) n = cells ≤ n
 IsLast cells (Ended r) n = cells ≤ n
 
--- each fetch-add of a producer gave the cell of an entry, or the number of its phase
+-- each fetch-add of a producer gave the cell of a linked entry, or is the last one, of an item that is not linked
 add_at : (cells p : ℕ) (es : List Entry) (phase : Phase) (d : History) → LaneIsAt cells p es phase d → (e : Entry)
     → Has (part_at p es phase) (fetch p e) → Has (cells_of es) e.cell ⊎ IsLast cells phase e.cell
 add_at cells p es Open d at e has = inl (add_in p es e has)
@@ -157,14 +157,18 @@ add_at cells p es (Ended (Some x)) d at e (inl is) = absurd (no_store p _ (place
 add_at cells p es (Ended (Some x)) d at e (inr (inl is)) = inr (omega (arith, same_cell p x e is, at.fits))
 add_at cells p es (Ended (Some x)) d at e (inr (inr has)) = inl (add_in p es e has)
 
+-- ---- the phase and the history say the same
 module _ (size : PoolSize) (h : History) (p : ℕ) (lawful : IsPoolLawful size h) where
   module _ (es : List Entry) (phase : Phase) (at : LaneIsAt size.cells p es phase (part (Producer p) h)) where
+    -- producer p made the fetch-add of this entry
     abbrev IsMade : Entry → Type 0
     IsMade e = Has h (fetch p e)
 
+    -- each fetch-add in the producer's part was made
     made : (e : Entry) → Has (part_at p es phase) (fetch p e) → IsMade e
     made e has = Has-of_part (Producer p) h (fetch p e) (subst (λ d. Has d (fetch p e)) (sym at.is) has)
 
+    -- the cell of each fetch-add is linked, or that fetch-add is the last
     add_of : (e : Entry) → IsMade e → Has (linked_cells p h) e.cell ⊎ IsLast size.cells phase e.cell
     add_of e has =
         elim (add_at size.cells p es phase (part (Producer p) h) at e
@@ -174,18 +178,20 @@ module _ (size : PoolSize) (h : History) (p : ℕ) (lawful : IsPoolLawful size h
           | inr last ↦ inr last
         ]
 
+    -- a cell above all entries is not linked
     no_link : (x : Entry) → AllCellsBelow x.cell es → Has (linked_cells p h) x.cell → ⊥
     no_link x above has =
         let less : x.cell < x.cell =
         lower x.cell x.cell es above (subst (λ ks. Has ks x.cell) (cells_at size p h es phase lawful.sized at) has) in
         omega (arith, less)
 
+    -- a linked cell is one of the pool
     link_within : (e : Entry) → Has (linked_cells p h) e.cell → e.cell < size.cells
     link_within e has =
         lower size.cells e.cell es at.below
         (subst (λ ks. Has ks e.cell) (cells_at size p h es phase lawful.sized at) has)
 
-  -- if the phase says so, an item is pending
+  -- if the phase has an item pending, so has the history
   pending_at : (es : List Entry) (phase : Phase) (at : LaneIsAt size.cells p es phase (part (Producer p) h))
       → is_pending phase ≡ true → HasPending size.cells p h
   pending_at es Open at e = absurd (cc)
@@ -204,7 +210,7 @@ module _ (size : PoolSize) (h : History) (p : ℕ) (lawful : IsPoolLawful size h
   pending_at es (Full x) at e = absurd (cc)
   pending_at es (Ended r) at e = absurd (cc)
 
-  -- a number of the phase that is a cell's is pending
+  -- if the last fetch-add gave a cell, the phase has its item pending
   last_pending : (phase : Phase) (n : ℕ) → n < size.cells → IsLast size.cells phase n → is_pending phase ≡ true
   last_pending Open n got last = absurd last
   last_pending (Offered x) n got last = refl
@@ -212,7 +218,7 @@ module _ (size : PoolSize) (h : History) (p : ℕ) (lawful : IsPoolLawful size h
   last_pending (Full x) n got last = absurd (omega (arith, got, last))
   last_pending (Ended r) n got last = absurd (omega (arith, got, last))
 
-  -- if an item is pending, the phase says so
+  -- if the history has an item pending, so has the phase
   pending_tells : (es : List Entry) (phase : Phase) → LaneIsAt size.cells p es phase (part (Producer p) h)
       → HasPending size.cells p h → is_pending phase ≡ true
   pending_tells es phase at pending = elim (add_of es phase at pending.entry pending.offered) [
@@ -220,7 +226,7 @@ module _ (size : PoolSize) (h : History) (p : ℕ) (lawful : IsPoolLawful size h
     | inr last ↦ last_pending phase pending.entry.cell pending.got last
   ]
 
-  -- if the phase says so, a fetch-add found no cell
+  -- if the phase has a fetch-add that found no cell, so has the history, and the lane has not ended
   none_at : (es : List Entry) (phase : Phase) (at : LaneIsAt size.cells p es phase (part (Producer p) h))
       → found_none phase ≡ true → (is_ended phase ≡ false) × HasFoundNone size.cells p h
   none_at es Open at e = absurd (cc)
@@ -230,7 +236,7 @@ module _ (size : PoolSize) (h : History) (p : ℕ) (lawful : IsPoolLawful size h
       (refl, record { entry = x; offered = made es (Full x) at x (inl refl); past = at.fits })
   none_at es (Ended r) at e = absurd (cc)
 
-  -- a number of the phase that is no cell's was found by a fetch-add that found none
+  -- if the last fetch-add gave no cell, and the lane has not ended, the phase has a fetch-add that found none
   last_none : (phase : Phase) (n : ℕ) → size.cells ≤ n → is_ended phase ≡ false → IsLast size.cells phase n
       → found_none phase ≡ true
   last_none Open n past still last = absurd last
@@ -239,7 +245,7 @@ module _ (size : PoolSize) (h : History) (p : ℕ) (lawful : IsPoolLawful size h
   last_none (Full x) n past still last = refl
   last_none (Ended r) n past still last = absurd (cc)
 
-  -- if a fetch-add found no cell, the phase says so
+  -- if the history has a fetch-add that found no cell, so has the phase, unless the lane has ended
   none_tells : (es : List Entry) (phase : Phase) → LaneIsAt size.cells p es phase (part (Producer p) h)
       → is_ended phase ≡ false → HasFoundNone size.cells p h → found_none phase ≡ true
   none_tells es phase at still none = elim (add_of es phase at none.entry none.offered) [
@@ -249,9 +255,11 @@ module _ (size : PoolSize) (h : History) (p : ℕ) (lawful : IsPoolLawful size h
 
   -- ---- when each call of a lane is refused, by the history
   module _ (lane : Lane) (here : IsLaneAfter size.cells p lane (part (Producer p) h)) where
+    -- the lane has ended if the phase has
     ended : has_ended p h ≡ is_ended here.phase
     ended = ended_is size.cells p h here.entries here.phase lawful.sized here.at
 
+    -- the phase says how an offer, a finish and a push are refused
     offers : offer_refusal lane ≡ stage_offer_refusal (stage_of here.phase)
     offers = ap stage_offer_refusal here.stage
 
@@ -261,12 +269,14 @@ module _ (size : PoolSize) (h : History) (p : ℕ) (lawful : IsPoolLawful size h
     pushes : push_store p lane ≡ stage_push_store (next_link p lane) (stage_of here.phase)
     pushes = ap (stage_push_store (next_link p lane)) here.stage
 
+    -- if the history has no item pending, nor has the phase
     not_pending : (HasPending size.cells p h → ⊥) → is_pending here.phase ≡ false
     not_pending none = elim (cases_Bool (is_pending here.phase)) [
       | inl e ↦ absurd (none (pending_at here.entries here.phase here.at e))
       | inr e ↦ e
     ]
 
+    -- if the lane has not ended, and the history has no fetch-add that found no cell, nor has the phase
     not_none : (is_ended here.phase ≡ false) → (HasFoundNone size.cells p h → ⊥) → found_none here.phase ≡ false
     not_none still none = elim (cases_Bool (found_none here.phase)) [
       | inl e ↦ absurd (none (none_at here.entries here.phase here.at e).1)

@@ -11,11 +11,11 @@ use Rattle.mb_cells.specs.{stage_of, stage_offer_refusal, stage_push_store, stor
 use Rattle.mb_cells.proofs.OneStep.{start_at}
 use Rattle.mb_cells.proofs.Places.{goes_on, one_place, prefix_at, somewhere}
 
--- the value of a producer that has done nothing
+-- a producer that has done nothing is at `new_lane`
 pub start_lane : (cells p : ℕ) → IsLaneAfter cells p new_lane []
 start_lane cells p = record { entries = []; phase = phase.Open; at = start_at cells p; last = refl; stage = refl }
 
--- each prefix of a lane path has its value
+-- each prefix of a lane path has a place as a plain value
 pub some_lane : (cells p : ℕ) (done : History) → IsLanePrefix cells p done
     → (lane : Lane) × IsLaneAfter cells p lane done
 some_lane cells p done prefix =
@@ -33,21 +33,21 @@ same_lane cells p lane other done x y =
     let stage : lane.stage ≡ other.stage = x.stage ∙ ap stage_of one.1 ∙ sym y.stage in
     ap (λ z. record { last = z; stage = lane.stage }) last ∙ ap (λ z. record { last = other.last; stage = z }) stage
 
--- what has a value is a prefix of a lane path
+-- what a producer at such a place has done is a prefix of a lane path
 pub lane_prefix : (cells p : ℕ) (lane : Lane) (done : History) → IsLaneAfter cells p lane done
     → IsLanePrefix cells p done
 lane_prefix cells p lane done x = prefix_at cells p x.entries x.phase done x.at
 
--- the last link or the head is the place past the entries
+-- the link of the last cell, or the head, is the word past the entries
 link_place : (p : ℕ) (es : List Entry) → link_after p (last_of es) ≡ place_after p es
 link_place p [] = refl
 link_place p (e ∷ es) = refl
 
--- the next link of the lane goes where its path has it
+-- the next link of the lane goes to the word past its entries
 pub next_place : (p : ℕ) (lane : Lane) (es : List Entry) → lane.last ≡ last_of es → next_link p lane ≡ place_after p es
 next_place p lane es is = ap (link_after p) is ∙ link_place p es
 
--- an offer is not refused in the first phase alone
+-- only in the phase Open an offer is not refused
 open_of : (z : Phase) → stage_offer_refusal (stage_of z) ≡ None → z ≡ phase.Open
 open_of phase.Open is = refl
 open_of (phase.Offered e) is = absurd (cc)
@@ -86,7 +86,7 @@ offered_lane cells p lane done e x going =
           }
     ]
 
--- after a push's store, whichever it is
+-- the producer's place after a push's store, by the phase
 pushed_at : (cells p : ℕ) (lane : Lane) (done : History) (es : List Entry) (phase : Phase) (s : Word × ℕ)
     → LaneIsAt cells p es phase done → lane.last ≡ last_of es → lane.stage ≡ stage_of phase
     → push_store p lane ≡ Some s → IsLaneAfter cells p (lane_after_push lane) (store p s.0 s.1 ∷ done)
@@ -130,7 +130,7 @@ pub pushed_lane : (cells p : ℕ) (lane : Lane) (done : History) (s : Word × �
     → push_store p lane ≡ Some s → IsLaneAfter cells p (lane_after_push lane) (store p s.0 s.1 ∷ done)
 pushed_lane cells p lane done s x is = pushed_at cells p lane done x.entries x.phase s x.at x.last x.stage is
 
--- after the store of the end mark, by the phase
+-- the producer's place after the store of the end mark, by the phase
 finished_at : (cells p : ℕ) (lane : Lane) (done : History) (es : List Entry) (phase : Phase)
     → LaneIsAt cells p es phase done → lane.last ≡ last_of es → lane.stage ≡ stage_of phase
     → finish_refusal lane ≡ None → IsLaneAfter cells p (lane_after_finish lane) (store p (place_after p es) END ∷ done)
@@ -158,7 +158,7 @@ finished_at cells p lane done es (phase.Ended None) at last by_stage is =
 finished_at cells p lane done es (phase.Ended (Some e)) at last by_stage is =
     absurd (let n = sym (ap stage_finish_refusal by_stage) ∙ is in cc)
 
--- after the store of the end mark
+-- the producer's place after the store of the end mark
 pub finished_lane : (cells p : ℕ) (lane : Lane) (done : History) → IsLaneAfter cells p lane done
     → finish_refusal lane ≡ None
     → IsLaneAfter cells p (lane_after_finish lane) (store p (next_link p lane) END ∷ done)

@@ -3,19 +3,19 @@ use Rattle.std.proofs.Common.{Bool, None, Option, Some, ap, cond, eq-eqb, eqb-tr
 use Rattle.std.proofs.lemmas.Bool.{cases_Bool, cond_both, false≢true}
 use Rattle.mb_cells.specs.{Counter, Head, History, Item, Link, PoolAccess, PoolAct, Process, Producer, Reader, Word, is_same_process, is_same_word, stored_by, value_in}
 
--- a choice between two that are one
+-- a choice between two equal values is that value
 pub same_twice : {X : Type 0} (b : Bool) (x : X) → cond b x x ≡ x
 same_twice true x = refl
 same_twice false x = refl
 
--- a word is itself
+-- a word passes the test with itself
 pub is_same_word-refl : (w : Word) → is_same_word w w ≡ true
 is_same_word-refl Counter = refl
 is_same_word-refl (Head p) = eq-eqb p p refl
 is_same_word-refl (Link p) = eq-eqb p p refl
 is_same_word-refl (Item p) = eq-eqb p p refl
 
--- words that are the same are equal
+-- words that pass the test are equal
 pub is_same_word-eq : (v w : Word) → is_same_word v w ≡ true → v ≡ w
 is_same_word-eq Counter Counter h = refl
 is_same_word-eq (Head p) (Head q) h = ap Head (eqb-true p q h)
@@ -23,7 +23,7 @@ is_same_word-eq (Link p) (Link q) h = ap Link (eqb-true p q h)
 is_same_word-eq (Item p) (Item q) h = ap Item (eqb-true p q h)
 is_same_word-eq _ _ h = absurd (false≢true h)
 
--- two words are one or not
+-- two words are equal or not
 pub cases_word : (v w : Word) → (v ≡ w) ⊎ (v ≢ w)
 cases_word v w =
     elim (cases_Bool (is_same_word v w)) [
@@ -33,7 +33,7 @@ cases_word v w =
           absurd (false≢true (sym other ∙ same)))
     ]
 
--- words that differ are not the same
+-- words that are not equal fail the test
 pub is_same_word-ne : (v w : Word) → v ≢ w → is_same_word v w ≡ false
 is_same_word-ne v w ne =
     elim (cases_Bool (is_same_word v w)) [
@@ -41,22 +41,22 @@ is_same_word-ne v w ne =
       | inr other ↦ other
     ]
 
--- a process is itself
+-- a process passes the test with itself
 pub is_same_process-refl : (w : Process) → is_same_process w w ≡ true
 is_same_process-refl (Producer p) = eq-eqb p p refl
 is_same_process-refl (Reader p) = eq-eqb p p refl
 
--- the process of an access is the one it is known to be
+-- an access of this process passes the test for it
 pub own_process : (who : Process) (a : PoolAccess) → a.process ≡ who → is_same_process who a.process ≡ true
 own_process who a is = subst (λ x. is_same_process who x ≡ true) (sym is) (is_same_process-refl who)
 
--- processes that are the same are equal
+-- processes that pass the test are equal
 pub is_same_process-eq : (v w : Process) → is_same_process v w ≡ true → v ≡ w
 is_same_process-eq (Producer p) (Producer q) h = ap Producer (eqb-true p q h)
 is_same_process-eq (Reader p) (Reader q) h = ap Reader (eqb-true p q h)
 is_same_process-eq _ _ h = absurd (false≢true h)
 
--- two processes are one or not
+-- two processes are equal or not
 pub cases_process : (v w : Process) → (v ≡ w) ⊎ (v ≢ w)
 cases_process v w =
     elim (cases_Bool (is_same_process v w)) [
@@ -66,7 +66,7 @@ cases_process v w =
           absurd (false≢true (sym other ∙ same)))
     ]
 
--- processes that differ are not the same
+-- processes that are not equal fail the test
 pub is_same_process-ne : (v w : Process) → v ≢ w → is_same_process v w ≡ false
 is_same_process-ne v w ne =
     elim (cases_Bool (is_same_process v w)) [

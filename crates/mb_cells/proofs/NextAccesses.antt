@@ -13,7 +13,7 @@ use Rattle.mb_cells.proofs.Names.{own_process}
 use Rattle.mb_cells.proofs.Parts.{Has-of_part, part-own}
 use Rattle.mb_cells.proofs.Places.{IsFetchOrStore, came_from, step_kind, steps_only}
 
--- a step by a fetch-add is from the first phase
+-- a step by a fetch-add is from a phase that refuses no offer
 fetch_step : (cells p : ℕ) (es fs : List Entry) (was now : Phase) (a : PoolAccess) (e : Entry) → a ≡ fetch p e
     → Steps cells p es was a fs now → stage_offer_refusal (stage_of was) ≡ None
 fetch_step cells p es fs was now a e is (takes_cell _ f b) = refl
@@ -86,7 +86,7 @@ kinds_only cells p lane done a x prefix =
     let n = steps_only cells p x.entries x.phase a done x.at prefix in
     step_kind cells p x.entries n.entries x.phase n.then a n.step
 
--- the place past the entries is a word of the pool
+-- the word past the entries is one of the pool
 place-word : (size : PoolSize) (p : ℕ) (es : List Entry) → p < size.lanes → AllCellsBelow size.cells es
     → IsLaneWord size (place_after p es)
 place-word size p [] lt b = lt
@@ -170,7 +170,7 @@ read_within size h r (Head p) l may = may
 read_within size h r (Link k) l may = let g = given size h r k l may in (cell_within size h g.0 k l g.1).1
 read_within size h r (Item k) l may = let g = given size h r k l may in (cell_within size h g.0 k l g.1).1
 
--- a word that may be stored to or read is one of the pool's
+-- a head, link or item of the pool is one of its words
 word-of_pool : (size : PoolSize) (w : Word) → IsLaneWord size w → IsPoolWord size w
 word-of_pool size Counter within = absurd within
 word-of_pool size (Head p) within = within

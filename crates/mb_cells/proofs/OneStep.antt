@@ -8,7 +8,7 @@ use Rattle.mb_cells.proofs.Histories.{lawful-tail, storer_of}
 use Rattle.mb_cells.proofs.Names.{is_same_process-eq, is_same_word-eq, stores_or_not, value_in-kept, value_in-other, value_in-stored}
 use Rattle.mb_cells.proofs.Places.{prefix_at}
 
--- one more access of a producer whose path goes on
+-- a history stays lawful with an access of a producer whose path goes on with it
 pub producer_step : (size : PoolSize) (h : History) (a : PoolAccess) (p : ℕ) → IsPoolLawful size h
     → a.process ≡ Producer p → p < size.lanes → ActFits a.act → ReadsLast a.word a.act h
     → IsLanePrefix size.cells p (a ∷ part (Producer p) h) → IsPoolLawful size (a ∷ h)
@@ -28,7 +28,7 @@ producer_step size h a p l who lane fits true_now path = record {
       rw other (l.readers r);
 }
 
--- what is stored in a word but the counter fits
+-- what a word other than the counter holds is below 2^64
 value_in-fits : (size : PoolSize) (h : History) (w : Word) → IsPoolLawful size h → (w ≡ Counter → ⊥)
     → value_in w h < 2 ^ 64
 value_in-fits size [] w l other = omega arith
@@ -54,7 +54,7 @@ value_in-fits size (a ∷ h) w l other =
 MayRead-counter : (lanes : ℕ) (d : History) (w : Word) → MayRead lanes w d → w ≡ Counter → ⊥
 MayRead-counter lanes d w may is = subst (λ x. MayRead lanes x d) is may
 
--- one more load of a reader that may load the word
+-- a history stays lawful with a load of a reader that may load the word
 pub reader_step : (size : PoolSize) (h : History) (r : ℕ) (w : Word) → IsPoolLawful size h
     → MayRead size.lanes w (part (Reader r) h)
     → IsPoolLawful size (load r w (value_in w h) ∷ h)
@@ -86,7 +86,7 @@ empty_lawful size c = record {
   readers = λ r. tt;
 }
 
--- what came before in a lawful history is lawful
+-- the older accesses of a lawful history are a lawful history
 pub older_lawful : (size : PoolSize) (later older : History) → IsPoolLawful size (later ++ older)
     → IsPoolLawful size older
 older_lawful size [] older l = l

@@ -33,7 +33,7 @@ Has-of_part who (b ∷ h) a m =
     (λ _ k. elim k [ inl e ↦ inl e | inr n ↦ inr (Has-of_part who h a n) ])
     (λ _ k. inr (Has-of_part who h a k)) m
 
--- a part is of its process
+-- each access of a part is its process's
 pub part_by : (who : Process) (h : History) (a : PoolAccess) → Has (part who h) a → a.process ≡ who
 part_by who [] a has = absurd has
 part_by who (b ∷ h) a has =

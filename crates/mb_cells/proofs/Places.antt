@@ -11,7 +11,7 @@ pub record IsSomewhere (cells p : ℕ) (done : History) : Type 0 where
   pub phase : Phase
   pub at : LaneIsAt cells p entries phase done
 
--- what leads to whole groups stands at a place
+-- what was done on the way to whole groups stands at a place
 in_groups : (cells p : ℕ) (es : List Entry) (later done : History) → AllCellsBelow cells es
     → later ++ done ≡ groups p es → IsSomewhere cells p done
 in_groups cells p es [] done b h =
@@ -23,7 +23,7 @@ in_groups cells p (e ∷ es) (x ∷ y ∷ []) done b h =
     record { entries = es; phase = Offered e; at = record { below = b.1; fits = b.0; is = cc } }
 in_groups cells p (e ∷ es) (x ∷ y ∷ z ∷ later) done b h = in_groups cells p es later done b.1 (cc)
 
--- what was done of groups and a fetch-add that found no cell is at a place
+-- what was done on the way to groups, and perhaps a fetch-add that found no cell, stands at a place
 in_refusal : (cells p : ℕ) (es : List Entry) (r : Option Entry) (later done : History) → AllCellsBelow cells es
     → FindsNoCell cells r → later ++ done ≡ refusal p r (groups p es) → IsSomewhere cells p done
 in_refusal cells p es None later done b f h = in_groups cells p es later done b h
@@ -31,7 +31,7 @@ in_refusal cells p es (Some e) [] done b f h =
     record { entries = es; phase = Full e; at = record { below = b; fits = f; is = h } }
 in_refusal cells p es (Some e) (x ∷ later) done b f h = in_groups cells p es later done b (cc)
 
--- what was done of these and the end mark is at a place
+-- what was done on the way to these, and perhaps the end mark, stands at a place
 in_ending : (cells p : ℕ) (es : List Entry) (r : Option Entry) (ended : Bool) (later done : History)
     → AllCellsBelow cells es → FindsNoCell cells r
     → later ++ done ≡ ending p (place_after p es) ended (refusal p r (groups p es)) → IsSomewhere cells p done
@@ -46,7 +46,7 @@ somewhere cells p done h =
     in_ending cells p h.lawful.entries h.lawful.refused h.lawful.ended h.later done h.lawful.below h.lawful.above
     (h.is ∙ h.lawful.is)
 
--- what stands before the rest of a path is a prefix of it
+-- what was done before the rest of a whole path is a prefix of a lane path
 whole : (cells p : ℕ) (es : List Entry) (r : Option Entry) (ended : Bool) → AllCellsBelow cells es
     → FindsNoCell cells r → (later done : History)
     → later ++ done ≡ ending p (place_after p es) ended (refusal p r (groups p es)) → IsLanePrefix cells p done

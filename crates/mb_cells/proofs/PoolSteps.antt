@@ -1,4 +1,4 @@
--- The state of a pool after one access of a producer.
+-- The state of a pool after one access of a producer, and what each call of a lane leaves.
 use Rattle.std.proofs.Common.{List, None, Some, [], ap, arith, eq-eqb, false, inl, inr, length, ne_eqb, refl, subst, sym, ℕ, ◌+◌, ◌-◌, ◌<◌, ◌^◌, ◌∙◌, ◌∷◌, ◌≡◌, ◌≢◌}
 use Rattle.std.specs.Prelude.{if◌then◌else◌, is_some, slice_index, slice_index_or, slice_set, unwrap_or}
 use Rattle.std.proofs.Math.ListN.{length-replicate, length-set, replicate}
@@ -20,13 +20,13 @@ use Rattle.mb_cells.proofs.NextAccesses.{link_within, push_value, push_within}
 use Rattle.mb_cells.proofs.OneStep.{empty_lawful, producer_step}
 use Rattle.mb_cells.proofs.Parts.{part-other, part-own}
 
--- producer p's place as the state has it
+-- the state has each producer's place where its part leaves it
 pub lane_here : (h : History) (s : PoolState) (p : ℕ) (lane : Lane) → p < lane_count s → IsAfter h s
     → lane ≡ slice_index_or s.lanes p lane → IsLaneAfter (cell_count s) p lane (part (Producer p) h)
 lane_here h s p lane lt after is =
     subst (λ l. IsLaneAfter (cell_count s) p l (part (Producer p) h)) (sym is) (after.lanes p lane lt)
 
--- the lanes after an access of one producer
+-- after an access of producer p, with its new place in the list, each lane is where its producer's part leaves it
 lanes_after : (h : History) (a : PoolAccess) (cells p : ℕ) (lanes : List Lane) (lane : Lane) → a.process ≡ Producer p
     → p < length lanes
     → ((q : ℕ) (d : Lane) → q < length lanes → IsLaneAfter cells q (slice_index_or lanes q d) (part (Producer q) h))
@@ -50,7 +50,7 @@ lanes_after h a cells p lanes lane who lt before now q d bound =
           (before q d within))
     ]
 
--- the state after an access of producer p, given the words and the place then
+-- an access of producer p leaves the state with these words and this place, if both fit the longer history
 access_after : (h : History) (a : PoolAccess) (s : PoolState) (p : ℕ) (lane : Lane) (ws : PoolWords) → IsAfter h s
     → a.process ≡ Producer p → p < lane_count s
     → length ws.items ≡ cell_count s → ActFits a.act → ReadsLast a.word a.act h
@@ -92,7 +92,7 @@ words_with-other (Item j) (Item k) v ws differs =
     get_or-set_other ws.items j k v 0 (λ e. absurd (false≢true (sym differs ∙ eq-eqb j k (sym e))))
 words_with-other _ _ v ws differs = refl
 
--- the words after an access that stores a value
+-- after an access that stores a value, each word holds what the longer history leaves in it
 words_after : (size : PoolSize) (ws : PoolWords) (h : History) (a : PoolAccess) (v : ℕ) → HasWord a.word ws
     → stored_by a.act ≡ Some v → HoldsWords size ws h → HoldsWords size (words_with a.word v ws) (a ∷ h)
 words_after size ws h a v has stores holds w within =
@@ -105,7 +105,7 @@ words_after size ws h a v has stores holds w within =
           words_with-other a.word w v ws other ∙ holds w within ∙ sym (value_in-other a h w other)
     ]
 
--- a store keeps the number of cells
+-- a store leaves the number of items
 pub words_with-items : (ws : PoolWords) (w : Word) (v : ℕ) → length (words_with w v ws).items ≡ length ws.items
 words_with-items ws Counter v = refl
 words_with-items ws (Head q) v = refl
@@ -126,7 +126,7 @@ words_with-links ws (Head q) v = refl
 words_with-links ws (Link k) v = length-set ws.links k v
 words_with-links ws (Item k) v = refl
 
--- the pool after a store of producer p
+-- a store of producer p leaves the pool with the value in its word and the producer at this place
 store_after : (h : History) (s : PoolState) (p : ℕ) (w : Word) (v : ℕ) (lane : Lane) → IsAfter h s → p < lane_count s
     → HasWord w s.words → v < 2 ^ 64
     → IsLaneAfter (cell_count s) p lane (store p w v ∷ part (Producer p) h)
@@ -135,7 +135,7 @@ store_after h s p w v lane was lt has fits now =
     access_after h (store p w v) s p lane (words_with w v s.words) was refl lt
     (words_with-items s.words w v) fits tt now (words_after (size_of s) s.words h (store p w v) v has refl was.words)
 
--- the pool after a fetch-add of producer p
+-- a fetch-add of producer p leaves the pool with the counter raised and the producer at this place
 fetch_after : (h : History) (s : PoolState) (p x : ℕ) (lane : Lane) → IsAfter h s → p < lane_count s → x < 2 ^ 64
     → s.words.counter < 2 ^ 64
     → IsLaneAfter (cell_count s) p lane
@@ -150,7 +150,7 @@ fetch_after h s p x lane was lt fits small now =
     (fits, omega (arith, found)) refl now
     (words_after (size_of s) s.words h (fetch p e) (s.words.counter + 1) tt more was.words)
 
--- an offer that makes a fetch-add
+-- an offer that makes a fetch-add keeps the clause `meets`
 pub offer_made : (s : PoolState) (p x : ℕ) (lane : Lane) → p < lane_count s → lane ≡ slice_index_or s.lanes p lane
     → offer_refusal lane ≡ None → x < 2 ^ 64 → s.words.counter < 2 ^ 64
     → OfferMeets s p x (offer_by_found (cell_count s) s.words.counter)
@@ -176,14 +176,14 @@ offer_made s p x lane lt read going fits small h other was at =
           (fetch_after h s p x there was lt fits small moved),
     )
 
--- a word of so many lanes and cells is a word of the pool that has them
+-- a head, link or item of the pool's size is among the pool's words
 pub word_here : (s : PoolState) (w : Word) → PoolIsSound s → IsLaneWord (size_of s) w → HasWord w s.words
 word_here s Counter sound within = tt
 word_here s (Head p) sound within = omega (arith, sound.heads)
 word_here s (Link k) sound within = omega (arith, sound.links)
 word_here s (Item k) sound within = within
 
--- the store of a push fits
+-- the store of a push is to a head, link or item of the pool, and its value is below 2^64
 pub push_fits : (s : PoolState) (p : ℕ) (lane : Lane) (st : Word × ℕ) → p < lane_count s → PoolIsSound s
     → lane ≡ slice_index_or s.lanes p lane → push_store p lane ≡ Some st
     → IsLaneWord (size_of s) st.0 × (st.1 < 2 ^ 64)
@@ -195,7 +195,7 @@ push_fits s p lane st lt sound read is =
       push_value (size_of s) h p lane st.0 st.1 was.lawful here is,
     )
 
--- what a push that makes a store leaves
+-- a push that makes a store keeps the clause `meets`
 pub push_made : (s : PoolState) (p : ℕ) (lane : Lane) (st : Word × ℕ) → p < lane_count s → PoolIsSound s
     → lane ≡ slice_index_or s.lanes p lane → push_store p lane ≡ Some st
     → PushMeets s p (push_answer lane)
@@ -213,7 +213,7 @@ push_made s p lane st lt sound read is h other was at =
           (store_after h s p st.0 st.1 (lane_after_push lane) was lt (word_here s st.0 sound fits.0) fits.1 moved),
     )
 
--- a finish that stores the end mark
+-- a finish that stores the end mark keeps the clause `meets`
 pub finish_made : (s : PoolState) (p : ℕ) (lane : Lane) → p < lane_count s → PoolIsSound s
     → lane ≡ slice_index_or s.lanes p lane → finish_refusal lane ≡ None
     → FinishMeets s p finish.Ended

@@ -23,7 +23,7 @@ falling p (e ∷ es) r =
     let fetches : AreRising (fetch p e ∷ groups p es) = r.1.1 in
     (has_fetch p e.cell es (λ f m. fetches.0 p p e f refl m), falling p es fetches.1)
 
--- the entry of the phase stands above all entries
+-- the cell of the phase's entry, if it has one, is above all cells of the entries
 abbrev pub IsAbove : List Entry → Phase → Type 0
 IsAbove es Open = Unit {0}
 IsAbove es (Offered e) = AllCellsBelow e.cell es
@@ -31,7 +31,7 @@ IsAbove es (Stored e) = AllCellsBelow e.cell es
 IsAbove es (Full e) = AllCellsBelow e.cell es
 IsAbove es (Ended r) = Unit {0}
 
--- the cells fall, and the one of the phase stands above them
+-- the cells of the entries fall, and the cell of the phase is above them
 abbrev pub IsFallingAt : List Entry → Phase → Type 0
 IsFallingAt es phase = AreFalling es × IsAbove es phase
 
@@ -44,7 +44,7 @@ falling_at p es (Full e) r = (falling p es r.1, has_fetch p e.cell es (λ f m. r
 falling_at p es (Ended None) r = (falling p es r.1, tt)
 falling_at p es (Ended (Some e)) r = (falling p es r.1.1, tt)
 
--- the words that lead to the cells, and their items
+-- the word leads to one of the cells, or is the item of one
 abbrev pub IsInChain : ℕ → List Entry → Word → Type 0
 IsInChain p [] w = ⊥
 IsInChain p (e ∷ es) w = (w ≡ place_after p es) ⊎ ((w ≡ Item e.cell) ⊎ IsInChain p es w)
@@ -65,7 +65,7 @@ chained-agree m n p (e ∷ es) same h = (
   chained-agree m n p es (λ w i. same w (inr (inr i))) h.2,
 )
 
--- a greater link is another word
+-- the link of a greater cell is another word
 below-ne : (n k : ℕ) → k < n → is_same_word (Link n) (Link k) ≡ false
 below-ne n k lt = ne_eqb n k (λ e. absurd (omega arith))
 
@@ -75,7 +75,7 @@ record IsApart (n : ℕ) (w : Word) : Type 0 where
   item : is_same_word (Item n) w ≡ false
   link : is_same_word (Link n) w ≡ false
 
--- the place past smaller cells is no word of this cell
+-- the word past smaller cells is no word of this cell
 apart-place : (p n : ℕ) (es : List Entry) → AllCellsBelow n es → IsApart n (place_after p es)
 apart-place p n [] b = record { counter = refl; item = refl; link = refl }
 apart-place p n (e ∷ es) b = record { counter = refl; item = refl; link = below-ne n e.cell b.0 }
@@ -88,7 +88,7 @@ apart p n (e ∷ es) w b (inr (inl is)) =
     subst (IsApart n) (sym is) (record { counter = refl; item = below-ne n e.cell b.0; link = refl })
 apart p n (e ∷ es) w b (inr (inr i)) = apart p n es w b.1 i
 
--- the place past the last cell is no word of the chain
+-- the word past the last cell is no word of the chain
 apart-next : (p : ℕ) (es : List Entry) (w : Word) → AreFalling es → IsInChain p es w
     → is_same_word (place_after p es) w ≡ false
 apart-next p [] w f i = absurd i
@@ -118,7 +118,7 @@ groups-chained p (e ∷ es) f = (
       (groups-chained p es f.1),
 )
 
--- nothing is in the link of a greater cell yet
+-- groups leave 0 in the link of a greater cell
 groups-fresh : (p n : ℕ) (es : List Entry) → AllCellsBelow n es → value_in (Link n) (groups p es) ≡ 0
 groups-fresh p n [] b = refl
 groups-fresh p n (e ∷ []) b = refl
@@ -126,7 +126,7 @@ groups-fresh p n (e ∷ d ∷ es) b =
     let ne : is_same_word (Link d.cell) (Link n) ≡ false = ne_eqb d.cell n (λ x. absurd (omega (arith, b.1.0))) in
     rw ne (groups-fresh p n (d ∷ es) b.1)
 
--- nothing is in the next link of whole groups
+-- groups leave 0 in the word past their last cell
 groups-next : (p : ℕ) (es : List Entry) → AreFalling es → value_in (place_after p es) (groups p es) ≡ 0
 groups-next p [] f = refl
 groups-next p (e ∷ []) f = refl
@@ -135,7 +135,7 @@ groups-next p (e ∷ d ∷ es) f =
     ne_eqb d.cell e.cell (λ x. absurd (omega (arith, f.0.0))) in
     rw ne (groups-fresh p e.cell (d ∷ es) f.0)
 
--- what the word after the last cell holds
+-- what the word past the last cell holds, by the phase
 abbrev pub end_value : Phase → ℕ
 end_value Open = 0
 end_value (Offered _) = 0
@@ -148,7 +148,7 @@ counter-place : (p : ℕ) (es : List Entry) → is_same_word Counter (place_afte
 counter-place p [] = refl
 counter-place p (e ∷ es) = refl
 
--- what was done leaves a chain, at each place
+-- at each place a producer's part leaves a chain
 pub chained_at : (p : ℕ) (es : List Entry) (phase : Phase) → IsFallingAt es phase
     → IsChained (λ w. value_in w (part_at p es phase)) p es
 chained_at p es Open f = groups-chained p es f.0
@@ -184,7 +184,7 @@ next_at p es (Stored e) f = rw (item-place p e.cell es, counter-place p es) (gro
 next_at p es (Full e) f = rw (counter-place p es) (groups-next p es f)
 next_at p es (Ended r) f = rw (is_same_word-refl (place_after p es))
 
--- the words that only producer q stores to
+-- the word is one that only producer q stores to: its head, or the link or the item of a cell that it got
 abbrev pub IsOwned : ℕ → History → Word → Type 0
 IsOwned q h Counter = ⊥
 IsOwned q h (Head p) = q ≡ p
@@ -199,7 +199,7 @@ owned-more q h k (Head p) more o = o
 owned-more q h k (Link c) more o = (o.0, (o.1.0, more (fetch q o.0) o.1.1))
 owned-more q h k (Item c) more o = (o.0, (o.1.0, more (fetch q o.0) o.1.1))
 
--- a producer owns the place past its groups
+-- a producer owns the word past its groups
 owned-place : (q : ℕ) (es : List Entry) → IsOwned q (groups q es) (place_after q es)
 owned-place q [] = refl
 owned-place q (e ∷ es) = (e, (refl, inr (inr (inl refl))))

@@ -8,7 +8,7 @@ use Rattle.mb_cells.proofs.Histories.{lawful-counted, lawful-tail}
 use Rattle.mb_cells.proofs.Items.{is_put_at, link_of-store, same_map}
 use Rattle.mb_cells.proofs.Names.{same_twice}
 
--- the cells linked, after a store of another kind or of another lane
+-- a store that links nothing leaves the cells linked
 kept_cells : (p q : ℕ) (w : Word) (v : ℕ) (h : History) → link_of w (Store v) ≡ None
     → linked_cells q (store p w v ∷ h) ≡ linked_cells q h
 kept_cells p q w v h none =
@@ -18,7 +18,7 @@ kept_cells p q w v h none =
 item_of-store : (p : ℕ) (w : Word) (v k : ℕ) (h : History) → item_of k (store p w v ∷ h) ≡ item_of k h
 item_of-store p w v k h = same_twice (is_same_word w Counter) (item_of k h)
 
--- a put list is told by its cells and their items
+-- put lists with equal cells and equal items are equal
 same_list : (h k : History) (q : ℕ) → linked_cells q k ≡ linked_cells q h
     → ((j : ℕ) → Has (linked_cells q h) j → item_of j k ≡ item_of j h) → put_list q k ≡ put_list q h
 same_list h k q cells items =

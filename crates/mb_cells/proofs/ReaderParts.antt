@@ -27,7 +27,7 @@ MayRead-filter lanes test d (Head p) may = may
 MayRead-filter lanes test d (Link k) may = Gave-filter test d k may
 MayRead-filter lanes test d (Item k) may = Gave-filter test d k may
 
--- a reader path of some of the accesses is one without the last access
+-- if the accesses that pass a test are a reader path, so are those among the older ones
 path-older : (lanes : ℕ) (test : PoolAccess → Bool) (a : PoolAccess) (d : History)
     → IsReaderPath lanes (filter test (a ∷ d)) → IsReaderPath lanes (filter test d)
 path-older lanes test a d path =
@@ -49,12 +49,13 @@ path_of_parts lanes test (a ∷ d) all paths =
     let before = path_of_parts lanes test d (λ b has. all b (inr has)) (λ p. path-older lanes (test p) a d (paths p)) in
     (here.0, MayRead-filter lanes (test own.0) d a.word here.1, before)
 
--- the test for a cell is true if the cell is in the list, and there alone
+-- the test for a cell is true if the cell is in the list
 has_cell-true : (ks : List ℕ) (k : ℕ) → Has ks k → has_cell ks k ≡ true
 has_cell-true [] k has = absurd has
 has_cell-true (j ∷ js) k (inl is) = let same : nat_eq j k ≡ true = eq-eqb j k is in rw same refl
 has_cell-true (j ∷ js) k (inr has) = rw (has_cell-true js k has) (or-true (nat_eq j k))
   where
+    -- a choice with true is true
     or-true : (b : Bool) → (b || true) ≡ true
     or-true true = refl
     or-true false = refl
@@ -68,7 +69,7 @@ cell-of_true (j ∷ js) k is =
       | inr other ↦ inr (cell-of_true js k (sym (ap (λ b. b || has_cell js k) other) ∙ is))
     ]
 
--- what a lane began with is on the lane
+-- a cell that a list is split at is in the list
 start-cell : (later ks ls : List ℕ) (k : ℕ) → later ++ k ∷ ks ≡ ls → Has ls k
 start-cell [] ks ls k is = subst (λ l. Has l k) is (inl refl)
 start-cell (j ∷ later) ks ls k is = subst (λ l. Has l k) is (inr (start-cell later ks (later ++ k ∷ ks) k refl))
@@ -115,7 +116,7 @@ gift-lane size h r p k a d l own path gift put_here =
         has_cell-true (linked_cells p h) j (subst (λ q. Has (linked_cells q h) j) (sym same) here)
     by (Item j) e = absurd (let x = (gift-load k a.word a.act gift).link in subst IsLinkWord e x)
 
--- what gave a cell of lane p is in the part on lane p
+-- a cell of lane p that a reader was given was given by its accesses on that lane
 gave-on : (size : PoolSize) (h : History) (r p k : ℕ) (d : History) → IsPoolLawful size h → AreOf r h d
     → IsReaderPath size.lanes d → Has (linked_cells p h) k → Gave k d
     → Gave k (filter (λ a. is_of_lane p (linked_cells p h) a.word) d)
@@ -209,7 +210,7 @@ all_met size h r p (Link k) l link on loaded =
     subst (λ js. HasMet r p js h) (met_all size h r p (k ∷ ks) l met loaded) met
 all_met size h r p (Item k) l link on loaded = absurd link
 
--- what was met is told by the reader's part
+-- a reader's part alone tells what it has met
 pub met_own : (h : History) (r p : ℕ) (ks : List ℕ) → HasMet r p ks h → HasMet r p ks (part (Reader r) h)
 met_own h r p [] met = tt
 met_own h r p (k ∷ ks) met = (
@@ -261,7 +262,7 @@ one_rest (x ∷ later) (y ∷ other) ks js k once is =
     tails : (ls ms : List ℕ) (x y : ℕ) → x ∷ ls ≡ y ∷ ms → ls ≡ ms
     tails ls ms x y is = cc
 
--- so one way leads to a cell
+-- one way alone leads to a cell that a reader has met
 pub one_way : (size : PoolSize) (h : History) (r p k : ℕ) (ks js : List ℕ) → IsPoolLawful size h
     → HasMet r p (k ∷ ks) h → HasMet r p (k ∷ js) h → ks ≡ js
 one_way size h r p k ks js l met also =

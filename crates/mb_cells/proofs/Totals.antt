@@ -19,7 +19,7 @@ without : ℕ → List ℕ → List ℕ
 without m [] = []
 without m (k ∷ ks) = cond (nat_eq k m) ks (k ∷ without m ks)
 
--- at most one element is missing
+-- without m a list is shorter by one at most
 length_without : (m : ℕ) (ks : List ℕ) → length ks ≤ suc (length (without m ks))
 unfolding without
 length_without m [] = omega arith
@@ -37,7 +37,7 @@ shorter_without m (k ∷ ks) has =
     (λ f. ⊎_elim (λ (e : k ≡ m). absurd (false≢true (sym f ∙ eq-eqb k m e)))
     (λ (r : Has ks m). let s = shorter_without m ks r in omega arith) has)
 
--- what is left is in the list, and is another
+-- if no element stands twice, each that is left is in the list and is not m
 has_without : (m : ℕ) (ks : List ℕ) (j : ℕ) → IsOnceEach ks → Has (without m ks) j → Has ks j × (j ≢ m)
 unfolding without
 has_without m [] j once h = absurd h
@@ -47,7 +47,7 @@ has_without m (k ∷ ks) j once h =
     (λ f had. ⊎_elim (λ (e : k ≡ j). (inl e, λ z. false≢true (sym f ∙ eq-eqb k m (e ∙ z))))
     (λ (r : Has (without m ks) j). let t = has_without m ks j once.1 r in (inr t.0, t.1)) had) h
 
--- another element is left
+-- each element other than m is left
 still_without : (m : ℕ) (ks : List ℕ) (j : ℕ) → Has ks j → j ≢ m → Has (without m ks) j
 unfolding without
 still_without m [] j has apart = absurd has
@@ -56,7 +56,7 @@ still_without m (k ∷ ks) j has apart =
     (λ t. ⊎_elim (λ (e : k ≡ j). absurd (apart (sym e ∙ eqb-true k m t))) (λ (r : Has ks j). r) has)
     (λ f. ⊎_elim (λ (e : k ≡ j). inl e) (λ (r : Has ks j). inr (still_without m ks j r apart)) has)
 
--- what is left stands once each
+-- none of the elements left stands twice
 once_without : (m : ℕ) (ks : List ℕ) → IsOnceEach ks → IsOnceEach (without m ks)
 unfolding without
 once_without m [] once = tt
@@ -102,7 +102,7 @@ cells_in : ℕ → History → List ℕ
 cells_in zero h = []
 cells_in (suc n) h = linked_cells n h ++ cells_in n h
 
--- they are as many as the items put there
+-- the cells of the first n lanes are as many as the items put there
 length_cells : (n : ℕ) (h : History) → length (cells_in n h) ≡ items_put n h
 unfolding cells_in
 length_cells zero h = refl
@@ -151,7 +151,7 @@ in_lane (suc n) h k has =
     let x = in_lane n h k t in let low = x.1.0 in (x.0, (omega arith, x.1.1)))
     (has_either (linked_cells n h) (cells_in n h) k has)
 
--- each cell of one of these lanes is among them
+-- each cell of one of the first n lanes is among the cells of these
 lane_in : (n : ℕ) (h : History) (p k : ℕ) → p < n → Has (linked_cells p h) k → Has (cells_in n h) k
 unfolding cells_in
 lane_in zero h p k low has = absurd (omega arith)
@@ -211,12 +211,12 @@ all_items size h p e l has high linked =
 not_fetch : (p : ℕ) (w : Word) (v : ℕ) (e : Entry) → store p w v ≡ fetch p e → ⊥
 not_fetch p w v e is = let acts : Store v ≡ FetchAdd e.value e.cell = ap (λ (z : PoolAccess). z.act) is in cc
 
--- one fetch-add has one number
+-- equal fetch-adds gave equal numbers
 cell_is : (p : ℕ) (x e : Entry) → fetch p x ≡ fetch p e → x.cell ≡ e.cell
 cell_is p x e is =
     let acts : FetchAdd x.value x.cell ≡ FetchAdd e.value e.cell = ap (λ (z : PoolAccess). z.act) is in cc
 
--- the cells of the entries that were linked
+-- a fetch-add in the groups gave the cell of one of their entries
 in_groups : (p : ℕ) (es : List Entry) (e : Entry) → Has (groups p es) (fetch p e) → Has (cells_of es) e.cell
 in_groups p [] e has = absurd has
 in_groups p (x ∷ es) e (inl is) = absurd (not_fetch p (place_after p es) (x.cell + 1) e is)

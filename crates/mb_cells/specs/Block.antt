@@ -1,4 +1,4 @@
--- All words of a pool in one block, and the parts of its processes.
+-- All words of a pool in one block, and the parts of its processes beside them.
 use Rattle.std.specs.Prelude.{List, if◌then◌else◌, length, slice_index, slice_set, unwrap_or, ℕ, ◌+◌, ◌∷◌, ◌≡◌, ◌≤◌}
 use Rattle.mb_cells.specs.Types.{Counter, Head, Item, Link, PoolAccess, Process, Word}
 use Rattle.mb_cells.specs.Size.{PoolSize}
@@ -35,6 +35,6 @@ block_after size a words =
     slice_set words (address_of size a.word)
     (unwrap_or (stored_by a.act) (slice_index words (address_of size a.word)))
 
--- the parts of all processes after an access: that of its process has it in front
+-- the parts of all processes after an access: the part of its process has the access in front, the others are as before
 abbrev pub parts_after : PoolAccess → (Process → History) → Process → History
 parts_after a parts who = if is_same_process who a.process then a ∷ parts who else parts who

@@ -15,7 +15,7 @@ use Rattle.mb_cells.specs.Calls.{FinishMeets, OfferMeets, PushMeets}
 
 -- a call on a lane that may change the pool, with its answer
 pub data Call : Type 0 where
-  -- lane, item, answer
+  -- an offer on a lane, with its item and its answer. The others have a lane and an answer
   Offered : ℕ → ℕ → Offer → Call
   Pushed : ℕ → Push → Call
   Finished : ℕ → Finish → Call
@@ -38,14 +38,14 @@ item_by_offer k x offer.Full y = y
 item_by_offer k x offer.Busy y = y
 item_by_offer k x offer.Closed y = y
 
--- the item of the offer that returned cell k
+-- the item of the offer that returned cell k, or 0 if none did
 abbrev pub item_by : ℕ → List Call → ℕ
 item_by k [] = 0
 item_by k (Offered p x r ∷ older) = item_by_offer k x r (item_by k older)
 item_by k (Pushed p r ∷ older) = item_by k older
 item_by k (Finished p r ∷ older) = item_by k older
 
--- the cell that a push linked
+-- the cell that a push with this answer linked, if it did
 abbrev pub link_by_push : Push → Option ℕ
 link_by_push (push.Item k) = None
 link_by_push (push.Link k) = Some k
@@ -65,7 +65,7 @@ linked_cells_by p (Finished q r ∷ older) = linked_cells_by p older
 abbrev pub put_list_by : ℕ → List Call → List Entry
 put_list_by p calls = reverse (map (entry_of (λ k. item_by k calls)) (linked_cells_by p calls))
 
--- whether the answer says that the end mark was stored
+-- whether this answer of a finish says that the end mark was stored
 abbrev pub is_end : Finish → Bool
 is_end finish.Ended = true
 is_end finish.Busy = false

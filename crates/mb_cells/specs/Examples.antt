@@ -16,7 +16,7 @@ use Rattle.mb_cells.specs.CallLists.{Call, Finished, Offered, Pushed}
 abbrev pub eight : Entry
 eight = record { cell = 0; value = 8 }
 
--- the item 9, under number 1
+-- the item 9, in cell 1
 abbrev pub nine : Entry
 nine = record { cell = 1; value = 9 }
 
@@ -24,21 +24,21 @@ nine = record { cell = 1; value = 9 }
 abbrev pub too_wide : Entry
 too_wide = record { cell = 0; value = 2 ^ 64 }
 
--- the cell was taken, and nothing else was done
+-- producer 0 made the fetch-add that gave it cell 0 for the item 8, and nothing else was done
 abbrev pub one_taken : History
 one_taken = fetch 0 eight ∷ []
 
--- the item is put
+-- the item is then stored and linked, so it is put
 abbrev pub one_put : History
 one_put = store 0 (Head 0) 1 ∷ store 0 (Item 0) 8 ∷ one_taken
 
--- reader 5 has looked at the head before and after, has taken the item, and has met the end
+-- reader 5 has loaded the head before the item was put and after, then the item, and last the end mark
 abbrev pub one_read : History
 one_read =
     load 5 (Link 0) END ∷ store 0 (Link 0) END ∷ load 5 (Item 0) 8 ∷ load 5 (Head 0) 1
     ∷ store 0 (Head 0) 1 ∷ store 0 (Item 0) 8 ∷ load 5 (Head 0) 0 ∷ one_taken
 
--- the item was offered, and got the cell
+-- the item was offered, and the offer returned cell 0
 abbrev pub one_offered : List Call
 one_offered = Offered 0 8 (offer.Cell 0) ∷ []
 
@@ -54,11 +54,11 @@ one_cell counter head link item last at = record {
   lanes = record { last = last; stage = at } ∷ [];
 }
 
--- the new pool
+-- the pool before any call
 abbrev pub new_pool : PoolState
 new_pool = one_cell 0 0 0 0 None stage.Open
 
--- the pool after the offer: the cell was taken
+-- the pool after the offer: the cell was handed out
 abbrev pub taken_pool : PoolState
 taken_pool = one_cell 1 0 0 0 None (stage.Offered 0 8)
 
@@ -70,7 +70,7 @@ put_pool = one_cell 1 1 0 8 (Some 0) stage.Open
 abbrev pub ended_pool : PoolState
 ended_pool = one_cell 1 1 END 8 (Some 0) (stage.Ended false)
 
--- a pool of one lane and no cell, with this counter
+-- a pool of one lane and no cell, with this counter, whose producer stands at this stage
 abbrev pub no_cell : ℕ → LaneStage → PoolState
 no_cell counter at = record {
   words = record { counter = counter; heads = 0 ∷ []; links = []; items = [] };

@@ -14,27 +14,27 @@ abbrev pub place_after : ℕ → List Entry → Word
 place_after p [] = Head p
 place_after p (e ∷ _) = Link e.cell
 
--- the fetch-add for an item, and the number that it gave
+-- the fetch-add of producer p for the entry's item, which gave the entry's number
 abbrev pub fetch : ℕ → Entry → PoolAccess
 fetch p e = record { process = Producer p; word = Counter; act = FetchAdd e.value e.cell }
 
--- a store of the producer
+-- the store of this value in this word by producer p
 abbrev pub store : ℕ → Word → ℕ → PoolAccess
 store p w v = record { process = Producer p; word = w; act = Store v }
 
--- what puts these entries: for each a fetch-add, then a store of the item, then a store of its link
+-- the accesses that put these entries: for each a fetch-add, then a store of the item, then one of the link to its cell
 abbrev pub groups : ℕ → List Entry → History
 groups p [] = []
 groups p (e ∷ es) =
     store p (place_after p es) (e.cell + 1) ∷ store p (Item e.cell) e.value ∷ fetch p e
     ∷ groups p es
 
--- after that history, at most one fetch-add that found no cell
+-- the history, and after it the fetch-add that found no cell, if there was one
 abbrev pub refusal : ℕ → Option Entry → History → History
 refusal p None h = h
 refusal p (Some e) h = fetch p e ∷ h
 
--- after that history, at most one store of the end mark, in the last link or the head
+-- the history, and after it the store of the end mark to this word, if there was one
 abbrev pub ending : ℕ → Word → Bool → History → History
 ending p w false h = h
 ending p w true h = store p w END ∷ h
@@ -43,7 +43,7 @@ ending p w true h = store p w END ∷ h
 abbrev pub AllCellsBelow : ℕ → List Entry → Type 0
 AllCellsBelow cells es = AllByRecursion (λ (e : Entry). e.cell < cells) es
 
--- a fetch-add that found no cell gave a number past the cells
+-- if there was a fetch-add that found no cell, it gave a number past the cells
 abbrev pub FindsNoCell : ℕ → Option Entry → Type 0
 FindsNoCell cells None = Unit {0}
 FindsNoCell cells (Some e) = cells ≤ e.cell
@@ -57,7 +57,7 @@ pub record IsLanePath (cells p : ℕ) (path : History) : Type 0 where
   pub above : FindsNoCell cells refused
   pub is : path ≡ ending p (place_after p entries) ended (refusal p refused (groups p entries))
 
--- what was done so far of a path of producer p
+-- producer p has done this so far: some later accesses, or none, make it a whole path
 pub record IsLanePrefix (cells p : ℕ) (done : History) : Type 0 where
   pub path : History
   pub later : History

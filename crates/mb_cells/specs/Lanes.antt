@@ -1,4 +1,4 @@
--- What a history puts into the lanes.
+-- What a history puts into the lanes, and which cells it hands out.
 use Rattle.std.specs.Prelude.{Bool, List, None, Option, Some, [], false, if◌then◌else◌, length, map, nat_eq, reverse, suc, zero, ℕ, ◌+◌, ◌-◌, ◌<◌, ◌||◌, ◌∷◌, ◌≡◌}
 use Rattle.mb_cells.specs.declared.answer.Look.TheVariants as look
 use Rattle.mb_cells.specs.Types.{Counter, END, FetchAdd, Head, Link, Look, PoolAccess, PoolAct, Producer, Store, Word}
@@ -29,13 +29,13 @@ abbrev pub item_after : ℕ → PoolAct → ℕ → ℕ
 item_after k (FetchAdd y n) x = if nat_eq n k then y else x
 item_after k _ x = x
 
--- the item of cell k: that of the fetch-add that gave k
+-- the item of cell k: the one of the fetch-add that gave k, or 0 if none did
 abbrev pub item_of : ℕ → History → ℕ
 item_of k [] = 0
 item_of k (a ∷ older) =
     if is_same_word a.word Counter then item_after k a.act (item_of k older) else item_of k older
 
--- a cell with its item
+-- cell k with the item that `items` has for it
 abbrev pub entry_of : (ℕ → ℕ) → ℕ → Entry
 entry_of items k = record { cell = k; value = items k }
 
@@ -60,11 +60,11 @@ has_ended p (a ∷ older) =
     if is_same_process (Producer p) a.process then marks_end a.word a.act || has_ended p older
     else has_ended p older
 
--- what a reader finds after the last cell of lane p
+-- what a look past the last cell of lane p returns
 abbrev pub lane_end : ℕ → History → Look
 lane_end p h = if has_ended p h then look.Ended else look.Nothing
 
--- each cell stands once
+-- no cell stands in the list twice
 abbrev pub IsOnceEach : List ℕ → Type 0
 IsOnceEach [] = Unit {0}
 IsOnceEach (k ∷ ks) = (Has ks k → ⊥) × IsOnceEach ks
@@ -74,7 +74,7 @@ abbrev pub WasHandedOut : ℕ → History → Type 0
 WasHandedOut k h =
     (a : PoolAccess) × (Has h a × ((a.word ≡ Counter) × ((x : ℕ) × (a.act ≡ FetchAdd x k))))
 
--- how many items are put into the first n lanes
+-- how many items the first n lanes have together
 abbrev pub items_put : ℕ → History → ℕ
 items_put zero h = 0
 items_put (suc n) h = length (put_list n h) + items_put n h

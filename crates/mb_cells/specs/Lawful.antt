@@ -12,12 +12,12 @@ ActFits (Load v) = v < 2 ^ 64
 ActFits (Store v) = v < 2 ^ 64
 ActFits (FetchAdd x n) = (x < 2 ^ 64) × (n < 2 ^ 64)
 
--- the process is there: each producer has a lane. Readers have any numbers
+-- a producer's number is one of a lane of the pool. A reader may have any number
 abbrev pub ProcessFits : ℕ → Process → Type 0
 ProcessFits lanes (Producer p) = p < lanes
 ProcessFits lanes (Reader r) = Unit {0}
 
--- all values and all lanes are in range
+-- each access has values of 64 bits, and its producer has a lane of the pool
 abbrev pub AllFit : ℕ → History → Type 0
 AllFit lanes [] = Unit {0}
 AllFit lanes (a ∷ older) = ActFits a.act × ProcessFits lanes a.process × AllFit lanes older
@@ -30,4 +30,5 @@ pub record IsPoolLawful (size : PoolSize) (h : History) : Type 0 where
   pub memory : IsMemoryTrue h
   -- each producer's part is a prefix of a lane path
   pub producers : (p : ℕ) → IsLanePrefix size.cells p (part (Producer p) h)
+  -- each reader's part is a reader path
   pub readers : (r : ℕ) → IsReaderPath size.lanes (part (Reader r) h)

@@ -1,3 +1,4 @@
+-- In the order of reading: a file stands on files above it.
 pub mod Types
 pub mod Size
 pub mod Memory

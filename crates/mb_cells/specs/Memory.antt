@@ -8,7 +8,7 @@ use Rattle.mb_cells.specs.Types.{Counter, FetchAdd, Head, Item, Link, Load, Pool
 abbrev pub History : Type 0
 History = List PoolAccess
 
--- whether two names of words are one
+-- whether both are the same word
 abbrev pub is_same_word : Word → Word → Bool
 is_same_word Counter Counter = true
 is_same_word (Head p) (Head q) = nat_eq p q
@@ -16,7 +16,7 @@ is_same_word (Link j) (Link k) = nat_eq j k
 is_same_word (Item j) (Item k) = nat_eq j k
 is_same_word _ _ = false
 
--- whether two names of processes are one
+-- whether both are the same process
 abbrev pub is_same_process : Process → Process → Bool
 is_same_process (Producer p) (Producer q) = nat_eq p q
 is_same_process (Reader p) (Reader q) = nat_eq p q
@@ -50,8 +50,8 @@ value_in w (a ∷ older) =
 abbrev pub ReadsLast : Word → PoolAct → History → Type 0
 ReadsLast w act older = IfSome (loaded_by act) (λ v. v ≡ value_in w older)
 
--- each access reads what was stored last. In a lawful history a fetch-add then finds the number of earlier ones (law
--- `numbers_are_handed_out_once`)
+-- each access that loads a value finds the one stored last in its word. In a lawful history a fetch-add then finds
+-- the number of earlier ones (law `numbers_are_handed_out_once`)
 abbrev pub IsMemoryTrue : History → Type 0
 IsMemoryTrue [] = Unit {0}
 IsMemoryTrue (a ∷ older) = ReadsLast a.word a.act older × IsMemoryTrue older
@@ -65,7 +65,7 @@ abbrev pub is_fetch_add : PoolAct → Bool
 is_fetch_add (FetchAdd _ _) = true
 is_fetch_add _ = false
 
--- the number of fetch-adds on the word
+-- how many fetch-adds a history has on the word
 abbrev pub fetch_adds_on : Word → History → ℕ
 fetch_adds_on w [] = 0
 fetch_adds_on w (a ∷ older) =

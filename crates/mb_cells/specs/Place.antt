@@ -33,7 +33,8 @@ PhaseFits cells (Stored e) = e.cell < cells
 PhaseFits cells (Full e) = cells ≤ e.cell
 PhaseFits cells (Ended r) = FindsNoCell cells r
 
--- what producer p has done puts it at this place
+-- producer p has done this, and so stands at this place: it has linked these entries (the last first), and is in this
+-- phase
 pub record LaneIsAt (cells p : ℕ) (es : List Entry) (phase : Phase) (done : History) : Type 0 where
   pub below : AllCellsBelow cells es
   pub fits : PhaseFits cells phase

@@ -12,12 +12,12 @@ abbrev pub word_of : Cursor → Word
 word_of (cursor.Head p) = word.Head p
 word_of (cursor.Past k) = word.Link k
 
--- what the value of a head or link says
+-- the answer of a look that finds this value in a head or link
 abbrev pub look_of : ℕ → Look
 look_of v = if nat_eq v 0 then look.Nothing else if nat_eq v END then look.Ended
     else look.Cell (v - 1)
 
--- the answer of a look after a history
+-- the answer of a look at this cursor after a history
 abbrev pub look_after : Cursor → History → Look
 look_after at h = look_of (value_in (word_of at) h)
 

@@ -4,7 +4,7 @@ use Rattle.mb_cells.specs.Memory.{Has, History}
 use Rattle.mb_cells.specs.LanePath.{Entry, fetch}
 use Rattle.mb_cells.specs.Lanes.{linked_cells}
 
--- an item that producer p offered got one of `cells` cells, which is not linked yet
+-- an item that producer p offered got one of `cells` cells, and that cell is not linked yet
 pub record HasPending (cells p : ℕ) (h : History) : Type 0 where
   pub entry : Entry
   pub offered : Has h (fetch p entry)

@@ -13,7 +13,7 @@ use Rattle.mb_cells.specs.LanePath.{Entry, fetch, store}
 use Rattle.mb_cells.specs.Place.{LaneIsAt, Phase}
 
 -- ---- the place of a producer
--- the cell that was linked last
+-- the cell of the entry that was linked last
 abbrev pub last_of : List Entry → Option ℕ
 last_of [] = None
 last_of (e ∷ _) = Some e.cell
@@ -27,7 +27,7 @@ stage_of (phase.Full e) = stage.Full
 stage_of (phase.Ended None) = stage.Ended false
 stage_of (phase.Ended (Some e)) = stage.Ended true
 
--- the value is the place of producer p that has done this
+-- `lane` is the place of a producer p that has done this
 pub record IsLaneAfter (cells p : ℕ) (lane : Lane) (done : History) : Type 0 where
   pub entries : List Entry
   pub phase : Phase
@@ -48,12 +48,12 @@ stage_offer_refusal (stage.Stored cell) = Some offer.Busy
 stage_offer_refusal stage.Full = Some offer.Full
 stage_offer_refusal stage.Open = None
 
--- an offer without an access: Closed after the end mark, Busy while an offered item is not linked,
+-- the answer of an offer without an access: Closed after the end mark, Busy while an offered item is not linked,
 -- Full after a fetch-add that found no cell
 abbrev pub offer_refusal : Lane → Option Offer
 offer_refusal lane = stage_offer_refusal lane.stage
 
--- the answer to a fetch-add that gave n
+-- the answer of an offer whose fetch-add gave n
 abbrev pub offer_by_found : ℕ → ℕ → Offer
 offer_by_found cells n = if nat_lt n cells then offer.Cell n else offer.Full
 
@@ -61,13 +61,13 @@ offer_by_found cells n = if nat_lt n cells then offer.Cell n else offer.Full
 abbrev pub offer_answer : ℕ → ℕ → Lane → Offer
 offer_answer cells n lane = unwrap_or (offer_refusal lane) (offer_by_found cells n)
 
--- the lane after a fetch-add that gave n
+-- the lane after an offer whose fetch-add gave n
 abbrev pub lane_after_offer : ℕ → ℕ → ℕ → Lane → Lane
 lane_after_offer cells item n lane =
     record { last = lane.last; stage = if nat_lt n cells then stage.Offered n item else stage.Full }
 
 -- ---- a push at a place
--- the last link of lane p, or its head
+-- the link of the cell linked last, or the head of lane p if there is none
 abbrev pub link_after : ℕ → Option ℕ → Word
 link_after p None = Head p
 link_after p (Some k) = Link k
@@ -76,7 +76,7 @@ link_after p (Some k) = Link k
 abbrev pub next_link : ℕ → Lane → Word
 next_link p lane = link_after p lane.last
 
--- the store of a push, by the stage and the word that the next link goes to
+-- the store of a push, if it makes one, by the stage and by the word that the next link goes to
 abbrev pub stage_push_store : Word → LaneStage → Option (Word × ℕ)
 stage_push_store link (stage.Offered cell item) = Some (Item cell, item)
 stage_push_store link (stage.Stored cell) = Some (link, cell + 1)
@@ -84,7 +84,7 @@ stage_push_store link (stage.Ended full) = None
 stage_push_store link stage.Full = None
 stage_push_store link stage.Open = None
 
--- the store of a push, by the producer's place: first the item, then the link
+-- the store of a push, if it makes one, by the producer's place: first the item, then the link
 abbrev pub push_store : ℕ → Lane → Option (Word × ℕ)
 push_store p lane = stage_push_store (next_link p lane) lane.stage
 
@@ -130,7 +130,7 @@ stage_finish_refusal (stage.Stored cell) = Some finish.Busy
 stage_finish_refusal stage.Full = None
 stage_finish_refusal stage.Open = None
 
--- a finish without an access: Closed after the end mark, Busy while an offered item is not linked
+-- the answer of a finish without an access: Closed after the end mark, Busy while an offered item is not linked
 abbrev pub finish_refusal : Lane → Option Finish
 finish_refusal lane = stage_finish_refusal lane.stage
 
@@ -166,14 +166,14 @@ history_after_finish p lane h =
     if is_some (finish_refusal lane) then h else (store p (next_link p lane) END ∷ h)
 
 -- ---- the words of a pool
--- a word of a pool of this size
+-- the word is one of a pool of this size
 abbrev pub IsPoolWord : PoolSize → Word → Type 0
 IsPoolWord size Counter = Unit {0}
 IsPoolWord size (Head p) = p < size.lanes
 IsPoolWord size (Link k) = k < size.cells
 IsPoolWord size (Item k) = k < size.cells
 
--- a head, link or item word of a pool of this size
+-- the word is a head, a link or an item of a pool of this size
 abbrev pub IsLaneWord : PoolSize → Word → Type 0
 IsLaneWord size Counter = ⊥
 IsLaneWord size (Head p) = p < size.lanes

@@ -20,15 +20,15 @@ pub record PoolState : Type 0 where
   pub words : PoolWords
   pub lanes : List Lane
 
--- how many lanes a pool has
+-- how many lanes a pool in this state has
 abbrev pub lane_count : PoolState → ℕ
 lane_count s = length s.lanes
 
--- how many cells a pool has
+-- how many cells a pool in this state has
 abbrev pub cell_count : PoolState → ℕ
 cell_count s = length s.words.items
 
--- how large a pool is
+-- the size of a pool in this state
 abbrev pub size_of : PoolState → PoolSize
 size_of s = pool_size (lane_count s) (cell_count s)
 

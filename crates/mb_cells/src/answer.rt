@@ -24,7 +24,7 @@ pub enum Push {
     Item(u32),
     /// This cell was linked: its item is put.
     Link(u32),
-    /// No item is offered that is not linked.
+    /// Each item that has a cell is linked. So there is nothing to push.
     Idle,
 }
 
@@ -42,10 +42,10 @@ pub enum Finish {
 /// The answer of a look: what comes after a cursor.
 #[derive(Clone, Copy, PartialEq, Eq, Debug)]
 pub enum Look {
-    /// Nothing yet.
+    /// Nothing comes there yet.
     Nothing,
-    /// This cell.
+    /// This cell comes next.
     Cell(u32),
-    /// The end mark of the lane.
+    /// The end mark of the lane comes there.
     Ended,
 }

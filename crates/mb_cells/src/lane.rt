@@ -10,7 +10,7 @@ use crate::answer::{Finish, Offer, Push};
 /// What a producer has done since its last link store.
 #[derive(Clone, Copy, PartialEq, Eq, Debug)]
 pub enum LaneStage {
-    /// Nothing.
+    /// It has made no access.
     Open,
     /// Its fetch-add gave this cell for this item.
     Offered {

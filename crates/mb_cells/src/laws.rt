@@ -40,7 +40,7 @@ pub fn readers_follow_lanes()
     ensures chains { (size : PoolSize) (h : History) (r k : ℕ) → IsPoolLawful size h
         → Gave k (part (Reader r) h) → (p : ℕ) × ((ks : List ℕ) × HasMet r p (k ∷ ks) h) }
 
-    // It was given each cell whose words it loaded.
+    // A reader was given each cell whose words it loaded.
     ensures link { (size : PoolSize) (h : History) (r k v : ℕ) → IsPoolLawful size h
         → HasLoaded r (Link k) v h → Gave k (part (Reader r) h) }
     ensures item { (size : PoolSize) (h : History) (r k v : ℕ) → IsPoolLawful size h
@@ -55,6 +55,8 @@ pub fn calls_put_items()
         → HasMade size calls s → p < size.lanes
         → Reads (λ at. look_in at s) (λ k. item_in k s)
         (cursor.Head p) (put_list_by p calls) (lane_end_by p calls) }
+
+    // Each answer follows from the calls before it.
     ensures answers { (size : PoolSize) (c : Call) (older : List Call) (s : PoolState)
         → HasMade size (c ∷ older) s → IsAnswerBy size.cells c older }
 
@@ -76,6 +78,8 @@ pub fn calls_put_items()
         → Has (linked_cells_by p calls) k → Has (linked_cells_by q calls) k → p ≡ q }
     ensures once { (size : PoolSize) (p : ℕ) (calls : List Call) (s : PoolState)
         → HasMade size calls s → IsOnceEach (linked_cells_by p calls) }
+
+    // Each linked cell, and the lane that it is in, are of the pool.
     ensures within { (size : PoolSize) (p k : ℕ) (calls : List Call) (s : PoolState)
         → HasMade size calls s → Has (linked_cells_by p calls) k
         → (p < lane_count s) × (k < cell_count s) }
@@ -93,7 +97,8 @@ pub fn end_marks_are_last()
         → IsLinkWord w → is_of_lane p (linked_cells p h) w ≡ true → HasLoaded r w END h
         → HasMet r p (linked_cells p h) h }
 
-    // The same holds of the end mark after the cells that it met. The lane has ended then.
+    // If a reader has loaded the end mark after cells that it met, these are all cells of the lane, and the lane has
+    // ended.
     ensures reader { (size : PoolSize) (h : History) (r p : ℕ) (ks : List ℕ) → IsPoolLawful size h
         → HasMet r p ks h → HasLoaded r (place_past p ks) END h → ks ≡ linked_cells p h }
     ensures told { (size : PoolSize) (h : History) (r p : ℕ) (ks : List ℕ) → IsPoolLawful size h
@@ -163,13 +168,15 @@ pub fn loads_tell_what_stays()
     ensures link { (size : PoolSize) (h : History) (r v : ℕ) (w : Word) → IsPoolLawful size h
         → IsLinkWord w → HasLoaded r w v h → (v ≡ 0) ⊎ (v ≡ value_in w h) }
 
-    // On a lane that is the next cell, or after the last cell the end mark.
+    // On a lane a link holds 0 or the next cell, and the one after the last cell 0 or the end mark.
     ensures next { (size : PoolSize) (h : History) (r p k v : ℕ) (later ks : List ℕ)
         → IsPoolLawful size h → later ++ k ∷ ks ≡ linked_cells p h
         → HasLoaded r (place_past p ks) v h → (v ≡ 0) ⊎ (v ≡ k + 1) }
     ensures end { (size : PoolSize) (h : History) (r p v : ℕ) → IsPoolLawful size h
         → HasLoaded r (place_past p (linked_cells p h)) v h
         → (v ≡ 0) ⊎ ((v ≡ END) × (has_ended p h ≡ true)) }
+
+    // A load of an item gives the item put. Its cell is linked in a lane, as is each cell that a reader was given.
     ensures item { (size : PoolSize) (h : History) (r k v : ℕ) → IsPoolLawful size h
         → HasLoaded r (Item k) v h → v ≡ item_of k h }
     ensures item_put { (size : PoolSize) (h : History) (r k v : ℕ) → IsPoolLawful size h
@@ -185,7 +192,7 @@ pub fn looks_tell_links()
     ensures cell { (v k : ℕ) → look_of v ≡ look.Cell k → (v ≡ k + 1) × (v ≢ END) }
 {}
 
-/// The counter is bounded, and each number that it gave belongs to one cell, or lies past the cells.
+/// The counter is bounded, and each number below it was given by one fetch-add.
 pub fn numbers_are_handed_out_once()
     ensures bound { (size : PoolSize) (h : History) → IsPoolLawful size h
         → value_in Counter h ≤ size.cells + size.lanes }
@@ -208,14 +215,14 @@ pub fn numbers_are_handed_out_once()
         → n ≡ fetch_adds_on a.word older }
 {}
 
-/// A reader's loads, cut by lanes, give parts that are each a reader path.
+/// Each load of a reader is on some lane, and its loads on one lane are a reader path by themselves.
 pub fn readers_keep_to_lanes()
     ensures part { (size : PoolSize) (h : History) (r p : ℕ) → IsPoolLawful size h
         → IsReaderPath size.lanes (part_on r p h) }
     ensures all { (size : PoolSize) (h : History) (r : ℕ) (a : PoolAccess) → IsPoolLawful size h
         → Has (part (Reader r) h) a → (p : ℕ) × (is_of_lane p (linked_cells p h) a.word ≡ true) }
 
-    // And if the parts are reader paths, however they are cut, the whole is one.
+    // Accesses are a reader path if each of them is in some part, and all parts are reader paths.
     ensures whole { (lanes : ℕ) (test : ℕ → PoolAccess → Bool) (done : History)
         → ((a : PoolAccess) → Has done a → (p : ℕ) × (test p a ≡ true))
         → ((p : ℕ) → IsReaderPath lanes (filter (test p) done)) → IsReaderPath lanes done }
@@ -228,7 +235,7 @@ pub fn parts_tell_lanes()
         → ((a : PoolAccess) (v : ℕ) → Has h a → a.word ≡ w → stored_by a.act ≡ Some v
         → a.process ≡ Producer p) → value_in w h ≡ value_in w (part (Producer p) h) }
 
-    // Such words are its head, and the item and the link of each cell that it took.
+    // A producer alone stores to its head, and to the item and the link of each cell that it got.
     ensures head { (size : PoolSize) (h : History) (p : ℕ) → IsPoolLawful size h
         → value_in (Head p) h ≡ value_in (Head p) (part (Producer p) h) }
     ensures item { (size : PoolSize) (h : History) (p : ℕ) (e : Entry) → IsPoolLawful size h
@@ -237,6 +244,8 @@ pub fn parts_tell_lanes()
     ensures link { (size : PoolSize) (h : History) (p : ℕ) (e : Entry) → IsPoolLawful size h
         → Has h (fetch p e)
         → value_in (Link e.cell) h ≡ value_in (Link e.cell) (part (Producer p) h) }
+
+    // A producer's part also says which cells are linked, whether the lane has ended, and which items are put.
     ensures linked { (h : History) (p : ℕ)
         → linked_cells p h ≡ linked_cells p (part (Producer p) h) }
     ensures ended { (h : History) (p : ℕ)
@@ -244,7 +253,7 @@ pub fn parts_tell_lanes()
     ensures put { (size : PoolSize) (h : History) (p : ℕ) → IsPoolLawful size h
         → put_list p h ≡ put_list p (part (Producer p) h) }
 
-    // It took each cell that it linked.
+    // A producer got each cell that it linked. So its part says what the words of these cells hold.
     ensures taken { (size : PoolSize) (h : History) (p k : ℕ) → IsPoolLawful size h
         → Has (linked_cells p h) k → (e : Entry) × ((e.cell ≡ k) × Has h (fetch p e)) }
     ensures linked_item { (size : PoolSize) (h : History) (p k : ℕ) → IsPoolLawful size h

@@ -91,7 +91,7 @@ impl<A: Allocator + Drop> Pool<A> {
         lane.offered(cells, x, found)
     }
 
-    /// Stores the item that was offered on lane `p`, and at the next call its link.
+    /// Stores the item that was offered on lane `p`, and at the next call the link to its cell.
     /// [`calls_put_items`](crate::laws::calls_put_items) says which items are put.
     pub fn push(&mut self, p: u32) -> Push
         requires { p < lane_count self.old }

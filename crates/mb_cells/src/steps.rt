@@ -4,7 +4,7 @@
 //!
 //! A table of shared words needs [`words_follow_steps`]: its words and parts are those of one lawful history. An access
 //! of a producer may follow if its lane goes on with it ([`lanes_lead_on`]), and a load of a reader if its own part led
-//! there. [`history_extends`] then gives the longer history, and [`accesses_stay_within`] that the word is one of the pool's.
+//! there. [`history_extends`] then gives the longer history. By [`accesses_stay_within`] the word is one of the pool's.
 ghost use Rattle.std.specs.Prelude.{◌≡◌, ◌+◌, ◌<◌, ◌≤◌, ◌⊎◌, ◌∷◌, ◌++◌, ◌^◌, ◌≢◌, ℕ, List, Some, None, length};
 ghost use Rattle.std.specs.Prelude.{slice_index, unwrap_or, []};
 ghost use Rattle.mb_cells.specs.{ActFits, Counter, END, Entry, Has, History, IsAfter, LaneIsAt, IsLaneAfter};
@@ -22,13 +22,13 @@ pub fn history_extends()
     ensures older { (size : PoolSize) (later older : History) → IsPoolLawful size (later ++ older)
         → IsPoolLawful size older }
 
-    // One more access of a producer whose lane path goes on with it.
+    // A producer's access may follow if its lane path goes on with it, and the access is true to memory.
     ensures producer { (size : PoolSize) (h : History) (a : PoolAccess) (p : ℕ)
         → IsPoolLawful size h → a.process ≡ Producer p → p < size.lanes
         → ActFits a.act → ReadsLast a.word a.act h
         → IsLanePrefix size.cells p (a ∷ part (Producer p) h) → IsPoolLawful size (a ∷ h) }
 
-    // One more load of a reader that may load the word.
+    // A reader's load may follow if it may load the word.
     ensures reader { (size : PoolSize) (h : History) (r : ℕ) (w : Word) → IsPoolLawful size h
         → MayRead size.lanes w (part (Reader r) h)
         → IsPoolLawful size (load r w (value_in w h) ∷ h) }
@@ -100,7 +100,7 @@ pub fn lanes_lead_on()
         → IsLaneAfter cells p lane done → finish_refusal lane ≡ None
         → IsLaneAfter cells p (lane_after_finish lane) (store p (next_link p lane) END ∷ done) }
 
-    // If a call is refused, none of its accesses would go on with the lane's path.
+    // No other access goes on with the lane's path. If a call is refused, none of its accesses does.
     ensures fetches { (cells p : ℕ) (lane : Lane) (done : History) (e : Entry)
         → IsLaneAfter cells p lane done → IsLanePrefix cells p (fetch p e ∷ done)
         → offer_refusal lane ≡ None }
@@ -154,13 +154,13 @@ pub fn loads_leave_pools()
     ensures { (s : PoolState) (w : Word) → LoadGoesOn w s }
 {}
 
-/// What a history leaves is one pool.
+/// A history leaves only one pool of a size.
 pub fn pools_are_what_was_done()
     ensures { (h : History) (s t : PoolState) → PoolIsSound s → PoolIsSound t → SameSize s t
         → IsAfter h s → IsAfter h t → s ≡ t }
 {}
 
-/// Different words have different addresses, and all lie below the number of words.
+/// Different words have different addresses, and all addresses lie below the number of words.
 pub fn addresses_are_apart()
     ensures apart { (size : PoolSize) (v w : Word) → IsPoolWord size v → IsPoolWord size w
         → address_of size v ≡ address_of size w → v ≡ w }
@@ -168,14 +168,14 @@ pub fn addresses_are_apart()
         → address_of size w < pool_words size }
 {}
 
-/// All words of a pool in one block, and the parts of its processes, go on with their history.
+/// All words of a pool in one block, and the parts of its processes, follow the accesses of their history.
 pub fn words_follow_steps()
     ensures empty { (size : PoolSize) (words : List ℕ) → size.cells < END
         → pool_words size ≤ length words
         → ((w : Word) → IsPoolWord size w → slice_index words (address_of size w) ≡ 0)
         → IsStateOf size words (λ who. []) [] }
 
-    // An access that goes on changes the one word and the one part.
+    // An access that may follow changes its own word, and the part of its process.
     ensures step { (size : PoolSize) (words : List ℕ) (parts : Process → History) (h : History)
         (a : PoolAccess) → IsStateOf size words parts h → IsPoolLawful size (a ∷ h)
         → IsStateOf size (block_after size a words) (parts_after a parts) (a ∷ h) }

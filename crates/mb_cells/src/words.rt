@@ -11,8 +11,11 @@ use std::marker::Model;
 pub struct PoolMemory<A: Allocator + Drop> {
     /// How many fetch-adds were made for cells.
     pub counter: u64,
+    /// The head of each lane.
     pub heads: Vec<u64, A>,
+    /// The link of each cell.
     pub links: Vec<u64, A>,
+    /// The item of each cell.
     pub items: Vec<u64, A>,
 }
 
@@ -30,6 +33,7 @@ impl<A: Allocator + Drop> Model for PoolMemory<A> {
 }
 
 impl<A: Allocator + Drop> PoolMemory<A> {
+    /// How many cells the pool has.
     pub fn cells(&self) -> u32
         requires { length self.now.items < 2 ^ 32 }
         ensures { result ≡ length self.now.items }
@@ -37,6 +41,7 @@ impl<A: Allocator + Drop> PoolMemory<A> {
         self.items.len() as u32
     }
 
+    /// What the word holds.
     pub fn load(&self, word: Word) -> u64
         requires { HasWord word self.now }
         ensures { result ≡ word_in word self.now }
@@ -49,6 +54,7 @@ impl<A: Allocator + Drop> PoolMemory<A> {
         }
     }
 
+    /// Stores the value in the word, and leaves all others as they are.
     pub fn store(&mut self, word: Word, value: u64)
         requires { HasWord word self.old }
         ensures { self.new ≡ words_with word value self.old }

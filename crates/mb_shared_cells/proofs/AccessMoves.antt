@@ -27,15 +27,15 @@ pub record AccessLaws : Type 0 where
       → IsStateOf size (block_after size a words) (parts_after a parts) (a ∷ h)
   pub within : (size : PoolSize) (w : Word) → IsPoolWord size w → address_of size w < pool_words size
 
--- after each lawful history in which the process did this, and that left n in the word: its access goes on, and the
--- word then holds what f makes of n
+-- after each lawful history in which the process did this part, and which leaves n in the word, the access may follow.
+-- The word then holds what f makes of n
 abbrev pub GoesOn : PoolSize → Process → History → Word → (ℕ → PoolAct) → (ℕ → ℕ) → Type 0
 GoesOn size who done word act f =
     (h : History) (n : ℕ) → IsPoolLawful size h → part who h ≡ done → ProcessFits size.lanes who
     → n ≡ value_in word h → n < 2 ^ 64
     → IsPoolLawful size (access_by who word (act n) ∷ h) × (f n ≡ unwrap_or (stored_by (act n)) n)
 
--- one access more, whichever it is
+-- words and views keep the rule after one access more of a lane or a reader, whichever it is
 pub kept_by_access : AccessLaws → (size : PoolSize) (words : List ℕ) (views : List View) (id : ℕ) (own : PoolSize)
     (who : Process) (known : PartList) (done : History) (word : Word) (act : PoolAct) (n : ℕ)
     (h : IsCellsState size words views) → get_elem? views id ≡ some (Member own who known done)
@@ -102,7 +102,7 @@ kept_by_access laws size words views id own who known done word act n h at withi
       },
     )
 
--- so a seat may make the step of an access that goes on
+-- a seat may make the step of an access that goes on
 pub access_allows : AccessLaws → (size : PoolSize) (slots id : ℕ) (who : Process) (known : PartList) (done : History)
     (word : Word) (act : ℕ → PoolAct) (f : ℕ → ℕ) → IsPoolWord size word → GoesOn size who done word act f
     → Allows (KeepsCells size) slots id (Member size who known done, []) (address_of size word) f

@@ -30,19 +30,19 @@ pub record LaneLaws : Type 0 where
       → finish_refusal lane ≡ None
       → IsLaneAfter cells p (lane_after_finish lane) (store p (next_link p lane) END ∷ done)
 
--- what a push stores is in range
+-- the store of a push is to a head, link or item of the pool
 abbrev pub PushWithin : Type 0
 PushWithin =
     (size : PoolSize) (p : ℕ) (lane : Lane) (done : History) (w : Word) (v : ℕ) → p < size.lanes
     → IsLaneAfter size.cells p lane done → push_store p lane ≡ Some (w, v) → IsLaneWord size w
 
--- the next link is in range
+-- the next link of a lane is a head or link of the pool
 abbrev pub LinkWithin : Type 0
 LinkWithin =
     (size : PoolSize) (p : ℕ) (lane : Lane) (done : History) → p < size.lanes
     → IsLaneAfter size.cells p lane done → IsLaneWord size (next_link p lane)
 
--- what a reader may load is in range
+-- a word that a reader may load is a head, link or item of the pool
 abbrev pub LoadWithin : Type 0
 LoadWithin =
     (size : PoolSize) (h : History) (r : ℕ) (w : Word) → IsPoolLawful size h
@@ -105,7 +105,7 @@ can_load within size me w s same may =
           (subst (λ l. MayRead own.lanes w l) (sym s.history.2) may');
     })
 
--- a link that was loaded leads to a cell of the table
+-- the laws of the cells by which a link that was loaded leads to a cell of the table
 pub record CellLaws : Type 0 where
   pub own : (h : History) (a : PoolAccess) → part a.process (a ∷ h) ≡ a ∷ part a.process h
   pub put : (size : PoolSize) (h : History) (r k : ℕ) → IsPoolLawful size h → Gave k (part (Reader r) h)
@@ -113,7 +113,7 @@ pub record CellLaws : Type 0 where
   pub within : (size : PoolSize) (h : History) (p k : ℕ) → IsPoolLawful size h → Has (linked_cells p h) k
       → (p < size.lanes) × (k < size.cells)
 
--- a look that finds a cell gives it
+-- a load of the word at a cursor that finds k + 1 gives cell k
 pub gift : (at : Cursor) (v k : ℕ) → v ≡ k + 1 → v ≢ END → IsGift k (word_of at) (Load v)
 gift (cursor.Head p) v k is some = (is, some)
 gift (cursor.Past j) v k is some = (is, some)
@@ -131,7 +131,7 @@ cell_within laws size r known done at v after some no_end =
     let there = laws.put size h r (v - 1) after.lawful gave in
     (laws.within size h there.0 (v - 1) after.lawful there.1).1
 
--- what is loaded on a lane that is known is what that lane's part left there
+-- the laws of the cells by which a load on a known lane finds what that lane's part left there
 pub record KnownLaws : Type 0 where
   pub older : (size : PoolSize) (later older : History) → IsPoolLawful size (later ++ older) → IsPoolLawful size older
   pub head : (size : PoolSize) (h : History) (p : ℕ) → IsPoolLawful size h

@@ -22,7 +22,8 @@ use Rattle.mb_shared_cells.specs.declared.views.View.TheVariants.{Hub, HubDraws,
 use Rattle.mb_shared_cells.proofs.Seatings.{Spares, fits_still, moved, moved-else, moved-here, roll_enrolled, stands_longer, stands_then, with_lane-has, with_reader-has}
 use Rattle.mb_shared_cells.proofs.ViewLists.{all_set, all_snoc, at_within, longer_had, longer_none}
 
--- the laws of the cells on a history to which nothing is added
+-- ---- a new table, and a number drawn
+-- words after those of the pool may hold anything
 abbrev pub MoreLaw : Type 0
 MoreLaw =
     (size : PoolSize) (words more : List ℕ) (parts : Process → History) (h : History)
@@ -30,14 +31,14 @@ MoreLaw =
     → ((i : ℕ) → i < pool_words size → slice_index more i ≡ slice_index words i)
     → pool_words size ≤ length more → IsStateOf size more parts h
 
--- the empty history is lawful
+-- words that all hold 0 are those of the empty history
 abbrev pub EmptyLaw : Type 0
 EmptyLaw =
     (size : PoolSize) (words : List ℕ) → size.cells < END → pool_words size ≤ length words
     → ((w : Word) → IsPoolWord size w → slice_index words (address_of size w) ≡ 0)
     → IsStateOf size words (λ who. []) []
 
--- the words of a new table are 0
+-- each element of a list of zeros is 0
 zeros : (n i : ℕ) → slice_index (replicate n 0) i ≡ 0
 zeros zero i = refl
 zeros (suc n) zero = refl
@@ -151,12 +152,13 @@ draw_asked law key size slots id i me own roll same is there room small =
     (λ i. (sym same i, sym is i, sym there i))
     (draw_allows law size slots id own roll room small)
 
+-- ---- a seat split off for a lane or a reader
 -- the process has the next number of its kind
 IsNext : Process → Roll → Type 0
 IsNext (Producer p) roll = p ≡ length roll.lanes
 IsNext (Reader r) roll = r ≡ length roll.readers
 
--- the roll with that number, the hub's view before it, and what the newcomer knows
+-- the roll with that number, whose seat is out
 grown : Process → Roll → Roll
 grown (Producer p) roll = roll_with_lane roll
 grown (Reader r) roll = roll_with_reader roll
@@ -166,22 +168,22 @@ before : Process → PoolSize → Roll → View
 before (Producer p) own roll = HubDraws own roll
 before (Reader r) own roll = Hub own roll
 
--- what this process will know of lanes
+-- the lanes' parts that are put into this process's seat
 known_by : Process → Roll → PartList
 known_by (Producer p) roll = []
 known_by (Reader r) roll = roll.lanes
 
--- how many lanes are enrolled then
+-- how many lanes are enrolled with this process, if n were before
 lanes_after : Process → ℕ → ℕ
 lanes_after (Producer p) n = n + 1
 lanes_after (Reader r) n = n
 
--- how many readers are enrolled then
+-- how many readers are enrolled with this process, if n were before
 readers_after : Process → ℕ → ℕ
 readers_after (Producer p) n = n
 readers_after (Reader r) n = n + 1
 
--- the seating with this process at this seat
+-- the seating with this process enrolled, at seat `to`
 seating_after : Process → ℕ → Seating → Seating
 seating_after who to t = record {
   history = t.history;
@@ -191,7 +193,7 @@ seating_after who to t = record {
   seat_of = moved who to t.seat_of;
 }
 
--- who was enrolled is so then
+-- a process that was enrolled before still is
 still_enrolled : (who : Process) (to : ℕ) (t : Seating) (x : Process) → IsEnrolled t x
     → IsEnrolled (seating_after who to t) x
 unfolding lanes_after readers_after seating_after
@@ -200,21 +202,21 @@ still_enrolled (Producer p) to t (Reader q) e = e
 still_enrolled (Reader p) to t (Producer q) e = e
 still_enrolled (Reader p) to t (Reader q) e = omega arith
 
--- this process is enrolled then
+-- the process of that seating is enrolled in it
 next_enrolled : (size : PoolSize) (seat : ℕ) (own : PoolSize) (roll : Roll) (who : Process) (to : ℕ) (t : Seating)
     → IsHub size t seat own roll → IsNext who roll → IsEnrolled (seating_after who to t) who
 unfolding lanes_after readers_after seating_after IsNext
 next_enrolled size seat own roll (Producer p) to t h is = let n = h.lanes in omega arith
 next_enrolled size seat own roll (Reader r) to t h is = let n = h.readers in omega arith
 
--- it was not enrolled before
+-- a process with the next number was not enrolled before
 next_not_enrolled : (size : PoolSize) (seat : ℕ) (own : PoolSize) (roll : Roll) (who : Process) (t : Seating)
     → IsHub size t seat own roll → IsNext who roll → IsEnrolled t who → ⊥
 unfolding IsNext
 next_not_enrolled size seat own roll (Producer p) t h is e = let n = h.lanes in omega arith
 next_not_enrolled size seat own roll (Reader r) t h is e = let n = h.readers in omega arith
 
--- who is enrolled now was so before, or is the newcomer
+-- each process enrolled in that seating was enrolled before, or is the new one
 enrolled_before : (size : PoolSize) (seat : ℕ) (own : PoolSize) (roll : Roll) (who : Process) (to : ℕ) (t : Seating)
     (x : Process) → IsHub size t seat own roll → IsNext who roll → IsEnrolled (seating_after who to t) x
     → (IsEnrolled t x) ⊎ (who ≡ x)
@@ -228,21 +230,21 @@ enrolled_before size seat own roll (Reader p) to t (Reader q) h is e =
     let n = h.readers in
     elim (cases_eq q t.readers) [ inl same ↦ inr (ap Reader (is ∙ n ∙ sym same)) | inr other ↦ inl (omega arith) ]
 
--- the roll has as many lanes then
+-- the roll with that number has a place for each lane enrolled
 grown_lanes : (who : Process) (roll : Roll) (n : ℕ) → length roll.lanes ≡ n
     → length (grown who roll).lanes ≡ lanes_after who n
 unfolding lanes_after grown
 grown_lanes (Producer p) roll n e = omega (arith, length-append roll.lanes (None ∷ []))
 grown_lanes (Reader r) roll n e = e
 
--- the roll has as many readers then
+-- the roll with that number has a place for each reader enrolled
 grown_readers : (who : Process) (roll : Roll) (n : ℕ) → length roll.readers ≡ n
     → length (grown who roll).readers ≡ readers_after who n
 unfolding readers_after grown
 grown_readers (Producer p) roll n e = e
 grown_readers (Reader r) roll n e = omega (arith, length-append roll.readers (None ∷ []))
 
--- a part in that roll was in the roll before
+-- each part in the roll with that number was in the roll before
 grown_had : (who : Process) (roll : Roll) (x : Process) (done : History)
     → roll_at x (grown who roll) ≡ Some (Some done) → roll_at x roll ≡ Some (Some done)
 unfolding grown
@@ -251,14 +253,14 @@ grown_had (Producer p) roll (Reader q) done e = e
 grown_had (Reader p) roll (Producer q) done e = e
 grown_had (Reader p) roll (Reader q) done e = longer_had roll.readers q done e
 
--- whom the hub's view had it has still
+-- each process whose part the hub's view had has its part there still
 before_keeps : (who : Process) (own : PoolSize) (roll : Roll) (x : Process) → HasProcess (before who own roll) x
     → HasProcess (Hub own (grown who roll)) x
 unfolding before grown
 before_keeps (Producer p) own roll x h = (h.0, with_lane-has roll x (Some h.0) h.1)
 before_keeps (Reader p) own roll x h = (h.0, with_reader-has roll x (Some h.0) h.1)
 
--- the hub's view before fits as a hub's, and so does the roster
+-- if the hub's view before the split fits, it is the hub's, and the roster counts the lanes enrolled with the process
 before_fits : (size : PoolSize) (t : Seating) (roster seat : ℕ) (who : Process) (own : PoolSize) (roll : Roll)
     → FitsView size t roster seat (before who own roll)
     → IsHub size t seat own roll × (roster ≡ lanes_after who t.lanes)
@@ -266,7 +268,7 @@ unfolding lanes_after before
 before_fits size t roster seat (Producer p) own roll h = h
 before_fits size t roster seat (Reader r) own roll h = h
 
--- what a newcomer knows was taken in
+-- each lane of which a new seat gets the part was taken in
 newcomer_knows : (size : PoolSize) (t : Seating) (seat : ℕ) (own : PoolSize) (roll : Roll) (who : Process)
     → IsHub size t seat own roll → KnowsTaken t (known_by who roll)
 unfolding known_by
@@ -276,7 +278,7 @@ newcomer_knows size t seat own roll (Reader r) h q theirs e =
     let low : q < t.lanes = roll_enrolled size t seat own roll (Producer q) (Some theirs) h e in
     (low, x.0 ∙ h.here, x.1)
 
--- a seat goes out: to the lane whose number was drawn, or to the next reader
+-- the hub may split a seat off: for the lane whose number was drawn, or for the next reader
 hands_out : (size : PoolSize) (id : ℕ) (own : PoolSize) (roll : Roll) (who : Process) → IsNext who roll
     → Splits (KeepsCells size) id (before who own roll) (Hub own (grown who roll))
     (Member own who (known_by who roll) [])
@@ -367,7 +369,7 @@ reader_splits size id v own roll is =
     subst (λ (u : View). Splits (KeepsCells size) id u (hub_after_split u) (newcomer u)) (sym is)
     (hands_out size id own roll (Reader (length roll.readers)) refl)
 
--- the history of a roll is that of the roll with one number more, whose seat is out
+-- a roll with one lane more is that of the same history
 pub with_lane_history : (size : PoolSize) (roll : Roll) (h : History) → IsRollOf size roll h
     → IsRollOf size (roll_with_lane roll) h
 with_lane_history size roll h r = record { lawful = r.lawful; parts = had; others = none }

@@ -9,7 +9,7 @@ use Rattle.mb_cells.specs.declared.access.Word.{Word}
 use Rattle.mb_cells.specs.declared.size.PoolSize.{PoolSize}
 use Rattle.mb_shared_cells.specs.Views.{IsAccessAfter, PartList, access_by}
 
--- the laws of the cells on which it stands
+-- the laws of the cells on which this file stands
 pub record ReadLaws : Type 0 where
   pub older : (size : PoolSize) (later older : History) → IsPoolLawful size (later ++ older) → IsPoolLawful size older
   pub start : (size : PoolSize) (h : History) (r p : ℕ) (ks : List ℕ) → IsPoolLawful size h
@@ -39,7 +39,7 @@ has_behind : (later ks : List ℕ) (k : ℕ) → Has (later ++ k ∷ ks) k
 has_behind [] ks k = inl refl
 has_behind (j ∷ later) ks k = inr (has_behind later ks k)
 
--- a load of the link past cells of a known lane finds one of the three
+-- a load of the link past cells of a known lane finds one of these three
 pub found : ReadLaws → (size : PoolSize) (r p : ℕ) (known : PartList) (done theirs : History) (ks : List ℕ)
     (w : Word) (v : ℕ) → w ≡ place_past p ks → IsAccessAfter size known (access_by (Reader r) w (Load v)) done
     → slice_get known p ≡ Some (Some theirs) → HasMet r p ks done → Found p theirs ks v

@@ -1,9 +1,14 @@
+-- In the order of reading: a file stands on files above it.
+
+-- Lists of views and parts, and who stands at which seat
 pub mod ViewLists
 pub mod Seatings
+-- Each step keeps the rule
 pub mod AccessMoves
 pub mod NextAccesses
 pub mod EnrolMoves
 pub mod TakeMoves
+-- What the calls of seats keep, find and put
 pub mod SeatFacts
 pub mod CallFacts
 pub mod KnownLanes

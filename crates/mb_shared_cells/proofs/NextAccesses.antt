@@ -1,4 +1,4 @@
--- The accesses that go on, by the laws of the cells.
+-- Which accesses may follow, by the laws of the cells.
 use Rattle.std.proofs.Common.{arith, refl, subst, sym, ℕ, ◌%◌, ◌+◌, ◌<◌, ◌^◌, ◌∷◌, ◌≡◌, ◌≤◌}
 use Rattle.mb_cells.specs.Vocabulary.{ActFits, Entry, History, IsLaneWord, IsLanePrefix, IsPoolLawful, IsPoolWord, MayRead, ReadsLast, fetch, load, part, store, value_in}
 use Rattle.mb_cells.specs.declared.access.PoolAccess.{PoolAccess}
@@ -33,7 +33,7 @@ ReaderLaw =
 abbrev pub CounterLaw : Type 0
 CounterLaw = (size : PoolSize) (h : History) → IsPoolLawful size h → value_in Counter h ≤ size.cells + size.lanes
 
--- a load goes on, whatever it finds
+-- a load of a word that its reader may load goes on, whatever it finds
 pub load_goes : ReaderLaw → (size : PoolSize) (r : ℕ) (done : History) (w : Word) → MayRead size.lanes w done
     → GoesOn size (Reader r) done w (λ n. Load n) (λ n. n)
 load_goes law size r done w may h n lawful mine lane is low = (
@@ -52,7 +52,7 @@ store_goes law size p done w value small path h n lawful mine lane is low = (
   refl,
 )
 
--- the counter's bound keeps a fetch-add from wrapping
+-- a fetch-add goes on, if its producer's path does. The counter's bound keeps it from wrapping
 pub fetch_goes : ProducerLaw → CounterLaw → (size : PoolSize) (p : ℕ) (done : History) (item : ℕ)
     → size.lanes < 2 ^ 32 → size.cells < 2 ^ 32 → item < 2 ^ 64
     → ((n : ℕ) → IsLanePrefix size.cells p (fetch p (record { cell = n; value = item }) ∷ done))

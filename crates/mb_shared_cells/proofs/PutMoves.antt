@@ -22,7 +22,7 @@ use Rattle.mb_shared_cells.specs.Calls.{FinishBy, FinishMakes, LaneMakes, OfferB
 use Rattle.mb_shared_cells.specs.Shown.{LaneSeatView}
 use Rattle.mb_shared_cells.specs.Views.{IsAccessAfter}
 
--- the laws of the cells on which it stands
+-- the laws of the cells on which this file stands
 pub record PutLaws : Type 0 where
   pub own : (h : History) (a : PoolAccess) → part a.process (a ∷ h) ≡ a ∷ part a.process h
   pub older : (size : PoolSize) (later older : History) → IsPoolLawful size (later ++ older) → IsPoolLawful size older
@@ -48,7 +48,7 @@ fetch_puts laws size p e done after =
     ∙ laws.told size h p lawful
     ∙ ap (put_list p) after.own
 
--- an offer that got cell k
+-- an offer of x got cell k by its fetch-add: what the seat is then
 pub record GotCell (old : LaneSeatView) (x k : ℕ) (new : LaneSeatView) : Type 0 where
   pub low : k < old.table.size.cells
   pub after : IsAccessAfter old.table.size [] (fetch old.lane (record { cell = k; value = x })) old.part
@@ -57,10 +57,11 @@ pub record GotCell (old : LaneSeatView) (x k : ℕ) (new : LaneSeatView) : Type 
     part = fetch old.lane (record { cell = k; value = x }) ∷ old.part;
   }
 
--- one answer has one cell
+-- equal answers have equal cells
 same_cell : (n k : ℕ) → offer.Cell k ≡ offer.Cell n → n ≡ k
 same_cell n k e = cc
 
+-- an offer whose fetch-add found n, and which returned cell k, got cell k
 got_by : (old : LaneSeatView) (x k n : ℕ) (new : LaneSeatView) (b : Bool) → nat_lt n old.table.size.cells ≡ b
     → offer.Cell k ≡ (if b then offer.Cell n else offer.Full)
     → LaneMakes (fetch old.lane (record { cell = n; value = x })) (lane_after_offer old.table.size.cells x n old.place)
@@ -77,6 +78,7 @@ got_by old x k n new true low told makes =
     })
 got_by old x k n new false low told makes = absurd (cc)
 
+-- an offer that returned cell k got it, by the producer's stage
 got_at : (old : LaneSeatView) (x k : ℕ) (new : LaneSeatView) (at : LaneStage)
     → OfferBy (stage_offer_refusal at) old x (offer.Cell k) new → GotCell old x k new
 got_at old x k new stage.Open made = got_by old x k made.0 new (nat_lt made.0 old.table.size.cells) refl made.1 made.2
@@ -90,7 +92,7 @@ link_word : (p : ℕ) (last : Option ℕ) → IsLinkWord (link_after p last)
 link_word p None = tt
 link_word p (Some k) = tt
 
--- what an offer that got cell k and two pushes come to
+-- what an offer of x that got cell k and two pushes come to: their answers, and the seat after them
 pub record PutCell (old : LaneSeatView) (x k : ℕ) (one two : Push) (new : LaneSeatView) : Type 0 where
   pub got : k < old.table.size.cells
   pub after : IsAccessAfter old.table.size [] (fetch old.lane (record { cell = k; value = x })) old.part
@@ -122,7 +124,7 @@ three_calls old offered stored new x k one two offers stores links =
       is = b.1.1;
     }
 
--- they put the item in that cell
+-- these calls put the item at the end of the lane's put list
 pub item_put : PutLaws → (old new : LaneSeatView) (x k : ℕ) (one two : Push) → PutCell old x k one two new
     → put_list old.lane new.part ≡ put_list old.lane old.part ++ record { cell = k; value = x } ∷ []
 item_put laws old new x k one two c =
@@ -140,7 +142,7 @@ item_put laws old new x k one two c =
     ∙ laws.link h p k (next_link p old.place) (link_word p old.place.last) no_end
     ∙ (λ i. before i ++ entry i ∷ [])
 
--- an offer that is answered Full
+-- an offer that returns Full puts nothing, by the producer's stage
 full_at : PutLaws → (old new : LaneSeatView) (x : ℕ) (at : LaneStage)
     → OfferBy (stage_offer_refusal at) old x offer.Full new
     → put_list old.lane new.part ≡ put_list old.lane old.part
@@ -157,7 +159,7 @@ pub full_puts : PutLaws → (old new : LaneSeatView) (x : ℕ) → OfferMakes ol
     → put_list old.lane new.part ≡ put_list old.lane old.part
 full_puts laws old new x made = full_at laws old new x old.place.stage made
 
--- an offer returns Full if a fetch-add found no cell: now, or before
+-- if an offer returns Full after its own fetch-add, that found no cell
 found_now : (cells n : ℕ) (b : Bool) → nat_lt n cells ≡ b → offer.Full ≡ (if b then offer.Cell n else offer.Full)
     → cells ≤ n
 found_now cells n true low told = absurd (cc)
@@ -178,6 +180,7 @@ found_before cells p lane done after is =
     by (phase.Ended None) e at = absurd (cc)
     by (phase.Ended (Some x)) e at = absurd (cc)
 
+-- after an offer that returns Full a fetch-add had found no cell, by the producer's stage
 found_at : (old new : LaneSeatView) (x : ℕ) (at : LaneStage)
     → IsLaneAfter old.table.size.cells old.lane old.place old.part → old.place.stage ≡ at
     → OfferBy (stage_offer_refusal at) old x offer.Full new
@@ -203,7 +206,7 @@ pub full_found : (old new : LaneSeatView) (x : ℕ) → IsLaneAfter old.table.si
     → (e : Entry) × (Has new.part (fetch old.lane e) × (old.table.size.cells ≤ e.cell))
 full_found old new x after made = found_at old new x old.place.stage after refl made
 
--- the end mark puts nothing
+-- a finish that ends the lane puts nothing, by the producer's stage
 end_at : PutLaws → (old new : LaneSeatView) (at : LaneStage)
     → FinishBy (stage_finish_refusal at) old finish.Ended new
     → put_list old.lane new.part ≡ put_list old.lane old.part

@@ -16,13 +16,13 @@ use Rattle.mb_shared_cells.specs.Views.{IsAccessAfter, IsRollOf, MakesAccess, Pa
 use Rattle.mb_shared_cells.specs.declared.views.Roll.{Roll}
 use Rattle.mb_shared_cells.specs.declared.views.View.TheVariants.{Hub}
 
--- what is kept in a hub
+-- a hub with such a view and count keeps what it has to
 pub hub_is : (me : SeatState) (size : PoolSize) (roll : Roll) (given : ℕ) → me ≡ (Hub size roll, [])
     → given ≡ length roll.lanes → (h : History) × IsRollOf size roll h → IsHubSeat me given
 hub_is me size roll given is count history =
     subst (λ (z : SeatState). IsHubSeat z given) (sym is) (record { is = refl; count = count; history = history })
 
--- a part after an access is that of the longer history
+-- the part of an access's process has the access in front
 abbrev pub OwnLaw : Type 0
 OwnLaw = (h : History) (a : PoolAccess) → part a.process (a ∷ h) ≡ a ∷ part a.process h
 
@@ -34,7 +34,7 @@ history_then law size who known done word act after =
     let a = access_by who word act in
     (a ∷ after.older, after.lawful, law after.older a ∙ ap (λ l. a ∷ l) after.own)
 
--- a lane's seat after an access
+-- a lane's seat keeps what it has to after an access
 pub lane_then : OwnLaw → (me new : SeatState) (number : ℕ) (was now : Lane) (word : Word) (act : PoolAct)
     → IsLaneSeat me number was → MakesAccess word act me new
     → IsLaneAfter (size_in me.0).cells number now (access_by (Producer number) word act ∷ done_in me.0)
@@ -51,7 +51,7 @@ lane_then law me new number was now word act s m stands =
       history = history_then law size (Producer number) [] done word act m'.0;
     })
 
--- what came before that access, and what callers see after it
+-- an access of a lane's seat, as callers see it
 pub lane_makes : (id then : TableId) (me new : SeatState) (number : ℕ) (was now : Lane) (word : Word) (act : PoolAct)
     → IsLaneSeat me number was → MakesAccess word act me new → then ≡ id
     → IsAccessAfter (size_in me.0) [] (access_by (Producer number) word act) (done_in me.0)

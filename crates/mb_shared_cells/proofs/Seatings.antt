@@ -18,7 +18,8 @@ use Rattle.mb_shared_cells.specs.declared.views.View.{View}
 use Rattle.mb_shared_cells.specs.declared.views.View.TheVariants.{Empty, Hub, HubDraws, HubJoins, Member}
 use Rattle.mb_shared_cells.proofs.ViewLists.{at_within, longer_has, out_or_in, set_had, set_has, set_here}
 
--- two processes are one or not
+-- ---- a process that moves to another seat
+-- two processes are equal or not
 pub one_or_other : (a b : Process) → (a ≡ b) ⊎ (a ≢ b)
 one_or_other (Producer p) (Producer q) =
     elim (cases_eq p q) [ inl e ↦ inl (ap Producer e) | inr other ↦ inr (λ e. other (cc)) ]
@@ -27,11 +28,11 @@ one_or_other (Reader p) (Producer q) = inr (λ e. cc)
 one_or_other (Reader p) (Reader q) =
     elim (cases_eq p q) [ inl e ↦ inl (ap Reader e) | inr other ↦ inr (λ e. other (cc)) ]
 
--- the same seats, but for one process, which stands at this one
+-- the seat of each process as in `seats`, but process `who` stands at seat `to`
 pub moved : Process → ℕ → (Process → ℕ) → Process → ℕ
 moved who to seats x = ⊎_elim (λ _. to) (λ _. seats x) (one_or_other who x)
 
--- the process stands at its new seat
+-- process `who` then stands at seat `to`
 pub moved-here : (who : Process) (to : ℕ) (seats : Process → ℕ) → moved who to seats who ≡ to
 unfolding moved
 moved-here who to seats = here (one_or_other who who)
@@ -40,7 +41,7 @@ moved-here who to seats = here (one_or_other who who)
     here (inl e) = refl
     here (inr other) = absurd (other refl)
 
--- any other stands where it stood
+-- each other process stands where it stood
 pub moved-else : (who : Process) (to : ℕ) (seats : Process → ℕ) (x : Process) → who ≢ x
     → moved who to seats x ≡ seats x
 unfolding moved
@@ -50,7 +51,7 @@ moved-else who to seats x apart = there (one_or_other who x)
     there (inl e) = absurd (apart e)
     there (inr other) = refl
 
--- who stood there before stands there
+-- a process that stood at seat `to` before stands there still
 pub moved-to : (who : Process) (to : ℕ) (seats : Process → ℕ) (x : Process) → seats x ≡ to
     → moved who to seats x ≡ to
 unfolding moved
@@ -60,7 +61,8 @@ moved-to who to seats x is = there (one_or_other who x)
     there (inl e) = refl
     there (inr other) = is
 
--- what a step leaves alone for a seat that did not make it: those that stand there or at the hub
+-- ---- what a step leaves for the seats that did not make it
+-- a step from seating t to u spares this seat: each process that stands there or at the hub keeps its seat and its part
 pub record Spares (t u : Seating) (roster more seat : ℕ) : Type 0 where
   pub hubs : u.hub ≡ t.hub
   pub enrolled : (who : Process) → IsEnrolled t who → IsEnrolled u who
@@ -68,7 +70,7 @@ pub record Spares (t u : Seating) (roster more seat : ℕ) : Type 0 where
   pub stand : (who : Process) → IsEnrolled t who → (t.seat_of who ≡ seat) ⊎ (t.seat_of who ≡ t.hub)
       → (u.seat_of who ≡ t.seat_of who) × (part who u.history ≡ part who t.history)
 
--- whoever has a place in the roll was enrolled
+-- a process with a place in the roll was enrolled
 pub roll_enrolled : (size : PoolSize) (t : Seating) (seat : ℕ) (own : PoolSize) (roll : Roll) (who : Process)
     (b : Option History) → IsHub size t seat own roll → roll_at who roll ≡ Some b → IsEnrolled t who
 roll_enrolled size t seat own roll (Producer p) b h e =
@@ -76,14 +78,14 @@ roll_enrolled size t seat own roll (Producer p) b h e =
 roll_enrolled size t seat own roll (Reader r) b h e =
     let low = slice_get_within roll.readers r b e in let is = h.readers in omega arith
 
--- whoever was enrolled is out, or was taken in
+-- the seat of a process that was enrolled is out, or was taken in
 pub enrolled_out : (size : PoolSize) (t : Seating) (seat : ℕ) (own : PoolSize) (roll : Roll) (who : Process)
     → IsHub size t seat own roll → IsEnrolled t who
     → (roll_at who roll ≡ Some None) ⊎ ((done : History) × (roll_at who roll ≡ Some (Some done)))
 enrolled_out size t seat own roll (Producer p) h low = let is = h.lanes in out_or_in roll.lanes p (omega arith)
 enrolled_out size t seat own roll (Reader r) h low = let is = h.readers in out_or_in roll.readers r (omega arith)
 
--- what is known of lanes is known still
+-- a list of lanes' parts that was right is right still
 knows_still : (t u : Seating) (roster more seat : ℕ) → Spares t u roster more seat → (known : PartList)
     → KnowsTaken t known → KnowsTaken u known
 knows_still t u roster more seat s known h p theirs at =
@@ -91,7 +93,7 @@ knows_still t u roster more seat s known h p theirs at =
     let k = s.stand (Producer p) x.0 (inr x.1) in
     (s.enrolled (Producer p) x.0, k.0 ∙ x.1 ∙ sym s.hubs, x.2 ∙ sym k.1)
 
--- the hub's view is that of the hub still
+-- a view that was the hub's is the hub's still
 hub_still : (size : PoolSize) (t u : Seating) (roster more seat : ℕ) → Spares t u roster more seat
     → (own : PoolSize) (roll : Roll) → IsHub size t seat own roll → IsHub size u seat own roll
 hub_still size t u roster more seat s own roll h =
@@ -106,7 +108,7 @@ hub_still size t u roster more seat s own roll h =
           (z.0 ∙ y.0, y.1 ∙ sym z.1);
     }
 
--- the part of a seat is its process's still
+-- a part that a seat has is still that of its process
 part_still : (t u : Seating) (roster more seat : ℕ) → Spares t u roster more seat → (who : Process) (done : History)
     → HasPart t seat who done → HasPart u seat who done
 part_still t u roster more seat s who done h =
@@ -140,7 +142,7 @@ fits_still size t u roster more seat s (Member own who known done) h = (
 )
 fits_still size t u roster more seat s Empty h = tt
 
--- who stands at a seat stands there after a step of a seat that lets nobody go
+-- a process that stands at a seat stands there still after a view is replaced, if the new view keeps that process
 pub stands_then : (views : List View) (at : ℕ) (was new : View) (seat : ℕ) (who : Process)
     → get_elem? views at ≡ some was → (HasProcess was who → HasProcess new who)
     → StandsAt views seat who → StandsAt (slice_set views at new) seat who
@@ -154,30 +156,31 @@ stands_then views at was new seat who is keeps h = elim (cases_eq seat at) [
   | inr other ↦ (h.0, set_else views at seat new other ∙ h.1, h.2)
 ]
 
--- who stands at a seat stands there after a seat was added
+-- a process that stands at a seat stands there still after a seat was added
 pub stands_longer : (views : List View) (new : View) (seat : ℕ) (who : Process) → StandsAt views seat who
     → StandsAt (views ++ new ∷ []) seat who
 stands_longer views new seat who h = (h.0, at_longer views (new ∷ []) seat h.0 h.1, h.2)
 
--- who was enrolled has a number in range
+-- a process that was enrolled has a number in range
 pub enrolled_fits : (t : Seating) (lanes roster : ℕ) (who : Process) → IsEnrolled t who → t.lanes ≤ roster
     → roster ≤ lanes → ProcessFits lanes who
 enrolled_fits t lanes roster (Producer p) low drawn few = omega arith
 enrolled_fits t lanes roster (Reader r) low drawn few = tt
 
--- the roll with a part put in
+-- ---- rolls with a part put in, or with one number more
+-- a roll with a part put in has as many lanes as before
 pub with_part-lanes : (who : Process) (done : History) (roll : Roll)
     → length (roll_with_part who done roll).lanes ≡ length roll.lanes
 with_part-lanes (Producer p) done roll = length-set roll.lanes p (Some done)
 with_part-lanes (Reader r) done roll = refl
 
--- there are as many readers in it
+-- a roll with a part put in has as many readers as before
 pub with_part-readers : (who : Process) (done : History) (roll : Roll)
     → length (roll_with_part who done roll).readers ≡ length roll.readers
 with_part-readers (Producer p) done roll = refl
 with_part-readers (Reader r) done roll = length-set roll.readers r (Some done)
 
--- a part in it is the one put in, or was there
+-- each part in that roll is the one put in, or was there before
 pub with_part-had : (who : Process) (done : History) (roll : Roll) (x : Process) (d : History)
     → roll_at x (roll_with_part who done roll) ≡ Some (Some d)
     → ((who ≡ x) × (done ≡ d)) ⊎ (roll_at x roll ≡ Some (Some d))
@@ -188,13 +191,13 @@ with_part-had (Reader p) done roll (Producer q) d e = inr e
 with_part-had (Reader p) done roll (Reader q) d e =
     ⊎_elim (λ t. inl (ap Reader t.0, cc)) (λ t. inr t) (set_had roll.readers p q (Some done) (Some d) e)
 
--- the part put in is there
+-- the part put in is in that roll
 pub with_part-here : (who : Process) (done : History) (roll : Roll) (b : Option History)
     → roll_at who roll ≡ Some b → roll_at who (roll_with_part who done roll) ≡ Some (Some done)
 with_part-here (Producer p) done roll b e = set_here roll.lanes p (Some done) b e
 with_part-here (Reader r) done roll b e = set_here roll.readers r (Some done) b e
 
--- who had a part in it has one
+-- a process that had a part in the roll has one after a part is put in
 pub with_part-has : (who : Process) (done : History) (roll : Roll) (x : Process) (d : History)
     → roll_at x roll ≡ Some (Some d)
     → (part : History) × (roll_at x (roll_with_part who done roll) ≡ Some (Some part))
@@ -203,7 +206,7 @@ with_part-has (Producer p) done roll (Reader r) d e = (d, e)
 with_part-has (Reader r) done roll (Producer p) d e = (d, e)
 with_part-has (Reader r) done roll (Reader q) d e = set_has roll.readers r q done d e
 
--- the roll with one number more
+-- a roll with one lane more has what it had
 pub with_lane-has : (roll : Roll) (x : Process) (b : Option History) → roll_at x roll ≡ Some b
     → roll_at x (roll_with_lane roll) ≡ Some b
 with_lane-has roll (Producer p) b e = longer_has roll.lanes p b e
@@ -215,7 +218,8 @@ pub with_reader-has : (roll : Roll) (x : Process) (b : Option History) → roll_
 with_reader-has roll (Producer p) b e = e
 with_reader-has roll (Reader r) b e = longer_has roll.readers r b e
 
--- a process stands at its seat alone
+-- ---- a process stands at one seat
+-- a process whose part a fitting view has stands at the seat of that view
 view_there : (size : PoolSize) (t : Seating) (roster seat : ℕ) (v : View) (who : Process)
     → FitsView size t roster seat v → HasProcess v who → t.seat_of who ≡ seat
 view_there size t roster seat (Hub own roll) who f h = (f.0.parts who h.0 h.1).0

@@ -19,7 +19,7 @@ use Rattle.mb_shared_cells.proofs.Seatings.{Spares, enrolled_out, fits_still, mo
 use Rattle.mb_shared_cells.proofs.Seatings.{with_part-had, with_part-has, with_part-here, with_part-lanes, with_part-readers}
 use Rattle.mb_shared_cells.proofs.ViewLists.{all_set, at_within, none_past}
 
--- the hub joins the seat of a process to its own
+-- the hub may join the seat of a process to its own
 takes_in : (size : PoolSize) (id other : ℕ) (own its : PoolSize) (roll : Roll) (who : Process) (known : PartList)
     (done : History)
     → Joins (KeepsCells size) id (Hub own roll) other (Member its who known done) (HubJoins own roll who done) Empty
@@ -118,7 +118,7 @@ join_asked key id other v w own its roll who known done is that =
     subst (λ (z : View × View). Joins (KeepsCells key) id z.0 other z.1 (hub_after_join z.0 z.1) Empty)
     (λ i. (sym is i, sym that i)) (takes_in key id other own its roll who known done)
 
--- who stood at the joined seat, or in the roll, is in the roll
+-- a process whose part was joined, or was in the roll, has its part in the roll after the load
 loaded_keeps : (who : Process) (own : PoolSize) (done : History) (roll : Roll) (x : Process)
     → roll_at who roll ≡ Some None → HasProcess (HubJoins own roll who done) x
     → HasProcess (Hub own (roll_with_part who done roll)) x
@@ -128,7 +128,7 @@ loaded_keeps who own done roll x out (inl e) = (
 )
 loaded_keeps who own done roll x out (inr h) = with_part-has who done roll x h.0 h.1
 
--- who has no place in the roll was not enrolled
+-- a process without a place in the roll was not enrolled
 not_enrolled : (size : PoolSize) (t : Seating) (seat : ℕ) (own : PoolSize) (roll : Roll) (who : Process)
     → IsHub size t seat own roll → roll_at who roll ≡ None → IsEnrolled t who → ⊥
 not_enrolled size t seat own roll (Producer p) h none e =
@@ -136,7 +136,7 @@ not_enrolled size t seat own roll (Producer p) h none e =
 not_enrolled size t seat own roll (Reader r) h none e =
     let low = none_past roll.readers r none in let n = h.readers in omega arith
 
--- the roll of a hub is that of the history
+-- the parts in the roll of a hub are those of the table's history
 roll_history : (size : PoolSize) (words : List ℕ) (views : List View) (t : Seating) (seat : ℕ) (own : PoolSize)
     (roll : Roll) → IsTableState size words views t → IsHub size t seat own roll → IsRollOf own roll t.history
 roll_history size words views t seat own roll r hub = record {
@@ -187,7 +187,7 @@ load_allows size slots id own roll who done s h _ at _ =
       ((mine.3, (t.history, roll_history size s.words views t id own (roll_with_part who done roll) r hub_now)), refl),
     )
 
--- the hub may put the part in, if it is known by equations
+-- the hub may put the part in, if its seat is known by an equation
 pub load_asked : (key : PoolSize) (slots id : ℕ) (me : SeatState) (own : PoolSize) (roll : Roll) (who : Process)
     (done : History) → me ≡ (HubJoins own roll who done, [])
     → Allows (KeepsCells key) slots id me 0 (λ n. n) (λ n w. WasOut me.0 × (w ≡ (hub_after_load me.0, me.1)))

@@ -8,7 +8,8 @@ use Rattle.mb_cells.specs.Vocabulary.{History}
 use Rattle.mb_shared_cells.specs.Views.{PartList}
 use Rattle.mb_shared_cells.specs.declared.views.View.{View}
 
--- what holds of each view after one is replaced
+-- ---- lists of views
+-- if P holds of each other view and of the new one, it holds of each view after one is replaced
 pub all_set : (P : ℕ → View → Type 0) (views : List View) (at : ℕ) (new : View)
     → ((j : ℕ) (v : View) → j ≢ at → get_elem? views j ≡ some v → P j v) → P at new
     → (j : ℕ) (v : View) → get_elem? (slice_set views at new) j ≡ some v → P j v
@@ -44,14 +45,15 @@ at_within [] j v e = absurd (some-ne-none v (sym e))
 at_within (x ∷ xs) zero v e = omega arith
 at_within (x ∷ xs) (suc j) v e = let h = at_within xs j v e in omega arith
 
--- one more at the end of a list of parts, which is out: who had a part there has it still
+-- ---- lists of parts
+-- a list of parts with one number more, whose seat is out, has what it had
 pub longer_has : (xs : PartList) (k : ℕ) (b : Option History) → slice_get xs k ≡ Some b
     → slice_get (xs ++ None ∷ []) k ≡ Some b
 longer_has [] k b e = absurd (cc)
 longer_has (x ∷ xs) zero b e = e
 longer_has (x ∷ xs) (suc k) b e = longer_has xs k b e
 
--- nobody else has a part in the longer list
+-- each part in the longer list was in the shorter one
 pub longer_had : (xs : PartList) (k : ℕ) (done : History) → slice_get (xs ++ None ∷ []) k ≡ Some (Some done)
     → slice_get xs k ≡ Some (Some done)
 longer_had [] zero done e = absurd (cc)
@@ -59,13 +61,13 @@ longer_had [] (suc k) done e = absurd (cc)
 longer_had (x ∷ xs) zero done e = e
 longer_had (x ∷ xs) (suc k) done e = longer_had xs k done e
 
--- who has no place in the longer list had none
+-- a number without a place in the longer list had none in the shorter one
 pub longer_none : (xs : PartList) (k : ℕ) → slice_get (xs ++ None ∷ []) k ≡ None → slice_get xs k ≡ None
 longer_none [] k e = refl
 longer_none (x ∷ xs) zero e = absurd (cc)
 longer_none (x ∷ xs) (suc k) e = longer_none xs k e
 
--- one replaced: it is the new one, or another that was there
+-- what a list has at a number after one is replaced is the new one, or was there before
 pub set_had : (xs : PartList) (i k : ℕ) (a b : Option History) → slice_get (slice_set xs i a) k ≡ Some b
     → ((i ≡ k) × (a ≡ b)) ⊎ (slice_get xs k ≡ Some b)
 set_had [] i k a b e = absurd (cc)
@@ -75,14 +77,14 @@ set_had (x ∷ xs) (suc i) zero a b e = inr e
 set_had (x ∷ xs) (suc i) (suc k) a b e =
     ⊎_elim (λ t. inl (ap suc t.0, t.1)) (λ t. inr t) (set_had xs i k a b e)
 
--- the part put in is there
+-- what is put in at a number of the list is there
 pub set_here : (xs : PartList) (k : ℕ) (a b : Option History) → slice_get xs k ≡ Some b
     → slice_get (slice_set xs k a) k ≡ Some a
 set_here [] k a b e = absurd (cc)
 set_here (x ∷ xs) zero a b e = refl
 set_here (x ∷ xs) (suc k) a b e = set_here xs k a b e
 
--- who had a part has a part after one is put in
+-- a number that had a part has one after a part is put in
 pub set_has : (xs : PartList) (i k : ℕ) (done d : History) → slice_get xs k ≡ Some (Some d)
     → (part : History) × (slice_get (slice_set xs i (Some done)) k ≡ Some (Some part))
 set_has [] i k done d e = absurd (cc)
@@ -99,7 +101,7 @@ out_or_in (None ∷ rest) zero low = inl refl
 out_or_in (Some done ∷ rest) zero low = inr (done, refl)
 out_or_in (x ∷ rest) (suc k) low = out_or_in rest k (omega arith)
 
--- who has no place in a list is past it
+-- a number without a place in a list is past its end
 pub none_past : (xs : PartList) (k : ℕ) → slice_get xs k ≡ None → length xs ≤ k
 none_past [] k e = omega arith
 none_past (x ∷ xs) zero e = absurd (cc)

@@ -18,13 +18,13 @@ use Rattle.mb_cells.specs.declared.lane.Lane.{Lane}
 use Rattle.mb_shared_cells.specs.Shown.{LaneSeatView, ReaderSeatView}
 use Rattle.mb_shared_cells.specs.Views.{IsAccessAfter}
 
--- the lane's seat makes the access, and its producer then stands at the place
+-- the lane's seat makes the access, which came after its part, and its producer then stands at this place
 abbrev pub LaneMakes : PoolAccess → Lane → LaneSeatView → LaneSeatView → Type 0
 LaneMakes a place old new =
     IsAccessAfter old.table.size [] a old.part
     × (new ≡ record old { place = place; part = a ∷ old.part })
 
--- the reader's seat makes the access
+-- the reader's seat makes the access, which came after its part
 abbrev pub ReaderMakes : PoolAccess → ReaderSeatView → ReaderSeatView → Type 0
 ReaderMakes a old new =
     IsAccessAfter old.table.size old.known a old.part

@@ -12,27 +12,27 @@ use Rattle.mb_shared_cells.specs.Shown.{CellsName, LaneSeatView, ReaderSeatView}
 use Rattle.mb_shared_cells.specs.declared.views.View.{View}
 use Rattle.mb_shared_cells.specs.declared.views.View.TheVariants.{Hub, Member}
 
--- one lane and one cell
+-- the size of one lane and one cell
 abbrev pub one_by_one : PoolSize
 one_by_one = pool_size 1 1
 
--- a state of that table
+-- the words and views are a state of the table of that size
 abbrev pub IsStateOfOne : List ℕ → List View → Type 0
 IsStateOfOne words views = IsCellsState one_by_one words views
 
--- the hub that has given no number
+-- the view of a hub that has issued no number
 abbrev pub new_hub : View
 new_hub = first_view one_by_one
 
--- the hub that has given lane 0, whose seat is out
+-- the view of a hub that has issued lane 0, whose seat was not returned
 abbrev pub hub_of_one : View
 hub_of_one = Hub one_by_one (record { lanes = None ∷ []; readers = [] })
 
--- the seat of lane 0, whose producer has done this
+-- the view of the seat of lane 0, whose producer has done this
 abbrev pub lane_with : History → View
 lane_with done = Member one_by_one (Producer 0) [] done
 
--- the table of this identity
+-- the name of the table with this identity and that size
 abbrev pub table_of_one : TableId → CellsName
 table_of_one id = record { id = id; size = one_by_one }
 
@@ -44,6 +44,6 @@ lane_seen id place done = record { table = table_of_one id; lane = 0; place = pl
 abbrev pub has_taken : Lane
 has_taken = record { last = None; stage = stage.Offered 0 8 }
 
--- reader 0, which was enrolled before any lane was taken in, and has done this
+-- reader 0 as callers see it: it was enrolled before any lane was taken in, and has done this
 abbrev pub reader_seen : TableId → History → ReaderSeatView
 reader_seen id done = record { table = table_of_one id; reader = 0; known = []; part = done }

@@ -1,4 +1,4 @@
--- The rule of the table: its words and views are a state of the cells.
+-- The rule of the table: its words and views are those of one lawful history of the pool.
 use Rattle.std.specs.Prelude.{List, None, Some, [], length, slice_get, slice_index, ℕ, ◌+◌, ◌<◌, ◌≡◌, ◌≢◌, ◌≤◌, ◌⊎◌}
 use mathlib.Core.Option.{some}
 use lib.ListN.{get_elem?}
@@ -39,19 +39,19 @@ pub record IsHub (size : PoolSize) (t : Seating) (seat : ℕ) (own : PoolSize) (
   pub parts : (who : Process) (done : History) → roll_at who roll ≡ Some (Some done)
       → (t.seat_of who ≡ seat) × (done ≡ part who t.history)
 
--- the lanes known were taken in, and their parts are those of the history
+-- each lane of which the list has a part was taken in, and that part is the one of the history
 abbrev pub KnowsTaken : Seating → PartList → Type 0
 KnowsTaken t known =
     (p : ℕ) (theirs : History) → slice_get known p ≡ Some (Some theirs)
     → (p < t.lanes) × (t.seat_of (Producer p) ≡ t.hub) × (theirs ≡ part (Producer p) t.history)
 
--- the seat has the part of the process, which is that of the history
+-- the process was enrolled, this is its seat, and the part is that of the history
 pub record HasPart (t : Seating) (seat : ℕ) (who : Process) (done : History) : Type 0 where
   pub here : t.seat_of who ≡ seat
   pub enrolled : IsEnrolled t who
   pub part : done ≡ part who t.history
 
--- the view is that of the seat, if the roster holds this number
+-- the view fits the seat, the seated history and the roster, which holds this number
 abbrev pub FitsView : PoolSize → Seating → ℕ → ℕ → View → Type 0
 FitsView size t roster seat (Hub own roll) = IsHub size t seat own roll × (roster ≡ t.lanes)
 FitsView size t roster seat (HubDraws own roll) = IsHub size t seat own roll × (roster ≡ t.lanes + 1)

@@ -43,7 +43,7 @@ number_in (HubJoins size roll who done) = 0
 number_in (Member size who known done) = number_of who
 number_in Empty = 0
 
--- the lanes known in a view, or none if it has no such list
+-- the list of lanes' parts in a view, or an empty one if it has none
 abbrev pub known_in : View → PartList
 known_in (Hub size roll) = []
 known_in (HubDraws size roll) = []
@@ -59,7 +59,7 @@ done_in (HubJoins size roll who done) = done
 done_in (Member size who known done) = done
 done_in Empty = []
 
--- the name of the table of a seat, by its table's identity
+-- the name of a seat's table: this identity, and the size in the seat's view
 abbrev pub name_in : TableId → SeatState → CellsName
 name_in id me = record { id = id; size = size_in me.0 }
 

@@ -1,4 +1,4 @@
--- What callers see of a table, its hub and its seats, and that a part is that of some lawful history.
+-- What callers see of a table, its hub and its seats, and which parts can be seen: those of lawful histories.
 use Rattle.std.specs.Prelude.{ℕ, ◌≡◌}
 use Rattle.atomic_table.specs.Seated.{TableId}
 use Rattle.mb_cells.specs.Vocabulary.{History, IsPoolLawful, part}

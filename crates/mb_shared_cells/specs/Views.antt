@@ -1,4 +1,4 @@
--- What a seat knows, and how each step of the table changes it.
+-- What the view of a seat has, and how each step of the table changes it.
 use Rattle.std.specs.Prelude.{List, None, Option, Some, [], length, slice_get, slice_set, ℕ, ◌++◌, ◌∷◌, ◌≡◌}
 use Rattle.atomic_table.specs.Table.{Me, Step}
 use Rattle.mb_cells.specs.Vocabulary.{History, IsPoolLawful, part}
@@ -13,7 +13,7 @@ use Rattle.mb_shared_cells.specs.declared.views.View.{View}
 use Rattle.mb_shared_cells.specs.declared.views.View.TheVariants.{Empty, Hub, HubDraws, HubJoins, Member}
 
 -- ---- a seat, and the hub's roll of parts
--- parts by the number of their process: None if its seat is out
+-- for each number issued the part of its process, or None if its seat was not returned
 abbrev pub PartList : Type 0
 PartList = List (Option History)
 
@@ -48,24 +48,24 @@ roll_with_part (Producer p) done roll = record roll { lanes = slice_set roll.lan
 roll_with_part (Reader r) done roll = record roll { readers = slice_set roll.readers r (Some done) }
 
 -- ---- one access
--- an access of a process
+-- the access of this process, with this word and act
 abbrev pub access_by : Process → Word → PoolAct → PoolAccess
 access_by who word act = record { process = who; word = word; act = act }
 
--- the lanes known have done in the history what is known of them
+-- each lane of which the list has a part has done just that part of the history
 abbrev pub KnowsLanes : PartList → History → Type 0
 KnowsLanes known h =
     (p : ℕ) (theirs : History) → slice_get known p ≡ Some (Some theirs) → part (Producer p) h ≡ theirs
 
 -- the access came next after a lawful history, which stays lawful with it. There its process had done this part, and
--- the lanes known had done what is known of them
+-- each lane of which `known` has a part had done just that
 pub record IsAccessAfter (size : PoolSize) (known : PartList) (a : PoolAccess) (done : History) : Type 0 where
   pub older : History
   pub lawful : IsPoolLawful size (a ∷ older)
   pub own : part a.process older ≡ done
   pub lanes : KnowsLanes known older
 
--- all parts taken in are those of the history, and no process that has no number did anything
+-- the history is lawful and has the parts that were taken in. A process whose number was not issued did nothing
 pub record IsRollOf (size : PoolSize) (roll : Roll) (h : History) : Type 0 where
   pub lawful : IsPoolLawful size h
   pub parts : (who : Process) (done : History) → roll_at who roll ≡ Some (Some done) → part who h ≡ done
@@ -87,7 +87,7 @@ CameAfter word act (HubJoins size roll who done) = Unit {0}
 CameAfter word act (Member size who known done) = IsAccessAfter size known (access_by who word act) done
 CameAfter word act Empty = Unit {0}
 
--- what the step of an access says of its seat, before it and after it
+-- the clause of an access's step: the access came after what the seat had done, and the seat's view then has it
 abbrev pub MakesAccess : Word → PoolAct → SeatState → SeatState → Type 0
 MakesAccess word act v w = CameAfter word act v.0 × (w ≡ (view_after word act v.0, v.1))
 
@@ -100,7 +100,7 @@ hub_after_draw (HubJoins size roll who done) = HubJoins size roll who done
 hub_after_draw (Member size who known done) = Member size who known done
 hub_after_draw Empty = Empty
 
--- what the step on the roster says of the hub, before it and after it
+-- the clause of the step on the roster: the hub's view then says that a number was drawn
 abbrev pub DrawsNumber : Step (Unit {0}) → SeatState → ℕ → SeatState → Type 0
 DrawsNumber s v found w = w ≡ (hub_after_draw v.0, v.1)
 
@@ -112,7 +112,7 @@ hub_after_split (HubJoins size roll who done) = HubJoins size roll who done
 hub_after_split (Member size who known done) = Member size who known done
 hub_after_split Empty = Empty
 
--- the seat that was split off. A reader knows the parts of the lanes that the hub has taken in
+-- the view of the seat that was split off. A reader's has the parts of the lanes that the hub has taken in
 abbrev pub newcomer : View → View
 newcomer (Hub size roll) = Member size (Reader (length roll.readers)) roll.lanes []
 newcomer (HubDraws size roll) = Member size (Producer (length roll.lanes)) [] []
@@ -136,7 +136,7 @@ hub_after_join (HubJoins size roll who done) w = HubJoins size roll who done
 hub_after_join (Member size who known done) w = Member size who known done
 hub_after_join Empty w = Empty
 
--- the view of the hub after the load: the part beside its roll is in it
+-- the view of the hub after the load that follows a join: the part beside the roll is now in the roll
 abbrev pub hub_after_load : View → View
 hub_after_load (Hub size roll) = Hub size roll
 hub_after_load (HubDraws size roll) = HubDraws size roll
@@ -153,6 +153,6 @@ WasOut (HubJoins size roll who done) =
 WasOut (Member size who known done) = Unit {0}
 WasOut Empty = Unit {0}
 
--- what the load after a join says of the hub, before it and after it
+-- the clause of the load after a join: the seat was out, and the hub's roll then has its part
 abbrev pub TakesPart : Step (Unit {0}) → SeatState → ℕ → SeatState → Type 0
 TakesPart s v found w = WasOut v.0 × (w ≡ (hub_after_load v.0, v.1))

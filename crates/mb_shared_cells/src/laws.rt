@@ -67,7 +67,8 @@ pub fn known_lanes_are_read_whole()
     words_lead_through_lanes();
 }
 
-/// An offer that got a cell, and two pushes: three accesses, which put the item at the end of the lane's list.
+/// An offer that got a cell and the two pushes after it make three accesses, which put the item at the end of the
+/// lane's list.
 pub fn three_calls_put_an_item()
     ensures part { (old offered stored new : LaneSeatView) (x k : ℕ) (one two : Push)
         → OfferMakes old x (offer.Cell k) offered → PushMakes offered one stored
@@ -83,7 +84,7 @@ pub fn three_calls_put_an_item()
         → OfferMakes old x (offer.Cell k) offered → PushMakes offered one stored
         → PushMakes stored two new → (one ≡ push.Item k) × (two ≡ push.Link k) }
 
-    // After them a further push would be idle.
+    // After these calls a further push would be idle.
     ensures idle { (old offered stored new : LaneSeatView) (x k : ℕ) (one two : Push)
         → OfferMakes old x (offer.Cell k) offered → PushMakes offered one stored
         → PushMakes stored two new → push_store new.lane new.place ≡ None }

@@ -29,6 +29,7 @@ pub trait AccessSpec {
     ghost act: { ℕ → PoolAct };
 }
 
+// A call names `Brand`, and the caller's `Invariants.antt` picks the access. The two members here are not used.
 impl AccessSpec for Brand {
     ghost use Rattle.mb_cells.specs.declared.access.PoolAct.TheVariants.{Load};
     ghost use Rattle.mb_cells.specs.declared.access.Word.TheVariants.{Counter};
@@ -38,7 +39,7 @@ impl AccessSpec for Brand {
     ghost act = { λ n. Load n };
 }
 
-/// The step of an access.
+/// The step of an access: the access is then in the part of the seat that makes it.
 pub struct MakeAccess<W> {
     of: PhantomData<W>,
 }

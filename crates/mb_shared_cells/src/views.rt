@@ -1,4 +1,4 @@
-//! What the seats of a table know. Only proofs use it: no value of these types is made.
+//! What the seats of a table know. Only proofs use these types: no value of them is made.
 use mb_cells::{PoolAccess, PoolSize, Process};
 use std::collections::LinkedList;
 

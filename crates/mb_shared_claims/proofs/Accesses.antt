@@ -1,4 +1,4 @@
--- A load, a store or an exchange of a claim's access, in the words of a table and from a seat.
+-- The access of a claim as a load, a store or an exchange of a table's word, made from a seat.
 use Rattle.std.proofs.Common.{◌≡◌, ◌+◌, ◌*◌, ◌<◌, ◌==◌, ℕ, Bool, true, false, cond, None, Some, [], ◌∷◌, refl, sym, ap, ◌∙◌, subst, arith}
 use Rattle.std.specs.Prelude.{IfSome}
 use Rattle.std.specs.Option.{option_map_or}
@@ -16,27 +16,27 @@ use Rattle.mb_shared_claims.specs.SeatSteps.{access_of, MayComeNext}
 use Rattle.mb_shared_claims.proofs.Plans.{OwnPart, OtherParts}
 use Rattle.mb_shared_claims.proofs.Moves.{rule_of, GoesOn, goes_on, access_asked}
 
--- what a load finds is a word
+-- the turn of a load has values below 2^64
 pub load_small :
     (object word n : ℕ) (op : Op) (reg : Reg) → op ≡ to.Load reg → n < 18446744073709551616
     → word < 18446744073709551616 → IsInWords (step_of object op n word).turn
 load_small object word n op reg e small fits =
     subst (λ (o : Op). IsInWords (step_of object o n word).turn) (sym e) ((small, tt), fits)
 
--- what a store puts there is a word
+-- the turn of a store has values below 2^64
 pub store_small :
     (object word n value : ℕ) (op : Op) (reg : Reg) → op ≡ to.Store reg value → value < 18446744073709551616
     → word < 18446744073709551616 → IsInWords (step_of object op n word).turn
 store_small object word n value op reg e small fits =
     subst (λ (o : Op). IsInWords (step_of object o n word).turn) (sym e) ((tt, small), fits)
 
--- what an exchange puts there is a word, if it puts anything
+-- what an exchange stores, if it stores anything, is below 2^64
 stored_small : (b : Bool) (w : ℕ) → w < 18446744073709551616
     → IfSome (cond b (Some w) None) (λ value. value < 18446744073709551616)
 stored_small true w small = small
 stored_small false w small = tt
 
--- an exchange's turn is of words
+-- the turn of an exchange has values below 2^64
 pub exchange_small :
     (object word n value : ℕ) (op : Op) (reg : Reg) → op ≡ to.Exchange reg value → value < 18446744073709551616
     → n < 18446744073709551616 → word < 18446744073709551616 → IsInWords (step_of object op n word).turn
@@ -55,7 +55,7 @@ pub exchange_after :
 exchange_after value n op reg e =
     subst (λ (o : Op). either (n == 0) value n ≡ after_op o n) (sym e) (exchanged (n == 0) value n)
 
--- two stores of one value are one access
+-- whatever value a store is said to find, its access is the same
 pub store_same :
     (own cell word m n value : ℕ) (next : ClaimOp) (reg : Reg) → next.op ≡ to.Store reg value
     → access_of own cell next m word ≡ access_of own cell next n word
@@ -94,7 +94,7 @@ access_may own_part other_parts t seat key inside size me slots count id address
           (goes_on k seat.consumer cell word seat.part next f access may is_f is_access small)),
     )
 
--- the seat after an access
+-- a consumer's seat keeps what it has to after an access
 pub seat_after :
     OwnPart → (own : ℕ) (a : ClaimAccess) (me now : Seated) → IsClaimSeat me own → a.consumer ≡ own → makes a me now
     → IsClaimSeat now own

@@ -10,7 +10,7 @@ use Rattle.mb_shared_claims.specs.Seats.{SeatView, TableView, name_of, claims_at
 use Rattle.mb_shared_claims.specs.SeatSteps.{access_of, with_access, IsSeatStep, MayComeNext}
 
 -- ---- the laws of claims that are used here
--- the next access of a claim leaves the words of the longer history
+-- the next access of a claim, made on the words of a history, leaves those of the longer history
 abbrev pub KeepsMemory : Type 0
 KeepsMemory =
     (layout : Layout) (cells k : ℕ) (claim : Claim) (next : ClaimOp) (word : ℕ) (words : List ℕ) (h : List ClaimAccess)
@@ -20,7 +20,7 @@ KeepsMemory =
     → let a = access_in cs (consumer_of claim) k next.object next.op word words in
     IsInWords a.step.turn → IsMemoryOf cs (words_after cs k next.object next.op words) (a ∷ h)
 
--- a claim can go on with what an access found that came after a lawful history
+-- if the next access of a claim came after a lawful history, the claim can go on with what it found
 abbrev pub FindsTold : Type 0
 FindsTold =
     (layout : Layout) (cells k : ℕ) (claim : Claim) (next : ClaimOp) (seen word : ℕ) (h : List ClaimAccess)
@@ -38,6 +38,7 @@ OwnCell =
     (a : ClaimAccess) (h : List ClaimAccess)
     → part_on a.consumer a.cell (a ∷ h) ≡ a.step ∷ part_on a.consumer a.cell h
 
+-- ---- the claim's next access, and the step of its seat
 module _ (cut : CutParts) (t : TableView) (seat : SeatView) (cell : ℕ) (claim : Claim) (low : cell < t.cells)
     (own : consumer_of claim ≡ seat.consumer)
     (stands : IsClaimIn t.layout claim (part_on seat.consumer cell seat.part)) (going : claim_stage claim ≡ Going) where
@@ -54,7 +55,7 @@ module _ (cut : CutParts) (t : TableView) (seat : SeatView) (cell : ℕ) (claim 
       (ap (part_on seat.consumer cell) (sym all) ∙ cut seat.consumer cell h
       ∙ ap (λ c. part_on c cell h) (sym own)) stands
 
-  -- so the claim's next access may come next from its seat
+  -- the claim's next access may come next from its seat
   pub may_come :
       KeepsMemory → (next : ClaimOp) → IsNextOp t.layout claim next → MayComeNext cs seat.consumer cell seat.part next
   may_come keeps next is word words h memory all =
@@ -64,7 +65,7 @@ module _ (cut : CutParts) (t : TableView) (seat : SeatView) (cell : ℕ) (claim 
       (access_in cs c cell next.object next.op word words ∷ h)) own
       (keeps t.layout t.cells cell claim next word words h memory low (in_history h all) going is)
 
-  -- the claim can go on with what that access is told to have found
+  -- the claim can go on with any value that its next access found after a lawful history
   can_find :
       FindsTold → (next : ClaimOp) (seen word : ℕ) → IsNextOp t.layout claim next
       → ComesAfter cs (access_of seat.consumer cell next seen word) seat.part → CanClaimFind t.layout claim next seen
@@ -73,7 +74,7 @@ module _ (cut : CutParts) (t : TableView) (seat : SeatView) (cell : ℕ) (claim 
       (subst (λ c. IsClaimLawful cs (access_of c cell next seen word ∷ comes.0)) (sym own) comes.1) low
       (in_history comes.0 comes.2) going is
 
-  -- if that access was made, it is a step of the seat
+  -- if the seat made the claim's next access, that is a step of the seat
   pub seat_step :
       FindsTold → (now : SeatView) (word : ℕ) (follows : Claim) (next : ClaimOp) (seen : ℕ) → seat.table ≡ name_of t
       → IsNextOp t.layout claim next → now ≡ with_access (access_of seat.consumer cell next seen word) seat
@@ -92,7 +93,7 @@ module _ (cut : CutParts) (t : TableView) (seat : SeatView) (cell : ℕ) (claim 
         path = λ xs of. path xs of (can_find finds next seen word is comes);
       }
 
--- the claim has then made its consumer's longer part
+-- after a step of a seat, the claim that follows has made its consumer's longer part
 pub stands_on :
     OwnCell → (layout : Layout) (cell word : ℕ) (claim follows : Claim) (seat now : SeatView)
     → IsSeatStep layout cell word claim seat follows now

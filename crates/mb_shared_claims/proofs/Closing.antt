@@ -6,7 +6,7 @@ use Rattle.mb_shared_claims.specs.Views.{claims_of_size, Roll, WasTaken, IsOut, 
 use Rattle.mb_shared_claims.specs.Rule.{IsClaimsState}
 use Rattle.mb_shared_claims.specs.Seats.{count_out, taken_part, AreOfOneHistory}
 
--- one number more, whose seat is out
+-- with one number more, whose seat is out, one seat more is out
 pub count_out-snoc : (roll : Roll) → count_out (roll ++ None ∷ []) ≡ count_out roll + 1
 count_out-snoc [] = refl
 count_out-snoc (Some done ∷ rest) = count_out-snoc rest
@@ -38,7 +38,7 @@ all_in (Some done ∷ rest) zero e = inl (done, refl, refl)
 all_in (Some done ∷ rest) (suc c) e = ⊎_elim inl (λ t. let far = t.0 in inr (omega arith, t.1)) (all_in rest c e)
 all_in (None ∷ rest) c e = absurd (omega arith)
 
--- so the parts are those of the table's history
+-- if no seat is out, the parts that the hub has are those of one lawful history
 pub ends :
     (k size : TableSize) (words : List ℕ) (views : List View) (id : ℕ) (roll : Roll) → IsClaimsState k words views
     → IsViewAt views id (Handing size roll) → count_out roll ≡ 0

@@ -7,13 +7,13 @@ use Rattle.atomic_table.proofs.Lists.{at_set, at_longer, at_last, set_else}
 use Rattle.mb_shared_claims.specs.Types.{ClaimAccess, View}
 use Rattle.mb_shared_claims.specs.Views.{HasPart, IsViewAt, HasPartAt}
 
--- a view that was replaced
+-- a seat whose view was replaced has the new one
 pub at_replaced : (views : List View) (id : ℕ) (v w : View) → IsViewAt views id v → IsViewAt (set views id w) id w
 at_replaced [] id v w e = absurd (some-ne-none v (sym e))
 at_replaced (x ∷ xs) zero v w e = refl
 at_replaced (x ∷ xs) (suc id) v w e = at_replaced xs id v w e
 
--- what holds of all views, after one is replaced
+-- if P holds of each other view and of the new one, it holds of each view after one is replaced
 pub all_set :
     (P : ℕ → View → Type 0) (views : List View) (id : ℕ) (w : View)
     → ((j : ℕ) (u : View) → j ≢ id → IsViewAt views j u → P j u) → P id w
@@ -33,7 +33,7 @@ at_added [] w u (suc j) e = absurd (some-ne-none u (sym e))
 at_added (x ∷ xs) w u zero e = inl e
 at_added (x ∷ xs) w u (suc j) e = ⊎_elim inl (λ t. inr (ap suc t.0, t.1)) (at_added xs w u j e)
 
--- what holds of all views, after one is added
+-- if P holds of each view and of the new one, it holds of each view after that is added
 pub all_added :
     (P : ℕ → View → Type 0) (views : List View) (w : View)
     → ((j : ℕ) (u : View) → IsViewAt views j u → P j u) → P (length views) w
@@ -43,7 +43,8 @@ all_added P views w others mine j u e =
     (λ (x : (j ≡ length views) × (w ≡ u)). subst (λ (y : ℕ × View). P y.0 y.1) (λ i. (sym x.0 i, x.1 i)) mine)
     (at_added views w u j e)
 
--- who has a part still has it, if the view that is replaced has then all parts of this consumer that it had
+-- a part at a seat is there still after a view is replaced by one with the same parts of this consumer. It goes by
+-- whether the seat is the one of that view
 kept_by :
     (views : List View) (id j c : ℕ) (v w : View) (xs : List ClaimAccess) → IsViewAt views id v
     → (HasPart v c xs → HasPart w c xs) → HasPartAt views j c xs → Dec (j ≡ id) → HasPartAt (set views id w) j c xs
@@ -53,25 +54,25 @@ kept_by views id j c v w xs at keeps has (yes same) =
     (w, at_replaced views id v w at, keeps (subst (λ u. HasPart u c xs) is has.2))
 kept_by views id j c v w xs at keeps has (no apart) = (has.0, set_else views id j w apart ∙ has.1, has.2)
 
--- who has a part still has it after a view is replaced that keeps this consumer's parts
+-- a part at a seat is there still after a view is replaced by one with the same parts of this consumer
 pub kept_at :
     (views : List View) (id j c : ℕ) (v w : View) (xs : List ClaimAccess) → IsViewAt views id v
     → (HasPart v c xs → HasPart w c xs) → HasPartAt views j c xs → HasPartAt (set views id w) j c xs
 kept_at views id j c v w xs at keeps has = kept_by views id j c v w xs at keeps has (ℕ_discrete j id)
 
--- who has a part still has it after a view is added
+-- a part at a seat is there still after a view is added
 pub kept_beside :
     (views : List View) (w : View) (j c : ℕ) (xs : List ClaimAccess) → HasPartAt views j c xs
     → HasPartAt (views ++ w ∷ []) j c xs
 kept_beside views w j c xs has = (has.0, at_longer views (w ∷ []) j has.0 has.1, has.2)
 
--- the part of the view that is added is had
+-- a part of the view that is added is at the new seat
 pub has_added :
     (views : List View) (w : View) (c : ℕ) (xs : List ClaimAccess) → HasPart w c xs
     → HasPartAt (views ++ w ∷ []) (length views) c xs
 has_added views w c xs has = (w, at_last views w (length views) refl, has)
 
--- the part of the view that was replaced
+-- a part of the view that replaces another is at that seat
 pub has_replaced :
     (views : List View) (id c : ℕ) (v w : View) (xs : List ClaimAccess) → IsViewAt views id v → HasPart w c xs
     → HasPartAt (set views id w) id c xs

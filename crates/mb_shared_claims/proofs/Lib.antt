@@ -1,9 +1,15 @@
+-- In the order of reading: a file stands on files above it.
+
+-- Lists of parts and views
 pub mod Rolls
 pub mod Holders
+-- Each step keeps the rule
 pub mod Plans
 pub mod Moves
+-- A claim's accesses from a seat
 pub mod Accesses
 pub mod ClaimMoves
 pub mod Running
+-- Names of tables, and their end
 pub mod Names
 pub mod Closing

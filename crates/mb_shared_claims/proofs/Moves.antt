@@ -22,8 +22,8 @@ abbrev pub rule_of : TableSize → State (Unit {0}) View → Type 0
 rule_of k s = IsClaimsState k s.words s.views
 
 -- ---- an access of a consumer's seat
--- an access goes on: whatever the words and the history are, in which the consumer has done this, the words after it
--- are those that the longer history leaves
+-- the access goes on: on the words of any history in which the consumer has done this, it leaves the words of the
+-- longer history
 abbrev pub GoesOn : TableSize → ℕ → List ClaimAccess → ℕ → (ℕ → ℕ) → (ℕ → ClaimAccess) → Type 0
 GoesOn k own done at f access =
     (words : List ℕ) (h : List ClaimAccess) → IsMemoryOf (claims_of_size k) words h → part own h ≡ done
@@ -31,7 +31,7 @@ GoesOn k own done at f access =
     → let n = slice_index words at in
     IsMemoryOf (claims_of_size k) (set words at (f n)) (access n ∷ h) × ((access n).consumer ≡ own)
 
--- an op that may come next goes on at its address
+-- the access of an op that may come next goes on
 pub goes_on :
     (k : TableSize) (own cell word : ℕ) (done : List ClaimAccess) (next : ClaimOp) (f : ℕ → ℕ)
     (access : ℕ → ClaimAccess)
@@ -187,7 +187,7 @@ begins k empty = (
     first (suc seat) v e = absurd (some-ne-none v (sym e))
 
 -- ---- each of these steps, for a table and seats that are known by equations
--- the access of a consumer's seat
+-- a consumer's seat may make an access that goes on
 pub access_asked :
     OwnPart → OtherParts → (key k size : TableSize) (slots id own at : ℕ) (me : Seated) (done : List ClaimAccess)
     (f : ℕ → ℕ) (access : ℕ → ClaimAccess) → key ≡ k → me ≡ (Standing size own done, []) → at < roster k
@@ -198,7 +198,7 @@ access_asked own_part other_parts key k size slots id own at me done f access sa
     Allows (rule_of z.0) slots id z.1 at f (λ found now. makes (access found) z.1 now))
     (λ i. (sym same i, sym is i)) (access_allows own_part other_parts k size slots id own at done f access within goes)
 
--- the drawing of a number
+-- the hub may draw the next number
 pub draw_asked :
     (key k size : TableSize) → OtherWords k → (slots id at : ℕ) (me : Seated) (roll : Roll) → key ≡ k
     → me ≡ (Handing size roll, []) → at ≡ roster k → length roll < consumer_count k.layout → length roll < 2 ^ 32
@@ -208,14 +208,14 @@ draw_asked key k size others slots id at me roll same is is_at room small =
     Allows (rule_of z.0) slots id z.1 z.2 (λ n. (n + 1) % 2 ^ 64) (λ found now. draws found z.1 now))
     (λ i. (sym same i, sym is i, sym is_at i)) (draw_allows k size others slots id roll room small)
 
--- the giving of a number
+-- the hub may give the number drawn to a new seat
 pub give_asked :
     (key size : TableSize) (id : ℕ) (v : View) (roll : Roll) → v ≡ Drawing size roll
     → Splits (rule_of key) id v (given_out v) (newcomer v)
 give_asked key size id v roll is =
     subst (λ u. Splits (rule_of key) id u (given_out u) (newcomer u)) (sym is) (give_allows key size id roll)
 
--- the joining of a seat
+-- the hub may join a consumer's seat
 pub take_asked :
     (key size its : TableSize) (id other own : ℕ) (v w : View) (roll : Roll) (done : List ClaimAccess)
     → v ≡ Handing size roll → w ≡ Standing its own done → Joins (rule_of key) id v other w (took_in v w) Spent
@@ -223,7 +223,7 @@ take_asked key size its id other own v w roll done is that =
     subst (λ (z : View × View). Joins (rule_of key) id z.0 other z.1 (took_in z.0 z.1) Spent)
     (λ i. (sym is i, sym that i)) (take_allows key size its id other own roll done)
 
--- the putting in of its part
+-- the hub may put the part of the joined seat into the roll
 pub settle_asked :
     (key size : TableSize) (slots id own : ℕ) (me : Seated) (roll : Roll) (done : List ClaimAccess)
     → me ≡ (Taking size roll own done, [])

@@ -35,7 +35,7 @@ fits_apart k plan other drawn more seat apart Spent f = f
 abbrev pub longer : ClaimAccess → Plan → Plan
 longer a plan = record { history = a ∷ plan.history; given = plan.given; hub = plan.hub; place = plan.place }
 
--- the plan with one number more, which stands at this seat
+-- the plan with one number more given, whose part is at this seat
 abbrev pub with_number : ℕ → Plan → Plan
 with_number seat plan = record {
   history = plan.history;
@@ -44,7 +44,7 @@ with_number seat plan = record {
   place = moved plan.place plan.given seat;
 }
 
--- the plan in which number c stands at this seat
+-- the plan in which the part of number c is at this seat
 abbrev pub with_place : ℕ → ℕ → Plan → Plan
 with_place c seat plan = record {
   history = plan.history;
@@ -54,10 +54,11 @@ with_place c seat plan = record {
 }
 
 module _ (k : TableSize) (words : List ℕ) (views : List View) (plan : Plan) (s : IsStateOf k words views plan) where
+  -- how many numbers were drawn
   abbrev count : ℕ
   count = slice_index words (roster k)
 
-  -- ---- an access of a consumer's seat
+  -- ---- an access of a consumer's seat: its views before and after, its part, and where all parts are then
   module _ (size : TableSize) (id own at n : ℕ) (done : List ClaimAccess) (a : ClaimAccess)
       (is : IsViewAt views id (Standing size own done)) (of_own : a.consumer ≡ own) (own_part : OwnPart)
       (other_parts : OtherParts) where
@@ -67,6 +68,7 @@ module _ (k : TableSize) (words : List ℕ) (views : List View) (plan : Plan) (s
     abbrev after : View
     after = Standing size own (a ∷ done)
 
+    -- the seat's number was given, and the plan has the part at this seat
     mine : (own < plan.given) × (plan.place own ≡ id) × (done ≡ part own plan.history)
     mine = s.parts id own done (before, is, (refl, refl))
 
@@ -123,7 +125,7 @@ module _ (k : TableSize) (words : List ℕ) (views : List View) (plan : Plan) (s
             (s.fits id before is));
       }
 
-  -- ---- the hub draws a number
+  -- ---- the hub draws a number: its view fits before, and the roster then counts one more
   module _ (size : TableSize) (id more : ℕ) (roll : Roll) (is : IsViewAt views id (Handing size roll))
       (is_more : more ≡ suc count) (room : count < consumer_count k.layout)
       (memory : IsMemoryOf (claims_of_size k) (set words (roster k) more) plan.history) where
@@ -158,7 +160,7 @@ module _ (k : TableSize) (words : List ℕ) (views : List View) (plan : Plan) (s
           (hub_fits.0, hub_fits.1, is_more ∙ ap suc hub_fits.2));
     }
 
-  -- ---- the hub gives out the number that it has drawn
+  -- ---- the hub gives out the number that it has drawn: all views and the plan then, and where all parts are
   module _ (size : TableSize) (id : ℕ) (roll : Roll) (is : IsViewAt views id (Drawing size roll)) where
     drawing_fits : FitsTable k plan count id (Drawing size roll)
     drawing_fits = s.fits id (Drawing size roll) is
@@ -191,7 +193,7 @@ module _ (k : TableSize) (words : List ℕ) (views : List View) (plan : Plan) (s
         (kept_at views id (plan.place c) c (Drawing size roll) left (part c plan.history) is
         (get_front roll (None ∷ []) c (Some (part c plan.history))) (s.stands c (omega arith))))
 
-    -- a part that stood before stands where it stood
+    -- a part that a seat had before is where the plan with the number has it
     parts_before :
         (j d : ℕ) (ys : List ClaimAccess) → HasPartAt views j d ys
         → (d < suc plan.given) × (given_plan.place d ≡ j) × (ys ≡ part d plan.history)
@@ -247,7 +249,7 @@ module _ (k : TableSize) (words : List ℕ) (views : List View) (plan : Plan) (s
               drawing_fits.0;
         }
 
-  -- ---- the hub takes a seat in
+  -- ---- the hub takes a seat in: its view, all views and the plan then, whose seat that was, and where all parts are
   module _ (size its : TableSize) (id other own : ℕ) (roll : Roll) (done : List ClaimAccess) (apart : other ≢ id)
       (is : IsViewAt views id (Handing size roll))
       (there : IsViewAt (set views id (Taking size roll own done)) other (Standing its own done)) where
@@ -272,7 +274,7 @@ module _ (k : TableSize) (words : List ℕ) (views : List View) (plan : Plan) (s
     handing_fits : FitsTable k plan count id (Handing size roll)
     handing_fits = s.fits id (Handing size roll) is
 
-    -- who stands at another seat than the one that is taken in is another consumer
+    -- a number whose part is at another seat than the one taken in is another number
     elsewhere : (j d : ℕ) → j ≢ other → plan.place d ≡ j → d ≢ own
     elsewhere j d far at same = far (sym at ∙ ap plan.place same ∙ theirs.1)
 
@@ -302,7 +304,7 @@ module _ (k : TableSize) (words : List ℕ) (views : List View) (plan : Plan) (s
         (λ has. absurd (far has.0))
         (kept_at views id (plan.place c) c (Handing size roll) both (part c plan.history) is inr (s.stands c below)))
 
-    -- a part that stood at another seat stands where it stood
+    -- a part that another seat had is where the plan has it after the join
     parts_apart :
         (j d : ℕ) (ys : List ClaimAccess) → j ≢ other → HasPartAt views j d ys
         → (d < plan.given) × (taken_plan.place d ≡ j) × (ys ≡ part d plan.history)
@@ -334,7 +336,7 @@ module _ (k : TableSize) (words : List ℕ) (views : List View) (plan : Plan) (s
         (λ d ys h. absurd h)
         seat has.0 has.1 c xs has.2
 
-    -- after a seat is joined the plan in which its consumer stands at the hub explains the table
+    -- after a seat is joined the plan in which its part is at the hub explains the table
     pub after_taking : IsStateOf k words joined taken_plan
     after_taking = record {
       memory = s.memory;
@@ -353,7 +355,7 @@ module _ (k : TableSize) (words : List ℕ) (views : List View) (plan : Plan) (s
           tt;
     }
 
-  -- ---- the hub puts the part of the seat taken in into its roll
+  -- ---- the hub puts the part of the seat taken in into its roll: which parts the roll then has
   module _ (size : TableSize) (id own : ℕ) (roll : Roll) (done : List ClaimAccess)
       (is : IsViewAt views id (Taking size roll own done)) where
     taking_fits : FitsTable k plan count id (Taking size roll own done)

@@ -1,10 +1,10 @@
--- Lists read at a place, and a function that is changed at one number.
+-- Lists that are read or changed at one number, and functions that are changed at one number.
 use Rattle.std.proofs.Common.{◌≡◌, ◌≢◌, ◌⊎◌, ℕ, zero, suc, ◌<◌, cond, eqb, Option, Some, None, List, [], ◌∷◌, ◌++◌}
 use Rattle.std.proofs.Common.{length, set, refl, ap, ⊎_elim, inl, inr, arith, replicate, slice_get, slice_index}
 use Rattle.std.proofs.lemmas.Bool.{eq-eqb, ne_eqb}
 
 module _ {A : Type 0} where
-  -- what stands in a longer list stood in the front, or is the element added
+  -- what stands in a list with one element added stood in the list before, or is that element
   pub get-snoc :
       (xs : List A) (a b : A) (k : ℕ) → slice_get (xs ++ a ∷ []) k ≡ Some b
       → (slice_get xs k ≡ Some b) ⊎ (a ≡ b)
@@ -19,13 +19,13 @@ module _ {A : Type 0} where
   get_front (x ∷ xs) ys zero a e = e
   get_front (x ∷ xs) ys (suc k) a e = get_front xs ys k a e
 
-  -- an element that was replaced is the new one
+  -- at a number that was replaced stands the new element
   pub get-set_same : (xs : List A) (i : ℕ) (a b : A) → slice_get xs i ≡ Some b → slice_get (set xs i a) i ≡ Some a
   get-set_same [] i a b e = absurd (cc)
   get-set_same (x ∷ xs) zero a b e = refl
   get-set_same (x ∷ xs) (suc i) a b e = get-set_same xs i a b e
 
-  -- another element stays
+  -- each other element stays
   pub get-set_other : (xs : List A) (i k : ℕ) (a : A) → k ≢ i → slice_get (set xs i a) k ≡ slice_get xs k
   get-set_other [] i k a n = refl
   get-set_other (x ∷ xs) zero zero a n = absurd (n refl)
@@ -43,7 +43,7 @@ module _ {A : Type 0} where
   get-set (x ∷ xs) (suc i) zero a b e = inr e
   get-set (x ∷ xs) (suc i) (suc k) a b e = ⊎_elim (λ t. inl (ap suc t.0, t.1)) inr (get-set xs i k a b e)
 
-  -- what stands at a place of a list of options
+  -- at each number of a list of options stands None or a value
   pub given_at :
       (xs : List (Option A)) (k : ℕ) → k < length xs
       → (slice_get xs k ≡ Some None) ⊎ ((a : A) × (slice_get xs k ≡ Some (Some a)))
@@ -52,21 +52,21 @@ module _ {A : Type 0} where
   given_at (Some a ∷ xs) zero low = inr (a, refl)
   given_at (x ∷ xs) (suc k) low = given_at xs k (omega arith)
 
--- the same function, but for one number
+-- the function `place`, but with value `to` at number c
 pub moved : (ℕ → ℕ) → ℕ → ℕ → ℕ → ℕ
 moved place c to d = cond (eqb d c) to (place d)
 
--- it has the new value at that number
+-- the changed function has the new value at that number
 pub moved-here : (place : ℕ → ℕ) (c to : ℕ) → moved place c to c ≡ to
 unfolding moved
 moved-here place c to = ap (λ b. cond b to (place c)) (eq-eqb c c refl)
 
--- it has the old value at any other
+-- the changed function has the old value at any other number
 pub moved-else : (place : ℕ → ℕ) (c to d : ℕ) → d ≢ c → moved place c to d ≡ place d
 unfolding moved
 moved-else place c to d n = ap (λ b. cond b to (place d)) (ne_eqb d c n)
 
--- a list of zeros
+-- each element of a list of zeros is 0
 pub zeros : (n i : ℕ) → slice_index (replicate n 0) i ≡ 0
 zeros zero i = refl
 zeros (suc n) zero = refl

@@ -11,7 +11,7 @@ use Rattle.mb_shared_claims.specs.SeatSteps.{IsSeatStep, MayComeNext, access_of,
 use Rattle.mb_shared_claims.specs.ManySeatSteps.{AreSeatSteps}
 use Rattle.mb_shared_claims.proofs.ClaimMoves.{CutParts, FindsTold, KeepsMemory, OwnCell, may_come, seat_step, stands_on}
 
--- what accesses leave as it is: the table, the cell, and which seat and which source they borrow
+-- what accesses in such a memory leave as it is: the table, the cell, and which seat and which source are borrowed
 pub record Frame (N P : Type 0) : Type 0 where
   pub table : TableView
   pub cell : ℕ
@@ -46,13 +46,13 @@ module _ {N P : Type 0} {a b : Frame N P} where
   pub same_rng : a ≡ b → a.rng ≡ b.rng
   same_rng e = ap (λ (k : Frame N P). k.rng) e
 
--- an access was made from the seat, with this word
+-- this access was made from the seat, with this random word, and led to the seat that follows
 abbrev pub IsMade : TableView → ℕ → ClaimOp → ℕ → ℕ → SeatView → SeatView → Type 0
 IsMade t cell next seen word seat now =
     let a = access_of seat.consumer cell next seen word in
     (now ≡ with_access a seat) × ComesAfter (claims_in t.layout t.cells) a seat.part
 
--- the next access may be made from the seat
+-- the seat may make this access next
 abbrev pub CanMake : TableView → ℕ → ClaimOp → SeatView → Type 0
 CanMake t cell next seat =
     (seat.table ≡ name_of t) × (cell < t.cells) × IsWordInLayout t.layout next.object (reg_of next.op)
@@ -64,6 +64,7 @@ HasNextWord =
     (layout : Layout) (claim : Claim) (next : ClaimOp) (xs : List ObjectTurn) → IsClaimIn layout claim xs
     → claim_stage claim ≡ Going → IsNextOp layout claim next → IsWordInLayout layout next.object (reg_of next.op)
 
+-- ---- accesses in a memory of type M, which shows a seat, a stream and a random word
 module _ (t : TableView) (cell : ℕ) {M : Type 0} {K : Type 0} (seat : M → SeatView) (stream : M → Stream) (word : M → ℕ)
     (kept : M → K) (draws : M → ℕ → M → Type 0) (makes : M → ℕ → Op → ℕ → M → Type 0) where
   -- a word was drawn, and nothing else was changed
@@ -82,7 +83,7 @@ module _ (t : TableView) (cell : ℕ) {M : Type 0} {K : Type 0} (seat : M → Se
       (own_cell : OwnCell) (finds : FindsTold)
       (low : cell < t.cells) (named : (seat start).table ≡ name_of t) (own : consumer_of claim ≡ (seat start).consumer)
       (stands : IsClaimIn t.layout claim (part_on (seat start).consumer cell (seat start).part)) where
-    -- what so many accesses led to: steps of the seat, and a claim that has made its consumer's part
+    -- what n accesses led to: they are steps of the seat, and the claim there has made its consumer's part on the cell
     pub record Arrived (n : ℕ) (at : Claim) (now : M) : Type 0 where
       pub steps : AreSeatSteps t.layout cell claim (seat start) (stream start) n at (seat now) (stream now)
       pub keeps : kept now ≡ kept start
@@ -92,7 +93,7 @@ module _ (t : TableView) (cell : ℕ) {M : Type 0} {K : Type 0} (seat : M → Se
       pub count : length (part_on (seat now).consumer cell (seat now).part)
           ≡ n + length (part_on (seat start).consumer cell (seat start).part)
 
-    -- accesses of a claim are steps of the seat
+    -- each chain of accesses of the claim leads to that
     pub arrives :
         (n : ℕ) (at : Claim) (now : M) → AreClaimSteps t.layout (DrawsAndMakesNext draws makes) claim start n at now
         → Arrived n at now
@@ -140,7 +141,7 @@ module _ (t : TableView) (cell : ℕ) {M : Type 0} {K : Type 0} (seat : M → Se
               omega (arith, longer, one, p.count);
         }
 
-    -- the access that comes next there may be made
+    -- after n accesses and a draw, the seat may make the claim's next access
     pub may_go_on :
         KeepsMemory → HasNextWord → (n w : ℕ) (at : Claim) (before mid : M) (next : ClaimOp)
         → AreClaimSteps t.layout (DrawsAndMakesNext draws makes) claim start n at before → claim_stage at ≡ Going
@@ -157,7 +158,7 @@ module _ (t : TableView) (cell : ℕ) {M : Type 0} {K : Type 0} (seat : M → Se
           d.3 ∙ p.keeps,
         )
 
-    -- there are no more steps than a claim's layout allows
+    -- a chain of accesses of the claim has no more of them than the layout allows
     pub few_steps :
         ((h : List ClaimAccess) (c k : ℕ) → IsClaimLawful (claims_in t.layout t.cells) h
         → length (part_on c k h) ≤ most_accesses t.layout)
@@ -191,13 +192,13 @@ module _ (t : TableView) (cell : ℕ) {M : Type 0} {K : Type 0} (seat : M → Se
       chain n at now steps = subst (λ x. AreClaimSteps x (DrawsAndMakesNext draws makes) claim start
           n at now) same steps
 
-      -- so they are steps of the seat
+      -- each chain over the equal layout leads to steps of the seat
       pub arrives_in :
           (n : ℕ) (at : Claim) (now : M) → AreClaimSteps l (DrawsAndMakesNext draws makes) claim start n at now
           → Arrived n at now
       arrives_in n at now steps = arrives n at now (chain n at now steps)
 
-      -- the claim's next access may be made from the seat there
+      -- after n accesses over the equal layout and a draw, the seat may make the claim's next access
       pub may_go_on_in :
           KeepsMemory → HasNextWord → (n w : ℕ) (at : Claim) (before mid : M) (next : ClaimOp)
           → AreClaimSteps l (DrawsAndMakesNext draws makes) claim start n at before → claim_stage at ≡ Going
@@ -206,7 +207,7 @@ module _ (t : TableView) (cell : ℕ) {M : Type 0} {K : Type 0} (seat : M → Se
           may_go_on keeps has n w at before mid next (chain n at before steps) going draw
           (subst (λ x. IsNextOp x at next) same is)
 
-      -- there are no more than the table's layout allows
+      -- a chain over the equal layout has no more accesses than the table's layout allows
       pub few_steps_in :
           ((h : List ClaimAccess) (c k : ℕ) → IsClaimLawful (claims_in t.layout t.cells) h
           → length (part_on c k h) ≤ most_accesses t.layout)

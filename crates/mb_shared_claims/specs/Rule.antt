@@ -25,8 +25,8 @@ pub record Plan : Type 0 where
 abbrev pub IsHub : Plan → ℕ → Roll → Type 0
 IsHub plan seat roll = (seat ≡ plan.hub) × (length roll ≡ plan.given)
 
--- the view of a seat fits the table's size. The hub's view fits the numbers, too: the roster counts those given, and
--- one more while the hub enrolls. A seat that is being taken in was out
+-- the view of a seat has the table's size. The hub's view fits the plan, too: the roster counts the numbers given, and
+-- one more while the hub enrolls. The seat that the hub is taking in was out
 abbrev pub FitsTable : TableSize → Plan → ℕ → ℕ → View → Type 0
 FitsTable k plan drawn seat (Handing size roll) = (size ≡ k) × IsHub plan seat roll × (drawn ≡ plan.given)
 FitsTable k plan drawn seat (Drawing size roll) = (size ≡ k) × IsHub plan seat roll × (drawn ≡ suc plan.given)

@@ -6,7 +6,7 @@ use Rattle.mb_shared_claims.specs.Types.{ClaimAccess, ClaimOp, ObjectTurn, Claim
 use Rattle.mb_shared_claims.specs.ViewSteps.{ComesAfter}
 use Rattle.mb_shared_claims.specs.Seats.{SeatView, claims_at}
 
--- the access of consumer c to a cell by an op that finds this value, with the random word
+-- the access of consumer c to a cell by this op, which found this value, with this random word
 abbrev pub access_of : ℕ → ℕ → ClaimOp → ℕ → ℕ → ClaimAccess
 access_of c cell next seen word =
     record { consumer = c; cell = cell; step = step_of next.object next.op seen word }
@@ -23,11 +23,11 @@ pub record IsSeatStep
   -- the access, and the value that it found
   pub next : ClaimOp
   pub seen : ℕ
-  -- it is the one that the claim names
+  -- the access is the one that the claim names
   pub is : IsNextOp layout claim next
   -- the seat's part has exactly this access more
   pub adds : now ≡ with_access (access_of seat.consumer cell next seen word) seat
-  -- it came after a lawful history of all claims, in which the seat's consumer had done its part and nothing else
+  -- the access came after a lawful history of all claims, in which the seat's consumer had done its part and no more
   pub comes : ComesAfter (claims_at seat.table) (access_of seat.consumer cell next seen word) seat.part
   -- the claim that follows is the one after that access, whatever led to the claim before
   pub path :

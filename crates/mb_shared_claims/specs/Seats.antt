@@ -8,7 +8,7 @@ use Rattle.mb_shared_claims.specs.ViewSteps.{Seated, roll_of, part_of}
 use Rattle.mb_shared_claims.specs.Rule.{roster}
 
 -- ---- what callers see
--- a table: which it is, the objects of each cell, and how many cells there are
+-- a table as callers see it: which it is, the objects of each cell, and how many cells there are
 pub record TableView : Type 0 where
   pub id : TableId
   pub layout : Layout
@@ -33,18 +33,18 @@ claims_at_size None = claims_of (record { registers = 0; values = 0; write = λ 
 abbrev pub claims_at : ClaimTable → Claims
 claims_at table = claims_at_size table.size
 
--- a hub: of which table it is, and its roll
+-- a hub as callers see it: of which table it is, and its roll
 pub record HubView : Type 0 where
   pub table : ClaimTable
   pub roll : Roll
 
--- a seat: of which table it is, its consumer's number, and all that the consumer did
+-- a seat as callers see it: of which table it is, its consumer's number, and all that the consumer did
 pub record SeatView : Type 0 where
   pub table : ClaimTable
   pub consumer : ℕ
   pub part : List ClaimAccess
 
--- how many seats are out
+-- how many seats are out, by the roll
 abbrev pub count_out : Roll → ℕ
 count_out [] = 0
 count_out (Some done ∷ rest) = count_out rest
@@ -66,7 +66,7 @@ abbrev pub IsLawfulPart : Claims → ℕ → List ClaimAccess → Type 0
 IsLawfulPart cs c done = (h : List ClaimAccess) × IsClaimLawful cs h × (part c h ≡ done)
 
 -- ---- what a table, a hub and a seat keep
--- the size of its table that a view has
+-- the size of the table that a view has, if it has one
 abbrev pub size_in : View → Option TableSize
 size_in (Handing size roll) = Some size
 size_in (Drawing size roll) = Some size
@@ -85,14 +85,14 @@ pub record IsTable (id : TableId) (key size : TableSize) : Type 0 where
   pub slots : id.slots ≡ 0
   pub cells : size.cells ≤ MAX_LARGE_CELLS
 
--- the hub's seat, and the numbers that it counts: those given, and those out
+-- what is kept in the hub: its seat has the hub's view, and it counts the numbers given and the seats that are out
 pub record IsHubSeat (me : Seated) (given out : ℕ) : Type 0 where
   pub size : TableSize
   pub is : me ≡ (Handing size (roll_of me.0), [])
   pub all : given ≡ length (roll_of me.0)
   pub absent : out ≡ count_out (roll_of me.0)
 
--- the seat of a consumer of the layout, whose part is that of some lawful history
+-- what is kept in a consumer's seat: its number is one of the layout's, and some lawful history has its part
 pub record IsClaimSeat (me : Seated) (consumer : ℕ) : Type 0 where
   pub size : TableSize
   pub is : me ≡ (Standing size consumer (part_of me.0), [])

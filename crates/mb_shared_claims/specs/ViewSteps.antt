@@ -23,7 +23,7 @@ part_of (Standing size own done) = done
 part_of _ = []
 
 -- ---- an access of a consumer's seat
--- a consumer's seat with one access more
+-- the view of a consumer's seat with one access more in its part
 abbrev pub with_one_more : ClaimAccess → View → View
 with_one_more a (Standing size own done) = Standing size own (a ∷ done)
 with_one_more a v = v
@@ -38,7 +38,8 @@ abbrev pub ComesAfterView : ClaimAccess → View → Type 0
 ComesAfterView a (Standing size own done) = ComesAfter (claims_of_size size) a done
 ComesAfterView a v = Unit {0}
 
--- what an access of a claim proves, be it a load, a store or an exchange
+-- what an access of a claim proves, be it a load, a store or an exchange: it came after the seat's part, and is then in
+-- that part
 abbrev pub makes : ClaimAccess → Seated → Seated → Type 0
 makes a me now = (now ≡ (with_one_more a me.0, me.1)) × ComesAfterView a me.0
 
@@ -53,12 +54,12 @@ abbrev pub given_out : View → View
 given_out (Drawing size roll) = Handing size (roll ++ None ∷ [])
 given_out v = v
 
--- the view of the seat to which it was given, whose consumer has done nothing
+-- the view of the seat that gets that number, whose consumer has done nothing
 abbrev pub newcomer : View → View
 newcomer (Drawing size roll) = Standing size (length roll) []
 newcomer v = Spent
 
--- what the fetch-add proves: it found how many numbers were given before
+-- what the hub's fetch-add proves: it found how many numbers were given before
 abbrev pub draws : ℕ → Seated → Seated → Type 0
 draws found me now = (found ≡ length (roll_of me.0)) × (now ≡ (drawn me.0, me.1))
 
@@ -78,6 +79,6 @@ abbrev pub WasOut : View → Type 0
 WasOut (Taking size roll own done) = IsOut roll own
 WasOut v = Unit {0}
 
--- what the load after the join proves
+-- what the load after the join proves: the seat was out, and its part is now in the roll
 abbrev pub settles : Seated → Seated → Type 0
 settles me now = WasOut me.0 × (now ≡ (settled me.0, me.1))

@@ -9,7 +9,7 @@ use Rattle.mb_shared_claims.specs.Types.{ClaimAccess, TableSize, View, Handing, 
 abbrev pub claims_of_size : TableSize → Claims
 claims_of_size size = claims_in size.layout size.cells
 
--- the hub has a place for each number given, with the part of that consumer if its seat was taken in
+-- a hub's roll: for each number given the part of that consumer if its seat was taken in, else none
 abbrev pub Roll : Type 0
 Roll = List (Option (List ClaimAccess))
 
@@ -29,10 +29,10 @@ HasPart (Standing size own done) c xs = (c ≡ own) × (xs ≡ done)
 HasPart (Taking size roll own done) c xs = ((c ≡ own) × (xs ≡ done)) ⊎ WasTaken roll c xs
 HasPart Spent c xs = ⊥
 
--- a seat has this view
+-- this seat has this view
 abbrev pub IsViewAt : List View → ℕ → View → Type 0
 IsViewAt views seat v = get_elem? views seat ≡ some v
 
--- a seat has this part of consumer c
+-- this seat's view has this part of consumer c
 abbrev pub HasPartAt : List View → ℕ → ℕ → List ClaimAccess → Type 0
 HasPartAt views seat c xs = (v : View) × IsViewAt views seat v × HasPart v c xs

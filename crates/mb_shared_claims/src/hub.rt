@@ -5,7 +5,7 @@ use std::error::Error;
 use std::fmt;
 use std::marker::Model;
 
-/// It gives each consumer's number out with its seat, and takes the seats in again.
+/// A table's hub. It gives each consumer's number out with its seat, and takes the seats in again.
 #[derive(Drop)]
 pub struct ClaimHub {
     pub(crate) seat: Seat<(), View>,
@@ -38,7 +38,7 @@ impl ClaimHub {
         self.given
     }
 
-    /// How many of their seats are out: given, and not taken in.
+    /// How many seats are out: given, and not taken in.
     pub fn out(&self) -> u32
         ensures { result ≡ count_out self.now.roll }
     {

@@ -57,7 +57,7 @@ pub fn steps_keep_states()
         → IsClaimsState k (words_after cs cell next.object next.op words)
         (slice_set views id (Standing size own (a ∷ done))) }
 
-    // The fetch-add on the roster, and then the split that gives the number out.
+    // The hub draws a number by a fetch-add on the roster. Then it gives the number out, by a split of its view.
     ensures draw { (k size : TableSize) (words : List ℕ) (views : List View) (id : ℕ) (roll : Roll)
         → IsClaimsState k words views → IsViewAt views id (Handing size roll)
         → length roll < consumer_count k.layout
@@ -68,7 +68,7 @@ pub fn steps_keep_states()
         → IsClaimsState k words (slice_set views id (Handing size (roll ++ None ∷ []))
         ++ Standing size (length roll) [] ∷ []) }
 
-    // The join of a seat's view to the hub's, and then the load after it.
+    // The hub takes a seat in by a join of its view. The load after it puts the seat's part into the roll.
     ensures take { (k size its : TableSize) (words : List ℕ) (views : List View) (id other own : ℕ)
         (roll : Roll) (done : List ClaimAccess)
         → IsClaimsState k words views → other ≢ id → IsViewAt views id (Handing size roll)

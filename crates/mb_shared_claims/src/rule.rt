@@ -24,6 +24,7 @@ pub trait AccessSpec {
     ghost access: { ℕ → ClaimAccess };
 }
 
+// A call names `Brand`, and the caller's `Invariants.antt` picks the access. The member here is not used.
 impl AccessSpec for Brand {
     ghost use Rattle.mb_deciding.specs.declared.access.Act.TheVariants.{Load};
     ghost use Rattle.mb_deciding.specs.declared.access.Reg.TheVariants.{Value};

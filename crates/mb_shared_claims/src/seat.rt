@@ -3,8 +3,8 @@ use crate::view::View;
 use atomic_table::Seat;
 use std::marker::Model;
 
-/// A thread makes the accesses of one consumer with it. It carries the number of the consumer and, for proofs alone,
-/// all that the consumer did at its table.
+/// A consumer's seat, with which a thread makes the consumer's accesses. It carries the number of the consumer and, for
+/// proofs alone, all that the consumer did at its table.
 #[derive(Drop)]
 pub struct ClaimSeat {
     pub(crate) seat: Seat<(), View>,

@@ -13,7 +13,7 @@ mirrored t =
       read = λ v. t.read (t.values - 1 - v);
     }
 
--- it is a quorum table if the other is one
+-- the mirrored table is a quorum table if the other is one
 pub mirrored_lawful : (t : QuorumTable) → IsQuorumTable t → IsQuorumTable (mirrored t)
 mirrored_lawful t law =
     let mirror : (v : ℕ) → v < t.values → t.values - 1 - v < t.values = λ v value. omega (arith, value) in

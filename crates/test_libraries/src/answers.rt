@@ -29,27 +29,27 @@ pub(crate) fn step(consumer: u64, lane: u64) -> Event {
     }
 }
 
-/// An offered item gets a cell.
+/// The answer that an offered item gets cell `k`.
 pub(crate) fn cell(k: u32) -> Answer {
     Answer::Offered(Offer::Cell(k))
 }
 
-/// The item of a cell is stored.
+/// The answer that the item of cell `k` is stored.
 pub(crate) fn item(k: u32) -> Answer {
     Answer::Pushed(Push::Item(k))
 }
 
-/// A cell is linked.
+/// The answer that cell `k` is linked.
 pub(crate) fn link(k: u32) -> Answer {
     Answer::Pushed(Push::Link(k))
 }
 
-/// A consumer finds a cell.
+/// The answer that a consumer finds cell `k`.
 pub(crate) fn found(k: u32) -> Answer {
     Answer::Looked(Look::Cell(k))
 }
 
-/// A claim loads a word, and then has this stage.
+/// The answer that a claim on cell `k` loads a word, and then has this stage.
 pub(crate) fn loads(k: u32, object: u32, reg: Reg, value: u64, stage: Stage) -> Answer {
     Answer::Claimed {
         cell: k,
@@ -59,7 +59,7 @@ pub(crate) fn loads(k: u32, object: u32, reg: Reg, value: u64, stage: Stage) -> 
     }
 }
 
-/// A claim stores in a word, and then has this stage.
+/// The answer that a claim on cell `k` stores in a word, and then has this stage.
 pub(crate) fn stores(k: u32, object: u32, reg: Reg, value: u64, stage: Stage) -> Answer {
     Answer::Claimed {
         cell: k,
@@ -69,7 +69,7 @@ pub(crate) fn stores(k: u32, object: u32, reg: Reg, value: u64, stage: Stage) ->
     }
 }
 
-/// A consumer takes the item of a cell.
+/// The answer that a consumer takes the item of cell `k`.
 pub(crate) fn took(k: u32, x: u64) -> Answer {
     Answer::Took { cell: k, item: x }
 }

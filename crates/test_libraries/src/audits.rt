@@ -32,8 +32,8 @@ fn a_report_without_a_flaw_is_counted(rt: HostRuntime) {
     same(&rt, &audit(&report, 2, 2), &Ok(tally));
 }
 
-/// The report with these lanes and diaries has this flaw, or none. `asked` has the numbers of producers and of
-/// consumers.
+/// Checks that the report with these lanes and diaries has this flaw, or none. `asked` has the numbers of producers and
+/// of consumers.
 fn comes_to<R: Abort + AllocGlobal>(
     rt: &R,
     asked: (u64, u64),
@@ -45,7 +45,8 @@ fn comes_to<R: Abort + AllocGlobal>(
     same(rt, &audit(&report, asked.0, asked.1).err(), &flaw);
 }
 
-/// Three consumers have these notes on the only item, 5, which is left or not. The report has this flaw, or none.
+/// Checks the report in which three consumers have these notes on the only item, 5, which is left or not. It has this
+/// flaw, or none.
 fn three_come_to<R: Abort + AllocGlobal>(
     rt: &R,
     is_left: bool,
@@ -76,7 +77,7 @@ fn an_item_has_one_winner(rt: HostRuntime) {
         // The winner that they name competed, and there is such a consumer.
         (true, [&[Lost(1)], &[], &[]], other),
         (true, [&[Lost(3)], &[], &[]], other),
-        // It is the taker.
+        // If the item was taken, the winner that they name is the taker.
         (false, [&[Took(5)], &[Lost(2)], &[Undecided]], other),
         // A consumer that is alone decides.
         (true, [&[], &[], &[Undecided]], Some(Flaw::UndecidedAlone)),
@@ -92,10 +93,10 @@ fn what_is_left_is_what_nobody_took(rt: HostRuntime) {
     let other = Some(Flaw::OtherLeft);
     let cases: [(&[u64], Option<Flaw>); 8] = [
         (&[6, 7], None),
-        // In their order.
+        // The items left are in their order.
         (&[7, 6], other),
         (&[6, 8], other),
-        // All of them, and no more.
+        // They are all items that nobody took, and no more.
         (&[], other),
         (&[6], other),
         (&[7], other),
@@ -135,7 +136,7 @@ fn there_is_a_diary_for_each_consumer_and_lane(rt: HostRuntime) {
     let first: [DiaryTold<'_>; 2] = [(0, 0, &[], false), (0, 1, &[], false)];
     let second: [DiaryTold<'_>; 2] = [(1, 0, &[], false), (1, 1, &[], false)];
     let all = [first[0], first[1], second[0], second[1]];
-    // The number of consumers that were asked for, with two producers.
+    // Each case has the number of consumers that were asked for. Two producers were asked for.
     let cases: [(u64, &[LaneTold<'_>], &[DiaryTold<'_>], Option<Flaw>); 12] = [
         (2, &[lane; 2], &all, None),
         (0, &[lane; 2], &[], None),
@@ -145,7 +146,7 @@ fn there_is_a_diary_for_each_consumer_and_lane(rt: HostRuntime) {
         (1, &[lane; 2], &[], other),
         (2, &[lane; 2], &first, other),
         (1, &[lane; 2], &all, other),
-        // Each has the consumer and the lane of its place.
+        // Each diary has the consumer and the lane of its place.
         (1, &[lane; 2], &second, other),
         (1, &[lane; 2], &[first[1], first[0]], other),
         (2, &[lane; 2], &[all[0], all[2], all[1], all[3]], other),

@@ -14,7 +14,7 @@ use std::alloc::Allocator;
 use std::test::Fail;
 use test_alloc::growths_refused;
 
-/// The item of an only lane, from the first look to the end mark.
+/// The calls that put and read one item of an only lane, from the first look to the end mark.
 fn one_item() -> [PoolCall; 9] {
     [
         Looks(Cursor::head(0), Look::Nothing),
@@ -38,12 +38,12 @@ fn each_growth_of_new_refused(rt: HostRuntime) -> Result<(), Fail> {
         }
         Err(_) => Ok(false),
     })?;
-    // The heads, the links, the items and the lanes.
+    // The allocations are of the heads, the links, the items and the lanes.
     assert!(rt; 4 <= refused);
     Ok(())
 }
 
-/// An item is offered, gets this cell, and is linked.
+/// The calls of lane `p` by which item `x` is offered, gets this cell, and is put.
 fn put(p: u32, x: u64, cell: u32) -> [PoolCall; 3] {
     [
         Offers(p, x, Offer::Cell(cell)),
@@ -81,6 +81,7 @@ fn calls_join_a_list(rt: HostRuntime) -> Result<(), Fail> {
     Ok(())
 }
 
+// Two lanes get the cells of one pool in turns. Looks find each lane's own cells.
 #[test]
 fn two_lanes_draw_from_one_pool(rt: HostRuntime) -> Result<(), Fail> {
     let mut pool = Calls::new(rt.alloc(), 2, 4)?;
@@ -100,6 +101,7 @@ fn two_lanes_draw_from_one_pool(rt: HostRuntime) -> Result<(), Fail> {
     Ok(())
 }
 
+// Lane 1 finds no cell. It returns Full again and again, and may still end. Lane 0 may not, since its item is not put.
 #[test]
 fn full_comes_with_one_access(rt: HostRuntime) -> Result<(), Fail> {
     let mut pool = Calls::new(rt.alloc(), 2, 1)?;
@@ -127,6 +129,7 @@ fn a_pool_of_no_cells(rt: HostRuntime) -> Result<(), Fail> {
     Ok(())
 }
 
+// Offers and finishes are refused while an item waits to be put (Busy), and after the end mark (Closed).
 #[test]
 fn refusals_in_their_order(rt: HostRuntime) -> Result<(), Fail> {
     let mut pool = Calls::new(rt.alloc(), 1, 1)?;
@@ -147,7 +150,7 @@ fn refusals_in_their_order(rt: HostRuntime) -> Result<(), Fail> {
     Ok(())
 }
 
-/// No cell is left for lane `p`. The lane ends. Its first cell is cell `p`.
+/// The calls of lane `p` if no cell is left. The lane ends, and its first cell is cell `p`.
 fn full_and_ended(p: u32) -> [PoolCall; 3] {
     [
         Offers(p, 7, Offer::Full),
@@ -156,7 +159,7 @@ fn full_and_ended(p: u32) -> [PoolCall; 3] {
     ]
 }
 
-/// The second cell of lane `p`, and the item of its last cell, after which the lane ends.
+/// The calls that find the second cell of lane `p`, the item of its last cell, and the end mark after that.
 fn two_cells_on(p: u32, last: u32) -> [PoolCall; 3] {
     [
         Looks(Cursor::past(p), Look::Cell(p.wrapping_add(16))),
@@ -165,6 +168,7 @@ fn two_cells_on(p: u32, last: u32) -> [PoolCall; 3] {
     ]
 }
 
+// Sixteen lanes get forty cells in turns, so the first eight have three cells and the others two.
 #[test]
 fn sixteen_lanes_until_full(rt: HostRuntime) -> Result<(), Fail> {
     let mut pool = Calls::new(rt.alloc(), 16, 40)?;
@@ -179,7 +183,7 @@ fn sixteen_lanes_until_full(rt: HostRuntime) -> Result<(), Fail> {
     Ok(())
 }
 
-/// Cell `k` of 256 has the item of its number. After it comes cell `k + step`, or the end.
+/// The calls that find the item of cell `k` of 256, and after it cell `k + step` or the end mark.
 fn read(k: u32, step: u32) -> [PoolCall; 2] {
     let next = k.wrapping_add(step);
     let behind = if next < 256 {
@@ -225,7 +229,7 @@ fn one_lane_takes_all_256_cells(rt: HostRuntime) -> Result<(), Fail> {
     Ok(())
 }
 
-/// The refusals of lane `p` while its item is offered and not put.
+/// The calls of lane `p` that are refused while its item is offered and not put. A look finds nothing there.
 fn is_busy(p: u32) -> [PoolCall; 3] {
     [
         Offers(p, 9, Offer::Busy),
@@ -234,7 +238,7 @@ fn is_busy(p: u32) -> [PoolCall; 3] {
     ]
 }
 
-/// The item of lane `p` is put, and the lane ends.
+/// The calls by which the item of lane `p` is put, and the lane ends.
 fn put_and_ended(p: u32) -> [PoolCall; 3] {
     [
         Pushes(p, Push::Item(p)),
@@ -243,7 +247,7 @@ fn put_and_ended(p: u32) -> [PoolCall; 3] {
     ]
 }
 
-/// The refusals of lane `p`, which has ended after one item.
+/// The calls of lane `p` that are refused after it has ended with one item. Looks find the item and the end mark.
 fn is_closed(p: u32) -> [PoolCall; 6] {
     [
         Offers(p, 9, Offer::Closed),

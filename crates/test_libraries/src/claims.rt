@@ -8,6 +8,7 @@ use std::alloc::Allocator;
 use std::process::Abort;
 use std::test::Fail;
 
+/// The entry of a consumer's load that found this value.
 pub(crate) fn loaded(consumer: u32, object: u32, reg: Reg, value: u64) -> ClaimEntry {
     ClaimEntry::Access {
         consumer,
@@ -16,6 +17,7 @@ pub(crate) fn loaded(consumer: u32, object: u32, reg: Reg, value: u64) -> ClaimE
     }
 }
 
+/// The entry of a consumer's store of this value.
 pub(crate) fn stored(consumer: u32, object: u32, reg: Reg, value: u64) -> ClaimEntry {
     ClaimEntry::Access {
         consumer,
@@ -24,7 +26,7 @@ pub(crate) fn stored(consumer: u32, object: u32, reg: Reg, value: u64) -> ClaimE
     }
 }
 
-/// The steps in which consumer 0 wins before consumer 1 comes, and is asked once more.
+/// The steps in which consumer 0 wins before consumer 1 comes. At the end consumer 0 is asked once more.
 pub(crate) const WON_AND_LOST: [(u64, u64); 12] = [
     (0, 0),
     (0, 0),
@@ -66,7 +68,7 @@ pub(crate) fn is_played<A: Allocator + Copy + Drop>(
     }
 }
 
-/// The entries of these steps, of two consumers and one pair over the bit table.
+/// The entries of the steps `WON_AND_LOST`, of two consumers and one pair over the bit table.
 pub(crate) fn won_and_lost() -> [ClaimEntry; 12] {
     [
         loaded(0, 0, Reg::Value, 0),
@@ -99,14 +101,15 @@ fn layouts_out_of_range(rt: HostRuntime) {
     }
 }
 
+// A layout tells how many words one and two cells have, where a word lies, and the most accesses of a claim.
 #[test]
 fn two_consumers_and_three_pairs(rt: HostRuntime) -> Result<(), Fail> {
     let layout = Layout::new(2, 3, TableName::Bits)?;
     // A conciliator has one word, a ratifier its proposal and two registers: four a pair, and twelve a cell.
     let words = (layout.words(1), layout.words(2));
-    // After two cells, the objects 0 to 2 with 1, 3 and 1 words, the proposal and register 0.
+    // The word comes after two cells, the objects 0 to 2 with 1, 3 and 1 words, the proposal and register 0.
     let address = layout.address(2, 3, Reg::Quorum(1));
-    // Three pairs, each a conciliator of 2 + 3 accesses at most and a ratifier of 1 + 2 + 1.
+    // There are three pairs, each a conciliator of 2 + 3 accesses at most and a ratifier of 1 + 2 + 1.
     let most = layout.max_steps();
     same(
         &rt,
@@ -123,7 +126,7 @@ fn most_accesses_of_eight_pairs(rt: HostRuntime) -> Result<(), Fail> {
         // unary table.
         (16, TableName::Bits, 144),
         (16, TableName::Unary, 208),
-        // A conciliator of 7 + 3 accesses at most and a ratifier of 6 + 2 + 6, 1 + 2 + 63 or 4 + 2 + 4.
+        // Here a conciliator has at most 7 + 3 accesses, and a ratifier 6 + 2 + 6, 1 + 2 + 63 or 4 + 2 + 4.
         (64, TableName::Bits, 192),
         (64, TableName::Unary, 608),
         (64, TableName::Middle, 160),
@@ -133,6 +136,7 @@ fn most_accesses_of_eight_pairs(rt: HostRuntime) -> Result<(), Fail> {
     Ok(())
 }
 
+// A claim is begun by its first access, and then goes on.
 #[test]
 fn first_access_of_a_claim(rt: HostRuntime) -> Result<(), Fail> {
     let layout = Layout::new(2, 1, TableName::Bits)?;
@@ -167,7 +171,7 @@ fn one_wins_and_the_other_loses(rt: HostRuntime) -> Result<(), Fail> {
     Ok(())
 }
 
-// After the fourteen steps nobody makes an access.
+// Fourteen steps in this order leave both claims undecided.
 #[test]
 fn both_stay_undecided(rt: HostRuntime) -> Result<(), Fail> {
     let layout = Layout::new(2, 1, TableName::Bits)?;
@@ -185,6 +189,7 @@ fn both_stay_undecided(rt: HostRuntime) -> Result<(), Fail> {
     Ok(())
 }
 
+// The conciliator's first attempt has the random word 1 and does not store. The second has 0 and stores.
 #[test]
 fn the_first_random_word_does_not_store(rt: HostRuntime) -> Result<(), Fail> {
     let layout = Layout::new(1, 1, TableName::Bits)?;
@@ -232,7 +237,8 @@ fn steps_in_order() -> [(u64, u64); STEPS] {
     steps
 }
 
-/// Sixteen consumers step in order. The steps from `first` on are of claims that had ended before.
+/// Ends the test unless exactly the steps from `first` on are of claims that had ended before. Sixteen consumers step
+/// in order.
 fn are_done_from(rt: &impl Abort, entries: &[ClaimEntry], first: usize) {
     for (place, entry) in entries.iter().enumerate() {
         let done = ClaimEntry::Done {
@@ -242,6 +248,7 @@ fn are_done_from(rt: &impl Abort, entries: &[ClaimEntry], first: usize) {
     }
 }
 
+// There are many more steps than accesses. Each claim ends, and its later steps make no access.
 #[test]
 fn two_thousand_steps_of_sixteen_consumers(rt: HostRuntime) -> Result<(), Fail> {
     let layout = Layout::new(16, 8, TableName::Bits)?;

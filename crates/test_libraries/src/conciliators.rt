@@ -5,6 +5,7 @@ use crate::entries::{are_done_from, ending, last_turn, loaded, shows, stored};
 use mb_deciding::{Entry, Fault, Out, Reg, conciliate};
 use std::test::Fail;
 
+// The last attempt of a process stores, also on a random word on which the earlier ones do not.
 #[test]
 fn last_turn_stores(rt: HostRuntime) {
     for turns in [
@@ -33,6 +34,7 @@ fn two_stores_leave_two_values(rt: HostRuntime) {
     assert!(rt; shows(&rt, returned, &entries, &outputs));
 }
 
+// With one value the first attempt stores if its random word is even. If it is odd, the second attempt stores.
 #[test]
 fn one_value(rt: HostRuntime) {
     let entries = [
@@ -48,19 +50,21 @@ fn one_value(rt: HostRuntime) {
     assert!(rt; shows(&rt, even, &entries[1..4], &[Some(Out::undecided(0))]));
 }
 
+// The number of values is looked at first, then the inputs, then the turns.
 #[test]
 fn first_reason_refuses(rt: HostRuntime) {
-    let a = rt.alloc();
+    let alloc = rt.alloc();
     for (m, inputs, turns, want) in [
         (0, [5].as_slice(), [(9, 0)].as_slice(), Fault::BadValues),
         (65, &[], &[], Fault::BadValues),
         (2, &[0, 2], &[], Fault::BadInput(1)),
         (2, &[0], &[(1, 0)], Fault::NoSuchProcess(0)),
     ] {
-        same(&rt, &conciliate(a, m, inputs, turns).err(), &Some(want));
+        same(&rt, &conciliate(alloc, m, inputs, turns).err(), &Some(want));
     }
 }
 
+// Without processes and turns the trace is empty.
 #[test]
 fn nobody_makes_no_turn(rt: HostRuntime) {
     assert!(rt; shows(&rt, conciliate(rt.alloc(), 17, &[], &[]), &[], &[]));
@@ -78,6 +82,7 @@ fn turns_in_order() -> [(u64, u64); TURNS] {
     turns
 }
 
+// There are many more turns than accesses. Each process has its output, and its later turns make no access.
 #[test]
 fn two_thousand_turns_of_sixteen_processes(rt: HostRuntime) -> Result<(), Fail> {
     let inputs = [0, 1, 2, 3, 4, 5, 6, 7, 8, 9, 10, 11, 12, 13, 14, 15];

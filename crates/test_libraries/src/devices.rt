@@ -6,7 +6,7 @@ use std::io;
 use std::io::{Read, Write};
 use std::process::Abort;
 
-// Fails in its nth call, and works in every other.
+/// A device that fails in its call number `bad`, counted from 0, and works in every other.
 #[derive(Drop)]
 struct FailsOnce<D: Drop> {
     device: D,
@@ -15,6 +15,7 @@ struct FailsOnce<D: Drop> {
 }
 
 impl<D: Drop> FailsOnce<D> {
+    /// Counts a call. Returns whether it is the one that fails.
     fn fails(&mut self) -> bool {
         let now = self.calls == self.bad;
         self.calls = self.calls.wrapping_add(1);
@@ -46,7 +47,7 @@ impl<W: Write + Drop> Write for FailsOnce<W> {
     }
 }
 
-/// Reads five bytes by a reader whose call `bad` fails. The result is `want`, after `calls` calls.
+/// Reads five bytes by a reader whose call `bad` fails. Checks that the result is `want`, after `calls` calls.
 fn reads_five<R: Abort + AllocGlobal>(
     rt: &R,
     bad: usize,
@@ -72,11 +73,11 @@ fn no_failed_read_is_tried_again(rt: HostRuntime) {
     for bad in 0..4 {
         reads_five(&rt, bad, Err(ReadEnd::ReadFault), 1, bad + 1);
     }
-    // Two bytes, two, one, and the end.
+    // The four calls give two bytes, two, one, and the end.
     reads_five(&rt, 4, Ok(b"abcde".as_slice()), 0, 4);
 }
 
-/// Writes five bytes by a writer whose call `bad` fails. The result is `want`, and `written` was written.
+/// Writes five bytes by a writer whose call `bad` fails. Checks that the result is `want`, and `written` was written.
 fn writes_five<R: Abort + AllocGlobal>(
     rt: &R,
     bad: usize,

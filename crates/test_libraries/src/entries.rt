@@ -5,6 +5,7 @@ use mb_deciding::{Act, Entry, Fault, Out, Reg, Trace};
 use std::alloc::Allocator;
 use std::process::Abort;
 
+/// The entry of a process's load that found this value.
 pub(crate) fn loaded(process: usize, reg: Reg, value: u64) -> Entry {
     Entry::Access {
         process,
@@ -13,6 +14,7 @@ pub(crate) fn loaded(process: usize, reg: Reg, value: u64) -> Entry {
     }
 }
 
+/// The entry of a process's store of this value.
 pub(crate) fn stored(process: usize, reg: Reg, value: u64) -> Entry {
     Entry::Access {
         process,
@@ -21,7 +23,7 @@ pub(crate) fn stored(process: usize, reg: Reg, value: u64) -> Entry {
     }
 }
 
-/// The same entry, with the output that its access gives.
+/// This entry, but with the output that its access gives.
 pub(crate) fn ending(entry: Entry, output: Out) -> Entry {
     match entry {
         Entry::Access { process, act, .. } => Entry::Access {
@@ -77,7 +79,8 @@ pub(crate) fn shows<A: Allocator + Drop>(
     }
 }
 
-/// Sixteen processes have turns in order. The turns from `first` on are of processes that had their output before.
+/// Ends the test unless exactly the turns from `first` on are of processes that had their output before. Sixteen
+/// processes have turns in order.
 pub(crate) fn are_done_from(rt: &impl Abort, entries: &[Entry], first: usize) {
     for (place, entry) in entries.iter().enumerate() {
         let done = Entry::Done {

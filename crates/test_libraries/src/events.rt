@@ -9,7 +9,7 @@ use mb_claim::Stage;
 use mb_deciding::Reg;
 use mb_world::{Answer, Event, Note};
 
-/// An item is put into the first lane and taken by the only consumer.
+/// The events by which an item is put into the first lane and taken by the only consumer, with their answers.
 pub(crate) fn take_seven() -> [(Event, Answer); 10] {
     [
         (offer(0, 7), cell(0)),
@@ -25,7 +25,7 @@ pub(crate) fn take_seven() -> [(Event, Answer); 10] {
     ]
 }
 
-/// Consumer 0 has won the item 5 and not loaded it, and consumer 1 has lost it.
+/// The events after which consumer 0 has won the item 5 and not loaded it, and consumer 1 has lost it.
 fn lose_five() -> [(Event, Answer); 16] {
     [
         (offer(0, 5), cell(0)),
@@ -47,6 +47,7 @@ fn lose_five() -> [(Event, Answer); 16] {
     ]
 }
 
+// Events of no lane or of no consumer change nothing. If both are missing, the answer names the lane.
 #[test]
 fn a_lane_is_looked_for_before_a_consumer(rt: HostRuntime) {
     let mut world = one_pair(&rt, 1, 2, 1);
@@ -69,8 +70,9 @@ fn a_lane_is_looked_for_before_a_consumer(rt: HostRuntime) {
     );
 }
 
-/// Two producers put an item each, and two consumers come to both. Consumer 0 takes the item of lane 0, and consumer 1
-/// loses it. Consumer 1 takes the item of lane 1, and consumer 0 has begun a claim on it. Lane 1 has ended.
+/// The events by which two producers put an item each, and two consumers come to both. Consumer 0 takes the item of
+/// lane 0, and consumer 1 loses it. Consumer 1 takes the item of lane 1, and consumer 0 has begun a claim on it. Lane 1
+/// has ended.
 pub(crate) fn share_two() -> [(Event, Answer); 34] {
     [
         (offer(1, 6), cell(0)),

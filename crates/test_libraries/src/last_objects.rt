@@ -43,7 +43,7 @@ fn by_parts(q: &Bits, word: &mut Word, input: u32) -> Option<(Op, Out)> {
     }
 }
 
-/// Its output, by `step`.
+/// The output of a process with this input, by `step`. It is none if the table has no such value.
 fn at_once(q: &Bits, word: &mut Word, input: u32) -> Option<Out> {
     if input >= q.values() {
         return None;

@@ -55,7 +55,8 @@ impl Process {
     }
 }
 
-/// A process with this input makes these accesses, each with the value that it finds and the output that it gives.
+/// Checks that a process with this input makes these accesses, each with the value that it finds and the output that it
+/// gives.
 fn makes(rt: &impl Abort, q: Mirrored, input: u32, accesses: &[(Op, u64, Option<Out>)]) {
     let mut process = Process::new(q, input);
     for (op, seen, out) in accesses {
@@ -63,6 +64,7 @@ fn makes(rt: &impl Abort, q: Mirrored, input: u32, accesses: &[(Op, u64, Option<
     }
 }
 
+// In the mirrored table of two values, value 0 is announced in register 1, and value 1 in register 0.
 #[test]
 fn one_after_the_other(rt: HostRuntime) -> Result<(), Fail> {
     let q = Mirrored::new(2)?;

@@ -59,6 +59,7 @@ impl<A: Allocator + Drop> Calls<A> {
         }
     }
 
+    // Each of these calls returns none, and makes no call, if its lane, cell or cursor is not one of the pool.
     fn offer(&mut self, p: u32, x: u64) -> Option<Offer> {
         if self.lanes <= p {
             return None;

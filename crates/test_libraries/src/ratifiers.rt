@@ -7,6 +7,7 @@ use mb_quorum::TableName;
 use std::alloc::Global;
 use std::test::Fail;
 
+// Process 1 comes after process 0 has decided its value 0. It returns that value, undecided.
 #[test]
 fn late_input_agrees(rt: HostRuntime) {
     let turns = [0, 0, 0, 0, 1, 1, 1];
@@ -15,14 +16,15 @@ fn late_input_agrees(rt: HostRuntime) {
     assert!(rt; shows(&rt, returned, &late_input(), &outputs));
 }
 
-/// Why a ratifier over the unary table is refused.
+/// Why a schedule of a ratifier over the unary table is refused, if it is.
 fn fault(alloc: Global, m: u64, inputs: &[u64], schedule: &[u64]) -> Option<Fault> {
     ratify(alloc, TableName::Unary, m, inputs, schedule).err()
 }
 
+// The number of values is looked at first, then the inputs, then the turns.
 #[test]
 fn first_reason_refuses(rt: HostRuntime) {
-    let a = rt.alloc();
+    let alloc = rt.alloc();
     for (m, inputs, turns, want) in [
         (0, [].as_slice(), [].as_slice(), Fault::BadValues),
         (65, &[65], &[9], Fault::BadValues),
@@ -31,7 +33,7 @@ fn first_reason_refuses(rt: HostRuntime) {
         (2, &[0, 3, 2], &[5], Fault::BadInput(1)),
         (2, &[0], &[0, 2, 1], Fault::NoSuchProcess(1)),
     ] {
-        same(&rt, &fault(a, m, inputs, turns), &Some(want));
+        same(&rt, &fault(alloc, m, inputs, turns), &Some(want));
     }
 }
 
@@ -47,6 +49,7 @@ fn turns_in_order() -> [u64; TURNS] {
     turns
 }
 
+// There are many more turns than accesses. Each process has its output, and its later turns make no access.
 #[test]
 fn two_thousand_turns_of_sixteen_processes(rt: HostRuntime) -> Result<(), Fail> {
     let trace = ratify(

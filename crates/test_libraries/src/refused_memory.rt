@@ -15,6 +15,8 @@ use std::test::Fail;
 use test_alloc::{FaultyHeap, Refuse, growths_refused};
 use test_support::check_report;
 
+// In each of these tests an allocator refuses one request, or all from one on, and the call returns that fault. With
+// memory it returns what it should.
 #[test]
 fn each_growth_of_ratify_refused(rt: HostRuntime) -> Result<(), Fail> {
     let outputs = [Some(Out::decided(0)), Some(Out::undecided(0))];
@@ -22,7 +24,7 @@ fn each_growth_of_ratify_refused(rt: HostRuntime) -> Result<(), Fail> {
         let returned = ratify(alloc, TableName::Unary, 2, &[0, 1], &[0, 0, 0, 0, 1, 1, 1]);
         Ok(shows(&rt, returned, &late_input(), &outputs))
     })?;
-    // The processes, the entries and the outputs.
+    // The allocations are of the processes, the entries and the outputs.
     assert!(rt; 3 <= refused);
     Ok(())
 }
@@ -33,7 +35,7 @@ fn each_growth_of_conciliate_refused(rt: HostRuntime) -> Result<(), Fail> {
         let returned = conciliate(alloc, 2, &[0], &[(0, 3); 5]);
         Ok(shows(&rt, returned, &last_turn(), &[Some(Out::undecided(0))]))
     })?;
-    // The processes, the entries and the outputs.
+    // The allocations are of the processes, the entries and the outputs.
     assert!(rt; 3 <= refused);
     Ok(())
 }
@@ -45,7 +47,7 @@ fn each_growth_of_play_refused(rt: HostRuntime) -> Result<(), Fail> {
     let refused = growths_refused(&rt, |alloc| {
         Ok(is_played(&rt, alloc, &layout, &WON_AND_LOST, (0, &entries), &stages))
     })?;
-    // The words, the claims, the entries and the stages.
+    // The allocations are of the words, the claims, the entries and the stages.
     assert!(rt; 4 <= refused);
     Ok(())
 }
@@ -53,7 +55,7 @@ fn each_growth_of_play_refused(rt: HostRuntime) -> Result<(), Fail> {
 /// The allocator of all lists of a world.
 type Alloc<'r> = &'r FaultyHeap<Global>;
 
-/// The only item was taken by the only consumer.
+/// Checks that by the report the only item was taken by the only consumer.
 fn tells_seven(rt: &impl Abort, report: Report<Alloc<'_>>) {
     let told = check_report(
         &report,
@@ -63,7 +65,7 @@ fn tells_seven(rt: &impl Abort, report: Report<Alloc<'_>>) {
     same(rt, &told, &Ok(()));
 }
 
-/// Returns whether the allocator serves the report of that. If not, another serves it.
+/// Whether the allocator serves the report of that world. If not, another allocator serves it.
 fn report_is_served<'a>(
     rt: &impl Abort,
     world: &World<Alloc<'a>>,
@@ -98,8 +100,8 @@ fn world_is_served<'a>(rt: &impl Abort, alloc: Alloc<'a>, ample: Alloc<'a>) -> b
 fn each_growth_of_a_world_and_its_report_refused(rt: HostRuntime) -> Result<(), Fail> {
     let ample = FaultyHeap::new(rt.alloc(), Refuse::Never);
     let refused = growths_refused(&rt, |alloc| Ok(world_is_served(&rt, alloc, &ample)))?;
-    // The four lists of the pool, the words of the claims, the seats and the notes; then the lane and its item, the diary
-    // and its note, and the cells of the lane that is read.
+    // The world allocates the four lists of the pool, the words of the claims, the seats and the notes. The report
+    // allocates the lane and its item, the diary and its note, and the cells of the lane that is read.
     assert!(rt; 12 <= refused);
     same(&rt, &ample.out(), &0);
     Ok(())

@@ -1,10 +1,10 @@
-//! Rations: which requests are refused, and which blocks are out.
+//! The allocator that refuses chosen requests: which requests it refuses, and how many blocks are out.
 
 use crate::compare::same;
 use std::alloc::Allocator;
 use test_alloc::{FaultyHeap, Refuse};
 
-/// How many requests there were, and how many blocks are out.
+/// How many requests this allocator got, and how many blocks are out.
 fn counts<B: Allocator>(rations: &FaultyHeap<B>) -> (u64, u64) {
     (rations.asked(), rations.out())
 }

@@ -9,7 +9,7 @@ use std::alloc::Global;
 use std::process::Abort;
 use test_support::{DiaryTold, Difference, LaneTold, check_report};
 
-/// The report is as expected, or this is the first difference.
+/// Checks that the report is as expected, or that this is the first difference.
 fn is_found(
     rt: &impl Abort,
     report: &Report<Global>,
@@ -20,7 +20,7 @@ fn is_found(
     same(rt, &check_report(report, &[lane], &[diary]), &found);
 }
 
-/// Each difference from a report that tells of one item, which the only consumer took.
+/// Checks that each difference from a report is found. The report tells of one item, which the only consumer took.
 fn are_found(rt: &impl Abort, report: Report<Global>) {
     let report = &report;
     let lane: LaneTold<'_> = (&[7], false, &[]);

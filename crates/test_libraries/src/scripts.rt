@@ -199,7 +199,7 @@ fn texts_have_a_limit(rt: HostRuntime) {
     }
 }
 
-/// A text that begins so, then has 20,000 lines of a push, and ends so.
+/// The text of `start`, 20,000 lines of a push, and `end`.
 fn with_pushes(alloc: Global, start: &str, end: &str) -> Result<String, AllocError> {
     let mut text = start.to_string(alloc)?;
     for _ in 0..20_000 {
@@ -246,7 +246,7 @@ fn growths_of_reading<R: Abort + AllocGlobal>(
 fn each_growth_of_parse_refused(rt: HostRuntime) -> Result<(), Fail> {
     let text = "setup 1 1 0 1 bits\npush 0\npush 0\npush 0\npush 0\npush 0\n";
     let refused = growths_of_reading(&rt, text, Ok(5))?;
-    // The events, twice.
+    // The list of events grows twice.
     assert!(rt; 2 <= refused);
     Ok(())
 }
@@ -293,7 +293,7 @@ fn has_words(line: &str, want: &[&str]) -> bool {
     rest.is_none()
 }
 
-/// Whether the few words of a line are these, if none of them is empty, and else none.
+/// Whether `LineWords` has these words of a line, or refuses it if one of them is empty.
 fn has_few_words(line: &str, want: &[&str], empty: bool) -> bool {
     match LineWords::of_line(line) {
         Some(few) => !empty && few.as_slice() == want,

@@ -19,18 +19,19 @@ pub(crate) const LAST: Shape = Shape {
     last: true,
 };
 
-/// Both.
+/// A fast path and a last object.
 pub(crate) const BOTH: Shape = Shape {
     fast: true,
     last: true,
 };
 
+/// Each shape.
 pub(crate) const SHAPES: [Shape; 4] = [Shape::PLAIN, FAST, LAST, BOTH];
 
-/// Consumer 0 wins, and consumer 1 loses to it.
+/// The stages if consumer 0 has won and consumer 1 has lost to it.
 const WON_AND_LOST: [Stage; 2] = [Stage::Won, Stage::Lost(0)];
 
-/// An exchange of a consumer in a last object.
+/// The entry of a consumer's exchange in a last object.
 fn exchanged(consumer: u32, object: u32, value: u64, found: u64) -> ClaimEntry {
     ClaimEntry::Access {
         consumer,
@@ -53,14 +54,14 @@ fn in_turns(steps: &mut [(u64, u64)]) {
 #[test]
 fn words_of_both_and_three_pairs(rt: HostRuntime) -> Result<(), Fail> {
     let layout = Layout::new(2, 3, TableName::Bits)?.shaped(BOTH);
-    // Two ratifiers with three words each, the twelve words of three pairs, and one word.
+    // A cell has two ratifiers with three words each, the twelve words of three pairs, and one word.
     let words = layout.words(1);
     let addresses = (
         layout.address(2, 1, Reg::Proposal),
         layout.address(2, 5, Reg::Quorum(1)),
         layout.address(2, 8, Reg::Last),
     );
-    // Two ratifiers of 1 + 2 + 1 accesses at most, and one exchange, beside the 27 of the pairs.
+    // A claim has two ratifiers of 1 + 2 + 1 accesses at most, and one exchange, beside the 27 of the pairs.
     same(
         &rt,
         &(layout.shape(), words, addresses, layout.max_steps()),
@@ -74,7 +75,7 @@ fn words_of_both_and_three_pairs(rt: HostRuntime) -> Result<(), Fail> {
 fn words_and_most_accesses_of_each_shape(rt: HostRuntime) -> Result<(), Fail> {
     let mut layout = Layout::new(2, 1, TableName::Bits)?;
     same(&rt, &layout.shape(), &Shape::PLAIN);
-    // Each is made from the one before, whose shape makes no difference.
+    // Each layout is made from the one before, whose shape makes no difference.
     for (shape, words, most) in [
         (BOTH, 11, 18),
         (FAST, 10, 17),

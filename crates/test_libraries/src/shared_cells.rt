@@ -44,7 +44,7 @@ fn new_lane<A: Allocator + Drop>(
     }
 }
 
-/// The item of an only lane is linked, and before that nothing is found.
+/// Links the item 8 of an only lane. Before that a reader finds nothing.
 fn link_one_item<A: Allocator + Drop>(
     rt: &impl Abort,
     table: &SharedCells<A>,
@@ -79,7 +79,7 @@ fn link_one_item<A: Allocator + Drop>(
     );
 }
 
-/// That item, from the first look to the end mark.
+/// Puts and reads that item, from the first look to the end mark.
 fn put_one_item<A: Allocator + Drop>(
     rt: &impl Abort,
     table: &SharedCells<A>,
@@ -105,7 +105,7 @@ fn put_one_item<A: Allocator + Drop>(
     same(rt, &told, &(0, 8, Finish::Ended, Look::Ended));
 }
 
-/// The only lane's number is given once, and with a reader beside it one item is put and read. Both are taken in.
+/// Enrolls the only lane, once, and a reader. One item is put and read, and both seats are taken in.
 fn enroll_and_put<A: Allocator + Drop>(rt: &impl Abort, table: &SharedCells<A>, hub: &mut CellHub)
     requires hub { hub.old.table ≡ table.now }
     requires some { 0 < table.now.size.lanes }
@@ -136,7 +136,7 @@ fn each_growth_of_new_refused(rt: HostRuntime) -> Result<(), Fail> {
         }
         Err(_) => Ok(false),
     })?;
-    // The words as they are at first, and the table's own.
+    // The allocations are of the words as they are at first, and of the table's own.
     assert!(rt; 2 <= refused);
     Ok(())
 }
@@ -186,6 +186,7 @@ fn read_two<A: Allocator + Drop>(
     same(rt, &told, &(items.0, items.1, Look::Nothing));
 }
 
+// Two lanes get the cells of one table in turns. A reader finds each lane's own items.
 #[test]
 fn two_lanes_draw_from_one_table(rt: HostRuntime) {
     let (table, mut hub) = new_table(&rt, rt.alloc(), 2, 4);
@@ -205,6 +206,7 @@ fn two_lanes_draw_from_one_table(rt: HostRuntime) {
     table.close(hub);
 }
 
+// The second item is stored and not linked. A reader finds the first alone.
 #[test]
 fn an_offered_item_is_not_put(rt: HostRuntime) {
     let (table, mut hub) = new_table(&rt, rt.alloc(), 1, 2);
@@ -258,7 +260,9 @@ struct Bookmark {
     cursor: Cursor,
     /// The item that comes next. The lane's items are numbers in their order.
     next: u64,
+    /// Whether the end mark was met.
     ended: bool,
+    /// Whether another item came than the next.
     wrong: bool,
 }
 
@@ -293,12 +297,12 @@ fn read_on<A: Allocator + Drop>(
     at
 }
 
-/// Both lanes were read to their end, and had a hundred items each, from 1000 and from 2000 on.
+/// Whether both lanes were read to their end, and had a hundred items each, from 1000 and from 2000 on.
 fn are_whole(one: Bookmark, other: Bookmark) -> bool {
     one.ended && !one.wrong && one.next == 1100 && other.ended && !other.wrong && other.next == 2100
 }
 
-/// A lane that was not read yet.
+/// The bookmark of a lane that was not read yet, whose first item is `first`.
 fn unread(lane: u32, first: u64) -> Bookmark
     ensures word { word_of result.cursor ≡ Head lane }
     ensures next { result.next ≡ first }
@@ -349,7 +353,7 @@ fn two_threads_put_a_hundred_each(rt: HostRuntime) {
 /// How often a reader looks at a lane while its producer runs. It reads the rest afterwards.
 const LOOKS: u64 = 1_000_000;
 
-/// The same, with a reader of each lane running beside.
+/// Two threads put a hundred items each, and two others read their lanes beside them. Returns whether all was read.
 fn put_and_read_beside<R: Abort + AllocGlobal + Threads + Sync>(rt: &R) -> bool {
     let (table, mut hub) = new_table(rt, rt.alloc(), 2, 200);
     let one = new_lane(rt, &table, &mut hub);
@@ -419,7 +423,7 @@ fn put_beside<R: Threads + Sync, A: Allocator + Drop + Send + Sync>(
     (lane, reader, at)
 }
 
-/// Reads a lane on while its producer runs.
+/// Reads a lane on from the bookmark, by `LOOKS` looks, while its producer runs.
 fn read_from<A: Allocator + Drop>(
     table: &SharedCells<A>,
     mut reader: ReaderSeat,

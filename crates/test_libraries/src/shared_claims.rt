@@ -93,7 +93,7 @@ fn claim_each<A: Allocator + Drop>(
     (seat, stages)
 }
 
-/// Two threads claim each of `CELLS` cells of this shape, and this is how it ended for each.
+/// Lets two threads claim each of `CELLS` cells of this shape. Returns how each thread's claims ended.
 fn claimed_by_two<R: Abort + AllocGlobal + Threads + Sync>(
     rt: &R,
     shape: Shape,
@@ -156,7 +156,7 @@ fn all_seats<A: Allocator + Drop, B: Allocator + Drop>(
     seats
 }
 
-/// 16 threads claim one cell of this shape, and this is how it ended for each.
+/// Lets 16 threads claim one cell of this shape. Returns how each thread's claim ended.
 fn claimed_by_sixteen<R: Abort + AllocGlobal + Threads + Sync>(rt: &R, shape: Shape) -> Vec<Stage> {
     let layout = match Layout::new(16, 1, TableName::Bits) {
         Ok(layout) => layout,
@@ -196,8 +196,8 @@ fn win_and_lose<A: Allocator + Drop>(
     same(rt, &(wins, loses), &((7, Stage::Won), (4, Stage::Lost(0))));
 }
 
-/// Whether the allocator serves a table of one cell for two consumers. Then both numbers are given, the first consumer wins
-/// the cell and the second loses it.
+/// Whether the allocator serves a table of one cell for two consumers. Then both numbers are given, the first consumer
+/// wins the cell and the second loses it.
 fn one_wins<A: Allocator + Clone + Drop>(rt: &impl Abort, alloc: A) -> bool {
     let layout = match Layout::new(2, 1, TableName::Bits) {
         Ok(layout) => layout,
@@ -230,6 +230,7 @@ fn one_wins<A: Allocator + Clone + Drop>(rt: &impl Abort, alloc: A) -> bool {
     true
 }
 
+// Two numbers are given and no third. One consumer wins, the other loses, and the hub takes both seats in.
 #[test]
 fn numbers_and_ends(rt: HostRuntime) {
     assert!(rt; one_wins(&rt, rt.alloc()));
@@ -257,6 +258,8 @@ fn comes_to_announce<A: Allocator + Drop>(
     same(rt, &claim.next(table.layout()), &announcing);
 }
 
+// Consumer 0 stops before it announces itself. Consumer 1 begins then, and comes to announce consumer 0, too. The hub
+// takes both seats in with their claims unfinished.
 #[test]
 fn another_goes_on_where_one_stopped(rt: HostRuntime) {
     let layout = match Layout::new(2, 1, TableName::Bits) {
@@ -345,7 +348,7 @@ fn sixteen_threads_claim_one_cell_with_a_last_object(rt: HostRuntime) {
 #[test]
 fn each_growth_of_new_refused(rt: HostRuntime) -> Result<(), Fail> {
     let refused = growths_refused(&rt, |alloc| Ok(one_wins(&rt, alloc)))?;
-    // The zeros, and the words.
+    // The allocations are of the zeros, and of the words.
     assert!(rt; 2 <= refused);
     Ok(())
 }

@@ -50,7 +50,7 @@ fn accesses(layout: &Layout, consumer: u32, seed: u64) -> u64
 }
 
 /// The most accesses of claims of the first and of the last consumer of a layout, on words that are corrupted in a
-/// hundred ways.
+/// hundred ways. Beside it stands the most that the layout allows.
 fn most_accesses(layout: &Layout) -> (u64, u64) {
     let mut most = 0;
     for seed in 0..100 {
@@ -61,7 +61,7 @@ fn most_accesses(layout: &Layout) -> (u64, u64) {
     (most, layout.max_steps())
 }
 
-/// No claim makes more accesses than its layout allows, for each shape of the cells.
+/// Checks that no claim makes more accesses than its layout allows, for each shape of the cells.
 fn end_within_their_bound(rt: &impl Abort, layout: &Layout) {
     for shape in SHAPES {
         let (made, bound) = most_accesses(&layout.shaped(shape));

@@ -10,16 +10,19 @@ use mb_quorum::TableName;
 use std::process::Abort;
 use std::test::Fail;
 
-/// How many words each object has here, and the most objects of a row.
+/// How many words each object has here.
 const OBJECT: usize = 65;
 
+/// The most objects of a row.
 const OBJECTS: usize = 19;
 
-/// How many layouts are played, how often each consumer calls, and the bound of its budgets.
+/// How many layouts are played.
 const ROUNDS: u64 = 1000;
 
+/// How often each consumer calls.
 const CALLS: u64 = 40;
 
+/// All budgets are below this.
 const MOST: u64 = 24;
 
 /// The words of one cell and a source of random words, with a sum over all accesses and words so far, in their order.
@@ -155,6 +158,7 @@ fn play_twice(rt: &impl Abort, layout: &Layout, seed: u64) {
     }
 }
 
+// Layouts, shapes and budgets are drawn from one source that always begins alike.
 #[test]
 fn rows_of_accesses_are_those_of_steps(rt: HostRuntime) -> Result<(), Fail> {
     let mut dice = 0x9E37_79B9_7F4A_7C15;

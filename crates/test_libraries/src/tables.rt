@@ -1,4 +1,4 @@
-//! The quorum tables.
+//! The registers, the values and the quorums of each kind of quorum table.
 
 use crate::compare::{same, same_at};
 use mb_quorum::{BadValues, Bits, Middle, Quorums, Table, TableName, Unary};
@@ -13,7 +13,7 @@ fn quorums<Q: Quorums>(table: &Q, v: u32) -> Option<(u64, u64)> {
     }
 }
 
-/// How many registers and values there are, and the quorums of a value.
+/// How many registers and values a table has, and the quorums of one value.
 type Shape = (u32, u32, Option<(u64, u64)>);
 
 /// The last register of 64.
@@ -29,6 +29,7 @@ fn named(name: TableName, m: u64, v: u32) -> Result<Shape, BadValues> {
     Ok(shape(&Table::new(name, m)?, v))
 }
 
+// A table that is made by its name has the registers, values and quorums of its kind.
 #[test]
 fn named_tables(rt: HostRuntime) {
     let (unary, bits, middle) = (TableName::Unary, TableName::Bits, TableName::Middle);

@@ -20,7 +20,7 @@ pub(crate) fn reported<R: Abort + AllocGlobal>(rt: &R, world: World<Global>) -> 
     world.report(rt.alloc()).expect(rt, "no report")
 }
 
-/// The report of a world has these lanes and these diaries.
+/// Checks that the report of a world has these lanes and these diaries. The world goes away.
 pub(crate) fn ends<R: Abort + AllocGlobal>(
     rt: &R,
     world: World<Global>,
@@ -31,6 +31,7 @@ pub(crate) fn ends<R: Abort + AllocGlobal>(
     same(rt, &check_report(&report, lanes, diaries), &Ok(()));
 }
 
+// Producers are looked at first, then consumers, cells and pairs.
 #[test]
 fn the_first_number_out_of_range_refuses(rt: HostRuntime) {
     let (bits, middle) = (TableName::Bits, TableName::Middle);
@@ -108,7 +109,7 @@ fn a_setup_is_shaped(rt: HostRuntime) -> Result<(), Fail> {
         (setup.producers(), setup.consumers(), setup.cells()),
         (layout.shape(), layout.max_steps()),
     );
-    // Nine accesses in a pair, twice four in a fast path, and one in a last object.
+    // A claim has at most nine accesses in a pair, twice four in a fast path, and one in a last object.
     same(&rt, &told, &((16, 2, 256), (BOTH, 18)));
     Ok(())
 }

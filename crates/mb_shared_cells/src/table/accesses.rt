@@ -18,7 +18,7 @@ impl<A: Allocator + Drop> SharedCells<A> {
     ghost use Rattle.mb_shared_cells.specs.Seats.{CanFetch, CanLoad, CanStore};
     ghost use Rattle.mb_shared_cells.specs.Views.{MakesAccess};
 
-    /// Where a word lies.
+    /// The address of a word in the table.
     fn address(&self, word: Word) -> usize
         requires { IsPoolWord self.now.size word }
         ensures { result ≡ address_of self.now.size word }

@@ -26,8 +26,8 @@ impl<A: Allocator + Drop> SharedCells<A> {
         seat.place.offered(self.size.cells, x, found)
     }
 
-    /// Stores the item that was offered, and at the next call its link. If nothing is offered, it is idle and makes no
-    /// access.
+    /// Stores the item that was offered, and at the next call the link to its cell. If each item that has a cell is
+    /// linked, the push is idle and makes no access.
     pub fn push(&self, seat: &mut LaneSeat) -> Push
         requires { seat.old.table ≡ self.now }
         ensures makes { PushMakes seat.old result seat.new }

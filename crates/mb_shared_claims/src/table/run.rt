@@ -19,8 +19,8 @@ impl<A: Allocator + Drop> SharedClaims<A> {
     ghost use Rattle.mb_shared_claims.specs.{Going, name_of, AreSeatSteps};
 
     /// Makes accesses of a claim of the seat's consumer on a cell, each with the next word of `rng`. It stops if the
-    /// claim has ended or `most` were made. Returns how many. They are those of as many calls of
-    /// [`SharedClaims::step`].
+    /// claim has ended or `most` were made. Returns how many it made. As many calls of [`SharedClaims::step`] make the
+    /// same accesses.
     #[inline(always)]
     pub fn run<R: Rng>(
         &self,
@@ -84,12 +84,14 @@ impl<'a, A: Allocator + Drop, R: Rng> Memory for DrawingWords<'a, A, R> {
     ghost use Rattle.mb_claim.specs.Vocabulary.{IsWordInLayout, claims_in};
     ghost use Rattle.mb_shared_claims.specs.{name_of, MayComeNext, ComesAfter, access_of, with_access};
 
+    // The op is one that the seat's consumer may make next on the cell, to a word of the layout.
     ghost can_make = { λ m object op. (m.seat.now.table ≡ name_of m.table.now)
         × (m.cell < m.table.now.cells)
         × IsWordInLayout m.table.now.layout object (reg_of op)
         × MayComeNext (claims_in m.table.now.layout m.table.now.cells) m.seat.now.consumer m.cell
         m.seat.now.part (record { object = object; op = op }) };
 
+    // The access is then in the seat's part, and came after a lawful history with that part. Nothing else changes.
     ghost makes = { λ m object op seen after.
         let a = access_of m.seat.now.consumer m.cell (record { object = object; op = op }) seen
         m.word in
@@ -110,6 +112,7 @@ impl<'a, A: Allocator + Drop, R: Rng> Drawing for DrawingWords<'a, A, R> {
     ghost use Rattle.std.specs.Prelude.{◌≡◌};
     ghost use Rattle.rand_core.specs.Stream.{next_u64};
 
+    // The random word is the source's next one. Nothing else changes.
     ghost draws = { λ m word after.
         ((word, R.stream after.rng.now) ≡ next_u64 (R.stream m.rng.now))
         × (after.word ≡ word) × (after.seat.now ≡ m.seat.now)

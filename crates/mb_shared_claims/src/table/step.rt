@@ -31,7 +31,7 @@ impl<A: Allocator + Drop> SharedClaims<A> {
         requires going { claim_stage claim.old ≡ Going }
 
         // The seat's part has one access more: the one that the claim names, with the value found and the random word.
-        // It came after a lawful history, and the claim is the one after it.
+        // The access came after a lawful history, and the claim is then the one after that access.
         ensures step { IsSeatStep self.now.layout cell word claim.old seat.old claim.new seat.new }
 
         // So the claim has made all that its consumer has done on the cell, and can be stepped again.
@@ -130,12 +130,14 @@ impl<'a, A: Allocator + Drop> Memory for SeatWords<'a, A> {
     ghost use Rattle.mb_claim.specs.Vocabulary.{IsWordInLayout, claims_in};
     ghost use Rattle.mb_shared_claims.specs.{name_of, MayComeNext, ComesAfter, access_of, with_access};
 
+    // The op is one that the seat's consumer may make next on the cell, to a word of the layout.
     ghost can_make = { λ m object op. (m.seat.now.table ≡ name_of m.table.now)
         × (m.cell < m.table.now.cells)
         × IsWordInLayout m.table.now.layout object (reg_of op)
         × MayComeNext (claims_in m.table.now.layout m.table.now.cells) m.seat.now.consumer m.cell
         m.seat.now.part (record { object = object; op = op }) };
 
+    // The access is then in the seat's part, and came after a lawful history with that part.
     ghost makes = { λ m object op seen after.
         let a = access_of m.seat.now.consumer m.cell (record { object = object; op = op }) seen
         m.word in

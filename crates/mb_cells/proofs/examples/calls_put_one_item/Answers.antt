@@ -6,9 +6,11 @@ use Rattle.mb_cells.proofs.examples.calls_put_one_item.Goals as goal
 use Rattle.mb_cells.specs.{Call, HasMade, Pushed, new_pool, one_offered, pool_size, put_pool, taken_pool}
 use Rattle.mb_cells.proofs.ExamplePools.{end_one, fill_one, filled_pool, link_one, new_after, offer_one}
 
+-- equal answers of an offer have equal cells
 same_cell : (n m : ℕ) → offer.Cell n ≡ offer.Cell m → n ≡ m
 same_cell n m e = cc
 
+-- the calls up to the push that stores the item
 abbrev pub one_filled : List Call
 one_filled = Pushed 0 (push.Item 0) ∷ one_offered
 

@@ -8,10 +8,11 @@ use Rattle.mb_cells.specs.Place as phase
 use Rattle.mb_cells.specs.{END, Head, IsLaneAfter, IsLanePrefix, Item, Lane, Link, Word, eight, one_put, one_taken, push_store, store}
 use Rattle.mb_cells.proofs.NextAccesses.{fetches_only, stores_only}
 
--- a producer that has taken the cell
+-- the place of a producer that got cell 0 for the item 8
 abbrev pub taken_lane : Lane
 taken_lane = record { last = None; stage = stage.Offered 0 8 }
 
+-- after `one_taken` the producer stands at that place, if the pool has a cell
 taken_at : (cells : ℕ) → 0 < cells → IsLaneAfter cells 0 taken_lane one_taken
 taken_at cells b =
     record {
@@ -22,6 +23,7 @@ taken_at cells b =
       stage = refl;
     }
 
+-- after `one_taken` the producer stands at the stage Full, if the pool has no cell
 full_at_start : IsLaneAfter 0 0 (record { last = None; stage = stage.Full }) one_taken
 full_at_start =
     record {
@@ -32,6 +34,7 @@ full_at_start =
       stage = refl;
     }
 
+-- after `one_put` the producer has linked cell 0
 put_at_one : IsLaneAfter 1 0 (record { last = Some 0; stage = stage.Open }) one_put
 put_at_one =
     record {
@@ -42,6 +45,7 @@ put_at_one =
       stage = refl;
     }
 
+-- after the end mark the producer's lane has ended
 ended_at : IsLaneAfter 1 0 (record { last = Some 0; stage = stage.Ended false }) (store 0 (Link 0) END ∷ one_put)
 ended_at =
     record {
@@ -52,24 +56,29 @@ ended_at =
       stage = refl;
     }
 
+-- None is no store
 not_none : (s : Word × ℕ) → None ≡ Some s → ⊥
 not_none s e = cc
 
+-- a store as an option
 abbrev pub some_store : Word → ℕ → Option (Word × ℕ)
 some_store w v = Some (w, v)
 
+-- equal stores are of equal words
 same_words : (w u : Word) (n m : ℕ) → some_store w n ≡ some_store u m → w ≡ u
 same_words w u n m e =
     let a : Word × ℕ = (w, n) in
     let b : Word × ℕ = (u, m) in
     let pair : a ≡ b = cc in ap (λ (z : Word × ℕ). z.0) pair
 
+-- equal stores are of equal values
 same_values : (w u : Word) (n m : ℕ) → some_store w n ≡ some_store u m → n ≡ m
 same_values w u n m e =
     let a : Word × ℕ = (w, n) in
     let b : Word × ℕ = (u, m) in
     let pair : a ≡ b = cc in ap (λ (z : Word × ℕ). z.1) pair
 
+-- after `one_taken` no store goes on with the path but the one of a push
 not_from_taken : (w : Word) (v : ℕ) → (push_store 0 taken_lane ≡ Some (w, v) → ⊥)
     → IsLanePrefix 1 0 (store 0 w v ∷ one_taken) → ⊥
 not_from_taken w v ne prefix =

@@ -8,9 +8,11 @@ use Rattle.mb_cells.proofs.ExamplePools.{full_after, full_place, not_linked, put
 use Rattle.mb_cells.proofs.LaneSteps.{lane_prefix, same_lane, start_lane}
 use Rattle.mb_cells.proofs.NextAccesses.{stores_only}
 
+-- a store as an option, so that the type of None is known
 abbrev pub some_store : Word → ℕ → Option (Word × ℕ)
 some_store w v = Some (w, v)
 
+-- None is no store
 not_stored : (w : Word) (v : ℕ) → None ≡ some_store w v → ⊥
 not_stored w v e = cc
 

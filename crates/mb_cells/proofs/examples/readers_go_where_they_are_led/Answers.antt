@@ -20,6 +20,7 @@ returns-clause-end_mark c = λ path.
 pub returns-clause-no_lane : goal.returns-clause-no_lane
 returns-clause-no_lane c = λ path. let low : 1 < 1 = path.1 in omega arith
 
+-- equal loads are of equal values
 same_load : (n m : ℕ) → Load n ≡ Load m → n ≡ m
 same_load n m e = cc
 

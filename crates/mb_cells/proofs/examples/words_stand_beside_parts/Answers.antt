@@ -5,6 +5,7 @@ use Rattle.mb_cells.proofs.examples.words_stand_beside_parts.Goals as goal
 use Rattle.mb_cells.specs.{Counter, Head, History, IsPoolWord, Item, Link, Producer, Reader, Word, address_of, one_put, pool_size, value_in}
 use Rattle.mb_cells.proofs.ExamplePools.{put_after}
 
+-- each word of the block holds what the history leaves in it
 held : (w : Word) → IsPoolWord (pool_size 1 1) w
     → slice_index (1 ∷ 1 ∷ 0 ∷ 8 ∷ []) (address_of (pool_size 1 1) w) ≡ value_in w one_put
 held Counter b = refl

@@ -1,5 +1,5 @@
--- Proof of `laws::numbers_are_handed_out_once`: the counter is bounded, and each number that it gave belongs to one
--- cell, or lies past the cells.
+-- Proof of `laws::numbers_are_handed_out_once`: the counter is bounded, and each number below it was given by one
+-- fetch-add.
 use Rattle.mb_cells.proofs.laws.numbers_are_handed_out_once.Goals as goal
 use Rattle.mb_cells.proofs.Counter.{counter_count, fetch-below, fetch-one}
 use Rattle.mb_cells.proofs.Counts.{all_handed_out, counter_bound, found_count, handed_out}

@@ -1,4 +1,5 @@
--- Proof of `laws::readers_keep_to_lanes`: a reader's loads, cut by lanes, give parts that are each a reader path.
+-- Proof of `laws::readers_keep_to_lanes`: each load of a reader is on some lane, and its loads on one lane are a reader
+-- path by themselves.
 use Rattle.mb_cells.proofs.laws.readers_keep_to_lanes.Goals as goal
 use Rattle.mb_cells.proofs.ReaderParts.{lane_path, path_of_parts, some_lane_on}
 

@@ -1,5 +1,5 @@
--- Proof of `steps::addresses_are_apart`: different words have different addresses, and all lie below the number of
--- words.
+-- Proof of `steps::addresses_are_apart`: different words have different addresses, and all addresses lie below the
+-- number of words.
 use Rattle.mb_cells.proofs.steps.addresses_are_apart.Goals as goal
 use Rattle.mb_cells.proofs.Blocks.{address-apart, address-within}
 

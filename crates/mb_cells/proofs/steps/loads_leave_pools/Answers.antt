@@ -9,6 +9,7 @@ use Rattle.mb_cells.proofs.OneStep.{reader_step}
 kept : (h : History) (r : ℕ) (w x : Word) → value_in x (load r w (value_in w h) ∷ h) ≡ value_in x h
 kept h r w x = value_in-kept (load r w (value_in w h)) h x refl
 
+-- a load that its reader may make leaves the pool as it is
 load_leaves : (s : PoolState) (w : Word) → LoadGoesOn w s
 load_leaves s w = λ h r after may. record {
   lawful = reader_step (size_of s) h r w after.lawful may;

@@ -1,4 +1,4 @@
--- Proof of `steps::pools_are_what_was_done`: what a history leaves is one pool.
+-- Proof of `steps::pools_are_what_was_done`: a history leaves only one pool of a size.
 use Rattle.std.proofs.Common.{ap, arith, subst, sym, ◌∙◌, ◌≡◌}
 use Rattle.std.proofs.Math.ListN.{get_or}
 use Rattle.std.proofs.lemmas.List.{ext_get_or}
@@ -6,6 +6,7 @@ use Rattle.mb_cells.proofs.steps.pools_are_what_was_done.Goals as goal
 use Rattle.mb_cells.specs.{Counter, Head, History, IsAfter, IsLaneAfter, PoolIsSound, Item, Link, PoolState, Producer, SameSize, cell_count, new_lane, part}
 use Rattle.mb_cells.proofs.LaneSteps.{same_lane}
 
+-- two pools of one size that a history leaves are equal, field by field
 one_pool : (h : History) (s t : PoolState) → PoolIsSound s → PoolIsSound t → SameSize s t
     → IsAfter h s → IsAfter h t → s ≡ t
 one_pool h s t x y size a b =

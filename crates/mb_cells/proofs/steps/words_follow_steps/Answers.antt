@@ -1,5 +1,5 @@
--- Proof of `steps::words_follow_steps`: all words of a pool in one block, and the parts of its processes, go on with
--- their history.
+-- Proof of `steps::words_follow_steps`: all words of a pool in one block, and the parts of its processes, follow the
+-- accesses of their history.
 use Rattle.mb_cells.proofs.steps.words_follow_steps.Goals as goal
 use Rattle.mb_cells.proofs.Blocks.{state_after, state_empty, state_more}
 

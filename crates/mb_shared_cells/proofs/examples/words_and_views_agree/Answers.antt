@@ -17,9 +17,11 @@ use Rattle.mb_shared_cells.specs.declared.views.View.{View}
 use Rattle.mb_shared_cells.proofs.examples.words_and_views_agree.Goals as goal
 
 -- ---- nothing was done
+-- the seating of a new table: the hub is at seat 0, and nobody is enrolled
 abbrev nothing : Seating
 nothing = record { history = []; lanes = 0; readers = 0; hub = 0; seat_of = λ who. 0 }
 
+-- each word of the pool holds 0
 all_zeros : (w : Word) → IsPoolWord one_by_one w
     → slice_index (0 ∷ 0 ∷ 0 ∷ 0 ∷ 0 ∷ []) (address_of one_by_one w) ≡ 0
 all_zeros Counter b = refl
@@ -30,18 +32,22 @@ all_zeros (Link (suc k)) b = absurd (omega (arith, b))
 all_zeros (Item zero) b = refl
 all_zeros (Item (suc k)) b = absurd (omega (arith, b))
 
+-- the empty roll has no part
 nobody_in : (who : Process) (done : History) → roll_at who empty_roll ≡ Some (Some done)
     → (nothing.seat_of who ≡ 0) × (done ≡ part who nothing.history)
 nobody_in (Producer p) done e = absurd (cc)
 nobody_in (Reader r) done e = absurd (cc)
 
+-- nobody is enrolled, so whoever is has a seat
 nobody_stands : (who : Process) → IsEnrolled nothing who → StandsAt (first_view one_by_one ∷ []) 0 who
 nobody_stands (Producer p) low = absurd (omega (arith, low))
 nobody_stands (Reader r) low = absurd (omega (arith, low))
 
+-- the view at seat 0 is the hub's
 new_hub : IsHub one_by_one nothing 0 one_by_one empty_roll
 new_hub = record { sized = refl; here = refl; lanes = refl; readers = refl; parts = nobody_in }
 
+-- each view fits that seating
 new_fits : (seat : ℕ) (v : View) → get_elem? (first_view one_by_one ∷ []) seat ≡ some v
     → FitsView one_by_one nothing 0 seat v
 new_fits zero v e = subst (λ x. FitsView one_by_one nothing 0 0 x)
@@ -67,12 +73,15 @@ returns-clause-new c = (
 )
 
 -- ---- the item 8 was put
+-- the seating after `one_put`: the hub is at seat 0, and lane 0 at seat 1
 abbrev putting : Seating
 putting = record { history = one_put; lanes = 1; readers = 0; hub = 0; seat_of = λ who. 1 }
 
+-- the roll in which the seat of lane 0 is out
 abbrev one_out : Roll
 one_out = record { lanes = None ∷ []; readers = [] }
 
+-- each word of the pool holds what `one_put` leaves in it
 holds : (w : Word) → IsPoolWord one_by_one w
     → slice_index (1 ∷ 1 ∷ 0 ∷ 8 ∷ 1 ∷ []) (address_of one_by_one w) ≡ value_in w one_put
 holds Counter b = refl
@@ -83,25 +92,30 @@ holds (Link (suc k)) b = absurd (omega (arith, b))
 holds (Item zero) b = refl
 holds (Item (suc k)) b = absurd (omega (arith, b))
 
+-- the roll in which lane 0 is out has no part
 none_taken : (who : Process) (done : History) → roll_at who one_out ≡ Some (Some done)
     → (putting.seat_of who ≡ 0) × (done ≡ part who putting.history)
 none_taken (Producer zero) done e = absurd (cc)
 none_taken (Producer (suc p)) done e = absurd (cc)
 none_taken (Reader r) done e = absurd (cc)
 
+-- whoever was not enrolled did nothing
 nobody_else : (who : Process) → (IsEnrolled putting who → ⊥) → part who one_put ≡ []
 nobody_else (Producer zero) out = absurd (out (omega arith))
 nobody_else (Producer (suc p)) out = let e : nat_eq (suc p) 0 ≡ false = eqb-suc-zero p in cc
 nobody_else (Reader r) out = refl
 
+-- lane 0 stands at seat 1
 one_stands : (who : Process) → IsEnrolled putting who → StandsAt (hub_of_one ∷ lane_with one_put ∷ []) 1 who
 one_stands (Producer zero) low = (lane_with one_put, refl, refl)
 one_stands (Producer (suc p)) low = absurd (omega (arith, low))
 one_stands (Reader r) low = absurd (omega (arith, low))
 
+-- the hub's view fits
 put_hub : FitsView one_by_one putting 1 0 hub_of_one
 put_hub = (record { sized = refl; here = refl; lanes = refl; readers = refl; parts = none_taken }, refl)
 
+-- the view of lane 0's seat fits
 put_seat : FitsView one_by_one putting 1 1 (lane_with one_put)
 put_seat = (
   refl,
@@ -114,6 +128,7 @@ put_seat = (
   λ p theirs e. absurd (cc),
 )
 
+-- each view fits the seating
 put_fits : (seat : ℕ) (v : View) → get_elem? (hub_of_one ∷ lane_with one_put ∷ []) seat ≡ some v
     → FitsView one_by_one putting 1 seat v
 put_fits zero v e = subst (λ x. FitsView one_by_one putting 1 0 x) (some-injective hub_of_one v e) put_hub

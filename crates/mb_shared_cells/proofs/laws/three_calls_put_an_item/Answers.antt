@@ -1,5 +1,5 @@
--- Proof of `laws::three_calls_put_an_item`: an offer that got a cell, and two pushes: three accesses, which put the
--- item at the end of the lane's list.
+-- Proof of `laws::three_calls_put_an_item`: an offer that got a cell and the two pushes after it make three accesses,
+-- which put the item at the end of the lane's list.
 use Rattle.std.proofs.Common.{ap}
 use Rattle.mb_cells.specs.Vocabulary.{push_store}
 use Rattle.mb_shared_cells.specs.Shown.{LaneSeatView}

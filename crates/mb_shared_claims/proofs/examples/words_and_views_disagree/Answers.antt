@@ -6,13 +6,13 @@ use Rattle.mb_shared_claims.specs.Types.{ClaimAccess, Handing, Standing, TableSi
 use Rattle.mb_shared_claims.specs.Views.{HasPart, HasPartAt}
 use Rattle.mb_shared_claims.proofs.examples.words_and_views_disagree.Goals as goal
 
--- if nobody did anything, nothing was done
+-- a history in which each consumer's part is empty is empty
 nothing : ((a : ClaimAccess) (h : List ClaimAccess) → part a.consumer (a ∷ h) ≡ a ∷ part a.consumer h)
     → (h : List ClaimAccess) → ((c : ℕ) → part c h ≡ []) → h ≡ []
 nothing own [] idle = refl
 nothing own (a ∷ h) idle = let e : a ∷ part a.consumer h ≡ [] = sym (own a h) ∙ idle a.consumer in absurd (cc)
 
--- a seat that is out stands nowhere beside its hub
+-- if the hub alone has a view and its roll has number 0 out, no seat has the part of number 0
 absent : (k : TableSize) (seat : ℕ) (xs : List ClaimAccess) → HasPartAt (Handing k (None ∷ []) ∷ []) seat 0 xs → ⊥
 absent k zero xs p =
     let same = some-injective (Handing k (None ∷ [])) p.0 p.1 in

@@ -1,3 +1,4 @@
+-- Proof of `put_and_end`: puts an item and ends its lane.
 use Rattle.std.proofs.Common.{◌<◌, ◌∷◌, arith}
 use Rattle.mb_cells.specs.Vocabulary.{HasMade, Offered, Pushed, lane_count}
 use Rattle.test_libraries.proofs.cells.put_and_end.Goals as goal

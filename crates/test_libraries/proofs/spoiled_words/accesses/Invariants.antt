@@ -1,5 +1,7 @@
+-- Loop invariants of `accesses`: how many accesses a claim makes on corrupted words to its end, or a thousand.
 use Rattle.mb_claim.specs.Vocabulary.{FitsLayout}
 use Rattle.test_libraries.proofs.spoiled_words.accesses.Given as goal
 
+-- the claim fits its layout, whatever its words held
 abbrev pub invariant-loop-made : goal.invariant-loop-made
 invariant-loop-made l = FitsLayout l.layout l.claim

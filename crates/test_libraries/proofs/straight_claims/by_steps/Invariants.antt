@@ -1,5 +1,7 @@
+-- Loop invariants of `by_steps`: makes at most `most` accesses, one step at a time.
 use Rattle.mb_claim.specs.Vocabulary.{FitsLayout}
 use Rattle.test_libraries.proofs.straight_claims.by_steps.Given as goal
 
+-- the claim fits its layout
 abbrev pub invariant-loop-made : goal.invariant-loop-made
 invariant-loop-made l = record { fits : FitsLayout l.layout l.claim }

@@ -4,6 +4,7 @@ use Rattle.mb_cells.proofs.pool.Pool.finish.Goals as goal
 use Rattle.mb_cells.specs.{END, PoolState, history_after_finish, lane_after_finish, lane_count, next_link}
 use Rattle.mb_cells.proofs.PoolSteps.{finish_made, lane_here, sound_after}
 
+-- the store and the new place are what the clause asks for. s is the pool's state before, and by lt it has lane p
 pub returns-clause-meets : goal.returns-clause-meets
 returns-clause-meets g c =
     let s : PoolState = record { words = c.self.inside.words; lanes = c.self.inside.lanes.items } in
@@ -14,6 +15,7 @@ returns-clause-meets g c =
     rw (← c.self.view_is, c.finished.ensures, c.store.ensures, c.next_link.ensures)
     (finish_made s c.args.p lane lt c.self.invariant c.index_mut-lane.ensures.value going)
 
+-- the history with the store leaves the pool, so it is still sound
 pub invariant_of-self-2 : goal.invariant_of-self-2
 invariant_of-self-2 g c =
     let s : PoolState = record { words = c.self.inside.words; lanes = c.self.inside.lanes.items } in

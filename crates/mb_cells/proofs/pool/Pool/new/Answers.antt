@@ -4,6 +4,7 @@ use Rattle.std.proofs.Math.ListN.{replicate}
 use Rattle.mb_cells.proofs.pool.Pool.new.Goals as goal
 use Rattle.mb_cells.proofs.PoolSteps.{empty_after, empty_sound}
 
+-- a pool of these lists is sound: they hold only zeros and new lanes
 pub invariant_of-result : goal.invariant_of-result
 invariant_of-result g c =
     empty_sound c.args.lanes c.args.cells c.in_ok-heads.heads.items c.in_ok-links.links.items
@@ -12,6 +13,7 @@ invariant_of-result g c =
     (c.in_ok-items.ensures.items_if_clones_equal (λ y e. e))
     (c.in_ok-lanes.ensures.items_if_clones_equal (λ y e. e) ∙ ap (replicate c.args.lanes) c.new.ensures)
 
+-- such a pool is what the empty history leaves
 pub returns-clause-empty : goal.returns-clause-empty
 returns-clause-empty g c =
     empty_after c.args.lanes c.args.cells c.in_ok-heads.heads.items c.in_ok-links.links.items

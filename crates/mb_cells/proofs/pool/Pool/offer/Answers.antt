@@ -4,11 +4,13 @@ use Rattle.mb_cells.proofs.pool.Pool.offer.Goals as goal
 use Rattle.mb_cells.specs.{Counter, PoolState, cell_count, history_after_offer, lane_after_offer, lane_count, value_in}
 use Rattle.mb_cells.proofs.PoolSteps.{counter_small, lane_here, offer_made, sound_after}
 
+-- the counter does not wrap. In these clauses s is the pool's state before the call, and by lt it has lane p
 pub overflow_add-found : goal.overflow_add-found
 overflow_add-found g c =
     let s : PoolState = record { words = c.self.inside.words; lanes = c.self.inside.lanes.items } in
     omega (arith, c.load-found.ensures, counter_small s c.self.invariant)
 
+-- the fetch-add and the new place are what the clause asks for
 pub returns-clause-meets : goal.returns-clause-meets
 returns-clause-meets g c =
     let s : PoolState = record { words = c.self.inside.words; lanes = c.self.inside.lanes.items } in
@@ -27,6 +29,7 @@ returns-clause-meets g c =
     )
     (offer_made s c.args.p c.args.x lane lt c.index_mut-lane.ensures.value going c.ranges.x.fits (omega (arith, small)))
 
+-- the history with the fetch-add leaves the pool, so it is still sound
 pub invariant_of-self-2 : goal.invariant_of-self-2
 invariant_of-self-2 g c =
     let s : PoolState = record { words = c.self.inside.words; lanes = c.self.inside.lanes.items } in

@@ -1,9 +1,10 @@
--- Proof of `Pool::push`: stores the item that was offered on lane `p`, and at the next call its link.
+-- Proof of `Pool::push`: stores the item that was offered on lane `p`, and at the next call the link to its cell.
 use Rattle.std.proofs.Common.{subst, sym, ◌<◌, ◌∙◌}
 use Rattle.mb_cells.proofs.pool.Pool.push.Goals as goal
 use Rattle.mb_cells.specs.{PoolState, history_after_push, lane_after_push, lane_count}
 use Rattle.mb_cells.proofs.PoolSteps.{lane_here, push_made, sound_after}
 
+-- the store and the new place are what the clause asks for. s is the pool's state before, and by lt it has lane p
 pub returns-clause-meets : goal.returns-clause-meets
 returns-clause-meets g c =
     let s : PoolState = record { words = c.self.inside.words; lanes = c.self.inside.lanes.items } in
@@ -15,6 +16,7 @@ returns-clause-meets g c =
     (push_made s c.args.p lane (c.in-Some.word, c.in-Some.value) lt c.self.invariant
     c.index_mut-lane.ensures.value some)
 
+-- the history with the store leaves the pool, so it is still sound
 pub invariant_of-self-2 : goal.invariant_of-self-2
 invariant_of-self-2 g c =
     let s : PoolState = record { words = c.self.inside.words; lanes = c.self.inside.lanes.items } in

@@ -5,6 +5,7 @@ use Rattle.mb_shared_cells.specs.Views.{SeatState, hub_after_draw}
 use Rattle.mb_shared_cells.proofs.EnrolMoves.{draw_asked, lane_splits}
 use Rattle.mb_shared_cells.proofs.table.SharedCells.enroll_lane.Goals as goal
 
+-- the hub may draw the next number, since fewer lanes were enrolled than there are
 pub fetch_add-requires : goal.fetch_add-requires
 fetch_add-requires g c =
     let me = c.hub.inside.seat.me in
@@ -19,6 +20,7 @@ fetch_add-requires g c =
           c.self.invariant.0 c.hub.invariant.is there (omega arith) c.self.invariant.3,
     )
 
+-- the hub, which has drawn the number, may split off the lane's seat
 pub split_seat-seat-requires : goal.split_seat-seat-requires
 split_seat-seat-requires g c =
     let me = c.hub.inside.seat.me in

@@ -5,6 +5,7 @@ use Rattle.mb_shared_cells.specs.Views.{SeatState}
 use Rattle.mb_shared_cells.proofs.EnrolMoves.{reader_splits}
 use Rattle.mb_shared_cells.proofs.table.SharedCells.enroll_reader.Goals as goal
 
+-- the hub may split off the next reader's seat
 pub split_seat-requires : goal.split_seat-requires
 split_seat-requires g c =
     let me = c.hub.inside.seat.me in

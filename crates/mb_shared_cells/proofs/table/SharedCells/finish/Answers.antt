@@ -10,9 +10,11 @@ use Rattle.mb_shared_cells.proofs.CallFacts.{LaneLaws, can_finish}
 use Rattle.mb_shared_cells.proofs.SeatFacts.{lane_then}
 use Rattle.mb_shared_cells.proofs.table.SharedCells.finish.Goals as goal
 
+-- the access picked is the store
 pub store-requires-clause-picked : goal.store-requires-clause-picked
 store-requires-clause-picked g c = (refl, refl)
 
+-- the seat can store the end mark, since its producer's place does not refuse the finish
 pub store-requires-clause-can : goal.store-requires-clause-can
 store-requires-clause-can g c =
     let laws : LaneLaws = record {
@@ -26,6 +28,7 @@ store-requires-clause-can g c =
     c.seat.inside.place c.next_link-word.result c.seat.invariant size (sym c.finish_refusal.ensures ∙ c.in_default.is)
     c.next_link-word.ensures
 
+-- the seat's new place is the one after the finish, and is that of the longer part
 pub invariant_of-seat : goal.invariant_of-seat
 invariant_of-seat g c =
     let me = c.seat.inside.seat.me in

@@ -14,14 +14,17 @@ use Rattle.mb_shared_cells.proofs.SeatFacts.{reader_makes, reader_then}
 use Rattle.mb_shared_cells.proofs.table.SharedCells.look.Goals as goal
 use Rattle.mb_shared_cells.proofs.table.SharedCells.look.Goals.{then-link-eq0, else-link-eq0+then-link, else-link-eq0+else-link}
 
+-- the access picked is the load
 pub load-link-requires-clause-picked : goal.load-link-requires-clause-picked
 load-link-requires-clause-picked g c = (refl, refl)
 
+-- the reader's longer part is still that of a lawful history
 pub invariant_of-seat : goal.invariant_of-seat
 invariant_of-seat g c =
     reader_then c.accesses_lengthen_one_part.ensures.own c.seat.inside.seat.me c.load-link.new.seat.me c.word.result
     (Load c.load-link.result) c.seat.invariant c.load-link.ensures.makes
 
+-- a cell that the link leads to is below 2^32. Here and in later clauses `made` is the access as callers see it
 pub overflow_cast-result : goal.overflow_cast-result
 overflow_cast-result g c =
     let me = c.seat.inside.seat.me in
@@ -43,18 +46,22 @@ overflow_cast-result g c =
     let few = c.load-link.ensures.few in
     omega arith
 
+-- a value that is neither 0 nor the end mark says a cell
 tells_cell : (v : ℕ) → v ≢ 0 → v ≢ END → Cell (v - 1) ≡ look_of v
 tells_cell v some no_end = rw (ne_eqb v 0 some, ne_eqb v END no_end) refl
 
+-- equal answers of a look have equal cells
 same_cell : (n m : ℕ) → Cell n ≡ Cell m → n ≡ m
 same_cell n m e = cc
 
+-- the answers Nothing and Ended are no cells
 none_cell : (k : ℕ) → Nothing ≡ Cell k → ⊥
 none_cell k e = cc
 
 end_cell : (k : ℕ) → Ended ≡ Cell k → ⊥
 end_cell k e = cc
 
+-- on a known lane the load finds what that lane's producer left, and so does the look
 pub returns-clause-known : goal.returns-clause-known
 returns-clause-known g c = λ p theirs at own.
     let me = c.seat.inside.seat.me in
@@ -80,6 +87,7 @@ returns-clause-known g c = λ p theirs at own.
     ] in
     told ∙ ap look_of is
 
+-- the cell found is one of the table's, by the laws of the cells
 pub returns-clause-within : goal.returns-clause-within
 returns-clause-within g c = λ k e.
     let me = c.seat.inside.seat.me in
@@ -105,6 +113,7 @@ returns-clause-within g c = λ k e.
           subst (λ (n : ℕ). n < c.args.self.now.size.cells) is (subst (λ (z : PoolSize). v - 1 < z.cells) size low)
     ]
 
+-- a look that returns cell k has loaded k + 1, which gives the cell
 pub returns-clause-gave : goal.returns-clause-gave
 returns-clause-gave g c = λ k e.
     let me = c.seat.inside.seat.me in

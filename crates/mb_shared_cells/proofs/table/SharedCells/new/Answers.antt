@@ -9,6 +9,7 @@ use Rattle.mb_shared_cells.proofs.EnrolMoves.{begins}
 use Rattle.mb_shared_cells.proofs.SeatFacts.{empty_roll_history, hub_is}
 use Rattle.mb_shared_cells.proofs.table.SharedCells.new.Goals as goal
 
+-- words that are all 0, and the hub's view, keep the rule
 pub of_words-requires : goal.of_words-requires
 of_words-requires g c =
     let size : PoolSize = record { lanes = c.args.lanes; cells = c.args.cells } in
@@ -17,6 +18,7 @@ of_words-requires g c =
     subst (λ (ws : List ℕ). IsCellsState size ws (Hub size empty_roll ∷ [])) (sym (search rules))
     (begins c.words_follow_steps.ensures.empty size fits)
 
+-- the new hub has an empty roll, which is that of the empty history
 pub invariant_of-result-2 : goal.invariant_of-result-2
 invariant_of-result-2 g c =
     let size : PoolSize = record { lanes = c.args.lanes; cells = c.args.cells } in

@@ -1,4 +1,4 @@
--- Proof of `SharedCells::push`: stores the item that was offered, and at the next call its link.
+-- Proof of `SharedCells::push`: stores the item that was offered, and at the next call the link to its cell.
 use Rattle.std.proofs.Common.{ap, refl, subst, sym, ◌∙◌, ◌∷◌}
 use Rattle.mb_cells.specs.Vocabulary.{IsLaneAfter, store}
 use Rattle.mb_cells.specs.declared.access.PoolAct.TheVariants.{Store}
@@ -8,9 +8,11 @@ use Rattle.mb_shared_cells.proofs.CallFacts.{LaneLaws, can_push}
 use Rattle.mb_shared_cells.proofs.SeatFacts.{lane_then}
 use Rattle.mb_shared_cells.proofs.table.SharedCells.push.Goals as goal
 
+-- the access picked is the store
 pub store-requires-clause-picked : goal.store-requires-clause-picked
 store-requires-clause-picked g c = (refl, refl)
 
+-- the seat can make the store of the push
 pub store-requires-clause-can : goal.store-requires-clause-can
 store-requires-clause-can g c =
     let laws : LaneLaws = record {
@@ -23,6 +25,7 @@ store-requires-clause-can g c =
     can_push laws c.accesses_stay_within.ensures.push c.args.self.now.size c.seat.inside.seat.me c.seat.inside.number
     c.seat.inside.place c.in-Some.word c.in-Some.value c.seat.invariant size (sym c.next_push.ensures ∙ c.in-Some.is)
 
+-- the seat's new place is the one after the push, and is that of the longer part
 pub invariant_of-seat : goal.invariant_of-seat
 invariant_of-seat g c =
     let me = c.seat.inside.seat.me in

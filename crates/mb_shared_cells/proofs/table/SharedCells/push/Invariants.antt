@@ -1,6 +1,8 @@
--- Choices for the calls of `SharedCells::push`: stores the item that was offered, and at the next call its link.
+-- Choices for the calls of `SharedCells::push`: stores the item that was offered, and at the next call the link to its
+-- cell.
 use Rattle.mb_cells.specs.declared.access.PoolAct.TheVariants.{Store}
 use Rattle.mb_shared_cells.proofs.table.SharedCells.push.Given as goal
 
+-- the access of the store: its word, and the value stored, which is the number that the step announces
 abbrev pub ghosts-store : goal.ghosts-store
 ghosts-store g a = record { word = a.word; act = λ n. Store n }

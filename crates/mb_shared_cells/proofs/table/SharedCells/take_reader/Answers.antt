@@ -6,6 +6,7 @@ use Rattle.mb_shared_cells.specs.Views.{SeatState, hub_after_join}
 use Rattle.mb_shared_cells.proofs.TakeMoves.{join_asked, load_asked}
 use Rattle.mb_shared_cells.proofs.table.SharedCells.take_reader.Goals as goal
 
+-- hub and seat are of this table, and their views may be joined
 pub join_seat-requires : goal.join_seat-requires
 join_seat-requires g c =
     let me = c.hub.inside.seat.me in
@@ -24,6 +25,7 @@ join_seat-requires g c =
           (ap (λ (z : SeatState). z.0) c.hub.invariant.is) (ap (λ (z : SeatState). z.0) c.seat.invariant.is),
     )
 
+-- the joined view of the hub may take the part into the roll
 pub load-requires : goal.load-requires
 load-requires g c =
     let me = c.hub.inside.seat.me in

@@ -9,6 +9,7 @@ use Rattle.mb_shared_claims.specs.Seats.{TableView, HubView, AreOfOneHistory, ta
 use Rattle.mb_shared_claims.proofs.Closing.{ends}
 use Rattle.mb_shared_claims.proofs.table.SharedClaims.close.Goals as goal
 
+-- the last state keeps the rule, and has the hub's view with all parts in its roll
 pub returns : goal.returns
 returns g c =
     let last = c.close_with.ensures.values.2 in

@@ -11,6 +11,7 @@ use Rattle.mb_shared_claims.proofs.Moves.{draw_asked, give_asked}
 use Rattle.mb_shared_claims.proofs.Closing.{count_out-snoc, count_out_le}
 use Rattle.mb_shared_claims.proofs.table.SharedClaims.enroll.Goals as goal
 
+-- the hub may draw the next number, since fewer were given than there are consumers
 pub fetch_add-number-requires : goal.fetch_add-number-requires
 fetch_add-number-requires g c =
     let hub = c.hub.invariant in
@@ -30,16 +31,17 @@ fetch_add-number-requires g c =
           (roll_of c.hub.inside.seat.me.0) table.told hub.is is_at (omega arith) (omega arith),
     )
 
--- the hub's seat after the fetch-add
+-- after the fetch-add the hub's view says that a number was drawn
 has_drawn : (size : TableSize) (me now : Seated) → me ≡ (Handing size (roll_of me.0), []) → now ≡ (drawn me.0, me.1)
     → now ≡ (Drawing size (roll_of me.0), [])
 has_drawn size me now is e = e ∙ ap (λ (z : Seated). (drawn z.0, z.1)) is
 
--- the hub after the split
+-- after the split the hub's roll has a place for that number, and its seat is out
 has_given : (size : TableSize) (me now after : Seated) → now ≡ (Drawing size (roll_of me.0), [])
     → after ≡ (given_out now.0, now.1) → after ≡ (Handing size (roll_of me.0 ++ None ∷ []), [])
 has_given size me now after is e = e ∙ ap (λ (z : Seated). (given_out z.0, z.1)) is
 
+-- the hub, which has drawn the number, may give it out
 pub split_seat-seat-requires : goal.split_seat-seat-requires
 split_seat-seat-requires g c =
     let e = c.fetch_add-number.ensures in
@@ -50,6 +52,7 @@ split_seat-seat-requires g c =
     let now = has_drawn hub.size c.hub.inside.seat.me c.fetch_add-number.new.seat.me hub.is e.2.1 in
     (e.0 ∙ same, omega arith, give_asked _ hub.size _ _ (roll_of c.hub.inside.seat.me.0) (ap (λ (z : Seated). z.0) now))
 
+-- no more seats are out than numbers were given, so the count does not wrap
 pub overflow_add-hub-2 : goal.overflow_add-hub-2
 overflow_add-hub-2 g c =
     let few = c.if-hub-consumers.false in
@@ -59,6 +62,7 @@ overflow_add-hub-2 g c =
     let less = count_out_le (roll_of c.hub.inside.seat.me.0) in
     omega arith
 
+-- the hub's counts are those of the roll with one number more, whose seat is out
 pub invariant_of-hub : goal.invariant_of-hub
 invariant_of-hub g c =
     let hub = c.hub.invariant in
@@ -78,6 +82,7 @@ invariant_of-hub g c =
       absent = rw list (omega (arith, count_out-snoc roll));
     }
 
+-- the new seat has the number drawn, which is one of the layout's consumers, and an empty part
 pub invariant_of-result : goal.invariant_of-result
 invariant_of-result g c =
     let hub = c.hub.invariant in

@@ -8,6 +8,8 @@ use Rattle.mb_shared_claims.specs.Seats.{TableView, SeatView, ClaimTable}
 use Rattle.mb_shared_claims.proofs.Accesses.{load_small, exchange_small, exchange_after, store_small, store_same, access_may, seat_after}
 use Rattle.mb_shared_claims.proofs.table.SharedClaims.make.Goals as goal
 
+-- the load may be made: seat and table have one identity, and the access goes on at its address. So it is below for
+-- the exchange and the store
 pub load-requires : goal.load-requires
 load-requires g c =
     let t = c.args.self.now in
@@ -76,6 +78,7 @@ store-requires g c =
     (λ n small. store_small next.object c.args.word n value next.op _ op c.is_word.ensures c.ranges.word.fits) in
     (same, may.0, may.1)
 
+-- after each of the three steps the seat keeps what it has to
 pub invariant_of-seat : goal.invariant_of-seat
 invariant_of-seat g c =
     seat_after c.accesses_lengthen_one_part.ensures.own c.seat.inside.consumer (g.W.AccessSpec.access c.load.result)

@@ -9,6 +9,7 @@ use Rattle.mb_shared_claims.specs.Seats.{count_out}
 use Rattle.mb_shared_claims.proofs.Moves.{begins}
 use Rattle.mb_shared_claims.proofs.table.SharedClaims.new.Goals as goal
 
+-- words that are all 0, and the hub's view, keep the rule
 pub of_words-requires : goal.of_words-requires
 of_words-requires g c =
     let k : TableSize = record { layout = c.args.layout; cells = c.args.cells } in
@@ -18,6 +19,7 @@ of_words-requires g c =
     subst (λ ws. IsClaimsState k ws (Handing k [] ∷ [])) (sym is)
     (begins k (c.histories_begin_with_zeros.ensures.memory (claims_of_size k)))
 
+-- the new hub has an empty roll, and counts no number and no seat that is out
 pub invariant_of-hub : goal.invariant_of-hub
 invariant_of-hub g c =
     let k : TableSize = record { layout = c.args.layout; cells = c.args.cells } in

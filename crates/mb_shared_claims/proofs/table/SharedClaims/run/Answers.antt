@@ -9,6 +9,8 @@ use Rattle.mb_shared_claims.specs.ManySeatSteps.{AreSeatSteps}
 use Rattle.mb_shared_claims.proofs.Running.{IsMade, arrives_in, few_steps_in, may_go_on_in, same_cell, same_frame, same_rng, same_seat, same_table}
 use Rattle.mb_shared_claims.proofs.table.SharedClaims.run.Goals as goal
 
+-- Each clause needs two facts, which stand after `c.args.claim.now` in this order. A draw changes only the random word
+-- and its source. An access changes only the seat, by that access
 pub run-requires-clause-may : goal.run-requires-clause-may
 run-requires-clause-may g c n word at before mid next steps going drawn is =
     let can = may_go_on_in c.args.self.now c.args.cell (λ m. m.seat.now) (λ m. g.R.Rng.stream m.rng.now) (λ m. m.word)

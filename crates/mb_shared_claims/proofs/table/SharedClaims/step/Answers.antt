@@ -7,6 +7,7 @@ use Rattle.mb_shared_claims.specs.Seats.{TableView}
 use Rattle.mb_shared_claims.proofs.ClaimMoves.{may_come, seat_step, stands_on}
 use Rattle.mb_shared_claims.proofs.table.SharedClaims.step.Goals as goal
 
+-- the claim's next access may be made from the seat
 pub step-requires-clause-may : goal.step-requires-clause-may
 step-requires-clause-may g c next is =
     let t = c.args.self.now in
@@ -21,6 +22,7 @@ step-requires-clause-may g c next is =
           c.requires.standing c.requires.going c.claims_make_steps.ensures.memory next op,
     )
 
+-- the claim's step is a step of the seat
 pub returns-clause-step : goal.returns-clause-step
 returns-clause-step g c =
     let t = c.args.self.now in

@@ -7,6 +7,7 @@ use Rattle.mb_shared_claims.proofs.Moves.{take_asked, settle_asked}
 use Rattle.mb_shared_claims.proofs.Closing.{count_out-set}
 use Rattle.mb_shared_claims.proofs.table.SharedClaims.take_in.Goals as goal
 
+-- hub and seat are of this table, and their views may be joined
 pub join_seat-requires : goal.join_seat-requires
 join_seat-requires g c =
     let id = sym (ap (λ (v : TableView). v.id) c.self.view_is) in
@@ -22,6 +23,7 @@ join_seat-requires g c =
           (ap (λ (z : Seated). z.0) c.seat.invariant.is),
     )
 
+-- the joined view of the hub may put the part into the roll
 pub load-requires : goal.load-requires
 load-requires g c =
     let j = c.join_seat.ensures in
@@ -31,6 +33,7 @@ load-requires g c =
     let taking = j.2 ∙ (λ i. (took_in (c.hub.invariant.is i).0 (c.seat.invariant.is i).0, (c.hub.invariant.is i).1)) in
     (j.0 ∙ same, omega arith, settle_asked _ _ _ _ _ _ _ _ taking)
 
+-- the seat was out, so the hub counts one seat at least
 pub overflow_sub-hub : goal.overflow_sub-hub
 overflow_sub-hub g c =
     let j = c.join_seat.ensures in
@@ -42,6 +45,7 @@ overflow_sub-hub g c =
     let is = c.hub.invariant.absent in
     omega arith
 
+-- the hub's counts are those of the roll with the part put in
 pub invariant_of-hub : goal.invariant_of-hub
 invariant_of-hub g c =
     let j = c.join_seat.ensures in
