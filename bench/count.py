@@ -96,12 +96,14 @@ def told(instructions):
 
 def main():
     parser = argparse.ArgumentParser()
-    parser.add_argument("--loops", default="lone,contended,shared,mail,puts,mailbox,play,ratify")
+    # (chacha, events and reports are not there by hand)
+    loops = "lone,contended,shared,mail,puts,mailbox,play,ratify"
+    parser.add_argument("--loops", default=loops, help=f"which, beside them chacha, events, reports ({loops})")
     parser.add_argument("--shapes", default="plain")
     parser.add_argument("--tables", default="bits,unary,middle")
     parser.add_argument("--consumers", default="1,2,4,16,64")
-    parser.add_argument("--items", action="store_true")
-    parser.add_argument("--keep", action="store_true")
+    parser.add_argument("--items", action="store_true", help="a claim's instructions by its cell, and not by its access")
+    parser.add_argument("--keep", action="store_true", help="count the programs of the last run, with no build")
     options = parser.parse_args()
     if not options.keep:
         build()

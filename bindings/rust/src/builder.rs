@@ -96,8 +96,9 @@ impl<T> Builder<T> {
         Builder { shape, ..self }
     }
 
-    /// This seed for the random words of all consumers, each of which draws from a stream of its own. So in one thread all
-    /// goes the same way once more. If you give none, each mailbox gets a seed of the system's, as hash maps do.
+    /// This seed for the random words of all consumers, each of which draws from a stream of ChaCha8 of its own. There is
+    /// no other source of random words. So in one thread all goes the same way once more. If you give none, each mailbox
+    /// gets a seed of the system's, as hash maps do.
     #[must_use]
     pub fn seed(self, seed: [u8; 32]) -> Self {
         Builder {

@@ -84,8 +84,9 @@ impl<T> Consumer<T> {
         self.number
     }
 
-    /// Competes for the next item of a lane, up to the end. It makes a bounded number of accesses, waits for nobody and is
-    /// never [`Poll::Spent`].
+    /// Competes for the next item of a lane, until it knows the result. It waits for nobody, and is never
+    /// [`Poll::Spent`]. As the builder has it by default, it makes at most 31, 47, 63, 95 or 127 accesses with 1, 2, 4, 16
+    /// or 64 consumers. An access is a load, store or exchange of one shared word.
     ///
     /// ```
     /// # fn main() -> Result<(), Box<dyn std::error::Error>> {
@@ -108,8 +109,7 @@ impl<T> Consumer<T> {
         self.poll_within(lane, u64::MAX)
     }
 
-    /// The same with at most so many accesses (each a load, store or exchange of one word). After [`Poll::Spent`] the next
-    /// poll of the lane goes on.
+    /// The same with at most so many accesses. After [`Poll::Spent`] the next poll of the lane goes on.
     pub fn poll_within(&mut self, lane: u32, budget: u64) -> Poll<T> {
         let polled = self.part.poll(u64::from(lane), budget);
         if let Poll::Ended = polled {

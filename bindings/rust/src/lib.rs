@@ -48,7 +48,10 @@
 //! he took it owns it, and the report owns what nobody took. Were two consumers told that they took one item, it would be
 //! freed twice.
 //!
-//! Not promised: that each value is taken, that a consumer who took one does its work, and fairness.
+//! [`Consumer::sweep`], [`Consumer::values`] and the calls of [`Report`] are plain Rust over it. They are tested.
+//!
+//! Not promised: that each value is taken, that a consumer who took one does its work, and fairness. But with a last
+//! object, and no [`Consumer::poll_within`], nothing is left if one consumer has read [`Consumer::values`] to its end.
 #![deny(missing_docs, unsafe_code, unsafe_op_in_unsafe_fn)]
 
 mod builder;

@@ -40,7 +40,8 @@ impl<T> Home<T> {
 }
 
 impl<T: Send> Mailbox<T> {
-    /// Begins a mailbox for values of any type that may go from thread to thread. Each value is put in a box of its own.
+    /// Begins a mailbox for values of any type that may go from thread to thread. Each value is put in a box of its own, also
+    /// one that is a box already.
     ///
     /// ```
     /// # fn main() -> Result<(), Box<dyn std::error::Error>> {

@@ -96,9 +96,23 @@ const NO_LINE: &str = "A load without a line found a word that nobody stored.";
 
 const OBJECTS: &str = "o1 p: word p of deciding object 1 of the cell.";
 
+const WORDS: &str = "c: word of a conciliator. p: proposal of a ratifier.";
+
+const NUMBERS: &str = "In c and p: 0, or the number of a consumer plus 1.";
+
+const REGISTERS: &str = "q0, q1: registers of a ratifier, 1 if they are set.";
+
+const PROPOSAL: &str = "p: the proposal, 0 or a value plus 1.";
+
 const COUNTER: &str = "counter = 0: an offer found 0, and stored 1.";
 
 const EXCHANGE: &str = "l = 0 := 1: an exchange found 0, and stored 1.";
+
+const OF_REPLAY: &[&str] = &[
+    NO_LINE, OBJECTS, WORDS, NUMBERS, REGISTERS, COUNTER, EXCHANGE,
+];
+
+const OF_RATIFIER: &[&str] = &[NO_LINE, PROPOSAL, REGISTERS];
 
 const WIDTH: usize = 56;
 
@@ -160,8 +174,8 @@ pub fn push_legend<A: Allocator>(
     y: usize,
 ) -> Result<usize, NoMemory> {
     let (entries, further) = match kind {
-        Kind::Replay => (REPLAY, &[NO_LINE, OBJECTS, COUNTER, EXCHANGE][..]),
-        Kind::Ratifier => (RATIFIER, &[NO_LINE][..]),
+        Kind::Replay => (REPLAY, OF_REPLAY),
+        Kind::Ratifier => (RATIFIER, OF_RATIFIER),
     };
     push_text(text, "b", 12, y, "Legend")?;
     let mut at = y.saturating_add(STEP - 4);
