@@ -14,6 +14,7 @@ same_cell n m e = cc
 abbrev pub one_filled : List Call
 one_filled = Pushed 0 (push.Item 0) ∷ one_offered
 
+-- each call leads from one of the example's pools to the next
 pub returns-clause-made : goal.returns-clause-made
 returns-clause-made c =
     let new : HasMade (pool_size 1 1) [] new_pool = (refl, refl, new_after) in

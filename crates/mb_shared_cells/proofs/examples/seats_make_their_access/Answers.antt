@@ -13,6 +13,7 @@ abbrev first_load : History → Option ℕ
 first_load [] = None
 first_load (a ∷ older) = loaded_by a.act
 
+-- the fetch-add came after the empty history, and gave cell 0
 pub returns-clause-offered : goal.returns-clause-offered
 returns-clause-offered c = λ id. (
   0,
@@ -29,6 +30,7 @@ returns-clause-offered c = λ id. (
   ),
 )
 
+-- the load came after the empty history, and found 0
 pub returns-clause-looked : goal.returns-clause-looked
 returns-clause-looked c = λ id. (
   0,

@@ -54,6 +54,7 @@ new_fits zero v e = subst (λ x. FitsView one_by_one nothing 0 0 x)
     (some-injective (first_view one_by_one) v e) (new_hub, refl)
 new_fits (suc seat) v e = absurd (some-ne-none v (sym e))
 
+-- that seating and the empty history explain the new table
 pub returns-clause-new : goal.returns-clause-new
 returns-clause-new c = (
   nothing,
@@ -136,6 +137,7 @@ put_fits (suc zero) v e = subst (λ x. FitsView one_by_one putting 1 1 x)
     (some-injective (lane_with one_put) v e) put_seat
 put_fits (suc (suc seat)) v e = absurd (some-ne-none v (sym e))
 
+-- that seating and `one_put` explain the table
 pub returns-clause-put : goal.returns-clause-put
 returns-clause-put c = (
   putting,

@@ -7,6 +7,7 @@ use Rattle.mb_shared_cells.specs.Examples.{hub_of_one, lane_with, one_by_one}
 use Rattle.mb_shared_cells.specs.Views.{first_view}
 use Rattle.mb_shared_cells.proofs.examples.words_and_views_disagree.Goals as goal
 
+-- no lane was given, so producer 0 did nothing, and the head of its lane holds 0
 pub returns-clause-made_up : goal.returns-clause-made_up
 returns-clause-made_up c = λ s.
     let t = s.0 in
@@ -20,6 +21,7 @@ returns-clause-made_up c = λ s.
     let e : 1 ≡ 0 = here ∙ (own ∙ ap (λ h. value_in (Head 0) h) idle) in
     omega (arith, e)
 
+-- lane 0 has put its item, so the head leads to the cell
 pub returns-clause-lost : goal.returns-clause-lost
 returns-clause-lost c = λ s.
     let t = s.0 in

@@ -14,6 +14,7 @@ standing :
 standing k words views plan s c some (yes past) = absurd (some (s.others c past))
 standing k words views plan s c some (no below) = (plan.place c, s.stands c (omega arith))
 
+-- the history is the one of the plan
 pub returns-clause-history : goal.returns-clause-history
 returns-clause-history g k words views held =
     let plan = held.0 in

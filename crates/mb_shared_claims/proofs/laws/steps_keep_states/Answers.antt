@@ -32,6 +32,7 @@ returns-clause-access g k size words views id own cell word done next held is lo
           (may word words held.0.history s.memory (sym mine.2) small),
     )
 
+-- after the draw the same plan explains the table
 pub returns-clause-draw : goal.returns-clause-draw
 returns-clause-draw g k size words views id roll held is room =
     let s = held.1 in

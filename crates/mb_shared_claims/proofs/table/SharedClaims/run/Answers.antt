@@ -44,6 +44,7 @@ run-requires-clause-may g c n word at before mid next steps going drawn is =
           mid.seat.now.consumer k mid.seat.now.part next) (sym (same_cell can.1)) can.0.3),
     )
 
+-- the accesses that the run made are steps of the seat
 pub returns-clause-steps : goal.returns-clause-steps
 returns-clause-steps g c =
     let p = arrives_in c.args.self.now c.args.cell (λ m. m.seat.now) (λ m. g.R.Rng.stream m.rng.now) (λ m. m.word)
@@ -75,6 +76,7 @@ returns-clause-steps g c =
     (g.R.Rng.stream c.args.rng.now)
     c.run.result c.run.new.self c.run.new.memory.seat.now (g.R.Rng.stream r)) (sym rng) p.steps)
 
+-- after these accesses the claim has made all that its consumer has done on the cell
 pub returns-clause-standing : goal.returns-clause-standing
 returns-clause-standing g c =
     let p = arrives_in c.args.self.now c.args.cell (λ m. m.seat.now) (λ m. g.R.Rng.stream m.rng.now) (λ m. m.word)
@@ -101,6 +103,7 @@ returns-clause-standing g c =
     subst (λ (v : SeatView). IsClaimIn c.args.self.now.layout c.run.new.self
     (part_on v.consumer c.args.cell v.part)) (sym seat) p.rests
 
+-- the run made no more accesses than the layout allows
 pub returns-clause-few : goal.returns-clause-few
 returns-clause-few g c =
     few_steps_in c.args.self.now c.args.cell (λ m. m.seat.now) (λ m. g.R.Rng.stream m.rng.now) (λ m. m.word)
@@ -125,6 +128,7 @@ returns-clause-few g c =
     (λ h d k. c.claims_are_bounded.ensures.layouts c.args.self.now.layout c.args.self.now.cells h d k)
     c.run.result c.run.new.self c.run.new.memory c.run.ensures.steps
 
+-- a claim over a layout with a last object is not undecided
 pub returns-clause-decided : goal.returns-clause-decided
 returns-clause-decided g c has =
     let p = arrives_in c.args.self.now c.args.cell (λ m. m.seat.now) (λ m. g.R.Rng.stream m.rng.now) (λ m. m.word)
