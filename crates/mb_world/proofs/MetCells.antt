@@ -6,7 +6,7 @@ use Rattle.mb_world.specs.Imports.{PoolAccess, PoolAct, Reader, Store, Word, is_
 use Rattle.mb_world.specs.Plan.{Histories, Plan, consumers_of}
 use Rattle.mb_world.specs.Fitting.{FollowsLinks, cell_given, cells_met, parts_of}
 use Rattle.mb_world.specs.Reporting.{HasMetAll}
-use Rattle.mb_world.proofs.Known.{Known}
+use Rattle.mb_world.specs.Known.{Known}
 use Rattle.mb_world.proofs.PathLoads.{met_elsewhere, met_more, met_there, one_given}
 use Rattle.mb_world.proofs.Positions.{at_has, at_start, has_at}
 use Rattle.mb_world.proofs.ReaderParts.{access_is, of_part, word_is}

@@ -11,7 +11,7 @@ use Rattle.mb_world.specs.Plan.{Histories, Plan, consumers_of}
 use Rattle.mb_world.specs.Fitting.{EndsAs, HasStageIn, parts_of}
 use Rattle.mb_world.specs.Report.{DiaryView, LaneView, ReportView}
 use Rattle.mb_world.specs.Reporting.{IsDiaryOf, IsReportOf, lane_view}
-use Rattle.mb_world.proofs.Known.{Known}
+use Rattle.mb_world.specs.Known.{Known}
 use Rattle.mb_world.proofs.Positions.{StandsAt, at_has, at_one, has_at, reverse_at}
 use Rattle.mb_world.proofs.Diaries.{met_at, note_at, placed}
 use Rattle.mb_world.proofs.Loads.{met_given}

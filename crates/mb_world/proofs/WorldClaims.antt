@@ -16,7 +16,7 @@ use Rattle.mb_world.proofs.PathLoads.{met_more, path_met}
 use Rattle.mb_world.proofs.Positions.{at_has, at_start, has_at}
 use Rattle.mb_world.proofs.ReaderParts.{of_part}
 use Rattle.mb_world.proofs.Tracks.{EndsIn, Tracks, track}
-use Rattle.mb_world.proofs.WorldKnown.{WorldKnown}
+use Rattle.mb_world.specs.WorldKnown.{WorldKnown}
 use Rattle.mb_world.proofs.WorldPool.{loads, loads_on, of_lane, read_here}
 
 module _ (plan : Plan) (h : WorldHistory) (lawful : IsWorldLawful plan h) (known : WorldKnown plan h) where

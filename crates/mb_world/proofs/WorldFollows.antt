@@ -11,7 +11,7 @@ use Rattle.mb_world.proofs.Cells.{has_cell-true}
 use Rattle.mb_world.proofs.PathLoads.{FollowsLane, met_elsewhere, path_cells, path_follows}
 use Rattle.mb_world.proofs.ReaderParts.{word_is}
 use Rattle.mb_world.proofs.WorldClaims.{on_lane}
-use Rattle.mb_world.proofs.WorldKnown.{WorldKnown}
+use Rattle.mb_world.specs.WorldKnown.{WorldKnown}
 use Rattle.mb_world.proofs.WorldPool.{load_lane, loads, loads_on, of_lane, on_word}
 
 -- the link past cells of a lane is a word of it
