@@ -15,7 +15,8 @@ use Rattle.mb_mailbox.specs.Imports.{Counter, END, Has, Head, History, Item, Lin
 use Rattle.mb_mailbox.specs.PartPlaces.{HasPart, with_seat}
 use Rattle.mb_mailbox.specs.Producers.{FoundNoCell, HasNoCellFor, IsEndOfLane, IsProducer, IsSameLane, ProducerView, is_over}
 use Rattle.mb_mailbox.specs.PutLaws.{PutLaws}
-use Rattle.mb_mailbox.proofs.Putting.{fetch_keeps, link_word}
+use Rattle.mb_mailbox.proofs.Putting.{fetch_keeps, link_word, refused_by}
+use Rattle.mb_mailbox.proofs.Lists.{some_same}
 
 -- the producer stands at the place to which its part of the whole history leads
 there : (s : ProducerView) (h : HasPart s.seat)
@@ -58,14 +59,6 @@ refused_one laws s h none unrefused = by (has_ended s.seat.lane h.history.0) ref
         let full = (laws.full s.seat.table.size h.history.0 s.seat.lane s.seat.place h.history.1
         (there s h)).1 (e, in_all laws s h none) in
         let f : None ≡ Some offer.Full = sym unrefused ∙ full in absurd (cc)
-
-same_offer : (a b : Offer) → Some a ≡ Some b → a ≡ b
-same_offer a b e = cc
-
-refused_by : (o : Option Offer) (r : Offer) (old : LaneSeatView) (x : ℕ) (answer : Offer)
-    (now : LaneSeatView) → o ≡ Some r → OfferBy o old x answer now → answer ≡ r
-refused_by (Some q) r old x answer now e m = m.0 ∙ same_offer q r e
-refused_by None r old x answer now e m = absurd (cc)
 
 -- an offer that found no cell was refused, or its fetch-add found none
 data Found (old : LaneSeatView) (x : ℕ) (now : LaneSeatView) : Type 0 where
@@ -314,13 +307,10 @@ finish_is_closed laws s now h m =
     ap (has_ended p) (sym h.history.2) ∙ sym (laws.ended g p)
     ∙ (laws.over s.seat.table.size g p s.seat.place h.history.1 place).0 (finish_by s.seat now s.seat.place.stage m).1
 
-same_finish : (a b : Finish) → Some a ≡ Some b → a ≡ b
-same_finish a b e = cc
-
 -- a finish that is refused returns the refusal
 answered : (o : Option Finish) (r : Finish) (old : LaneSeatView) (answer : Finish)
     (now : LaneSeatView) → o ≡ Some r → FinishBy o old answer now → answer ≡ r
-answered (Some q) r old answer now e m = m.0 ∙ same_finish q r e
+answered (Some q) r old answer now e m = m.0 ∙ some_same q r e
 answered None r old answer now e m = absurd (cc)
 
 -- if the lane has ended, a finish returns `Closed`

@@ -5,15 +5,16 @@ use Rattle.std.specs.Option.{option_map_or}
 use Rattle.std.proofs.lemmas.Bool.{cases_lt, ltb-true}
 use Rattle.std.proofs.lemmas.List.{length-map, reverse-append}
 use Rattle.std.proofs.Math.Nat.{mul-le-mul_right}
+use Rattle.std.proofs.lemmas.Option.{slice_get_within}
+use Rattle.mb_world.proofs.Positions.{get-left}
 use Rattle.mb_cells.specs.Vocabulary.{Entry, IsStart, items_put, put_list}
 use Rattle.mb_world.specs.Plan.{Histories, Plan, consumers_of}
 use Rattle.mb_world.specs.Report.{DiaryView, LaneView, ReportView, diary, note}
 use Rattle.mb_world.specs.Reporting.{IsReportOf, lane_view}
 use Rattle.mb_mailbox.specs.Imports.{Note}
 use Rattle.mb_mailbox.specs.Gathering.{put_count}
-use Rattle.mb_mailbox.proofs.Lists.{get_within, some_same}
+use Rattle.mb_mailbox.proofs.Lists.{some_same}
 use Rattle.mb_mailbox.proofs.Totals.{put_total, summed, total}
-use Rattle.mb_mailbox.proofs.Turned.{get_left}
 
 -- ---- how many items are put
 -- the report has as many items as the pool's history puts on all lanes
@@ -25,7 +26,7 @@ counted plan hs r is =
   where
     each : (p : ℕ) (l : LaneView) → slice_get r.lanes p ≡ Some l → length l.put ≡ length (put_list p hs.pool)
     each p l e =
-        let low : p < plan.lanes = subst (λ n. p < n) is.lanes_count (get_within r.lanes p l e) in
+        let low : p < plan.lanes = subst (λ n. p < n) is.lanes_count (slice_get_within r.lanes p l e) in
         let same : l ≡ lane_view plan p hs r = some_same l (lane_view plan p hs r) (sym e ∙ is.lane p low) in
         ap (λ (v : LaneView). length v.put) same ∙ length-map (put_list p hs.pool) (λ (z : Entry). z.value)
 
@@ -63,7 +64,7 @@ is_noted plan hs r is c p j n e =
     let there : slice_get r.diaries (c * plan.lanes + p)
     ≡ Some d = ap (λ w. slice_get r.diaries (c * w + p)) (sym is.lanes_count) ∙ z.1 in
     let within : c * plan.lanes + p < consumers_of plan * plan.lanes =
-    subst (λ w. c * plan.lanes + p < w) is.diaries_count (get_within r.diaries (c * plan.lanes + p) d there) in
+    subst (λ w. c * plan.lanes + p < w) is.diaries_count (slice_get_within r.diaries (c * plan.lanes + p) d there) in
     record {
       consumer = elim (cases_lt c (consumers_of plan)) [
         | inl less ↦ less
@@ -81,4 +82,4 @@ pub at_start : (ks ls : List ℕ) (j k : ℕ) → IsStart ks ls → slice_get (r
     → slice_get (reverse ls) j ≡ Some k
 at_start ks ls j k s e =
     ap (λ l. slice_get (reverse l) j) (sym s.1) ∙ ap (λ l. slice_get l j) (reverse-append s.0 ks)
-    ∙ get_left (reverse ks) (reverse s.0) j k e
+    ∙ get-left (reverse ks) (reverse s.0) j k e

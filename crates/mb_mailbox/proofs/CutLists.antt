@@ -3,11 +3,11 @@ use Rattle.std.proofs.Common.{◌≡◌, ℕ, suc, ◌+◌, ◌<◌, ◌≤◌, 
 use Rattle.std.specs.Prelude.{Option, Some, None, slice_get, slice_set}
 use Rattle.std.specs.Option.{option_map, option_map_or}
 use Rattle.std.proofs.lemmas.List.{length-map, map-append}
-use Rattle.std.proofs.lemmas.Option.{slice_get-map, slice_get_read}
+use Rattle.std.proofs.lemmas.Option.{slice_get-map, slice_get_read, slice_get_within}
 use Rattle.mb_mailbox.specs.Gathering.{count_missing, kept_at}
 use Rattle.mb_mailbox.specs.Hubs.{ConsumerRecordView}
 use Rattle.mb_mailbox.specs.Ledgers.{AreCut, AreCutBelow, HaveLists, KeptView, ledger_in, ledgers_in}
-use Rattle.mb_mailbox.proofs.Lists.{get_within, map_get, map_set, set_get, set_same}
+use Rattle.mb_mailbox.proofs.Lists.{map_get, map_set, set_get, set_same}
 
 -- the view has as many places as the hub's list
 pub ledgers_count : (os : List (Option KeptView)) → length (ledgers_in os) ≡ length os
@@ -65,7 +65,7 @@ cut_more os c new below cut d k low e = elim (set_get os c d new (Some k) e) [
 -- if the loop has come to the end, all notes are cut
 pub all_cut : (os : List (Option KeptView)) (n : ℕ) → length os ≤ n → AreCutBelow n os → AreCut os
 all_cut os n most below c k e =
-    let low = get_within os c (Some k) e in
+    let low = slice_get_within os c (Some k) e in
     below c k (omega (arith, low, most)) e
 
 -- ---- a list for each lane

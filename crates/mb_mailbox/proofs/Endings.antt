@@ -1,16 +1,16 @@
 -- What a poll keeps and adds, and a consumer that has read a lane to its end.
-use Rattle.std.proofs.Common.{◌≡◌, ◌≢◌, ℕ, zero, suc, ◌+◌, ◌<◌, ◌≤◌, List, [], ◌∷◌, ◌++◌, length, map, refl, sym, ap, ◌∙◌, subst, inr, arith}
-use Rattle.std.specs.Prelude.{Option, Some, None, slice_get, slice_set}
+use Rattle.std.proofs.Common.{◌≡◌, ◌≢◌, ℕ, ◌+◌, ◌<◌, ◌≤◌, List, [], ◌∷◌, ◌++◌, length, refl, sym, ap, ◌∙◌, subst, inr, arith}
+use Rattle.std.specs.Prelude.{Option, Some, None, slice_get}
 use Rattle.std.specs.Option.{option_map_or}
-use Rattle.std.proofs.lemmas.List.{length-append, length-map, length-reverse}
-use Rattle.mb_cells.specs.Vocabulary.{Entry, HasLoaded, entry_at, put_list}
-use Rattle.mb_cells.specs.declared.access.PoolAccess.{PoolAccess}
+use Rattle.std.proofs.lemmas.List.{length-append}
+use Rattle.mb_world.proofs.Diaries.{values_length}
+use Rattle.mb_cells.proofs.ReaderChains.{HasMet-more}
+use Rattle.mb_cells.specs.Vocabulary.{HasLoaded}
 use Rattle.mb_cells.specs.declared.access.Process.{Process}
-use Rattle.mb_cells.specs.declared.size.PoolSize.{PoolSize}
 use Rattle.mb_shared_cells.specs.Vocabulary.{IsRollOf}
 use Rattle.mb_shared_cells.specs.declared.views.Roll.{Roll}
 use Rattle.mb_world.specs.Reporting.{values_put}
-use Rattle.mb_mailbox.specs.Imports.{END, Has, HasMet, History, IsPoolLawful, Note, Producer, Reader, ReaderSeatView, SeatView, Stream, ToCells, ToClaims}
+use Rattle.mb_mailbox.specs.Imports.{END, Has, HasMet, History, IsPoolLawful, Note, PoolAccess, PoolSize, Producer, Reader, ReaderSeatView, SeatView, Stream, ToCells, ToClaims}
 use Rattle.mb_mailbox.specs.Imports.{WorldHistory, cells_met, claim_accesses, linked_cells, load, part, place_past, pool_accesses}
 use Rattle.mb_mailbox.specs.Consumers.{ConsumerView}
 use Rattle.mb_mailbox.specs.Jobs.{HasReadToEnd, IsSameConsumer, accesses_made}
@@ -18,6 +18,7 @@ use Rattle.mb_mailbox.specs.Moves.{HasLoads}
 use Rattle.mb_mailbox.specs.Steps.{HasLoadedEnd, HasNoteOnEach, IsPollOf, LeadTo, note_with, notes_on, outcome, with_note}
 use Rattle.mb_mailbox.specs.declared.consumer.Poll.{Poll}
 use Rattle.mb_mailbox.specs.declared.consumer.Poll.TheVariants as poll
+use Rattle.mb_mailbox.proofs.Lists.{set_else}
 
 -- ---- what a part has, a longer one has
 -- a longer part has each access of the part
@@ -27,29 +28,16 @@ has_more (b ∷ later) h a has = inr (has_more later h a has)
 
 -- a longer part has the loads by which cells were met
 met_more : (r p : ℕ) (later : History) (ks : List ℕ) (h : History) → HasMet r p ks h → HasMet r p ks (later ++ h)
-met_more r p later [] h met = tt
-met_more r p later (k ∷ ks) h met = (
-  has_more later h (load r (place_past p ks) (k + 1)) met.0,
-  met.1,
-  met_more r p later ks h
-      met.2,
-)
+met_more r p later ks h met = HasMet-more r p h (later ++ h) ks (has_more later h) met
 
 -- ---- what a poll of a lane leaves alone
-get_other : {X : Type 0} (xs : List X) (i k : ℕ) (a : X) → k ≢ i → slice_get (slice_set xs i a) k ≡ slice_get xs k
-get_other [] i k a ne = refl
-get_other (x ∷ xs) zero zero a ne = absurd (ne refl)
-get_other (x ∷ xs) zero (suc k) a ne = refl
-get_other (x ∷ xs) (suc i) zero a ne = refl
-get_other (x ∷ xs) (suc i) (suc k) a ne = get_other xs i k a (λ h. ne (ap suc h))
-
 -- a note on another lane leaves the notes on this one
 notes_kept : (p q : ℕ) (o : Option Note) (notes : List (List Note)) → q ≢ p
     → notes_on q (with_note p o notes) ≡ notes_on q notes
 notes_kept p q None notes ne = refl
 notes_kept p q (Some n) notes ne =
     ap (λ (o : Option (List Note)). option_map_or (λ (l : List Note). l) o [])
-    (get_other notes p q (notes_on p notes ++ n ∷ []) ne)
+    (set_else notes p q (notes_on p notes ++ n ∷ []) ne)
 
 -- a poll leaves the consumer's tables and numbers
 pub same_by : (p budget : ℕ) (answer : Poll) (s t : Stream) (old new : ConsumerView)
@@ -173,10 +161,4 @@ module _ (whole : (h : History) (r p : ℕ) (ks : List ℕ) → HasMet r p ks (p
       (subst (λ d. Has d (load r (place_past p ks) END)) (sym is) o.end)).0 in
       let all : ks ≡ linked_cells p done = last size h r p ks i.lawful met end ∙ linked h p
       ∙ ap (linked_cells p) lane in
-      o.notes ∙ ap length all ∙ sym (put_count p done)
-    where
-      put_count : (p : ℕ) (h : History) → length (values_put p h) ≡ length (linked_cells p h)
-      put_count p h =
-          length-map (put_list p h) (λ (e : Entry). e.value)
-          ∙ length-reverse (map (λ k. entry_at k h) (linked_cells p h))
-          ∙ length-map (linked_cells p h) (λ k. entry_at k h)
+      o.notes ∙ ap length all ∙ sym (values_length p done)

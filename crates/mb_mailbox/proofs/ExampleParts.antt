@@ -5,11 +5,6 @@ use Rattle.mb_mailbox.specs.Imports.{HasRead, Head, Item, Link, ObjectTurn, ToCe
 use Rattle.mb_mailbox.specs.ConsumerStep.{IsLastMet}
 use Rattle.mb_mailbox.specs.Examples.{met_four}
 
--- the word of an access to the cells
-abbrev pub word_in : WorldAccess → Option Word
-word_in (ToCells a) = Some a.word
-word_in (ToClaims a) = None
-
 -- the cell of an access to the claims
 abbrev pub cell_in : WorldAccess → Option ℕ
 cell_in (ToCells a) = None

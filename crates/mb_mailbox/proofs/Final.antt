@@ -1,10 +1,10 @@
 -- What a run of workers comes to. It follows from the numbers given, from the ends of the workers, and from what the
 -- hub has taken in.
-use Rattle.std.proofs.Common.{◌≡◌, ℕ, suc, Bool, true, ◌+◌, ◌-◌, ◌^◌, ◌≤◌, List, [], ◌∷◌, ◌++◌, length, map, min, refl, sym, ap, ◌∙◌, subst, false, arith, ◌<◌}
+use Rattle.std.proofs.Common.{◌≡◌, ℕ, suc, Bool, true, ◌+◌, ◌-◌, ◌^◌, ◌≤◌, List, [], ◌∷◌, length, map, min, refl, sym, ap, ◌∙◌, subst, false, arith, ◌<◌}
 use Rattle.std.specs.Int.{from_bool}
 use Rattle.std.specs.Prelude.{Vec, Some, slice_get}
 use Rattle.std.specs.List.{All, AllZip, sum_by}
-use Rattle.std.proofs.lemmas.List.{length-map, map-append}
+use Rattle.std.proofs.lemmas.List.{append-nil, length-map, map-append}
 use Rattle.std.proofs.lemmas.Simd.{map-map}
 use Rattle.std.proofs.lemmas.List.Elements.{All-cons, All-head, All-tail}
 use Rattle.std.proofs.lemmas.List.Sums.{sum_by-cons}
@@ -141,10 +141,6 @@ room_for a b c d r puts polls h =
     }
 
 -- ---- if nothing was given
-append_none : {X : Type 0} (xs : List X) → xs ≡ xs ++ []
-append_none [] = refl
-append_none (x ∷ xs) = ap (λ l. x ∷ l) (append_none xs)
-
 -- a run for which nothing was given has taken in all that was given
 pub nothing_taken : (lists : List (List ℕ)) (sources : ℕ) (h : HubView) → WereTakenInEarly lists sources h h
 nothing_taken lists sources h = record {
@@ -157,12 +153,12 @@ nothing_taken lists sources h = record {
     lanes = [];
     consumers = [];
     run = record {
-      puts = append_none h.puts;
-      parts = append_none h.cells.roll.lanes;
+      puts = sym (append-nil h.puts);
+      parts = sym (append-nil h.cells.roll.lanes);
       fronts = tt;
-      ledgers = append_none h.ledgers;
-      reads = append_none h.cells.roll.readers;
-      claimed = append_none h.claims.roll;
+      ledgers = sym (append-nil h.ledgers);
+      reads = sym (append-nil h.cells.roll.readers);
+      claimed = sym (append-nil h.claims.roll);
       count = refl;
     };
   };

@@ -3,6 +3,8 @@ use Rattle.std.proofs.Common.{◌≡◌, ◌≢◌, ℕ, ◌<◌, ◌≤◌, Lis
 use Rattle.std.specs.Prelude.{Some, None, nat_eq, slice_get, sum_by}
 use Rattle.std.proofs.lemmas.Bool.{cases_eq, ne_eqb, eq-eqb}
 use Rattle.std.proofs.lemmas.List.{length-reverse, reverse-append}
+use Rattle.std.proofs.lemmas.Option.{slice_get_within}
+use Rattle.mb_world.proofs.Tracks.{past_item, read-cases, read-more}
 use Rattle.mb_claim.specs.declared.access.ClaimOp.{ClaimOp}
 use Rattle.mb_claim.specs.declared.access.Stage.TheVariants as stage
 use Rattle.mb_cells.specs.declared.cursor.Cursor.TheVariants.{Past}
@@ -15,8 +17,8 @@ use Rattle.mb_world.specs.Places.{place_after}
 use Rattle.mb_world.specs.declared.place.Place.{Place}
 use Rattle.mb_world.specs.declared.place.Place.TheVariants.{At, Before}
 use Rattle.mb_mailbox.specs.Laws.{Laws}
-use Rattle.mb_mailbox.proofs.KnownLoads.{Known, past_item, read-cases, read-more}
-use Rattle.mb_mailbox.proofs.Lists.{get_some, get_within, some_same}
+use Rattle.mb_mailbox.proofs.KnownLoads.{Known}
+use Rattle.mb_mailbox.proofs.Lists.{get_some, some_same}
 use Rattle.mb_mailbox.proofs.Moving.{holds, loads_known}
 use Rattle.mb_mailbox.proofs.Standings.{Leaves, end_kept, ends_more, moves, same_length, with_one}
 use Rattle.mb_mailbox.proofs.Totals.{sum_less, total}
@@ -78,7 +80,8 @@ module _ (s : ConsumerView) (p k : ℕ) (claim : Claim) (i : IsConsumer s) (e : 
     noted q ns f = by t.0 (i.lanes q t.0 ns t.1 f)
       where
         t : (place : Place) × (slice_get s.places q ≡ Some place)
-        t = get_some s.places q (subst (λ n. q < n) (i.notes_count ∙ sym i.places_count) (get_within s.notes q ns f))
+        t = get_some s.places q (subst (λ n. q < n) (i.notes_count ∙ sym i.places_count)
+            (slice_get_within s.notes q ns f))
 
         turned : length (reverse ns) ≡ length ns
         turned = length-reverse ns
@@ -104,7 +107,7 @@ module _ (s : ConsumerView) (p k : ℕ) (claim : Claim) (i : IsConsumer s) (e : 
     pub room : sum_by length s.notes < s.reader.table.size.cells
     room =
         let low : p < length s.notes = subst (λ n. p < n) (i.places_count ∙ sym i.notes_count)
-        (get_within s.places p (At k claim) e) in
+        (slice_get_within s.places p (At k claim) e) in
         let less = sum_less length (λ q. length (cells_met q s.reader.part)) s.notes p low noted noted_here in
         let share = known.share in
         let same : total (λ q. length (cells_met q s.reader.part)) (length s.notes)

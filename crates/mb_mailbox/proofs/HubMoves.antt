@@ -1,7 +1,9 @@
 -- A hub gives a producer or a consumer, and takes it in.
-use Rattle.std.proofs.Common.{◌≡◌, ◌≢◌, ◌⊎◌, ℕ, zero, suc, ◌<◌, ◌≤◌, List, [], ◌∷◌, ◌++◌, length, refl, sym, ap, ◌∙◌, subst, inl, inr, ⊎_elim, arith}
+use Rattle.std.proofs.Common.{◌≡◌, ◌≢◌, ◌⊎◌, ℕ, ◌<◌, ◌≤◌, List, [], ◌∷◌, ◌++◌, length, refl, sym, ap, ◌∙◌, subst, inl, inr, ⊎_elim, arith}
 use Rattle.std.specs.Prelude.{Option, Some, None, slice_get, slice_set}
-use Rattle.std.proofs.lemmas.List.{length-append}
+use Rattle.std.proofs.lemmas.List.{length-append, length-set}
+use Rattle.std.proofs.lemmas.Option.{slice_get_within}
+use Rattle.mb_world.proofs.Positions.{get-left, get-snoc}
 use Rattle.mb_cells.specs.Vocabulary.{Entry, fetch}
 use Rattle.mb_shared_cells.specs.Vocabulary.{CellHubView, empty_roll}
 use Rattle.mb_shared_cells.specs.declared.views.Roll.{Roll}
@@ -10,38 +12,13 @@ use Rattle.mb_mailbox.specs.Imports.{CellsName, ClaimAccess, ClaimTable, Has, Hi
 use Rattle.mb_mailbox.specs.Hubs.{HubView, IsHub, IsLedger, IsPutList, ConsumerRecordView, PutListView, put_list_of, with_consumer, with_producer, with_taken_consumer, with_taken_producer}
 use Rattle.mb_mailbox.specs.Consumers.{ConsumerView, IsConsumer}
 use Rattle.mb_mailbox.specs.Producers.{IsProducer, ProducerView}
-use Rattle.mb_mailbox.proofs.Lists.{get_some, get_within, set_get, set_length, some_same}
+use Rattle.mb_mailbox.proofs.Lists.{get_some, set_else, set_get, set_here, some_same}
 
--- ---- lists with one more at their end, or with one set
--- an element keeps its place in a list with one more at its end
-get_more : {X : Type 0} (xs : List X) (x : X) (p : ℕ) (a : X) → slice_get xs p ≡ Some a
-    → slice_get (xs ++ x ∷ []) p ≡ Some a
-get_more [] x p a e = absurd (cc)
-get_more (y ∷ xs) x zero a e = e
-get_more (y ∷ xs) x (suc p) a e = get_more xs x p a e
-
+-- ---- lists with one more at their end
 -- an element of a list with one more at its end is an element of the list, or is the last
 get_older : {X : Type 0} (xs : List X) (x : X) (p : ℕ) (a : X) → slice_get (xs ++ x ∷ []) p ≡ Some a
     → (slice_get xs p ≡ Some a) ⊎ (x ≡ a)
-get_older [] x zero a e = inr (some_same x a e)
-get_older [] x (suc p) a e = absurd (cc)
-get_older (y ∷ xs) x zero a e = inl e
-get_older (y ∷ xs) x (suc p) a e = get_older xs x p a e
-
-set_here : {X : Type 0} (xs : List X) (k : ℕ) (a b : X) → slice_get xs k ≡ Some b
-    → slice_get (slice_set xs k a) k ≡ Some a
-set_here [] k a b e = absurd (cc)
-set_here (x ∷ xs) zero a b e = refl
-set_here (x ∷ xs) (suc k) a b e = set_here xs k a b e
-
--- if another element is set, an element stays
-set_there : {X : Type 0} (xs : List X) (i k : ℕ) (a b : X) → k ≢ i → slice_get xs k ≡ Some b
-    → slice_get (slice_set xs i a) k ≡ Some b
-set_there [] i k a b ne e = e
-set_there (x ∷ xs) zero zero a b ne e = absurd (ne refl)
-set_there (x ∷ xs) zero (suc k) a b ne e = e
-set_there (x ∷ xs) (suc i) zero a b ne e = e
-set_there (x ∷ xs) (suc i) (suc k) a b ne e = set_there xs i k a b (λ h. ne (ap suc h)) e
+get_older xs x p a e = ⊎_elim (λ h. inl h) (λ h. inr h.1) (get-snoc xs x p a e)
 
 -- two lists of one length have one length with one more each
 longer : {X Y : Type 0} (xs : List X) (ys : List Y) (x : X) (y : Y) → length xs ≡ length ys
@@ -87,7 +64,7 @@ gave_producer h i low = record {
   few_consumers = i.few_consumers;
   put = λ p l e. ⊎_elim
       (λ (old : slice_get h.puts p ≡ Some (Some l)).
-      let t = i.put p l old in (t.0, get_more h.cells.roll.lanes None p (Some t.0) t.1, t.2))
+      let t = i.put p l old in (t.0, get-left h.cells.roll.lanes (None ∷ []) p (Some t.0) t.1, t.2))
       (λ (new : None ≡ Some l). absurd (cc))
       (get_older h.puts None p (Some l) e);
   taken = i.taken;
@@ -97,7 +74,7 @@ gave_producer h i low = record {
 pub is_out : (h : HubView) (p : ℕ) → IsHub h → slice_get h.cells.roll.lanes p ≡ Some None
     → slice_get h.puts p ≡ Some None
 is_out h p i out =
-    let t = get_some h.puts p (subst (λ n. p < n) (sym i.lanes) (get_within h.cells.roll.lanes p None out)) in
+    let t = get_some h.puts p (subst (λ n. p < n) (sym i.lanes) (slice_get_within h.cells.roll.lanes p None out)) in
     by t.0 t.1
   where
     by : (o : Option PutListView) → slice_get h.puts p ≡ Some o → slice_get h.puts p ≡ Some None
@@ -121,9 +98,9 @@ pub took_producer : (h : HubView) (s : ProducerView) → IsHub h
     → IsHub (with_taken_producer s h)
 took_producer h s i own out =
     let size = h.cells.table.size in
-    let n = set_length h.puts s.seat.lane (Some (put_list_of s)) in
+    let n = length-set h.puts s.seat.lane (Some (put_list_of s)) in
     record {
-      lanes = n ∙ i.lanes ∙ sym (set_length h.cells.roll.lanes s.seat.lane (Some s.seat.part));
+      lanes = n ∙ i.lanes ∙ sym (length-set h.cells.roll.lanes s.seat.lane (Some s.seat.part));
       readers = i.readers;
       seats = i.seats;
       few_lanes = subst (λ k. k ≤ size.lanes) (sym n) i.few_lanes;
@@ -137,7 +114,7 @@ took_producer h s i own out =
           (s.seat.part, set_here h.cells.roll.lanes s.seat.lane (Some s.seat.part) None out, own))
           (λ (t : (p ≢ s.seat.lane) × (slice_get h.puts p ≡ Some (Some l))).
           let x = i.put p l t.1 in
-          (x.0, set_there h.cells.roll.lanes s.seat.lane p (Some s.seat.part) (Some x.0) t.0 x.1, x.2))
+          (x.0, set_else h.cells.roll.lanes s.seat.lane p (Some s.seat.part) t.0 ∙ x.1, x.2))
           (set_get h.puts s.seat.lane p (Some (put_list_of s)) (Some l) e);
       taken = i.taken;
     }
@@ -156,8 +133,8 @@ gave_consumer h i low = record {
       (λ (old : slice_get h.ledgers c ≡ Some (Some ledger)).
       let t = i.taken c ledger old in (
         t.0,
-        get_more h.cells.roll.readers None c (Some t.0) t.1,
-        (t.2.0, get_more h.claims.roll None c (Some t.2.0) t.2.1, t.2.2),
+        get-left h.cells.roll.readers (None ∷ []) c (Some t.0) t.1,
+        (t.2.0, get-left h.claims.roll (None ∷ []) c (Some t.2.0) t.2.1, t.2.2),
       ))
       (λ (new : None ≡ Some ledger). absurd (cc))
       (get_older h.ledgers None c (Some ledger) e);
@@ -168,7 +145,7 @@ gave_consumer h i low = record {
 pub seat_is_out : (h : HubView) (c : ℕ) → IsHub h → slice_get h.claims.roll c ≡ Some None
     → slice_get h.ledgers c ≡ Some None
 seat_is_out h c i out =
-    let t = get_some h.ledgers c (subst (λ n. c < n) (sym i.seats) (get_within h.claims.roll c None out)) in
+    let t = get_some h.ledgers c (subst (λ n. c < n) (sym i.seats) (slice_get_within h.claims.roll c None out)) in
     by t.0 t.1
   where
     by : (o : Option ConsumerRecordView) → slice_get h.ledgers c ≡ Some o → slice_get h.ledgers c ≡ Some None
@@ -195,7 +172,7 @@ took_consumer h s i own table cells reader_out seat_out =
     ≡ Some (Some s.reader.part)) (sym own.same)
     (set_here h.cells.roll.readers c (Some s.reader.part) None out) in
     let lanes : s.reader.table.size.lanes ≡ h.cells.table.size.lanes = ap (λ (t : CellsName). t.size.lanes) cells in
-    let n = set_length h.ledgers c (Some l) in
+    let n = length-set h.ledgers c (Some l) in
     let its : IsLedger h.claims.table h.cells.table.size.lanes c s.reader.part s.seat.part l = record {
       size = own.size;
       of = ap (λ (t : ClaimTable). t.size) (sym table) ∙ own.table;
@@ -206,8 +183,8 @@ took_consumer h s i own table cells reader_out seat_out =
     } in
     record {
       lanes = i.lanes;
-      readers = n ∙ i.readers ∙ sym (set_length h.cells.roll.readers s.reader.reader (Some s.reader.part));
-      seats = n ∙ i.seats ∙ sym (set_length h.claims.roll c (Some s.seat.part));
+      readers = n ∙ i.readers ∙ sym (length-set h.cells.roll.readers s.reader.reader (Some s.reader.part));
+      seats = n ∙ i.seats ∙ sym (length-set h.claims.roll c (Some s.seat.part));
       few_lanes = i.few_lanes;
       few_consumers = subst (λ k. k ≤ (claims_at h.claims.table).table.values) (sym n) i.few_consumers;
       taken = λ d ledger e. ⊎_elim
@@ -222,9 +199,8 @@ took_consumer h s i own table cells reader_out seat_out =
           (λ (t : (d ≢ c) × (slice_get h.ledgers d ≡ Some (Some ledger))).
           let x = i.taken d ledger t.1 in (
             x.0,
-            set_there h.cells.roll.readers s.reader.reader d (Some s.reader.part) (Some x.0)
-                (λ f. t.0 (f ∙ own.same)) x.1,
-            (x.2.0, set_there h.claims.roll c d (Some s.seat.part) (Some x.2.0) t.0 x.2.1, x.2.2),
+            set_else h.cells.roll.readers s.reader.reader d (Some s.reader.part) (λ f. t.0 (f ∙ own.same)) ∙ x.1,
+            (x.2.0, set_else h.claims.roll c d (Some s.seat.part) t.0 ∙ x.2.1, x.2.2),
           ))
           (set_get h.ledgers c d (Some l) (Some ledger) e);
       put = i.put;

@@ -1,9 +1,9 @@
 -- What a hub has after it has given or taken in several producers or consumers.
 use Rattle.std.proofs.Common.{◌≡◌, ℕ, zero, suc, List, [], ◌∷◌, ◌++◌, length, map, refl, sym, ap, ◌∙◌, subst, append_assoc, arith}
 use Rattle.std.specs.Prelude.{Option, Some, None, slice_set}
-use Rattle.std.proofs.lemmas.List.{length-append}
+use Rattle.std.proofs.lemmas.List.{append-nil, length-append}
 use Rattle.mb_mailbox.specs.Consumers.{ConsumerView}
-use Rattle.mb_mailbox.specs.Hubs.{HubView, ConsumerRecordView, put_list_of, with_consumer, with_producer, with_taken_consumer, with_taken_producer}
+use Rattle.mb_mailbox.specs.Hubs.{HubView, ledger_of, put_list_of, with_consumer, with_producer, with_taken_consumer, with_taken_producer}
 use Rattle.mb_mailbox.specs.HubRuns.{with_consumers, with_producers, with_taken_consumers, with_taken_producers}
 use Rattle.mb_mailbox.specs.Producers.{ProducerView}
 
@@ -73,24 +73,20 @@ outs_alike [] (w ∷ ws) e = absurd (cc)
 outs_alike (x ∷ xs) [] e = absurd (cc)
 outs_alike (x ∷ xs) (w ∷ ws) e = ap (λ l. None ∷ l) (outs_alike xs ws (omega (arith, e)))
 
-append_none : {Y : Type 0} (ys : List Y) → ys ≡ ys ++ []
-append_none [] = refl
-append_none (y ∷ ys) = ap (λ l. y ∷ l) (append_none ys)
-
 -- ---- one list or field of a hub, after a whole list was given or taken in
 module _ {X Y : Type 0} (f : HubView → List (Option Y)) where
   -- if each producer given adds a place that is out to a list of the hub, many producers add as many such places. The
   -- next lemma is of consumers
   pub given_by_producers : ((h : HubView) → f (with_producer h) ≡ f h ++ None ∷ [])
       → (xs : List X) (h : HubView) → f (with_producers xs h) ≡ f h ++ outs xs
-  given_by_producers more [] h = append_none (f h)
+  given_by_producers more [] h = sym (append-nil (f h))
   given_by_producers more (x ∷ xs) h =
       given_by_producers more xs (with_producer h) ∙ ap (λ l. l ++ outs xs) (more h)
       ∙ append_assoc (f h) (None ∷ []) (outs xs)
 
   pub given_by_consumers : ((h : HubView) → f (with_consumer h) ≡ f h ++ None ∷ [])
       → (xs : List X) (h : HubView) → f (with_consumers xs h) ≡ f h ++ outs xs
-  given_by_consumers more [] h = append_none (f h)
+  given_by_consumers more [] h = sym (append-nil (f h))
   given_by_consumers more (x ∷ xs) h =
       given_by_consumers more xs (with_consumer h) ∙ ap (λ l. l ++ outs xs) (more h)
       ∙ append_assoc (f h) (None ∷ []) (outs xs)
@@ -170,10 +166,6 @@ module _ {J K : Type 0} (js : List J) (ks : List K) (ss : List ProducerView)
         ∙ ap (λ l. h.cells.roll.lanes ++ l) (outs_alike js ss count))
         ∙ fills (λ (s : ProducerView). s.seat.lane) (λ s. Some s.seat.part) ss h.cells.roll.lanes
         (length h.puts) (sym same) from
-
-  -- what the hub keeps of a consumer
-  abbrev pub ledger_of : ConsumerView → ConsumerRecordView
-  ledger_of s = record { places = s.places; notes = s.notes }
 
   module _ (count : length ks ≡ length cs) where
     -- the records of these consumers stand after the older ones

@@ -1,10 +1,11 @@
 -- What the laws of the cells say of the loads of one reader.
-use Rattle.std.proofs.Common.{◌≡◌, ◌≢◌, ◌⊎◌, ℕ, ◌+◌, ◌<◌, ◌≤◌, List, [], ◌∷◌, ◌++◌, length, map, refl, sym, ap, ◌∙◌, subst, inl, inr, arith}
+use Rattle.std.proofs.Common.{◌≡◌, ◌≢◌, ℕ, ◌+◌, ◌<◌, ◌≤◌, List, [], ◌∷◌, ◌++◌, length, map, refl, sym, ap, ◌∙◌, subst, inl, arith}
 use Rattle.std.proofs.lemmas.List.{length-append, length-map, length-reverse}
-use Rattle.mb_cells.specs.Vocabulary.{HasLoaded, entry_at, put_list}
+use Rattle.mb_world.proofs.ReaderParts.{loaded-read}
+use Rattle.mb_cells.specs.Vocabulary.{entry_at, put_list}
 use Rattle.mb_mailbox.specs.Laws.{Laws}
-use Rattle.mb_mailbox.specs.Imports.{END, FollowsLinks, Gave, Has, HasRead, History, IsOnceEach, IsPoolLawful, Item, Link, PoolAccess, PoolSize, Reader}
-use Rattle.mb_mailbox.specs.Imports.{Word, cells_met, linked_cells, load, part, place_past}
+use Rattle.mb_mailbox.specs.Imports.{END, FollowsLinks, Gave, Has, HasRead, History, IsOnceEach, IsPoolLawful, Item, Link, PoolSize, Reader}
+use Rattle.mb_mailbox.specs.Imports.{cells_met, linked_cells, load, part, place_past}
 use Rattle.mb_mailbox.proofs.Totals.{put_total, total, total_most}
 
 -- what the laws say of the loads of a reader in a lawful history
@@ -17,13 +18,6 @@ pub record Known (size : PoolSize) (reads : History) : Type 0 where
   pub share : total (λ p. length (cells_met p reads)) size.lanes ≤ size.cells
   pub link : (k v : ℕ) → HasRead (Link k) v reads → Gave k reads
   pub item : (k v : ℕ) → HasRead (Item k) v reads → Gave k reads
-
--- what a reader's part has loaded was loaded in the history
-loaded : Laws → (r v : ℕ) (w : Word) (h : History) → HasRead w v (part (Reader r) h) → HasLoaded r w v h
-loaded laws r v w h read =
-    let a = read.0 in
-    let o = laws.of h (Reader r) a read.1 in
-    subst (λ (x : PoolAccess). Has h x) (λ i. record { process = o.1 i; word = read.2 i; act = read.3 i }) o.0
 
 -- in a lawful history this is known of each reader's part
 known_of : Laws → (size : PoolSize) (r : ℕ) (h : History) → IsPoolLawful size h → Known size (part (Reader r) h)
@@ -56,23 +50,14 @@ known_of laws size r h lawful =
           let most = total_most (λ p. length (cells_met p (part (Reader r) h)))
           (λ p. length (put_list p h)) size.lanes met in
           omega (arith, all, sum, most);
-      link = λ k v read. laws.link size h r k v lawful (loaded laws r v (Link k) h read);
-      item = λ k v read. laws.item size h r k v lawful (loaded laws r v (Item k) h read);
+      link = λ k v read. laws.link size h r k v lawful (loaded-read r h (Link k) v read);
+      item = λ k v read. laws.item size h r k v lawful (loaded-read r h (Item k) v read);
     }
 
 -- this is known of loads that are a reader's part of a lawful history
 pub known : Laws → (size : PoolSize) (r : ℕ) (h reads : History) → IsPoolLawful size h
     → part (Reader r) h ≡ reads → Known size reads
 known laws size r h reads lawful is = subst (Known size) is (known_of laws size r h lawful)
-
--- the link past cells is no item. If it is the link of a cell, that cell is the last of these
-pub past_item : (p k : ℕ) (ks : List ℕ) → place_past p ks ≡ Item k → ⊥
-past_item p k [] e = cc
-past_item p k (j ∷ ks) e = cc
-
-pub past_link : (p k : ℕ) (ks : List ℕ) → place_past p ks ≡ Link k → Has ks k
-past_link p k [] e = absurd (cc)
-past_link p k (j ∷ ks) e = let same : j ≡ k = cc in inl same
 
 -- different lanes have different links past their cells
 pub past_apart : (p q : ℕ) (ks js : List ℕ) → ((k : ℕ) → Has ks k → Has js k → p ≡ q) → p ≢ q
@@ -81,16 +66,6 @@ past_apart p q [] [] one ne e = ne (cc)
 past_apart p q [] (j ∷ js) one ne e = absurd (cc)
 past_apart p q (k ∷ ks) [] one ne e = absurd (cc)
 past_apart p q (k ∷ ks) (j ∷ js) one ne e = let same : k ≡ j = cc in ne (one k (inl refl) (inl (sym same)))
-
-pub read-more : (a : PoolAccess) (d : History) (w : Word) (v : ℕ) → HasRead w v d → HasRead w v (a ∷ d)
-read-more a d w v h = (h.0, inr h.1, h.2, h.3)
-
-pub read-cases : (a : PoolAccess) (d : History) (w : Word) (v : ℕ) → HasRead w v (a ∷ d) → (a.word ≡ w) ⊎ HasRead w v d
-read-cases a d w v h = by h.1
-  where
-    by : Has (a ∷ d) h.0 → (a.word ≡ w) ⊎ HasRead w v d
-    by (inl e) = inl (ap (λ (x : PoolAccess). x.word) e ∙ h.2)
-    by (inr m) = inr (h.0, m, h.2, h.3)
 
 -- a cell that is newly found was not given before
 pub fresh : Laws → (size : PoolSize) (r p k : ℕ) (h reads : History) → FollowsLinks reads → k + 1 ≢ END

@@ -1,16 +1,17 @@
 -- A list of notes with their lanes, cut by lane: how it grows by a note, and how the notes are filed into lists.
 use Rattle.std.proofs.Common.{◌≡◌, ◌≢◌, ℕ, zero, suc, ◌+◌, ◌<◌, ◌≤◌, List, [], ◌∷◌, ◌++◌, length, map, refl, sym, ap, ◌∙◌, append-nil, Bool, true, false, arith}
-use Rattle.std.specs.Prelude.{Option, Some, None, Vec, if◌then◌else◌, nat_eq, slice_get, slice_set, sum_by}
+use Rattle.std.specs.Prelude.{Option, Some, Vec, if◌then◌else◌, nat_eq, slice_get, slice_set, sum_by}
 use Rattle.std.specs.Option.{option_map_or}
 use Rattle.std.proofs.lemmas.Bool.{ne_eqb, eq-eqb}
 use Rattle.std.proofs.lemmas.List.{length-append, length-map}
 use Rattle.std.proofs.lemmas.List.Sums.{sum_by-cons}
+use Rattle.std.proofs.lemmas.Option.{slice_get_past}
 use Rattle.mb_mailbox.specs.Imports.{Note, Lost, Took, Undecided}
 use Rattle.mb_mailbox.specs.LaneNotes.{by_lane, lane_of, note_in, noted, on_lane, on_lanes}
 use Rattle.mb_mailbox.specs.Steps.{notes_on, with_note}
 use Rattle.mb_mailbox.specs.declared.notes.Noted.{Noted}
 use Rattle.mb_mailbox.specs.NewConsumers.{AreEmptyLists}
-use Rattle.mb_mailbox.proofs.Lists.{map_get, map_set, some_same}
+use Rattle.mb_mailbox.proofs.Lists.{map_get, map_set, set_else, some_same}
 
 -- ---- how many lanes there are
 -- a list that is cut has as many lists as lanes
@@ -191,13 +192,6 @@ filed_past {Z} vs p n past =
     sym (note_past p n (map (λ (v : Vec Note Z). v.items) vs) (omega (arith, count, past)))
 
 -- ---- a list that is set, and a list that is not there
-set_else : {X : Type 0} (xs : List X) (i k : ℕ) (a : X) → k ≢ i → slice_get (slice_set xs i a) k ≡ slice_get xs k
-set_else [] i k a ne = refl
-set_else (x ∷ xs) zero zero a ne = absurd (ne refl)
-set_else (x ∷ xs) zero (suc k) a ne = refl
-set_else (x ∷ xs) (suc i) zero a ne = refl
-set_else (x ∷ xs) (suc i) (suc k) a ne = set_else xs i k a (λ e. ne (ap suc e))
-
 -- a list that is set leaves the notes on other lanes as they are
 pub own_else : {Z : Type 0} (vs : List (Vec Note Z)) (p q : ℕ) (w : Vec Note Z) → q ≢ p
     → notes_on q (map (λ (v : Vec Note Z). v.items) (slice_set vs p w))
@@ -207,12 +201,6 @@ own_else {Z} vs p q w ne =
     ∙ ap (λ (o : Option (List Note)). option_map_or (λ (l : List Note). l) o [])
     (set_else (map (λ (v : Vec Note Z). v.items) vs) p q w.items ne)
 
--- there is nothing past a list
-get_past : {X : Type 0} (xs : List X) (p : ℕ) → length xs ≤ p → slice_get xs p ≡ None
-get_past [] p e = refl
-get_past (x ∷ xs) zero e = absurd (omega (arith, e))
-get_past (x ∷ xs) (suc p) e = get_past xs p (omega (arith, e))
-
 -- on a lane without a list there are no notes
 pub own_past : {Z : Type 0} (vs : List (Vec Note Z)) (p : ℕ) → length vs ≤ p
     → notes_on p (map (λ (v : Vec Note Z). v.items) vs) ≡ []
@@ -220,4 +208,4 @@ own_past {Z} vs p past =
     let count : length (map (λ (v : Vec Note Z). v.items) vs)
     ≡ length vs = length-map vs (λ (v : Vec Note Z). v.items) in
     ap (λ (o : Option (List Note)). option_map_or (λ (l : List Note). l) o [])
-    (get_past (map (λ (v : Vec Note Z). v.items) vs) p (omega (arith, count, past)))
+    (slice_get_past (map (λ (v : Vec Note Z). v.items) vs) p (omega (arith, count, past)))

@@ -1,16 +1,15 @@
 -- Lists with one more element at their end: what is missing or chosen in them, and diaries in a row.
-use Rattle.std.proofs.Common.{◌≡◌, ◌⊎◌, ℕ, zero, suc, ◌+◌, ◌*◌, ◌<◌, ◌≤◌, ◌||◌, Bool, true, false, List, [], ◌∷◌, ◌++◌, length, get_or, take, refl, sym, ◌∙◌, ap, inl, inr, arith, append-nil}
+use Rattle.std.proofs.Common.{◌≡◌, ℕ, suc, ◌+◌, ◌*◌, ◌<◌, ◌≤◌, Bool, true, false, List, [], ◌∷◌, ◌++◌, length, get_or, take, refl, sym, ◌∙◌, ap, inl, inr, arith, append-nil}
 use Rattle.std.specs.Prelude.{Option, Some, None, if◌then◌else◌}
-use Rattle.std.proofs.lemmas.Bool.{cases_eq, cases_lt}
+use Rattle.std.proofs.lemmas.Bool.{cases_lt}
 use Rattle.std.proofs.lemmas.List.{length-append, length-take-le, take_more}
 use Rattle.std.proofs.Math.Nat.{mul-le-mul_right}
+use Rattle.mb_world.proofs.Positions.{get-left}
 use Rattle.mb_world.specs.Assignment.{items_where}
 use Rattle.mb_world.specs.Report.{DiaryView}
-use Rattle.mb_world.specs.Reporting.{any_below, is_took}
-use Rattle.mb_mailbox.specs.Imports.{Note, Took}
 use Rattle.mb_mailbox.specs.Gathering.{AreDiariesOutlined, count_missing, diary_outline}
 use Rattle.mb_mailbox.specs.Hubs.{HubView}
-use Rattle.mb_mailbox.proofs.Turned.{get_end, get_left}
+use Rattle.mb_mailbox.proofs.Turned.{get_end}
 
 -- ---- what is missing
 -- a list with one more at its end has as many missing as the list and that one
@@ -63,26 +62,6 @@ chosen_none f xs left i low old e =
     sym (append-nil left) ∙ ap (λ b. left ++ (if b then get_or xs i 0 ∷ [] else [])) (sym e)
     ∙ chosen_more f xs left i low old
 
--- ---- an item that a consumer took
-pub any_below_some : (n c : ℕ) (test : ℕ → Bool) → c < n → test c ≡ true → any_below n test ≡ true
-any_below_some zero c test low e = absurd (omega arith)
-any_below_some (suc n) c test low e = by (cases_eq c n) (λ under. any_below_some n c test under e)
-  where
-    top : (b : Bool) → b ≡ true → (b || any_below n test) ≡ true
-    top true e = refl
-    top false e = absurd (cc)
-
-    under : (b : Bool) → any_below n test ≡ true → (b || any_below n test) ≡ true
-    under true e = refl
-    under false e = e
-
-    by : (c ≡ n) ⊎ (c ≡ n → ⊥) → (c < n → any_below n test ≡ true) → (test n || any_below n test) ≡ true
-    by (inl same) older = top (test n) (ap test (sym same) ∙ e)
-    by (inr other) older = under (test n) (older (omega arith))
-
-pub took_some : (o : Option Note) (n : Note) (v : ℕ) → o ≡ Some n → n ≡ Took v → is_took o ≡ true
-took_some o n v e same = rw (e, same) refl
-
 -- ---- diaries, consumer by consumer
 -- a place in a row is not one in an earlier row
 not_before : (w c e p q : ℕ) → p < w → e * w + q ≡ c * w + p → e < c → q < w → ⊥
@@ -108,7 +87,7 @@ pub diaries_more : (w : ℕ) (h : HubView) (c p : ℕ) (d : DiaryView) (ds : Lis
 diaries_more w h c p d ds ps told here = record {
   count = omega (arith, length-append ds (d ∷ []), told.count);
   each = λ e q qs less. elim (cases_lt (e * w + q) (c * w + p)) [
-    | inl old ↦ get_left ds (d ∷ []) (e * w + q) (diary_outline e q h) (told.each e q qs old)
+    | inl old ↦ get-left ds (d ∷ []) (e * w + q) (diary_outline e q h) (told.each e q qs old)
     | inr new ↦
         let same : e * w + q ≡ c * w + p = omega (arith, less, new) in
         let row : e ≡ c = row_is w c e p q ps qs same in

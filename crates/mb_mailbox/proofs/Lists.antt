@@ -1,6 +1,8 @@
 -- Lists with one element set, elements at places, and lists that are mapped.
-use Rattle.std.proofs.Common.{◌≡◌, ◌≢◌, ◌⊎◌, ℕ, zero, suc, ◌<◌, List, [], ◌∷◌, get_or, map, length, refl, sym, ap, inl, inr, ⊎_elim, arith}
+use Rattle.std.proofs.Common.{◌≡◌, ◌∙◌, ◌≢◌, ◌⊎◌, ℕ, zero, suc, ◌<◌, List, [], ◌∷◌, map, length, refl, sym, ap, inl, inr, ⊎_elim, arith}
 use Rattle.std.specs.Prelude.{Some, slice_get, slice_set}
+use Rattle.std.specs.Option.{option_map}
+use Rattle.std.proofs.lemmas.Option.{slice_get-map}
 
 pub some_same : {X : Type 0} (a b : X) → Some a ≡ Some b → a ≡ b
 some_same a b e = cc
@@ -14,12 +16,6 @@ set_get (x ∷ xs) zero (suc k) a b e = inr ((λ h. omega arith), e)
 set_get (x ∷ xs) (suc i) zero a b e = inr ((λ h. omega arith), e)
 set_get (x ∷ xs) (suc i) (suc k) a b e =
     ⊎_elim (λ t. inl (ap suc t.0, t.1)) (λ t. let n = t.0 in inr ((λ h. n (omega arith)), t.1)) (set_get xs i k a b e)
-
--- a list with an element set keeps its length
-pub set_length : {X : Type 0} (xs : List X) (i : ℕ) (a : X) → length (slice_set xs i a) ≡ length xs
-set_length [] i a = refl
-set_length (x ∷ xs) zero a = refl
-set_length (x ∷ xs) (suc i) a = ap suc (set_length xs i a)
 
 -- an element that is set to itself changes nothing
 pub set_same : {X : Type 0} (xs : List X) (i : ℕ) (a : X) → slice_get xs i ≡ Some a → slice_set xs i a ≡ xs
@@ -40,24 +36,24 @@ set_here [] i a b e = absurd (cc)
 set_here (x ∷ xs) zero a b e = refl
 set_here (x ∷ xs) (suc i) a b e = set_here xs i a b e
 
+-- if another element is set, an element stays
+pub set_else : {X : Type 0} (xs : List X) (i k : ℕ) (a : X) → k ≢ i → slice_get (slice_set xs i a) k ≡ slice_get xs k
+set_else [] i k a ne = refl
+set_else (x ∷ xs) zero zero a ne = absurd (ne refl)
+set_else (x ∷ xs) zero (suc k) a ne = refl
+set_else (x ∷ xs) (suc i) zero a ne = refl
+set_else (x ∷ xs) (suc i) (suc k) a ne = set_else xs i k a (λ e. ne (ap suc e))
+
 -- there is an element at each place within a list
 pub get_some : {X : Type 0} (xs : List X) (i : ℕ) → i < length xs → (a : X) × (slice_get xs i ≡ Some a)
 get_some [] i low = absurd (omega arith)
 get_some (x ∷ xs) zero low = (x, refl)
 get_some (x ∷ xs) (suc i) low = get_some xs i (omega arith)
 
--- a place with an element is within the list
-pub get_within : {X : Type 0} (xs : List X) (i : ℕ) (a : X) → slice_get xs i ≡ Some a → i < length xs
-get_within [] i a e = absurd (cc)
-get_within (x ∷ xs) zero a e = omega arith
-get_within (x ∷ xs) (suc i) a e = let low = get_within xs i a e in omega arith
-
 -- a mapped list has the mapped element at each place
 pub map_get : {X Y : Type 0} (f : X → Y) (xs : List X) (i : ℕ) (a : X) → slice_get xs i ≡ Some a
     → slice_get (map f xs) i ≡ Some (f a)
-map_get f [] i a e = absurd (cc)
-map_get f (x ∷ xs) zero a e = let g : x ≡ a = cc in ap (λ y. Some (f y)) g
-map_get f (x ∷ xs) (suc i) a e = map_get f xs i a e
+map_get f xs i a e = slice_get-map f xs i ∙ ap (option_map f) e
 
 -- an element set before a list is mapped is the mapped one set after it
 pub map_set : {X Y : Type 0} (f : X → Y) (xs : List X) (i : ℕ) (a : X)
@@ -65,9 +61,3 @@ pub map_set : {X Y : Type 0} (f : X → Y) (xs : List X) (i : ℕ) (a : X)
 map_set f [] i a = refl
 map_set f (x ∷ xs) zero a = refl
 map_set f (x ∷ xs) (suc i) a = ap (λ ys. f x ∷ ys) (map_set f xs i a)
-
--- the element at a place, read with a default, is the one there
-pub get_or_is : {X : Type 0} (xs : List X) (i : ℕ) (d a : X) → slice_get xs i ≡ Some a → get_or xs i d ≡ a
-get_or_is [] i d a e = absurd (cc)
-get_or_is (x ∷ xs) zero d a e = some_same x a e
-get_or_is (x ∷ xs) (suc i) d a e = get_or_is xs i d a e

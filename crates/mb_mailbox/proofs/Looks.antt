@@ -9,7 +9,7 @@ use Rattle.mb_mailbox.specs.Steps.{IsPollOf, LeadTo, outcome}
 use Rattle.mb_mailbox.specs.declared.consumer.Poll.{Poll}
 
 -- the word of an access to the cells
-abbrev word_in : WorldAccess → Option Word
+abbrev pub word_in : WorldAccess → Option Word
 word_in (ToCells a) = Some a.word
 word_in (ToClaims a) = None
 

@@ -1,6 +1,7 @@
 -- A consumer that stands before a link moves on by a load of that link.
 use Rattle.std.proofs.Common.{◌≡◌, ◌≢◌, ◌⊎◌, ℕ, ◌+◌, ◌<◌, List, [], ◌∷◌, reverse, refl, sym, ap, ◌∙◌, subst, inl, ⊎_elim}
 use Rattle.std.specs.Prelude.{Some, None, slice_get}
+use Rattle.mb_world.proofs.Tracks.{past_item, past_link, read-cases, read-more}
 use Rattle.mb_claim.specs.declared.access.Stage.TheVariants as stage
 use Rattle.mb_mailbox.specs.Imports.{Claim, Claims, Cursor, END, EndsAs, Fits, Gave, Has, IsAccessAfter, IsClaimIn, IsDoneWith, IsOnceEach, Item, Layout}
 use Rattle.mb_mailbox.specs.Imports.{Link, Lost, MayLookPast, MayRead, Note, ObjectTurn, Parts, PoolAccess, Took, Undecided, cells_met, claim_stage}
@@ -10,7 +11,7 @@ use Rattle.mb_mailbox.specs.Moves.{HasLoads, HasPlace, HasTurns, reads_with_link
 use Rattle.mb_world.specs.declared.place.Place.{Place}
 use Rattle.mb_world.specs.declared.place.Place.TheVariants.{At, Before}
 use Rattle.mb_mailbox.specs.Laws.{Laws}
-use Rattle.mb_mailbox.proofs.KnownLoads.{Known, fresh, known, past_apart, past_item, past_link, read-cases, read-more}
+use Rattle.mb_mailbox.proofs.KnownLoads.{Known, fresh, known, past_apart}
 use Rattle.mb_mailbox.proofs.Lists.{get_some, get_within}
 use Rattle.mb_mailbox.proofs.Standings.{Leaves, end_kept, ends_more, moves}
 

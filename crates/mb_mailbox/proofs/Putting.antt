@@ -16,6 +16,7 @@ use Rattle.mb_cells.specs.Vocabulary.{IsLinkWord}
 use Rattle.mb_mailbox.specs.PartPlaces.{HasPart}
 use Rattle.mb_mailbox.specs.Producers.{IsProducer, IsPutInto, ProducerView, is_over}
 use Rattle.mb_mailbox.specs.PutLaws.{PutLaws}
+use Rattle.mb_mailbox.proofs.Lists.{some_same}
 
 -- the producer with this seat and these items
 abbrev pub producer_at : LaneSeatView → List ℕ → ProducerView
@@ -177,9 +178,6 @@ module _ (laws : PutLaws) (s : ProducerView) (x k : ℕ) (one two : Push) (a b n
       ∙ rw (eq-eqb p p refl) refl
 
 -- ---- an offer that returned `Closed` or `Busy`
-same_offer : (a b : Offer) → Some a ≡ Some b → a ≡ b
-same_offer a b e = cc
-
 -- an offer that returned `Closed` did nothing, and the stage of the producer's place refused it
 refused_closed : (old : LaneSeatView) (x : ℕ) (now : LaneSeatView) (at : LaneStage)
     → OfferBy (stage_offer_refusal at) old x offer.Closed now
@@ -210,10 +208,10 @@ is_closed laws s x now h m =
     ∙ (laws.closed s.seat.table.size g p s.seat.place h.history.1 place).0
     (refused_closed s.seat x now s.seat.place.stage m).1
 
-answered : (o : Option Offer) (r : Offer) (old : LaneSeatView) (x : ℕ) (answer : Offer)
+pub refused_by : (o : Option Offer) (r : Offer) (old : LaneSeatView) (x : ℕ) (answer : Offer)
     (now : LaneSeatView) → o ≡ Some r → OfferBy o old x answer now → answer ≡ r
-answered (Some q) r old x answer now e m = m.0 ∙ same_offer q r e
-answered None r old x answer now e m = absurd (cc)
+refused_by (Some q) r old x answer now e m = m.0 ∙ some_same q r e
+refused_by None r old x answer now e m = absurd (cc)
 
 -- if the lane has ended, an offer returns `Closed`
 pub offer_is_over : PutLaws → (s : ProducerView) (x : ℕ) (answer : Offer) (now : LaneSeatView)
@@ -223,7 +221,7 @@ offer_is_over laws s x answer now h m over =
     let p = s.seat.lane in
     let g = h.history.0 in
     let place = subst (λ d. IsLaneAfter s.seat.table.size.cells p s.seat.place d) (sym h.history.2) h.place in
-    answered (offer_refusal s.seat.place) offer.Closed s.seat x answer now
+    refused_by (offer_refusal s.seat.place) offer.Closed s.seat x answer now
     ((laws.closed s.seat.table.size g p s.seat.place h.history.1 place).1
     (laws.ended g p ∙ ap (has_ended p) h.history.2 ∙ over)) m
 

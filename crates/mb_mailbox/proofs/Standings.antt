@@ -2,6 +2,8 @@
 use Rattle.std.proofs.Common.{◌≡◌, ◌≢◌, ℕ, ◌<◌, List, [], ◌∷◌, ◌++◌, length, reverse, refl, sym, ap, ◌∙◌, subst, inl, inr, ⊎_elim, arith}
 use Rattle.std.specs.Prelude.{Option, Some, None, slice_get}
 use Rattle.std.specs.Option.{option_map_or}
+use Rattle.std.proofs.lemmas.Option.{slice_get_within}
+use Rattle.std.proofs.lemmas.List.{length-set}
 use Rattle.mb_claim.specs.declared.access.Stage.TheVariants as stage
 use Rattle.mb_mailbox.specs.Imports.{ClaimAccess, Claims, EndsAs, Fits, HasNotLeft, HasRead, HasStageIn, Has, History, IsClaimIn, IsClaimPrefix, Item}
 use Rattle.mb_mailbox.specs.Imports.{Layout, Lost, Note, Parts, Stage, Took, Undecided, cells_met, claims_in, note_of, part_on, place_past}
@@ -10,7 +12,7 @@ use Rattle.mb_mailbox.specs.Moves.{moved_to}
 use Rattle.mb_mailbox.specs.Steps.{notes_on, with_note}
 use Rattle.mb_world.specs.declared.place.Place.{Place}
 use Rattle.mb_world.specs.declared.place.Place.TheVariants.{At, Before}
-use Rattle.mb_mailbox.proofs.Lists.{get_some, get_within, set_get, set_length, some_same}
+use Rattle.mb_mailbox.proofs.Lists.{get_some, set_get, some_same}
 
 -- ---- claims that have ended with notes
 -- if each claim ends as before, all of them do
@@ -87,7 +89,7 @@ with_one (Some n) notes = notes ++ n ∷ []
 -- a note leaves the number of lists
 count_with : (p : ℕ) (o : Option Note) (lists : List (List Note)) → length (with_note p o lists) ≡ length lists
 count_with p None lists = refl
-count_with p (Some n) lists = set_length lists p (notes_on p lists ++ n ∷ [])
+count_with p (Some n) lists = length-set lists p (notes_on p lists ++ n ∷ [])
 
 -- the list of lane p has the note at its end
 list_with : (p : ℕ) (o : Option Note) (lists : List (List Note)) (ns ms : List Note) → slice_get lists p ≡ Some ns
@@ -128,13 +130,13 @@ moves s p was place o reads made i at fit own others =
       table = i.table;
       same = i.same;
       fit = fit;
-      places_count = set_length s.places p place ∙ i.places_count;
+      places_count = length-set s.places p place ∙ i.places_count;
       notes_count = count_with p o s.notes ∙ i.notes_count;
       lanes = λ q other ns e f.
           ⊎_elim
           (λ (t : (q ≡ p) × (place ≡ other)).
           let low : p < length s.notes = subst (λ n. p < n) (i.places_count ∙ sym i.notes_count)
-          (get_within s.places p was at) in
+          (slice_get_within s.places p was at) in
           let list = get_some s.notes p low in
           let is : with_one o list.0 ≡ ns = list_with p o s.notes list.0 ns list.1
           (subst (λ (z : ℕ). slice_get (with_note p o s.notes) z ≡ Some ns) t.0 f) in

@@ -1,6 +1,7 @@
 -- A poll that begins with a claim, and one more access of the claim.
 use Rattle.std.proofs.Common.{◌≡◌, ℕ, zero, suc, ◌+◌, ◌<◌, List, length, sym, ap, ◌∙◌, subst, arith}
 use Rattle.std.specs.Prelude.{Some, None, slice_get, sum_by}
+use Rattle.std.proofs.lemmas.List.{length-set}
 use Rattle.mb_claim.specs.declared.access.Stage.TheVariants as stage
 use Rattle.mb_shared_claims.specs.Vocabulary.{AreSeatSteps, IsSeatStep}
 use Rattle.mb_mailbox.specs.Imports.{Claim, ClaimTable, IsClaimIn, Layout, ReaderSeatView, SeatView, Stream, TableSize, claim_stage, consumer_of, next_u64, note_of, part_on}
@@ -14,7 +15,7 @@ use Rattle.mb_mailbox.specs.NoteLists.{HasAllRoom, HasRoom}
 use Rattle.mb_mailbox.specs.Pursuits.{HasCompeted, consumer_with, holding}
 use Rattle.mb_mailbox.specs.Steps.{AreSteps}
 use Rattle.mb_mailbox.proofs.Competing.{IsNext, MovesOn, competed_more, competed_none}
-use Rattle.mb_mailbox.proofs.Lists.{get_some, set_here, set_length}
+use Rattle.mb_mailbox.proofs.Lists.{get_some, set_here}
 use Rattle.mb_mailbox.proofs.Moving.{holds}
 
 -- these are the fields of a consumer that holds this claim. Its place on lane p may be out of date
@@ -44,7 +45,7 @@ module _ (m : MailboxView) (p k : ℕ) (claim : Claim) (reader : ReaderSeatView)
   -- if there are fewer notes than cells, there is room for one more
   pub start_room : sum_by length s.notes < reader.table.size.cells → HasRoom p notes
   start_room few = record {
-    lane = subst (λ n. p < n) (sym (set_length places p (At k claim)) ∙ start.held.places_count
+    lane = subst (λ n. p < n) (sym (length-set places p (At k claim)) ∙ start.held.places_count
         ∙ sym start.held.notes_count) start.lane;
     room = let wide = start.wide in omega (arith, few, wide);
   }

@@ -2,6 +2,7 @@
 use Rattle.std.proofs.Common.{◌≡◌, ℕ, zero, suc, ◌<◌, ◌≤◌, false, List, [], ◌∷◌, length, map, refl, sym, ap, ◌∙◌, subst, arith}
 use Rattle.std.specs.Prelude.{Option, Some, None, slice_get}
 use Rattle.std.specs.Option.{option_map_or}
+use Rattle.std.proofs.lemmas.Option.{slice_get_past}
 use Rattle.mb_cells.specs.declared.access.Process.{Process}
 use Rattle.mb_cells.specs.Vocabulary.{Entry, fetch, part, put_list}
 use Rattle.mb_shared_cells.specs.Vocabulary.{IsRollOf}
@@ -35,12 +36,6 @@ at (Some x ∷ xs) (suc n) e = by (at xs n e)
     by : At xs n → At (Some x ∷ xs) (suc n)
     by (here y f) = here y f
     by (past f low) = past f (omega arith)
-
--- there is nothing past a list
-nothing_there : {X : Type 0} (xs : List X) (n : ℕ) → length xs ≤ n → slice_get xs n ≡ None
-nothing_there [] n low = refl
-nothing_there (x ∷ xs) zero low = absurd (omega arith)
-nothing_there (x ∷ xs) (suc n) low = nothing_there xs n (omega arith)
 
 -- if the roll has a part at each number, none is out
 pub none_out : (roll : Roll) → ((c : ℕ) → c < length roll → (done : List ClaimAccess)
@@ -134,7 +129,7 @@ module _ (m : MailboxView) (h : HubView) (claims : List ClaimAccess) (pool : His
           kept c l t.0 t.2.0 e (is.parts (Reader c) t.0 t.1) (taken_is h.claims.roll c t.2.0 t.2.1) t.2.2
       by (past e low) =
           let few : length h.cells.roll.readers ≤ c = subst (λ n. n ≤ c) i.readers low in
-          let reads : part (Reader c) pool ≡ [] = is.others (Reader c) (nothing_there h.cells.roll.readers c few) in
+          let reads : part (Reader c) pool ≡ [] = is.others (Reader c) (slice_get_past h.cells.roll.readers c few) in
           let none : taken_part h.claims.roll c ≡ [] = taken_none h.claims.roll c (subst (λ n. n ≤ c) i.seats low) in
           never (ap kept_of e) (λ j. record { reads = sym reads j; claimed = λ k. steps c [] none k j })
 
@@ -194,4 +189,4 @@ module _ (m : MailboxView) (h : HubView) (pool : History) (i : IsHub h) (of : Is
       by : At h.puts p → Tells m h pool p
       by (here l e) = let t = i.put p l e in told p l t.0 e (is.parts (Producer p) t.0 t.1) t.2
       by (past e low) =
-          silent p e (is.others (Producer p) (nothing_there h.cells.roll.lanes p (subst (λ n. n ≤ p) i.lanes low)))
+          silent p e (is.others (Producer p) (slice_get_past h.cells.roll.lanes p (subst (λ n. n ≤ p) i.lanes low)))

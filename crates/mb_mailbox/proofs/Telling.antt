@@ -1,13 +1,12 @@
 -- What the answers of a consumer's accesses say of their lane.
-use Rattle.std.proofs.Common.{◌≡◌, ◌≢◌, ◌⊎◌, ℕ, Bool, true, false, List, [], ◌∷◌, length, map, reverse, refl, sym, ap, ◌∙◌, subst, inl, inr}
+use Rattle.std.proofs.Common.{◌≡◌, ◌≢◌, ◌⊎◌, ℕ, Bool, true, false, List, [], ◌∷◌, length, reverse, refl, sym, ap, ◌∙◌, subst, inl, inr}
 use Rattle.std.specs.Prelude.{Option, Some, None, slice_get}
 use Rattle.std.specs.Option.{option_map_or}
-use Rattle.std.proofs.lemmas.List.{length-map, length-reverse}
+use Rattle.std.proofs.lemmas.List.{length-reverse}
+use Rattle.mb_world.proofs.Diaries.{values_length}
 use Rattle.mb_claim.specs.declared.access.Stage.TheVariants as stage
 use Rattle.mb_cells.specs.declared.answer.Look.TheVariants as look
-use Rattle.mb_cells.specs.Vocabulary.{Entry, entry_at, put_list}
 use Rattle.mb_shared_cells.specs.Vocabulary.{LookMakes}
-use Rattle.mb_world.specs.Reporting.{values_put}
 use Rattle.mb_mailbox.specs.Imports.{Claim, ClaimAccess, Cursor, END, HasMet, History, Note, Has, Load, ReaderSeatView, Reader, Stage, cells_met, claims_in}
 use Rattle.mb_mailbox.specs.Imports.{has_ended, linked_cells, load, look_of, part, place_past, word_of}
 use Rattle.mb_mailbox.specs.declared.consumer.Poll.{Poll}
@@ -34,13 +33,6 @@ noted s p at i e =
     ap length on ∙ sym (length-reverse b.0)
     ∙ same_length (claims_in i.size.layout i.size.cells) s.seat.consumer (cells_met p s.reader.part)
     (reverse b.0) (parts_of s.reader s.seat) b.2.ended
-
--- a lane has as many items put as cells linked
-items_count : (p : ℕ) (h : History) → length (values_put p h) ≡ length (linked_cells p h)
-items_count p h =
-    length-map (put_list p h) (λ (e : Entry). e.value)
-    ∙ length-reverse (map (λ k. entry_at k h) (linked_cells p h))
-    ∙ length-map (linked_cells p h) (λ k. entry_at k h)
 
 -- the consumer's own part has the loads by which it met its cells
 met_by_part : Laws → (s : ConsumerView) (p : ℕ) → HasLoads s
@@ -78,7 +70,7 @@ module _ (laws : Laws) (s : ConsumerView) (p : ℕ) (at : Cursor) (now : ReaderS
       → HasReadWhole p theirs over (record s { reader = now })
   read_whole theirs over so = record {
     cells = met_still ∙ so.0;
-    notes = noted s p at i e ∙ ap length so.0 ∙ sym (items_count p theirs);
+    notes = noted s p at i e ∙ ap length so.0 ∙ sym (values_length p theirs);
     ended = so.1;
   }
 

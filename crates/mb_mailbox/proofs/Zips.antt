@@ -1,6 +1,7 @@
 -- Two lists place by place, and what is said of each element.
-use Rattle.std.proofs.Common.{◌≡◌, List, [], ◌∷◌, ◌++◌, length, refl, sym, ap, ◌∙◌, append_assoc, arith}
+use Rattle.std.proofs.Common.{◌≡◌, List, [], ◌∷◌, ◌++◌, length, sym, ap, ◌∙◌, append-nil, append_assoc}
 use Rattle.std.specs.List.{AllZip}
+use Rattle.std.proofs.lemmas.Slice.Zip.{AllZip-long}
 
 -- a relation that holds place by place still does with one more pair at the end
 pub zip_more : {A B : Type 0} (R : A → B → Type 0) (xs : List A) (ys : List B) (x : A) (y : B) → AllZip R xs ys → R x y
@@ -32,10 +33,7 @@ zip_as R S step (x ∷ xs) (y ∷ ys) z = (step x y z.0, zip_as R S step xs ys z
 -- the two lists have one length
 pub zip_length : {A B : Type 0} (R : A → B → Type 0) (xs : List A) (ys : List B) → AllZip R xs ys
     → length xs ≡ length ys
-zip_length R [] [] z = refl
-zip_length R [] (y ∷ ys) z = absurd z
-zip_length R (x ∷ xs) [] z = absurd z
-zip_length R (x ∷ xs) (y ∷ ys) z = let t = zip_length R xs ys z.1 in omega (arith, t)
+zip_length R xs ys z = sym (AllZip-long R xs ys z)
 
 -- one more element goes from the rest to those seen
 pub next_seen : {A : Type 0} (seen : List A) (x : A) (rest was all : List A) → seen ++ was ≡ all
@@ -44,8 +42,4 @@ next_seen seen x rest was all whole first = append_assoc seen (x ∷ []) rest �
 
 -- if none is to come, all have been seen
 pub all_seen : {A : Type 0} (seen rest all : List A) → seen ++ rest ≡ all → rest ≡ [] → seen ≡ all
-all_seen seen rest all whole none = append_nothing seen ∙ ap (λ l. seen ++ l) (sym none) ∙ whole
-  where
-    append_nothing : {A : Type 0} (xs : List A) → xs ≡ xs ++ []
-    append_nothing [] = refl
-    append_nothing (x ∷ xs) = ap (λ l. x ∷ l) (append_nothing xs)
+all_seen seen rest all whole none = sym (append-nil seen) ∙ ap (λ l. seen ++ l) (sym none) ∙ whole

@@ -2,10 +2,6 @@
 use Rattle.std.specs.Prelude.{ℕ, List, [], ◌∷◌, if◌then◌else◌, nat_eq}
 use Rattle.mb_mailbox.specs.Imports.{Head, ObjectTurn, Parts, WorldAccess, link_load, load}
 
--- the parts of a consumer that has done nothing
-abbrev pub nothing_done : Parts
-nothing_done = record { reads = []; claimed = λ k. [] }
-
 -- the parts of a consumer that has met cell 4 on lane 0, and has made these steps of its claim there
 abbrev pub met_four : List ObjectTurn → Parts
 met_four xs = record {

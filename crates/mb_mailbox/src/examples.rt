@@ -17,7 +17,8 @@ ghost use Rattle.mb_mailbox.specs.declared.crew.jobs.PutJob.{PutJob};
 ghost use Rattle.mb_mailbox.specs.declared.crew.room.WorkerResults.{WorkerResults};
 ghost use Rattle.mb_mailbox.specs.Consumers.{ConsumerView};
 ghost use Rattle.mb_mailbox.specs.ConsumerStep.{ConsumerStep};
-ghost use Rattle.mb_mailbox.specs.Examples.{head_loaded, link_loaded, met_four, nothing_done};
+ghost use Rattle.mb_world.specs.PartSteps.{no_parts};
+ghost use Rattle.mb_mailbox.specs.Examples.{head_loaded, link_loaded, met_four};
 ghost use Rattle.mb_mailbox.specs.Jobs.{IsOnLanes, IsPutEnd, IsStoppedPoll, accesses_made, ends_met};
 ghost use Rattle.mb_mailbox.specs.LaneNotes.{AreMarked, all_told, by_lane, noted};
 ghost use Rattle.mb_mailbox.specs.Producers.{HasNoCellFor, IsEndOfLane, IsFirstPastCells, IsPutInto, IsSameLane, ProducerView, is_over};
@@ -35,10 +36,10 @@ pub fn consumers_go_on()
     // The consumer looks at the head. Nothing is there yet, or the lane has ended, or it has met a cell, without an
     // answer.
     ensures waits { (cs : Claims)
-        → ConsumerStep cs 0 0 nothing_done (head_loaded 0) (Some poll.Nothing) }
+        → ConsumerStep cs 0 0 no_parts (head_loaded 0) (Some poll.Nothing) }
     ensures ends { (cs : Claims)
-        → ConsumerStep cs 0 0 nothing_done (head_loaded END) (Some poll.Ended) }
-    ensures finds { (cs : Claims) → ConsumerStep cs 0 0 nothing_done (head_loaded 5) None }
+        → ConsumerStep cs 0 0 no_parts (head_loaded END) (Some poll.Ended) }
+    ensures finds { (cs : Claims) → ConsumerStep cs 0 0 no_parts (head_loaded 5) None }
 
     // The consumer's claim on the cell is going. The last step may lose it, and then the consumer looks on.
     ensures loses { (cs : Claims) (t : ObjectTurn) (xs : List ObjectTurn)
@@ -59,9 +60,9 @@ pub fn consumers_go_on()
 pub fn consumers_keep_to_their_path()
     // The consumer does not load the head of another lane, and it does not return `Nothing` if a cell is linked.
     ensures other_lane { (cs : Claims)
-        → ConsumerStep cs 0 0 nothing_done (link_load 0 1 [] 0) (Some poll.Nothing) → ⊥ }
+        → ConsumerStep cs 0 0 no_parts (link_load 0 1 [] 0) (Some poll.Nothing) → ⊥ }
     ensures linked { (cs : Claims)
-        → ConsumerStep cs 0 0 nothing_done (head_loaded 5) (Some poll.Nothing) → ⊥ }
+        → ConsumerStep cs 0 0 no_parts (head_loaded 5) (Some poll.Nothing) → ⊥ }
 
     // The consumer makes no access of a claim on a cell that it has not met.
     ensures unmet { (cs : Claims) (t : ObjectTurn) (xs : List ObjectTurn) (answer : Option Poll)

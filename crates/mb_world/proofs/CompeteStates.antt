@@ -28,7 +28,7 @@ use Rattle.mb_world.proofs.Claimed.{part-own}
 use Rattle.mb_world.proofs.HeldStates.{AtCell, at_cell, below, part_is, prefix, unread}
 use Rattle.mb_world.proofs.StateEnds.{Ends, going_open, lost_end, step_keeps, undecided_end, won_open}
 use Rattle.mb_world.proofs.StateSteps.{AreNotes, notes_count, notes_kept, notes_set, own_place, plan, places_count, places_set, state_after}
-use Rattle.mb_world.proofs.StepKnown.{StepKnown}
+use Rattle.mb_world.specs.StepKnown.{StepKnown}
 
 module _ (s : WorldState) (h : WorldHistory) (is : IsWorldAfter h s) (c p : ℕ) (cs : c < consumers_of (plan s h is))
     (ps : p < (plan s h is).lanes) (known : StepKnown s h c p) (k : ℕ) (claim : Claim)

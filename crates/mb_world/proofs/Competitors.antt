@@ -12,7 +12,7 @@ use Rattle.mb_world.specs.Agreement.{HasCompeted}
 use Rattle.mb_world.specs.Fitting.{EndsAs, parts_of}
 use Rattle.mb_world.specs.Reporting.{IsDiaryOf, IsReportOf}
 use Rattle.mb_world.proofs.Diaries.{met_at, note_at, open_last, placed}
-use Rattle.mb_world.proofs.Known.{Known}
+use Rattle.mb_world.specs.Known.{Known}
 use Rattle.mb_world.proofs.Positions.{StandsAt, at_one, at_reverse, has_at}
 use Rattle.mb_world.proofs.Recorded.{competed_in}
 use Rattle.mb_world.proofs.ReportPositions.{begun_is, notes_is}

@@ -11,7 +11,7 @@ use Rattle.mb_world.specs.ConsumerPath.{ConsumerPath, claim_access, claim_step}
 use Rattle.mb_world.specs.Worlds.{IsWorldLawful}
 use Rattle.mb_world.specs.Replay.{HasRandom, IsAccessOf, IsRefused}
 use Rattle.mb_world.proofs.ConsumerSteps.{linked_same, one_lane_of}
-use Rattle.mb_world.proofs.EventKnown.{EventKnown}
+use Rattle.mb_world.specs.EventKnown.{EventKnown}
 use Rattle.mb_world.proofs.LastAccess.{path_end}
 use Rattle.mb_world.proofs.OnePlace.{AreAlike, one_more}
 

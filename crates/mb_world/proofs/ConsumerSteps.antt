@@ -5,6 +5,7 @@ use Rattle.std.proofs.lemmas.Bool.{and_parts, cases_Bool, cases_eq}
 use Rattle.mb_claim.specs.History as claim
 use Rattle.mb_cells.specs.Memory as memory
 use Rattle.mb_cells.specs.Lawful.{ProcessFits}
+use Rattle.mb_cells.proofs.Names.{is_same_process-eq}
 use Rattle.mb_world.specs.declared.report.Note.{Note}
 use Rattle.mb_world.specs.Imports.{AllFit, Claims, Counter, Has, Head, History, IsLanePrefix, Item, Link, ObjectTurn, Process, Producer, Reader, Word}
 use Rattle.mb_world.specs.Imports.{has_cell, is_of_lane, is_same_process, link_of, linked_cells, part, push_if}
@@ -13,7 +14,6 @@ use Rattle.mb_world.specs.World.{IsBy, ToCells, ToClaims, WorldAccess, WorldHist
 use Rattle.mb_world.specs.ConsumerPath.{ConsumerPath, ends, finds, goes, takes, waits}
 use Rattle.mb_world.specs.Worlds.{IsOnLane, IsOnPath, IsTrueTo, IsWorldLawful}
 use Rattle.mb_world.proofs.Cells.{cell-of_true, has_cell-true}
-use Rattle.mb_world.proofs.ReaderParts.{reader_is}
 use Rattle.mb_world.proofs.WorldFollows.{past_lane}
 
 -- ---- the next access of a consumer's path is its own, on that lane
@@ -68,8 +68,8 @@ one_maker : (c d p : ℕ) (ls : List ℕ) (a : WorldAccess) → IsBy c a → is_
 one_maker c d p ls (ToClaims a) own on =
     sym (eqb-true a.consumer d (and_parts (nat_eq a.consumer d) (has_cell ls a.cell) on).0) ∙ own
 one_maker c d p ls (ToCells a) own on =
-    let e = reader_is d a.process (and_parts (is_same_process (Reader d) a.process) (is_of_lane p ls a.word) on).0 in
-    let f : Reader d ≡ Reader c = sym e ∙ own in
+    let same = (and_parts (is_same_process (Reader d) a.process) (is_of_lane p ls a.word) on).0 in
+    let f : Reader d ≡ Reader c = is_same_process-eq (Reader d) a.process same ∙ own in
     cc
 
 -- an access has at most one consumer that made it

@@ -1,9 +1,9 @@
 -- What may not follow in the small world of the examples.
-use Rattle.std.proofs.Common.{◌≡◌, ◌<◌, ◌+◌, ℕ, zero, suc, true, List, [], ◌∷◌, Some, None, refl, ap, subst, inl, arith}
+use Rattle.std.proofs.Common.{◌≡◌, ◌<◌, ◌+◌, ℕ, zero, suc, true, List, ◌∷◌, Some, None, refl, ap, subst, inl, arith}
 use Rattle.mb_claim.specs.declared.access.Stage.TheVariants as stage
 use Rattle.mb_world.specs.declared.report.Note.{Note}
-use Rattle.mb_world.specs.Imports.{Counter, Head, IsClaimPrefix, Item, Link, ObjectTurn, Stage, Word, linked_cells}
-use Rattle.mb_world.specs.World.{ToCells, ToClaims, WorldAccess, WorldHistory, is_on, lane_part, pool_accesses}
+use Rattle.mb_world.specs.Imports.{IsClaimPrefix, Item, Link, ObjectTurn, Stage, linked_cells}
+use Rattle.mb_world.specs.World.{WorldAccess, WorldHistory, is_on, lane_part, pool_accesses}
 use Rattle.mb_world.specs.Worlds.{IsOnLane, IsWorldLawful}
 use Rattle.mb_world.specs.ConsumerPath.{ConsumerPath, claim_step, item_load, link_load}
 use Rattle.mb_world.specs.PathExamples.{two_cells}
@@ -11,16 +11,7 @@ use Rattle.mb_world.specs.WorldExamples.{all_done, no_lane, stranger, two_by_two
 use Rattle.mb_world.proofs.LastAccess.{Leads, PathEnd, came_from, path_end}
 use Rattle.mb_world.proofs.LastAccess as last
 use Rattle.mb_world.proofs.OnePlace.{one_place}
-
--- the word of an access to the cells
-abbrev word_of : WorldAccess → Word
-word_of (ToCells a) = a.word
-word_of (ToClaims a) = Counter
-
--- a load of an item is no load of a link
-item_is_no_link : (c p k v u : ℕ) (ks : List ℕ) → item_load c k v ≡ link_load c p ks u → ⊥
-item_is_no_link c p k v u [] e = let f : Item k ≡ Head p = ap word_of e in cc
-item_is_no_link c p k v u (i ∷ ks) e = let f : Item k ≡ Link i = ap word_of e in cc
+use Rattle.mb_world.proofs.SmallPaths.{item_is_no_link, word_of}
 
 module _ (one_stage : (c : ℕ) (xs : List ObjectTurn) (s r : Stage) → IsClaimPrefix two_cells c xs s
     → IsClaimPrefix two_cells c xs r → s ≡ r)

@@ -17,7 +17,7 @@ use Rattle.mb_world.specs.WorldState.{IsPlaceAt, IsWorldAfter, WorldState}
 use Rattle.mb_world.proofs.Cells.{has_cell-true}
 use Rattle.mb_world.proofs.StateEnds.{HasItem}
 use Rattle.mb_world.proofs.StateSteps.{plan, place_here}
-use Rattle.mb_world.proofs.StepKnown.{StepKnown}
+use Rattle.mb_world.specs.StepKnown.{StepKnown}
 use Rattle.mb_world.proofs.WorldClaims.{met_once, on_lane, tracks}
 use Rattle.mb_world.proofs.WorldDiaries.{held_is}
 use Rattle.mb_world.proofs.WorldPool.{read_there}

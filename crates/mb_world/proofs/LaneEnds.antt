@@ -8,7 +8,7 @@ use Rattle.mb_world.specs.Reporting.{IsDiaryOf, values_put}
 use Rattle.mb_world.specs.Headline.{HasMetEnd}
 use Rattle.mb_world.proofs.Cells.{cell-of_true}
 use Rattle.mb_world.proofs.Diaries.{met_at, passed, values_length}
-use Rattle.mb_world.proofs.Known.{Known}
+use Rattle.mb_world.specs.Known.{Known}
 use Rattle.mb_world.proofs.Loads.{gave-link, met_given, met_link}
 use Rattle.mb_world.proofs.Positions.{StandsAt, at_has, at_some, at_start, at_within}
 use Rattle.mb_world.proofs.ReaderParts.{read-loaded}

@@ -8,7 +8,7 @@ use Rattle.mb_cells.specs.Reading.{Reads}
 use Rattle.mb_cells.specs.State.{IsAfter, PoolState, item_in, look_in}
 use Rattle.mb_cells.specs.Lanes.{lane_end}
 use Rattle.mb_world.specs.Imports.{Entry, Has, History, IsOnceEach, has_ended, linked_cells, put_list}
-use Rattle.std.proofs.Common.{eqb, eqb-true, length-append, ◌||◌}
+use Rattle.std.proofs.Common.{append-nil, eqb, eqb-true, length-append, ◌||◌}
 use Rattle.std.specs.List.{AllByRecursion, IsDistinct, list_any}
 use Rattle.std.proofs.lemmas.Bool.{ne_eqb, cases_Bool, false≢true}
 use Rattle.std.proofs.lemmas.List.{length-reverse}
@@ -86,11 +86,6 @@ pub walk_goes : (s : PoolState) (p k : ℕ) (ks : List ℕ) (at : Cursor) → lo
 walk_goes s p k ks at seen walks pool after =
     let w = walks pool after in walk_step s p k ks at pool seen w.rest w.cells w.values w.reads
 
--- a list to which nothing is joined stays
-append_nil : (xs : List ℕ) → xs ++ [] ≡ xs
-append_nil [] = refl
-append_nil (x ∷ xs) = ap (λ zs. x ∷ zs) (append_nil xs)
-
 -- two looks that find no cell and are equal say the same of the end mark
 end_is : (b e : Bool) → (if e then look.Ended else look.Nothing) ≡ (if b then look.Ended else look.Nothing) → b ≡ e
 end_is true true e = refl
@@ -111,8 +106,8 @@ walk_end : (s : PoolState) (p : ℕ) (ks : List ℕ) (at : Cursor) (ended : Bool
     → Reads (λ c. look_in c s) (λ i. item_in i s) at es (lane_end p pool)
     → IsWalk s p ks ended pool
 walk_end s p ks at ended pool seen [] cells values reads = record {
-  cells = cells ∙ append_nil ks;
-  values = values ∙ append_nil (map (λ i. item_in i s) ks);
+  cells = cells ∙ append-nil ks;
+  values = values ∙ append-nil (map (λ i. item_in i s) ks);
   ended = end_is (has_ended p pool) ended (sym seen ∙ reads);
 }
 walk_end s p ks at ended pool seen (e ∷ es) cells values reads = absurd (is_cell ended e.cell (sym reads.0 ∙ seen))

@@ -9,7 +9,6 @@ pub mod ReportLists
 -- What one consumer loaded, and what its diary shows
 pub mod ReaderParts
 pub mod Loads
-pub mod Known
 pub mod Diaries
 pub mod LaneEnds
 -- A report has one assignment, and what was done has one report
@@ -29,7 +28,6 @@ pub mod LastAccess
 pub mod OnePlace
 pub mod FitSteps
 -- Lawful histories of a world
-pub mod WorldKnown
 pub mod WorldPool
 pub mod WorldClaims
 pub mod WorldFollows
@@ -39,7 +37,6 @@ pub mod MetCells
 -- One more access, one replay, and steps that find nothing
 pub mod ConsumerSteps
 pub mod ProducerSteps
-pub mod EventKnown
 pub mod MadeEvents
 pub mod RefusedEvents
 pub mod ProducerEvents
@@ -55,7 +52,6 @@ pub mod LaneWalks
 pub mod StateLists
 pub mod StateReports
 -- The state after one more access
-pub mod StepKnown
 pub mod StateEnds
 pub mod StateSteps
 pub mod LoadStates

@@ -16,7 +16,7 @@ use Rattle.mb_world.specs.Replay.{answer_to}
 use Rattle.mb_world.specs.EventSteps.{EventAdds}
 use Rattle.mb_world.proofs.Loads.{met_given}
 use Rattle.mb_world.proofs.StateSteps.{AreNotes, ArePlaces, plan, state_after}
-use Rattle.mb_world.proofs.StepKnown.{StepKnown}
+use Rattle.mb_world.specs.StepKnown.{StepKnown}
 use Rattle.mb_world.proofs.WorldClaims.{met_all}
 
 module _ (s : WorldState) (h : WorldHistory) (is : IsWorldAfter h s) (c p : ℕ) (cs : c < consumers_of (plan s h is))

@@ -1,11 +1,12 @@
 -- What a reader was given by its loads, and whether it loaded a word.
 use Rattle.std.proofs.Common.{◌≡◌, ◌≢◌, ◌⊎◌, ℕ, suc, ◌+◌, ◌<◌, true, false, List, [], ◌∷◌, length, refl, sym, ◌∙◌, ap, subst, inl, inr, arith}
 use Rattle.std.proofs.lemmas.Bool.{cases_Bool}
+use Rattle.mb_cells.proofs.Names.{is_same_word-eq, is_same_word-refl}
 use Rattle.mb_world.specs.Imports.{END, FetchAdd, Gave, Has, HasLoaded, HasMet, History, IsGift, IsReaderPath, Link, Load, MayRead, PoolAccess, PoolAct}
 use Rattle.mb_world.specs.Imports.{Reader, Store, Word, is_same_word, load, part, place_past}
 use Rattle.mb_world.specs.Fitting.{HasRead}
 use Rattle.mb_world.proofs.Positions.{StandsAt, at_within}
-use Rattle.mb_world.proofs.ReaderParts.{has_part, word_is, word_same}
+use Rattle.mb_world.proofs.ReaderParts.{has_part}
 
 -- who loaded a cell's link was given the cell
 pub gave-link : (lanes : ℕ) (d : History) (a : PoolAccess) (k : ℕ) → IsReaderPath lanes d → Has d a → a.word ≡ Link k
@@ -82,10 +83,10 @@ read_or_not (b ∷ d) w = by_word (cases_Bool (is_same_word b.word w)) (read_or_
   where
     -- this holds whether the access is to the word or not
     by_word : (is_same_word b.word w ≡ true) ⊎ (is_same_word b.word w ≡ false) → IsTold w d → IsTold w (b ∷ d)
-    by_word (inl same) rest = by_act d b w b.act (word_is b.word w same) refl rest
+    by_word (inl same) rest = by_act d b w b.act (is_same_word-eq b.word w same) refl rest
     by_word (inr other) rest = other_access b d w (λ u e _. differs e) rest
       where
         differs : b.word ≡ w → ⊥
         differs e =
             let f : is_same_word b.word w
-            ≡ true = subst (λ (x : Word). is_same_word x w ≡ true) (sym e) (word_same w) in cc
+            ≡ true = subst (λ (x : Word). is_same_word x w ≡ true) (sym e) (is_same_word-refl w) in cc

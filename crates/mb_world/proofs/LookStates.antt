@@ -28,7 +28,7 @@ use Rattle.mb_world.specs.EventSteps.{EventAdds, with_place}
 use Rattle.mb_world.proofs.LoadStates.{adds, given, load_adds, loaded}
 use Rattle.mb_world.proofs.StateEnds.{load_keeps}
 use Rattle.mb_world.proofs.StateSteps.{AreNotes, notes_kept, own_place, plan, place_here, places_kept, places_set}
-use Rattle.mb_world.proofs.StepKnown.{StepKnown}
+use Rattle.mb_world.specs.StepKnown.{StepKnown}
 use Rattle.mb_world.proofs.WorldClaims.{on_lane}
 
 -- ---- what the value of a link tells

@@ -1,15 +1,17 @@
 -- The cells that a consumer's own loads met on a lane are all that it met there.
 use Rattle.std.proofs.Common.{◌≡◌, ◌≢◌, ◌⊎◌, ℕ, ◌+◌, ◌-◌, ◌<◌, true, false, List, [], ◌∷◌, ◌++◌, Option, Some, None, refl, sym, ◌∙◌, ap, subst, inl, inr, arith}
 use Rattle.std.proofs.lemmas.Bool.{cases_Bool, cases_eq, ne_eqb, eq-eqb}
+use Rattle.mb_cells.proofs.Names.{access_is, is_same_word-eq}
+use Rattle.mb_world.proofs.Cells.{once_start}
 use Rattle.mb_world.specs.Imports.{Counter, END, FetchAdd, Gave, Has, HasMet, Head, History, IsGift, IsLinkWord, IsOnceEach, IsStart, Item, Link, Load}
 use Rattle.mb_world.specs.Imports.{PoolAccess, PoolAct, Reader, Store, Word, is_same_word, linked_cells, part, place_past, push_if}
 use Rattle.mb_world.specs.Plan.{Histories, Plan, consumers_of}
 use Rattle.mb_world.specs.Fitting.{FollowsLinks, cell_given, cells_met, parts_of}
 use Rattle.mb_world.specs.Reporting.{HasMetAll}
-use Rattle.mb_world.proofs.Known.{Known}
-use Rattle.mb_world.proofs.PathLoads.{met_elsewhere, met_more, met_there, one_given}
+use Rattle.mb_world.specs.Known.{Known}
+use Rattle.mb_world.proofs.PathLoads.{HasMet-more, met_elsewhere, met_there, one_given}
 use Rattle.mb_world.proofs.Positions.{at_has, at_start, has_at}
-use Rattle.mb_world.proofs.ReaderParts.{access_is, of_part, word_is}
+use Rattle.mb_world.proofs.ReaderParts.{of_part}
 use Rattle.mb_world.proofs.WorldFollows.{met_stay}
 
 -- what gives a cell is a load of its number plus one, and not of the end mark
@@ -43,7 +45,7 @@ met_cells : (q p : ℕ) (d : History) → ((a : PoolAccess) → Has d a → a.pr
 met_cells q p [] own = tt
 met_cells q p (a ∷ older) own =
     by (cases_Bool (is_same_word a.word (place_past p (cells_met p older))))
-    (met_more q p older (a ∷ older) (cells_met p older) (λ b m. inr m) (met_cells q p older (λ b m. own b (inr m))))
+    (HasMet-more q p older (a ∷ older) (cells_met p older) (λ b m. inr m) (met_cells q p older (λ b m. own b (inr m))))
   where
     -- if the load gave a cell, the cell comes after those met before
     by_given : (o : Option ℕ) → cell_given a.act ≡ o → a.word ≡ place_past p (cells_met p older)
@@ -61,7 +63,7 @@ met_cells q p (a ∷ older) own =
         ⊎ (is_same_word a.word (place_past p (cells_met p older)) ≡ false)
         → HasMet q p (cells_met p older) (a ∷ older) → HasMet q p (cells_met p (a ∷ older)) (a ∷ older)
     by (inl same) older_met =
-        let at = word_is a.word (place_past p (cells_met p older)) same in
+        let at = is_same_word-eq a.word (place_past p (cells_met p older)) same in
         subst (λ ks. HasMet q p ks (a ∷ older)) (sym (met_there p (cells_met p older) a older refl at))
         (by_given (cell_given a.act) refl at older_met)
     by (inr other) older_met =
@@ -83,13 +85,8 @@ gave_met (a ∷ older) k f (inr g) = let q = gave_met older k f.1 g in (q.0, met
 -- the cells that a reader's part met were met in the history
 pub met_in : (q p : ℕ) (h : History) → HasMet q p (cells_met p (part (Reader q) h)) h
 met_in q p h =
-    met_more q p (part (Reader q) h) h (cells_met p (part (Reader q) h)) (λ a m. (of_part q h a m).0)
+    HasMet-more q p (part (Reader q) h) h (cells_met p (part (Reader q) h)) (λ a m. (of_part q h a m).0)
     (met_cells q p (part (Reader q) h) (λ a m. (of_part q h a m).1))
-
--- if each cell stands once in a list, each stands once in what the list was before `later` came in front
-once_start : (later ks : List ℕ) → IsOnceEach (later ++ ks) → IsOnceEach ks
-once_start [] ks once = once
-once_start (j ∷ later) ks once = once_start later ks once.1
 
 module _ (q : ℕ) (h : History)
     (start : (p : ℕ) (ks : List ℕ) → HasMet q p ks h → IsStart ks (linked_cells p h))
@@ -128,7 +125,7 @@ module _ (plan : Plan) (hs : Histories) (known : Known plan hs) (c p : ℕ) (cs 
   -- the cells that these loads met on a lane were met in the history
   met_on : (q : ℕ) → HasMet (hs.reader_of c) q (cells_met q reads) hs.pool
   met_on q =
-      met_more (hs.reader_of c) q reads hs.pool (cells_met q reads) (λ a m. (of_part (hs.reader_of c) hs.pool a m).0)
+      HasMet-more (hs.reader_of c) q reads hs.pool (cells_met q reads) (λ a m. (of_part (hs.reader_of c) hs.pool a m).0)
       (met_cells (hs.reader_of c) q reads (λ a m. (of_part (hs.reader_of c) hs.pool a m).1))
 
   -- the cells that these loads met on a lane are cells of the lane

@@ -20,7 +20,7 @@ use Rattle.mb_world.specs.Waiting.{HasNothing}
 use Rattle.mb_world.proofs.ConsumerSteps.{linked_same, one_lane_of}
 use Rattle.mb_world.proofs.LastAccess.{CameFrom, Leads, PathEnd, came_from, ended, found, path_end, took, waited, went}
 use Rattle.mb_world.proofs.WorldClaims.{met_all}
-use Rattle.mb_world.proofs.WorldKnown.{WorldKnown}
+use Rattle.mb_world.specs.WorldKnown.{WorldKnown}
 
 -- only the value 0 tells that nothing is there yet
 nothing_told : (v : ℕ) → look_of v ≡ look.Nothing → v ≡ 0

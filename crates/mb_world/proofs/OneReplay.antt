@@ -10,7 +10,7 @@ use Rattle.mb_world.specs.World.{ToCells, ToClaims, WorldAccess, WorldHistory, c
 use Rattle.mb_world.specs.Worlds.{IsWorldLawful}
 use Rattle.mb_world.specs.Replay.{IsAccessOf, HasAnswer, IsRefused, IsReplay, AnswerNames, with_access}
 use Rattle.mb_world.proofs.ConsumerEvents.{one_step_access, step_never_both, step_refused_once}
-use Rattle.mb_world.proofs.EventKnown.{EventKnown}
+use Rattle.mb_world.specs.EventKnown.{EventKnown}
 use Rattle.mb_world.proofs.ProducerEvents.{finish_never_both, finish_refused_once, offer_never_both, offer_refused_once, one_finish, one_offer, one_push, push_never_both, push_refused_once}
 
 module _ (plan : Plan) (h : WorldHistory) (known : EventKnown plan h) where

@@ -1,6 +1,6 @@
 -- Two histories have one report.
 use Rattle.std.proofs.Common.{◌≡◌, ◌+◌, ◌*◌, ◌/◌, ◌%◌, ◌<◌, ℕ, zero, suc, Bool, true, false, List, [], ◌∷◌, length, Some, None, refl, sym, ◌∙◌, ap, subst, arith, get_or}
-use Rattle.std.proofs.lemmas.Option.{slice_get-get_or}
+use Rattle.std.proofs.lemmas.Option.{slice_get-get_or, slice_get_within}
 use Rattle.std.proofs.Math.Nat.{div-lt_iff_lt-mul, mod-add-div, mod-lt}
 use Rattle.std.specs.Prelude.{slice_get}
 use Rattle.mb_claim.specs.declared.access.Stage.TheVariants as stage
@@ -11,7 +11,7 @@ use Rattle.mb_world.specs.Plan.{Histories, Plan, consumers_of}
 use Rattle.mb_world.specs.Fitting.{EndsAs, HasStageIn, parts_of}
 use Rattle.mb_world.specs.Report.{DiaryView, LaneView, ReportView}
 use Rattle.mb_world.specs.Reporting.{IsDiaryOf, IsReportOf, lane_view}
-use Rattle.mb_world.proofs.Known.{Known}
+use Rattle.mb_world.specs.Known.{Known}
 use Rattle.mb_world.proofs.Positions.{StandsAt, at_has, at_one, has_at, reverse_at}
 use Rattle.mb_world.proofs.Diaries.{met_at, note_at, placed}
 use Rattle.mb_world.proofs.Loads.{met_given}
@@ -32,12 +32,6 @@ one_list {A} (x ∷ xs) (y ∷ ys) f g =
     let heads : x ≡ y = cc in
     let tails = one_list xs ys (λ j z. f (suc j) z) (λ j z. g (suc j) z) in
     rw (heads, tails) refl
-
--- a position with an element is in the list
-within : {A : Type 0} (xs : List A) (j : ℕ) (x : A) → slice_get xs j ≡ Some x → j < length xs
-within [] j x e = absurd (cc)
-within (y ∷ xs) zero x e = omega arith
-within (y ∷ xs) (suc j) x e = let less = within xs j x e in omega (arith, less)
 
 -- if there is a diary, there is a lane
 some_lanes : (n m i : ℕ) → i < n * m → 0 < m
@@ -129,7 +123,7 @@ module _ (plan : Plan) (hs : Histories) (known : Known plan hs) where
   same_diary : (r s : ReportView) → IsReportOf plan hs r → IsReportOf plan hs s → StandsIn r.diaries s.diaries
   same_diary r s x y i d is =
       let less : i < consumers_of plan * plan.lanes =
-      subst (λ (n : ℕ). i < n) x.diaries_count (within r.diaries i d is) in
+      subst (λ (n : ℕ). i < n) x.diaries_count (slice_get_within r.diaries i d is) in
       let some : 0 < plan.lanes = some_lanes (consumers_of plan) plan.lanes i less in
       let p = i % plan.lanes in
       let c = i / plan.lanes in
@@ -148,7 +142,7 @@ module _ (plan : Plan) (hs : Histories) (known : Known plan hs) where
   same_lane : (r s : ReportView) → r.diaries ≡ s.diaries → length r.lanes ≡ length s.lanes → IsReportOf plan hs r
       → IsReportOf plan hs s → StandsIn r.lanes s.lanes
   same_lane r s diaries lanes x y p l is =
-      let less : p < plan.lanes = subst (λ (n : ℕ). p < n) x.lanes_count (within r.lanes p l is) in
+      let less : p < plan.lanes = subst (λ (n : ℕ). p < n) x.lanes_count (slice_get_within r.lanes p l is) in
       let e : Some (lane_view plan p hs r) ≡ Some l = sym (x.lane p less) ∙ is in
       let views : lane_view plan p hs s ≡ lane_view plan p hs r = rw (diaries, lanes) refl in
       y.lane p less ∙ (ap Some views ∙ e)

@@ -2,6 +2,8 @@
 use Rattle.std.proofs.Common.{◌≡◌, ◌≢◌, ◌⊎◌, ℕ, ◌+◌, ◌<◌, true, false, List, [], ◌∷◌, Option, Some, None, refl, sym, ◌∙◌, ap, subst, inl, inr, arith}
 use Rattle.std.specs.Prelude.{cond}
 use Rattle.std.proofs.lemmas.Bool.{ne_eqb}
+use Rattle.mb_cells.proofs.Names.{is_same_word-refl}
+pub use Rattle.mb_cells.proofs.ReaderChains.{HasMet-more}
 use Rattle.mb_world.specs.declared.report.Note.{Note}
 use Rattle.mb_world.specs.Imports.{Claims, Counter, END, Gave, Has, HasMet, Head, History, IsGift, IsLinkWord, IsReaderPath, Item, Link, Load, MayRead}
 use Rattle.mb_world.specs.Imports.{ObjectTurn, PoolAccess, Word, is_same_word, load, place_past, push_if}
@@ -9,14 +11,6 @@ use Rattle.mb_world.specs.Fitting.{cell_given, cells_met}
 use Rattle.mb_world.specs.World.{WorldHistory, pool_accesses}
 use Rattle.mb_world.specs.ConsumerPath.{ConsumerPath, begins, ends, finds, goes, takes, waits}
 use Rattle.mb_world.proofs.Loads.{gift_past}
-use Rattle.mb_world.proofs.ReaderParts.{word_same}
-
--- what was met stays met
-pub met_more : (q p : ℕ) (d h : History) (ks : List ℕ) → ((a : PoolAccess) → Has d a → Has h a) → HasMet q p ks d
-    → HasMet q p ks h
-met_more q p d h [] more met = tt
-met_more q p d h (k ∷ ks) more met =
-    (more (load q (place_past p ks) (k + 1)) met.0, met.1, met_more q p d h ks more met.2)
 
 -- ---- what a load gives
 -- 0 and the end mark give no cell
@@ -52,7 +46,7 @@ pub met_there : (p : ℕ) (ks : List ℕ) (a : PoolAccess) (older : History) →
 met_there p ks a older is at =
     ap (λ js. cond (is_same_word a.word (place_past p js)) (push_if (cell_given a.act) js) js) is
     ∙ ap (λ b. cond b (push_if (cell_given a.act) ks) ks)
-    (subst (λ w. is_same_word w (place_past p ks) ≡ true) (sym at) (word_same (place_past p ks)))
+    (subst (λ w. is_same_word w (place_past p ks) ≡ true) (sym at) (is_same_word-refl (place_past p ks)))
 
 -- a load of another word meets none
 pub met_elsewhere : (p : ℕ) (a : PoolAccess) (older : History)
@@ -78,18 +72,19 @@ module _ (cs : Claims) (c : ℕ) where
       → ConsumerPath cs c p done ks ns held → HasMet c p ks (pool_accesses done)
   path_met begins = tt
   path_met {p} (waits {older} {ks} {ns} {v} says s) =
-      met_more c p (pool_accesses older) (load c (place_past p ks) v ∷ pool_accesses older) ks (λ b m. inr m)
+      HasMet-more c p (pool_accesses older) (load c (place_past p ks) v ∷ pool_accesses older) ks (λ b m. inr m)
       (path_met s)
   path_met {p} (finds {older} {ks} {ns} {k} ne fresh s) = (
     inl refl,
     ne,
-    met_more c p (pool_accesses older) (load c (place_past p ks) (k + 1) ∷ pool_accesses older) ks (λ b m. inr m)
+    HasMet-more c p (pool_accesses older) (load c (place_past p ks) (k + 1) ∷ pool_accesses older) ks (λ b m. inr m)
         (path_met s),
   )
   path_met (goes z q still s) = path_met s
   path_met (ends z q note s) = path_met s
   path_met {p} (takes {older} {ks} {ns} {k} {xs} {v} q s) =
-      met_more c p (pool_accesses older) (load c (Item k) v ∷ pool_accesses older) (k ∷ ks) (λ b m. inr m) (path_met s)
+      HasMet-more c p (pool_accesses older) (load c (Item k) v ∷ pool_accesses older) (k ∷ ks) (λ b m. inr m)
+      (path_met s)
 
   -- the cells to which the path leads are all that its loads met
   pub path_cells : {p : ℕ} {done : WorldHistory} {ks : List ℕ} {ns : List Note} {held : Option (List ObjectTurn)}

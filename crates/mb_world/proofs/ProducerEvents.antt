@@ -14,7 +14,7 @@ use Rattle.mb_world.specs.Plan.{Plan}
 use Rattle.mb_world.specs.World.{ToCells, WorldAccess, WorldHistory, pool_accesses}
 use Rattle.mb_world.specs.Worlds.{IsWorldLawful}
 use Rattle.mb_world.specs.Replay.{IsAccessOf, IsLaneOf, IsPushed, IsRefused}
-use Rattle.mb_world.proofs.EventKnown.{EventKnown}
+use Rattle.mb_world.specs.EventKnown.{EventKnown}
 
 -- a store of a value in a word, as a push has it
 abbrev stored : Word → ℕ → Option (Word × ℕ)

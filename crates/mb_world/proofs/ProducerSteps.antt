@@ -1,7 +1,9 @@
 -- One more access of a producer, after which the history of a world stays lawful.
 use Rattle.std.proofs.Common.{◌≡◌, ◌⊎◌, ℕ, Bool, true, false, ◌&&◌, ◌||◌, cond, List, ◌∷◌, Option, Some, None, refl, sym, ◌∙◌, ap, subst, inl, inr, eq-eqb, eqb-true}
 use Rattle.std.specs.Prelude.{filter, nat_eq}
-use Rattle.std.proofs.lemmas.Bool.{and_parts, cases_Bool, cases_eq, cond_both, ne_eqb}
+use Rattle.std.proofs.lemmas.Bool.{and_parts, cases_Bool, cases_eq, ne_eqb}
+use Rattle.mb_cells.proofs.Items.{linked_cells-more}
+use Rattle.mb_cells.proofs.Names.{is_same_process-eq}
 use Rattle.mb_world.specs.Imports.{Counter, Has, Head, History, IsOnceEach, IsPoolLawful, Item, Link, PoolAccess, Process, Producer, Reader, Word, has_cell}
 use Rattle.mb_world.specs.Imports.{is_of_lane, is_same_process, link_of, linked_cells, push_if}
 use Rattle.mb_world.specs.Plan.{Plan, size_of}
@@ -10,7 +12,6 @@ use Rattle.mb_world.specs.ConsumerPath.{ConsumerPath}
 use Rattle.mb_world.specs.Worlds.{IsOnLane, IsWorldLawful}
 use Rattle.mb_world.proofs.Cells.{cell-of_true, has_cell-true}
 use Rattle.mb_world.proofs.LaneParts.{filter_same}
-use Rattle.mb_world.proofs.ReaderParts.{reader_is}
 
 -- an access of producer p leaves the lane of any other producer
 linked_other : (p q : ℕ) (a : PoolAccess) (h : History) → a.process ≡ Producer p → (q ≡ p → ⊥)
@@ -28,17 +29,6 @@ linked_own p a h own =
     ap (λ (w : Process). cond (is_same_process (Producer p) w) (push_if (link_of a.word a.act) (linked_cells p h))
     (linked_cells p h)) own
     ∙ ap (λ (b : Bool). cond b (push_if (link_of a.word a.act) (linked_cells p h)) (linked_cells p h)) (eq-eqb p p refl)
-
--- a cell that is linked stays linked
-linked_more : (q : ℕ) (a : PoolAccess) (h : History) (k : ℕ) → Has (linked_cells q h) k → Has (linked_cells q (a ∷ h)) k
-linked_more q a h k has =
-    cond_both (is_same_process (Producer q) a.process) (push_if (link_of a.word a.act) (linked_cells q h))
-    (linked_cells q h) (λ (l : List ℕ). Has l k)
-    (λ _. by (link_of a.word a.act)) (λ _. has)
-  where
-    by : (o : Option ℕ) → Has (push_if o (linked_cells q h)) k
-    by None = has
-    by (Some j) = inr has
 
 -- an access of a producer is in no consumer's part
 is_on_none : (c q p : ℕ) (ls : List ℕ) (a : PoolAccess) → a.process ≡ Producer p → is_on c q ls (ToCells a) ≡ false
@@ -71,7 +61,7 @@ module _ (plan : Plan) (h : WorldHistory) (lawful : IsWorldLawful plan h)
           let o : IsOnceEach (k ∷ linked_cells p (pool_accesses h)) = subst IsOnceEach own (once p) in
           o.0 (subst (λ (i : ℕ). Has (linked_cells i (pool_accesses h)) k) same has)
       by (inr ne) =
-          ne (one q p k (linked_more q a (pool_accesses h) k has)
+          ne (one q p k (linked_cells-more q a (pool_accesses h) k has)
           (subst (λ (ls : List ℕ). Has ls k) (sym own) (inl refl)))
 
   -- the access's new cell makes no difference to which accesses of a consumer are on a lane
@@ -96,7 +86,7 @@ module _ (plan : Plan) (h : WorldHistory) (lawful : IsWorldLawful plan h)
           → is_on c q (k ∷ linked_cells q (pool_accesses h)) (ToCells x)
           ≡ is_on c q (linked_cells q (pool_accesses h)) (ToCells x)
       by (inl e) =
-          let y = lawful.no_others c (ToCells x) has (reader_is c x.process e) in
+          let y = lawful.no_others c (ToCells x) has (sym (is_same_process-eq (Reader c) x.process e)) in
           let here = (and_parts (is_same_process (Reader c) x.process)
           (is_of_lane y.lane (linked_cells y.lane (pool_accesses h)) x.word) y.on).1 in
           ap (λ (b : Bool). is_same_process (Reader c) x.process && b)
@@ -187,5 +177,5 @@ module _ (plan : Plan) (h : WorldHistory) (lawful : IsWorldLawful plan h)
             lane = y.lane;
             below = y.below;
             on = lane_more y.lane (linked_cells y.lane (pool_accesses h)) (linked_cells y.lane (a ∷ pool_accesses h))
-                (linked_more y.lane a (pool_accesses h)) d x y.on;
+                (linked_cells-more y.lane a (pool_accesses h)) d x y.on;
           }

@@ -18,7 +18,7 @@ use Rattle.mb_world.specs.Reporting.{IsDiaryOf, IsReportOf, is_taken}
 use Rattle.mb_world.specs.Headline.{HasMetEnd}
 use Rattle.mb_world.proofs.Assigned.{AreNotesRight, winner_named}
 use Rattle.mb_world.proofs.Diaries.{begun_within, competes_at, met_at, note_at, placed, value_of, within}
-use Rattle.mb_world.proofs.Known.{Known}
+use Rattle.mb_world.specs.Known.{Known}
 use Rattle.mb_world.proofs.LaneEnds.{ends_noted}
 use Rattle.mb_world.proofs.Positions.{at_one}
 use Rattle.mb_world.proofs.ReportPositions.{IsInside, begun_is, diary_none, inside, left_is, no_lane, note_in, notes_is, put_is}

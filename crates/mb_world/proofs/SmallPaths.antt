@@ -14,7 +14,7 @@ use Rattle.mb_world.proofs.LastAccess as last
 use Rattle.mb_world.proofs.OnePlace.{one_place}
 
 -- the word of an access to the cells
-abbrev word_of : WorldAccess → Word
+abbrev pub word_of : WorldAccess → Word
 word_of (ToCells a) = a.word
 word_of (ToClaims a) = Counter
 
@@ -28,9 +28,9 @@ one_is_not_zero : suc zero ≡ zero → ⊥
 one_is_not_zero e = omega (arith, e)
 
 -- a load of an item is no load of a link
-item_is_no_link : (k v u : ℕ) (ks : List ℕ) → item_load 0 k v ≡ link_load 0 0 ks u → ⊥
-item_is_no_link k v u [] e = let f : Item k ≡ Head 0 = ap word_of e in cc
-item_is_no_link k v u (i ∷ ks) e = let f : Item k ≡ Link i = ap word_of e in cc
+pub item_is_no_link : (c p k v u : ℕ) (ks : List ℕ) → item_load c k v ≡ link_load c p ks u → ⊥
+item_is_no_link c p k v u [] e = let f : Item k ≡ Head p = ap word_of e in cc
+item_is_no_link c p k v u (i ∷ ks) e = let f : Item k ≡ Link i = ap word_of e in cc
 
 module _ (one_stage : (xs : List ObjectTurn) (s r : Stage) → IsClaimPrefix two_cells 0 xs s
     → IsClaimPrefix two_cells 0 xs r → s ≡ r)
@@ -121,8 +121,8 @@ module _ (one_stage : (xs : List ObjectTurn) (s r : Stage) → IsClaimPrefix two
 
   -- a consumer that stands at a link loads no item
   no_item_twice : (ks : List ℕ) (ns : List Note) (now : PathEnd) → Next (item_load 0 0 5) (path_end ks ns None) now → ⊥
-  no_item_twice ks ns now (last.waited js ms v says e) = item_is_no_link 0 5 v ks e
-  no_item_twice ks ns now (last.found js ms k ne new e) = item_is_no_link 0 5 (k + 1) ks e
+  no_item_twice ks ns now (last.waited js ms v says e) = item_is_no_link 0 0 0 5 v ks e
+  no_item_twice ks ns now (last.found js ms k ne new e) = item_is_no_link 0 0 0 5 (k + 1) ks e
 
   -- the item is not loaded again
   pub taken_twice_none : IsOnNoPath taken_twice

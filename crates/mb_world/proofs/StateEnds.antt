@@ -2,6 +2,7 @@
 use Rattle.std.proofs.Common.{◌≡◌, ◌↔◌, ◌⊎◌, ℕ, ◌∷◌, refl, sym, ◌∙◌, ap, subst, inl, inr}
 use Rattle.std.proofs.lemmas.Bool.{cases_eq, ne_eqb}
 use Rattle.mb_claim.specs.declared.access.Stage.TheVariants as stage
+use Rattle.mb_cells.proofs.Names.{is_same_process-refl}
 use Rattle.mb_world.specs.declared.report.Note.{Note}
 use Rattle.mb_world.specs.declared.report.Note.TheVariants.{Took, Lost, Undecided}
 use Rattle.mb_world.specs.Imports.{Claims, Has, History, IsClaimPrefix, Item, Load, ObjectTurn, PoolAccess, Reader, Stage, Word, claim_part, load, part}
@@ -9,7 +10,6 @@ use Rattle.mb_world.specs.Fitting.{EndsAs, HasRead, parts_of}
 use Rattle.mb_world.specs.World.{ToCells, WorldHistory, claim_accesses, histories_of, pool_accesses}
 use Rattle.mb_world.specs.ConsumerPath.{claim_access, claim_step}
 use Rattle.mb_world.proofs.Claimed.{part-another, part-elsewhere}
-use Rattle.mb_world.proofs.ReaderParts.{reader_same}
 
 module _ (cs : Claims) where
   -- after a history, the claim of consumer d on cell j has ended as the note says
@@ -29,7 +29,7 @@ module _ (cs : Claims) where
 
       -- the loads of consumer c are those before and this one
       own_loads : part (Reader c) (pool_accesses loaded) ≡ load c w v ∷ part (Reader c) (pool_accesses h)
-      own_loads = rw (reader_same c) refl
+      own_loads = rw (is_same_process-refl (Reader c)) refl
 
       -- the loads of other consumers stay
       other_loads : (d : ℕ) → (d ≡ c → ⊥) → part (Reader d) (pool_accesses loaded) ≡ part (Reader d) (pool_accesses h)

@@ -1,9 +1,9 @@
 -- The notes of a world's state, read along the cells of a lane.
-use Rattle.std.proofs.Common.{◌≡◌, ◌⊎◌, ℕ, zero, suc, ◌+◌, ◌<◌, ◌++◌, take, get_or, Bool, true, false, ◌||◌, List, [], ◌∷◌, length, map, filter, Option}
+use Rattle.std.proofs.Common.{◌≡◌, ℕ, zero, suc, ◌+◌, ◌<◌, ◌++◌, take, get_or, Bool, true, false, List, [], ◌∷◌, length, map, filter, Option}
 use Rattle.std.proofs.Common.{Some, None, refl, sym, ◌∙◌, ap, subst, inl, inr, arith}
 use Rattle.std.specs.Prelude.{reverse, slice_get, cond}
 use Rattle.std.specs.List.{filter_map}
-use Rattle.std.proofs.lemmas.Bool.{cases_eq}
+use Rattle.std.proofs.lemmas.Bool.{cases_eq, or_left, or_right}
 use Rattle.std.proofs.lemmas.List.{append-nil}
 use Rattle.std.proofs.lemmas.List.Elements.{filter_map-append}
 use Rattle.mb_world.specs.declared.report.Note.{Note}
@@ -18,19 +18,10 @@ use mathlib.Core.List.{reverse-cons}
 -- if a number below n passes the test, one is found
 pub any_below-some : (n c : ℕ) (test : ℕ → Bool) → c < n → test c ≡ true → any_below n test ≡ true
 any_below-some zero c test less e = absurd (omega arith)
-any_below-some (suc n) c test less e = by (cases_eq c n) (λ under. any_below-some n c test under e)
-  where
-    top : (b : Bool) → b ≡ true → (b || any_below n test) ≡ true
-    top true e = refl
-    top false e = absurd (cc)
-
-    rest : (b : Bool) → any_below n test ≡ true → (b || any_below n test) ≡ true
-    rest true e = refl
-    rest false e = e
-
-    by : (c ≡ n) ⊎ (c ≡ n → ⊥) → (c < n → any_below n test ≡ true) → any_below (suc n) test ≡ true
-    by (inl same) older = top (test n) (subst (λ i. test i ≡ true) same e)
-    by (inr other) older = rest (test n) (older (omega (arith, less, other)))
+any_below-some (suc n) c test less e = elim (cases_eq c n) [
+  | inl same ↦ or_left (test n) (any_below n test) (subst (λ i. test i ≡ true) same e)
+  | inr other ↦ or_right (test n) (any_below n test) (any_below-some n c test (omega (arith, less, other)) e)
+]
 
 -- tests that agree below a bound find alike whether a number there passes
 pub any_below-same : (n : ℕ) (f g : ℕ → Bool) → ((c : ℕ) → c < n → f c ≡ g c) → any_below n f ≡ any_below n g

@@ -35,7 +35,7 @@ use Rattle.mb_world.proofs.StateNotes.{any_below-same, items_chosen, none_noted,
 use Rattle.mb_world.proofs.Tracks.{AreEnds, EndsIn, closed, ends_more, ends_some}
 use Rattle.mb_world.proofs.WorldClaims.{end_here, met_all, on_lane, tracks}
 use Rattle.mb_world.proofs.WorldDiaries.{diary_is, ended_within, no_other}
-use Rattle.mb_world.proofs.WorldKnown.{WorldKnown}
+use Rattle.mb_world.specs.WorldKnown.{WorldKnown}
 use mathlib.Core.List.{reverse-cons}
 
 -- ---- lists of cells

@@ -22,7 +22,7 @@ use Rattle.mb_world.proofs.HeldStates.{AtCell, at_cell, below, part_is, prefix, 
 use Rattle.mb_world.proofs.LoadStates.{adds, given, load_adds, loaded}
 use Rattle.mb_world.proofs.StateEnds.{HasItem, item_loads, load_keeps, this_load, won_end}
 use Rattle.mb_world.proofs.StateSteps.{AreNotes, notes_set, own_place, plan, places_set}
-use Rattle.mb_world.proofs.StepKnown.{StepKnown}
+use Rattle.mb_world.specs.StepKnown.{StepKnown}
 
 module _ (s : WorldState) (h : WorldHistory) (is : IsWorldAfter h s) (c p : ℕ) (cs : c < consumers_of (plan s h is))
     (ps : p < (plan s h is).lanes) (known : StepKnown s h c p) (k : ℕ) (claim : Claim)

@@ -12,18 +12,18 @@ use Rattle.mb_world.specs.World.{ToClaims, WorldHistory, claim_accesses, histori
 use Rattle.mb_world.specs.Worlds.{IsOnPath, IsWorldLawful}
 use Rattle.mb_world.proofs.Cells.{cell-of_true, once_start}
 use Rattle.mb_world.proofs.LaneParts.{Has-of_filter, claim_has, claim_on}
-use Rattle.mb_world.proofs.PathLoads.{met_more, path_met}
+use Rattle.mb_world.proofs.PathLoads.{HasMet-more, path_met}
 use Rattle.mb_world.proofs.Positions.{at_has, at_start, has_at}
 use Rattle.mb_world.proofs.ReaderParts.{of_part}
 use Rattle.mb_world.proofs.Tracks.{EndsIn, Tracks, track}
-use Rattle.mb_world.proofs.WorldKnown.{WorldKnown}
+use Rattle.mb_world.specs.WorldKnown.{WorldKnown}
 use Rattle.mb_world.proofs.WorldPool.{loads, loads_on, of_lane, read_here}
 
 module _ (plan : Plan) (h : WorldHistory) (lawful : IsWorldLawful plan h) (known : WorldKnown plan h) where
   -- the cells to which a consumer's path leads were met
   pub met_all : (c p : ℕ) (y : IsOnPath plan c p h) → HasMet c p y.cells (pool_accesses h)
   met_all c p y =
-      met_more c p (pool_accesses (lane_part c p h)) (pool_accesses h) y.cells
+      HasMet-more c p (pool_accesses (lane_part c p h)) (pool_accesses h) y.cells
       (λ a has. (of_part c (pool_accesses h) a (Has-of_filter (of_lane plan h lawful p) (loads plan h lawful c) a
       (subst (λ (d : History). Has d a) (loads_on plan h lawful c p) has))).0) (path_met plan.claims c y.path)
 

@@ -20,7 +20,7 @@ use Rattle.mb_world.proofs.PathLoads.{path_gave}
 use Rattle.mb_world.proofs.Positions.{StandsAt, at_has, at_reverse, reverse_at}
 use Rattle.mb_world.proofs.Tracks.{EndsIn, Tracks, closed}
 use Rattle.mb_world.proofs.WorldClaims.{end_here, met_all, met_once, on_lane, steps_there, tracks}
-use Rattle.mb_world.proofs.WorldKnown.{WorldKnown}
+use Rattle.mb_world.specs.WorldKnown.{WorldKnown}
 use Rattle.mb_world.proofs.WorldPool.{load_lane, loads, loads_on, of_lane, on_word, read_there}
 
 -- a cell among those whose claims have ended is one of those met, at the same position

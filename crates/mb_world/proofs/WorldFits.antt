@@ -13,7 +13,7 @@ use Rattle.mb_world.proofs.LaneParts.{gave-filter}
 use Rattle.mb_world.proofs.Tracks.{EndsIn, closed, ends_some}
 use Rattle.mb_world.proofs.WorldClaims.{claim_lane, end_here, steps_there, tracks}
 use Rattle.mb_world.proofs.WorldFollows.{follows}
-use Rattle.mb_world.proofs.WorldKnown.{WorldKnown}
+use Rattle.mb_world.specs.WorldKnown.{WorldKnown}
 use Rattle.mb_world.proofs.WorldPool.{load_lane, loads, loads_on, of_lane, on_word, read_there}
 
 module _ (plan : Plan) (h : WorldHistory) (lawful : IsWorldLawful plan h) (known : WorldKnown plan h) where

@@ -2,6 +2,7 @@
 use Rattle.std.proofs.Common.{◌≡◌, ◌⊎◌, ℕ, ◌<◌, Bool, true, false, cond, List, [], ◌∷◌, Option, Some, None, refl, sym, ◌∙◌, ap, subst, inl, inr, eq-eqb}
 use Rattle.std.specs.Prelude.{filter}
 use Rattle.std.proofs.lemmas.Bool.{cases_Bool, cond_both}
+use Rattle.mb_cells.proofs.Names.{is_same_word-eq}
 use Rattle.mb_world.specs.Imports.{Has, History, IsLinkWord, PoolAccess, is_of_lane, is_same_word, linked_cells, place_past, push_if}
 use Rattle.mb_world.specs.Plan.{Plan, consumers_of}
 use Rattle.mb_world.specs.Fitting.{FollowsLinks, cell_given, cells_met}
@@ -9,9 +10,8 @@ use Rattle.mb_world.specs.World.{ToCells, WorldHistory, pool_accesses}
 use Rattle.mb_world.specs.Worlds.{IsOnLane, IsOnPath, IsWorldLawful}
 use Rattle.mb_world.proofs.Cells.{has_cell-true}
 use Rattle.mb_world.proofs.PathLoads.{FollowsLane, met_elsewhere, path_cells, path_follows}
-use Rattle.mb_world.proofs.ReaderParts.{word_is}
 use Rattle.mb_world.proofs.WorldClaims.{on_lane}
-use Rattle.mb_world.proofs.WorldKnown.{WorldKnown}
+use Rattle.mb_world.specs.WorldKnown.{WorldKnown}
 use Rattle.mb_world.proofs.WorldPool.{load_lane, loads, loads_on, of_lane, on_word}
 
 -- the link past cells of a lane is a word of it
@@ -67,7 +67,7 @@ module _ (p : ℕ) (ls : List ℕ) where
           -- the link past cells of the lane is a word of the lane
           on_past : is_same_word a.word (place_past p (cells_met p older)) ≡ true → test a ≡ true
           on_past t =
-              subst (λ w. is_of_lane p ls w ≡ true) (sym (word_is a.word (place_past p (cells_met p older)) t))
+              subst (λ w. is_of_lane p ls w ≡ true) (sym (is_same_word-eq a.word (place_past p (cells_met p older)) t))
               (past_lane p (cells_met p older) ls
               (λ k has. older_linked a older all k (subst (λ ks. Has ks k) (sym same) has)))
 

@@ -21,3 +21,7 @@ pub mod WorldState
 pub mod StateReport
 pub mod EventSteps
 pub mod Waiting
+pub mod Known
+pub mod WorldKnown
+pub mod EventKnown
+pub mod StepKnown

@@ -26,6 +26,7 @@ ghost use Rattle.mb_world.specs.declared.event.Answer.{Answer};
 ghost use Rattle.mb_world.specs.declared.event.Answer.TheVariants as answer;
 ghost use Rattle.mb_world.specs.declared.event.Event.{Event};
 ghost use Rattle.mb_world.specs.declared.event.Event.TheVariants as event;
+ghost use Rattle.mb_world.specs.EventKnown.{EventKnown};
 ghost use Rattle.mb_world.specs.Replay.{IsAccessOf, HasAnswer, IsRefused, IsRefusedOrMade, IsReplay};
 ghost use Rattle.mb_world.specs.World.{WorldAccess, WorldHistory, claim_accesses, histories_of, lane_part};
 ghost use Rattle.mb_world.specs.World.{pool_accesses};
@@ -33,13 +34,13 @@ ghost use Rattle.mb_world.specs.Imports.{HasFoundNone, HasPending, has_ended};
 ghost use Rattle.mb_world.specs.Waiting.{HasNothing};
 ghost use Rattle.mb_world.specs.Worlds.{IsWorldLawful};
 
+use crate::known::{sound_histories_are_known, worlds_are_known};
 use mb_cells::laws::{
-    cells_stand_once, end_marks_are_last, lanes_refuse_by_what_was_done, loads_tell_what_stays,
-    numbers_are_handed_out_once, readers_follow_lanes, readers_keep_to_lanes,
-    words_lead_through_lanes,
+    cells_stand_once, end_marks_are_last, lanes_refuse_by_what_was_done,
+    numbers_are_handed_out_once, readers_keep_to_lanes, words_lead_through_lanes,
 };
 use mb_cells::steps::{accesses_stay_within, history_extends, lanes_lead_on};
-use mb_claim::laws::{claims_have_one_winner, last_objects_decide_claims, prefixes_have_one_stage};
+use mb_claim::laws::{last_objects_decide_claims, prefixes_have_one_stage};
 use mb_claim::steps::claims_have_one_next_op;
 use mb_deciding::laws::objects_keep_their_promises;
 
@@ -50,12 +51,8 @@ pub fn reports_have_one_assignment()
     ensures { (plan : Plan) (hs : Histories) (r : ReportView) → AreSound plan hs
         → IsReportOf plan hs r → IsHonest plan hs r }
 {
-    prefixes_have_one_stage();
-    claims_have_one_winner();
-    readers_follow_lanes();
-    loads_tell_what_stays();
+    sound_histories_are_known();
     end_marks_are_last();
-    cells_stand_once();
 }
 
 /// There is at most one report of what was done.
@@ -63,12 +60,7 @@ pub fn histories_have_one_report()
     ensures { (plan : Plan) (hs : Histories) (r s : ReportView) → AreSound plan hs
         → IsReportOf plan hs r → IsReportOf plan hs s → r ≡ s }
 {
-    prefixes_have_one_stage();
-    claims_have_one_winner();
-    readers_follow_lanes();
-    loads_tell_what_stays();
-    end_marks_are_last();
-    cells_stand_once();
+    sound_histories_are_known();
 }
 
 /// A report that agrees with an assignment is settled: what was competed for is left only beside an unfinished claim.
@@ -113,12 +105,7 @@ pub fn competitors_have_accesses()
         → HasCompeted c p j r ↔ (claim_part c k hs.claims ≢ []) }
 {
     objects_keep_their_promises();
-    prefixes_have_one_stage();
-    claims_have_one_winner();
-    readers_follow_lanes();
-    loads_tell_what_stays();
-    end_marks_are_last();
-    cells_stand_once();
+    sound_histories_are_known();
 }
 
 /// The cells that a consumer's own loads met on a lane are all that it met there.
@@ -126,12 +113,7 @@ pub fn parts_tell_cells_met()
     ensures { (plan : Plan) (hs : Histories) (c p : ℕ) → AreSound plan hs → c < consumers_of plan
         → HasMetAll (hs.reader_of c) p (cells_met p (parts_of c hs).reads) hs.pool }
 {
-    prefixes_have_one_stage();
-    claims_have_one_winner();
-    readers_follow_lanes();
-    loads_tell_what_stays();
-    end_marks_are_last();
-    cells_stand_once();
+    sound_histories_are_known();
 }
 
 /// A lawful history of a world, cut into that of its claims and that of its cells, is sound. So one assignment agrees
@@ -143,9 +125,7 @@ pub fn worlds_are_sound()
         → IsQuorumTable plan.claims.table → IsWorldLawful plan h
         → IsReportOf plan (histories_of h) r → IsHonest plan (histories_of h) r }
 {
-    prefixes_have_one_stage();
-    cells_stand_once();
-    readers_follow_lanes();
+    worlds_are_known();
     readers_keep_to_lanes();
     reports_have_one_assignment();
 }
@@ -179,10 +159,8 @@ pub fn places_tell_diaries()
         → ConsumerPath plan.claims c p (lane_part c p h) (k ∷ ks) ns (Some xs)
         → (claim_part c k (claim_accesses h) ≡ xs) × (k < plan.claims.cells) }
 {
-    prefixes_have_one_stage();
     worlds_are_sound();
-    cells_stand_once();
-    readers_follow_lanes();
+    worlds_are_known();
 }
 
 /// A step returns that it found nothing exactly if there is nothing. That is: its consumer holds no claim on the lane
@@ -193,12 +171,22 @@ pub fn nothing_is_exact()
         → HasAnswer plan (event.Step c p word) r a h
         → (r ≡ answer.Looked look.Nothing) ↔ HasNothing plan c p h }
 {
-    prefixes_have_one_stage();
-    cells_stand_once();
-    readers_follow_lanes();
     words_lead_through_lanes();
     worlds_are_sound();
+    worlds_are_known();
     paths_lead_to_one_place();
+}
+
+/// What the laws of claims, of cells and of worlds give for one more access after a lawful history of a world.
+fn events_are_known()
+    ensures { (plan : Plan) (h : WorldHistory) → IsQuorumTable plan.claims.table
+        → IsWorldLawful plan h → EventKnown plan h }
+{
+    prefixes_have_one_stage();
+    claims_have_one_next_op();
+    cells_stand_once();
+    lanes_lead_on();
+    worlds_are_sound();
 }
 
 /// After a lawful history, events have at most one replay. Each event has at most one answer, with one access or with
@@ -219,11 +207,7 @@ pub fn replays_do_not_differ()
         → IsQuorumTable plan.claims.table → IsWorldLawful plan was → IsReplay plan es rs was now
         → IsWorldLawful plan now }
 {
-    prefixes_have_one_stage();
-    claims_have_one_next_op();
-    cells_stand_once();
-    lanes_lead_on();
-    worlds_are_sound();
+    events_are_known();
 }
 
 /// What a producer has done decides whether its event is refused, and with which answer.
@@ -289,12 +273,11 @@ pub fn events_of_producers_are_refused_or_made()
     ensures finish { (plan : Plan) (h : WorldHistory) (p : ℕ) → IsQuorumTable plan.claims.table
         → IsWorldLawful plan h → p < plan.lanes → IsRefusedOrMade plan (event.Finish p) h }
 {
-    prefixes_have_one_stage();
-    claims_have_one_next_op();
     cells_stand_once();
     lanes_lead_on();
     accesses_stay_within();
     numbers_are_handed_out_once();
     worlds_are_sound();
     history_extends();
+    events_are_known();
 }

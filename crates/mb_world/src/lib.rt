@@ -8,6 +8,7 @@
 
 mod event;
 pub mod examples;
+mod known;
 pub mod laws;
 mod place;
 mod report;

@@ -16,6 +16,7 @@ ghost use Rattle.mb_world.specs.World.{WorldAccess, WorldHistory, lane_part, poo
 ghost use Rattle.mb_world.specs.ConsumerPath.{ConsumerPath};
 ghost use Rattle.mb_world.specs.Worlds.{ConsumerAdds, IsTrueTo, IsWorldLawful, ProducerAdds};
 
+use crate::known::worlds_are_known;
 use crate::laws::worlds_are_sound;
 use mb_cells::laws::{cells_stand_once, readers_follow_lanes};
 use mb_cells::steps::history_extends as one_pool_step;
@@ -39,10 +40,9 @@ pub fn history_extends()
         → IsPoolLawful (size_of plan) (a ∷ pool_accesses h)
         → ProducerAdds plan a h }
 {
-    prefixes_have_one_stage();
     worlds_are_sound();
+    worlds_are_known();
     cells_stand_once();
-    readers_follow_lanes();
     one_pool_step();
 }
 

@@ -1,11 +1,12 @@
 //! The report of a world, read off its words, its places and its notes.
 use super::World;
+use crate::known::worlds_are_known;
 use crate::laws::{last_objects_settle_items, shaped_setups_have_last_objects, worlds_are_sound};
 use crate::place::Place;
 use crate::report::{Diary, LaneReport, Note, Report};
-use mb_cells::laws::{cells_stand_once, pools_show_lanes, readers_follow_lanes};
+use mb_cells::laws::{cells_stand_once, pools_show_lanes};
 use mb_cells::{Cursor, Look, NoMemory};
-use mb_claim::laws::{layouts_are_sound, prefixes_have_one_stage};
+use mb_claim::laws::layouts_are_sound;
 use mb_deciding::laws::objects_keep_their_promises;
 use std::alloc::Allocator;
 
@@ -45,10 +46,8 @@ impl<A: Allocator + Clone + Drop> World<A> {
     {
         layouts_are_sound();
         objects_keep_their_promises();
-        prefixes_have_one_stage();
-        cells_stand_once();
         worlds_are_sound();
-        readers_follow_lanes();
+        worlds_are_known();
         last_objects_settle_items();
         shaped_setups_have_last_objects();
         Ok(Report {

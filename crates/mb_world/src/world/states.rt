@@ -21,7 +21,9 @@ ghost use Rattle.mb_world.specs.declared.event.Event.TheVariants as event;
 ghost use Rattle.mb_world.specs.declared.report.Note.TheVariants.{Took};
 ghost use Rattle.mb_world.specs.declared.place.Place.TheVariants.{At, Before};
 ghost use Rattle.mb_world.specs.Imports.{Item, ObjectTurn};
+ghost use Rattle.mb_world.specs.Plan.{consumers_of};
 ghost use Rattle.mb_world.specs.Setups.{layout_of, plan_in};
+ghost use Rattle.mb_world.specs.StepKnown.{StepKnown};
 ghost use Rattle.mb_world.specs.World.{WorldHistory, claim_accesses, pool_accesses};
 ghost use Rattle.mb_world.specs.ConsumerPath.{note_of};
 ghost use Rattle.mb_world.specs.WorldState.{IsWorldAfter, WorldState};
@@ -29,11 +31,23 @@ ghost use Rattle.mb_world.specs.Replay.{IsRefused};
 ghost use Rattle.mb_world.specs.Places.{place_after};
 ghost use Rattle.mb_world.specs.EventSteps.{EventAdds, HasPlace, with_note, with_note_if, with_place, with_pool, with_words};
 
+use crate::known::worlds_are_known;
 use crate::laws::worlds_are_sound;
 use crate::steps::history_extends;
-use mb_cells::laws::{cells_stand_once, readers_follow_lanes};
 use mb_cells::steps::loads_leave_pools;
-use mb_claim::laws::{layouts_are_sound, prefixes_have_one_stage};
+use mb_claim::laws::layouts_are_sound;
+
+/// What the laws of claims, of cells and of worlds give for a step of a consumer on a lane.
+fn steps_are_known()
+    ensures { (s : WorldState) (h : WorldHistory) (c p : ℕ) → IsWorldAfter h s
+        → c < consumers_of (plan_in s.setup) → p < (plan_in s.setup).lanes → StepKnown s h c p }
+{
+    layouts_are_sound();
+    loads_leave_pools();
+    worlds_are_sound();
+    worlds_are_known();
+    history_extends();
+}
 
 /// What a look of a consumer that holds no claim makes of the state.
 pub(super) fn looks_leave_states()
@@ -55,13 +69,7 @@ pub(super) fn looks_leave_states()
         → look_after at (pool_accesses h) ≡ z → ((k : ℕ) → z ≢ look.Cell k)
         → EventAdds (event.Step c p word) (answer.Looked z) s h }
 {
-    layouts_are_sound();
-    prefixes_have_one_stage();
-    cells_stand_once();
-    readers_follow_lanes();
-    loads_leave_pools();
-    worlds_are_sound();
-    history_extends();
+    steps_are_known();
 }
 
 /// What the item's load by a consumer whose claim is won makes of the state: the consumer has its note, and stands past
@@ -73,13 +81,7 @@ pub(super) fn takes_leave_states()
         EventAdds (event.Step c p word) (answer.Took k v)
         (with_note c k (Took v) (with_place c p (Before (Past k)) s)) h }
 {
-    layouts_are_sound();
-    prefixes_have_one_stage();
-    cells_stand_once();
-    readers_follow_lanes();
-    loads_leave_pools();
-    worlds_are_sound();
-    history_extends();
+    steps_are_known();
 }
 
 /// What a step of a consumer's claim makes of the state.
@@ -108,13 +110,7 @@ pub(super) fn claims_leave_states()
         (with_note_if c k (note_of (claim_stage now))
         (with_place c p (place_after k now (claim_stage now)) (with_words words s))) h }
 {
-    layouts_are_sound();
-    prefixes_have_one_stage();
-    cells_stand_once();
-    readers_follow_lanes();
-    loads_leave_pools();
-    worlds_are_sound();
-    history_extends();
+    steps_are_known();
 }
 
 /// What a call of the pool for a producer makes of the state.

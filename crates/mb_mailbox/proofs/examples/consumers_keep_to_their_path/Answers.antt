@@ -5,8 +5,10 @@ use Rattle.mb_mailbox.specs.Imports.{Claims, Head, IsClaimPrefix, Item, Link, Ob
 use Rattle.mb_mailbox.specs.declared.consumer.Poll.{Poll}
 use Rattle.mb_mailbox.specs.declared.consumer.Poll.TheVariants as poll
 use Rattle.mb_mailbox.specs.ConsumerStep.{ConsumerStep, competes, link_answer, looks, stage_answer, takes}
-use Rattle.mb_mailbox.specs.Examples.{head_loaded, link_loaded, met_four, nothing_done}
-use Rattle.mb_mailbox.proofs.ExampleParts.{cell_in, only_head, step_in, value_loaded, word_in}
+use Rattle.mb_world.specs.PartSteps.{no_parts}
+use Rattle.mb_mailbox.specs.Examples.{head_loaded, link_loaded, met_four}
+use Rattle.mb_mailbox.proofs.ExampleParts.{cell_in, only_head, step_in, value_loaded}
+use Rattle.mb_mailbox.proofs.Looks.{word_in}
 use Rattle.mb_mailbox.proofs.examples.consumers_keep_to_their_path.Goals as goal
 
 -- the law of `prefixes_have_one_stage`
@@ -15,12 +17,12 @@ OneStage = (cs : Claims) (c : ℕ) (xs : List ObjectTurn) (s r : Stage) → IsQu
     → IsClaimPrefix cs c xs s → IsClaimPrefix cs c xs r → s ≡ r
 
 -- Each lemma goes by the rules of a step. An access that is not that of the rule has another word, cell or kind
-other_lane : (cs : Claims) → ConsumerStep cs 0 0 nothing_done (link_load 0 1 [] 0) (Some poll.Nothing) → ⊥
+other_lane : (cs : Claims) → ConsumerStep cs 0 0 no_parts (link_load 0 1 [] 0) (Some poll.Nothing) → ⊥
 other_lane cs (looks v past e answer) = let w : Some (Head 1) ≡ Some (Head 0) = ap word_in e in absurd (cc)
 other_lane cs (competes k t now last going after e answer) = let w : Some (Head 1) ≡ None = ap word_in e in absurd (cc)
 other_lane cs (takes k v last won e answer) = let w : Some (Head 1) ≡ Some (Item k) = ap word_in e in absurd (cc)
 
-linked : (cs : Claims) → ConsumerStep cs 0 0 nothing_done (head_loaded 5) (Some poll.Nothing) → ⊥
+linked : (cs : Claims) → ConsumerStep cs 0 0 no_parts (head_loaded 5) (Some poll.Nothing) → ⊥
 linked cs (looks v past e answer) =
     let loaded : Some 5 ≡ Some v = ap value_loaded e in
     let same : 5 ≡ v = cc in

@@ -7,7 +7,8 @@ use Rattle.mb_mailbox.specs.ConsumerStep.{ConsumerStep, competes, link_answer, l
 use Rattle.mb_mailbox.specs.declared.consumer.Poll.TheVariants as poll
 use Rattle.mb_mailbox.specs.Steps.{HasDone, LeadTo, parts_after}
 use Rattle.mb_mailbox.specs.Imports.{claims_at}
-use Rattle.mb_mailbox.proofs.ExampleParts.{value_loaded, word_in}
+use Rattle.mb_mailbox.proofs.ExampleParts.{value_loaded}
+use Rattle.mb_mailbox.proofs.Looks.{word_in}
 use Rattle.mb_mailbox.proofs.examples.polls_end_with_their_answer.Goals as goal
 
 -- a look at the head that finds nothing has an answer

@@ -1,9 +1,10 @@
 use Rattle.std.proofs.Common.{◌≡◌, ◌∙◌, ◌++◌, ◌∷◌, [], ℕ, arith, map, subst}
 use Rattle.std.specs.Prelude.{Some, slice_set}
+use Rattle.std.proofs.lemmas.Option.{get_or_from_slice_get}
 use Rattle.mb_mailbox.specs.LaneNotes.{note_in}
 use Rattle.mb_mailbox.specs.Steps.{with_note}
 use Rattle.mb_mailbox.proofs.LaneLists.{filed_on}
-use Rattle.mb_mailbox.proofs.Lists.{get_or_is, get_some}
+use Rattle.mb_mailbox.proofs.Lists.{get_some}
 use Rattle.mb_mailbox.proofs.notes.file.Goals as goal
 
 -- `was` says that the list taken out is the one of the note's lane
@@ -15,7 +16,7 @@ returns-in_ok-push g c =
     let len = c.len.ensures in
     let t = get_some vs p (omega (arith, low, len)) in
     let was : c.index_mut.result.now ≡ t.0 = c.index_mut.ensures.value
-    ∙ get_or_is vs p c.index_mut.result.now t.0 t.1 in
+    ∙ get_or_from_slice_get vs p t.0 c.index_mut.result.now t.1 in
     subst (λ (q : ℕ). map (λ v. v.items) (slice_set vs p c.push.new.self)
     ≡ with_note q (Some (note_in c.args.noted)) (map (λ v. v.items) vs))
     c.lane-lane.ensures

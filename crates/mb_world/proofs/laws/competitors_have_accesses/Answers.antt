@@ -1,27 +1,10 @@
 -- Proof of `laws::competitors_have_accesses`: by the report a consumer competed for an item exactly if it made an
 -- access to its claim there.
-use Rattle.mb_world.specs.Plan.{size_of}
 use Rattle.mb_world.proofs.Competitors.{competes}
 use Rattle.mb_world.proofs.FreshClaims.{fresh_goes}
-use Rattle.mb_world.proofs.Known.{Known}
 use Rattle.mb_world.proofs.laws.competitors_have_accesses.Goals as goal
 
 pub returns : goal.returns
 returns c plan hs r d p j k sound is some ds ps here =
-    let size = size_of plan in
-    let lawful = sound.pool_lawful in
-    let known : Known plan hs = record {
-      winner = λ k. c.claims_have_one_winner.ensures plan.claims hs.claims k sound.table sound.claims_lawful;
-      stage = λ d xs s q. c.prefixes_have_one_stage.ensures plan.claims d xs s q sound.table;
-      claimant = λ d k some. let part = sound.claims_lawful.parts d k some in (part.0, part.2);
-      fit = sound.fit;
-      path = lawful.readers;
-      start = λ q p ks. c.readers_follow_lanes.ensures.met size hs.pool q p ks lawful;
-      chain = λ q k. c.readers_follow_lanes.ensures.chains size hs.pool q k lawful;
-      item = λ q k x. c.loads_tell_what_stays.ensures.item size hs.pool q k x lawful;
-      end = λ q p ks. c.end_marks_are_last.ensures.reader size hs.pool q p ks lawful;
-      one_lane = λ p q k. c.cells_stand_once.ensures.lane size hs.pool p q k lawful;
-      once = λ p. c.cells_stand_once.ensures.once size hs.pool p lawful;
-    } in
-    competes plan hs known
+    competes plan hs (c.sound_histories_are_known.ensures plan hs sound)
     (fresh_goes plan.claims sound.table c.objects_keep_their_promises.ensures some) r is d p j k ds ps here

@@ -8,7 +8,6 @@ use Rattle.mb_world.specs.Imports.{ActFits, Counter, END, IsLanePrefix, PoolAcce
 use Rattle.mb_world.specs.Plan.{size_of}
 use Rattle.mb_world.specs.World.{ToCells, pool_accesses}
 use Rattle.mb_world.specs.Worlds.{IsWorldLawful}
-use Rattle.mb_world.proofs.EventKnown.{event_known}
 use Rattle.mb_world.proofs.MadeEvents.{finish_made, offer_made, push_made}
 use Rattle.mb_world.proofs.ProducerEvents.{no_mark}
 use Rattle.mb_world.proofs.ProducerSteps.{producer_goes_on}
@@ -49,12 +48,7 @@ returns-clause-push c plan h p table lawful ps =
     producer_goes_on plan h lawful p a maker now
     (λ q r k. c.cells_stand_once.ensures.lane size (a ∷ pool_accesses h) q r k now)
     (λ q. c.cells_stand_once.ensures.once size (a ∷ pool_accesses h) q now) in
-    let known = event_known plan (λ g. c.worlds_are_sound.ensures.sound plan g table) c.lanes_lead_on.ensures.lane
-    c.lanes_lead_on.ensures.one c.lanes_lead_on.ensures.fetches c.lanes_lead_on.ensures.stores
-    c.cells_stand_once.ensures.lane
-    (λ d xs s r. c.prefixes_have_one_stage.ensures plan.claims d xs s r table)
-    (c.claims_have_one_next_op.ensures.going plan.claims)
-    (λ a b g. c.claims_have_one_next_op.ensures.access plan.claims a b g table) h lawful in
+    let known = c.events_are_known.ensures plan h table lawful in
     push_made plan h p ps place.0 place.1 goes
     (λ s is. c.lanes_lead_on.ensures.prefix plan.claims.cells p (lane_after_push place.0)
     (store p s.0 s.1 ∷ part (Producer p) (pool_accesses h))

@@ -1,26 +1,18 @@
 -- Proof of `laws::nothing_is_exact`: a step returns that it found nothing exactly if there is nothing.
 use Rattle.std.proofs.Common.{ℕ, List, Option, None}
 use Rattle.mb_world.specs.declared.report.Note.{Note}
-use Rattle.mb_world.specs.Imports.{IsPoolLawful, ObjectTurn}
+use Rattle.mb_world.specs.Imports.{ObjectTurn}
 use Rattle.mb_world.specs.Plan.{size_of}
 use Rattle.mb_world.specs.World.{lane_part, pool_accesses}
 use Rattle.mb_world.specs.ConsumerPath.{ConsumerPath}
 use Rattle.mb_world.proofs.NothingFound.{nothing_found, nothing_there}
-use Rattle.mb_world.proofs.WorldKnown.{WorldKnown}
 use Rattle.mb_world.proofs.laws.nothing_is_exact.Goals as goal
 
 pub returns : goal.returns
 returns c plan h d p word r a table lawful entry =
     let size = size_of plan in
-    let pool : IsPoolLawful size (pool_accesses h) =
-    (c.worlds_are_sound.ensures.sound plan h table lawful).pool_lawful in
-    let known : WorldKnown plan h = record {
-      start = λ q e js. c.readers_follow_lanes.ensures.met size (pool_accesses h) q e js pool;
-      once = λ e. c.cells_stand_once.ensures.once size (pool_accesses h) e pool;
-      within = λ e k has. (c.cells_stand_once.ensures.within size (pool_accesses h) e k pool has).1;
-      one_lane = λ e q k. c.cells_stand_once.ensures.lane size (pool_accesses h) e q k pool;
-      stage = λ e xs z y. c.prefixes_have_one_stage.ensures plan.claims e xs z y table;
-    } in
+    let pool = (c.worlds_are_sound.ensures.sound plan h table lawful).pool_lawful in
+    let known = c.worlds_are_known.ensures plan h table pool in
     let next = λ (q k : ℕ) (later ks : List ℕ).
     c.words_lead_through_lanes.ensures.next size (pool_accesses h) q k later ks pool in
     let end = λ (q : ℕ). c.words_lead_through_lanes.ensures.end size (pool_accesses h) q pool in

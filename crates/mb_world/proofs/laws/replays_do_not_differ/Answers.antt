@@ -1,44 +1,19 @@
 -- Proof of `laws::replays_do_not_differ`: after a lawful history, events have at most one replay.
-use Rattle.mb_world.proofs.EventKnown.{event_known}
 use Rattle.mb_world.proofs.OneReplay.{never_both, one_entry, one_replay, replay_lawful}
 use Rattle.mb_world.proofs.laws.replays_do_not_differ.Goals as goal
 
 pub returns-clause-never_both : goal.returns-clause-never_both
-returns-clause-never_both c plan e r a h table lawful refused made longer = never_both plan h (
-    event_known plan (λ g.
-    c.worlds_are_sound.ensures.sound plan g table) c.lanes_lead_on.ensures.lane c.lanes_lead_on.ensures.one
-    c.lanes_lead_on.ensures.fetches c.lanes_lead_on.ensures.stores c.cells_stand_once.ensures.lane
-    (λ d xs s r. c.prefixes_have_one_stage.ensures plan.claims d xs s r table)
-    (c.claims_have_one_next_op.ensures.going plan.claims)
-    (λ a b g. c.claims_have_one_next_op.ensures.access plan.claims a b g table) h lawful
-    ) e r a refused made longer
+returns-clause-never_both c plan e r a h table lawful refused made longer =
+    never_both plan h (c.events_are_known.ensures plan h table lawful) e r a refused made longer
 
 pub returns-clause-entry : goal.returns-clause-entry
-returns-clause-entry c plan e r s a b h table lawful x y = one_entry plan h (
-    event_known plan (λ g.
-    c.worlds_are_sound.ensures.sound plan g table) c.lanes_lead_on.ensures.lane c.lanes_lead_on.ensures.one
-    c.lanes_lead_on.ensures.fetches c.lanes_lead_on.ensures.stores c.cells_stand_once.ensures.lane
-    (λ d xs s r. c.prefixes_have_one_stage.ensures plan.claims d xs s r table)
-    (c.claims_have_one_next_op.ensures.going plan.claims)
-    (λ a b g. c.claims_have_one_next_op.ensures.access plan.claims a b g table) h lawful
-    ) e r s a b x y
+returns-clause-entry c plan e r s a b h table lawful x y =
+    one_entry plan h (c.events_are_known.ensures plan h table lawful) e r s a b x y
 
 pub returns-clause-replay : goal.returns-clause-replay
-returns-clause-replay c plan es rs ss was now then table lawful x y = one_replay plan (
-    event_known plan (λ g.
-    c.worlds_are_sound.ensures.sound plan g table) c.lanes_lead_on.ensures.lane c.lanes_lead_on.ensures.one
-    c.lanes_lead_on.ensures.fetches c.lanes_lead_on.ensures.stores c.cells_stand_once.ensures.lane
-    (λ d xs s r. c.prefixes_have_one_stage.ensures plan.claims d xs s r table)
-    (c.claims_have_one_next_op.ensures.going plan.claims)
-    (λ a b g. c.claims_have_one_next_op.ensures.access plan.claims a b g table)
-    ) es rs ss was now then lawful x y
+returns-clause-replay c plan es rs ss was now then table lawful x y =
+    one_replay plan (λ h. c.events_are_known.ensures plan h table) es rs ss was now then lawful x y
 
 pub returns-clause-lawful : goal.returns-clause-lawful
-returns-clause-lawful c plan es rs was now table lawful x = replay_lawful plan (
-    event_known plan (λ g.
-    c.worlds_are_sound.ensures.sound plan g table) c.lanes_lead_on.ensures.lane c.lanes_lead_on.ensures.one
-    c.lanes_lead_on.ensures.fetches c.lanes_lead_on.ensures.stores c.cells_stand_once.ensures.lane
-    (λ d xs s r. c.prefixes_have_one_stage.ensures plan.claims d xs s r table)
-    (c.claims_have_one_next_op.ensures.going plan.claims)
-    (λ a b g. c.claims_have_one_next_op.ensures.access plan.claims a b g table)
-    ) es rs was now lawful x
+returns-clause-lawful c plan es rs was now table lawful x =
+    replay_lawful plan (λ h. c.events_are_known.ensures plan h table) es rs was now lawful x

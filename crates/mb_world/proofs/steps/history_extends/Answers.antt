@@ -1,14 +1,13 @@
 -- Proof of `steps::history_extends`: lawful histories of a world grow by one access after another.
 use Rattle.std.specs.Prelude.{ℕ, List, [], ◌∷◌, Option, None, ◌≡◌}
 use Rattle.mb_world.specs.declared.report.Note.{Note}
-use Rattle.mb_world.specs.Imports.{Has, IsOnceEach, IsPoolLawful, ObjectTurn, linked_cells}
+use Rattle.mb_world.specs.Imports.{Has, IsOnceEach, ObjectTurn, linked_cells}
 use Rattle.mb_world.specs.Plan.{size_of}
 use Rattle.mb_world.specs.World.{lane_part, pool_accesses}
 use Rattle.mb_world.specs.ConsumerPath.{ConsumerPath, begins}
 use Rattle.mb_world.proofs.ConsumerSteps.{goes_on, on, other_parts, own, own_part}
 use Rattle.mb_world.proofs.ProducerSteps.{parts_stay, producer_goes_on}
 use Rattle.mb_world.proofs.WorldClaims.{on_lane}
-use Rattle.mb_world.proofs.WorldKnown.{WorldKnown}
 use Rattle.mb_world.proofs.steps.history_extends.Goals as goal
 
 pub returns-clause-empty : goal.returns-clause-empty
@@ -27,16 +26,8 @@ returns-clause-empty c plan sized =
 
 pub returns-clause-consumer : goal.returns-clause-consumer
 returns-clause-consumer c plan h d p a ks ns held table lawful ds ps may next =
-    let size = size_of plan in
-    let pool : IsPoolLawful size (pool_accesses h) =
-    (c.worlds_are_sound.ensures.sound plan h table lawful).pool_lawful in
-    let known : WorldKnown plan h = record {
-      start = λ q r js. c.readers_follow_lanes.ensures.met size (pool_accesses h) q r js pool;
-      once = λ r. c.cells_stand_once.ensures.once size (pool_accesses h) r pool;
-      within = λ r k has. (c.cells_stand_once.ensures.within size (pool_accesses h) r k pool has).1;
-      one_lane = λ r q k. c.cells_stand_once.ensures.lane size (pool_accesses h) r q k pool;
-      stage = λ e xs s r. c.prefixes_have_one_stage.ensures plan.claims e xs s r table;
-    } in
+    let sound = c.worlds_are_sound.ensures.sound plan h table lawful in
+    let known = c.worlds_are_known.ensures plan h table sound.pool_lawful in
     let start : (e q : ℕ) (js : List ℕ) (ms : List Note) (z : Option (List ObjectTurn))
     → ConsumerPath plan.claims e q (lane_part e q h) js ms z → (k : ℕ) → Has js k
     → Has (linked_cells q (pool_accesses h)) k =

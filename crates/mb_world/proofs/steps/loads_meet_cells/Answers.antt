@@ -1,13 +1,12 @@
 -- Proof of `steps::loads_meet_cells`: the cells that a reader's own loads met on a lane: how they grow load by load,
 -- and what they are in a lawful history with these loads.
-use Rattle.std.proofs.Common.{◌≡◌, ◌≢◌, ◌∙◌, ◌+◌, false, ap, inl, inr, refl}
-use Rattle.std.proofs.lemmas.Bool.{cases_Bool}
-use Rattle.mb_world.specs.Imports.{Reader, Word, is_same_word, load, part, place_past, push_if}
+use Rattle.std.proofs.Common.{◌∙◌, ◌+◌, ap, refl}
+use Rattle.mb_cells.proofs.Names.{is_same_word-ne}
+use Rattle.mb_world.specs.Imports.{Reader, load, part, place_past, push_if}
 use Rattle.mb_world.specs.Fitting.{cells_met}
 use Rattle.mb_world.proofs.Loads.{met_given}
 use Rattle.mb_world.proofs.MetCells.{all_met_in, met_in, on_lane_in, once_in}
 use Rattle.mb_world.proofs.PathLoads.{met_elsewhere, met_there, none_given, one_given}
-use Rattle.mb_world.proofs.ReaderParts.{word_is}
 use Rattle.mb_world.proofs.steps.loads_meet_cells.Goals as goal
 
 pub returns-clause-cell : goal.returns-clause-cell
@@ -20,16 +19,9 @@ returns-clause-none c q p v reads says =
     met_there p (cells_met p reads) (load q (place_past p (cells_met p reads)) v) reads refl refl
     ∙ ap (λ o. push_if o (cells_met p reads)) (none_given v says)
 
--- two words that differ do not pass the test for one word
-other_word : (v w : Word) → v ≢ w → is_same_word v w ≡ false
-other_word v w ne = elim (cases_Bool (is_same_word v w)) [
-  | inl same ↦ absurd (ne (word_is v w same))
-  | inr other ↦ other
-]
-
 pub returns-clause-elsewhere : goal.returns-clause-elsewhere
 returns-clause-elsewhere c p a reads ne =
-    met_elsewhere p a reads (other_word a.word (place_past p (cells_met p reads)) ne)
+    met_elsewhere p a reads (is_same_word-ne a.word (place_past p (cells_met p reads)) ne)
 
 pub returns-clause-met : goal.returns-clause-met
 returns-clause-met c q p h = met_in q p h

@@ -3,14 +3,12 @@
 use Rattle.std.proofs.Common.{◌≢◌, []}
 use Rattle.mb_claim.specs.Layouts.{kinds_of, pair_count, shape_of}
 use Rattle.mb_deciding.specs.Spread.{spread}
-use Rattle.mb_world.specs.Imports.{IsPoolLawful}
-use Rattle.mb_world.specs.Plan.{consumers_of, size_of}
+use Rattle.mb_world.specs.Plan.{consumers_of}
 use Rattle.mb_world.specs.Setups.{plan_in}
 use Rattle.mb_world.specs.Report.{ReportView}
-use Rattle.mb_world.specs.World.{histories_of, pool_accesses}
+use Rattle.mb_world.specs.World.{histories_of}
 use Rattle.mb_world.proofs.FreshClaims.{fresh_goes, some_row}
 use Rattle.mb_world.proofs.StateReports.{report_is}
-use Rattle.mb_world.proofs.WorldKnown.{WorldKnown}
 use Rattle.mb_world.proofs.world.World.report.Goals as goal
 
 -- what the state tells is the report of each history that leaves the world
@@ -18,17 +16,9 @@ pub returns-clause-exact : goal.returns-clause-exact
 returns-clause-exact g c h is =
     let s = c.args.self.now in
     let plan = plan_in s.setup in
-    let size = size_of plan in
     let table = c.layouts_are_sound.ensures.table s.setup.layout in
     let sound = c.worlds_are_sound.ensures.sound plan h table is.lawful in
-    let pool : IsPoolLawful size (pool_accesses h) = sound.pool_lawful in
-    let known : WorldKnown plan h = record {
-      start = λ q r js. c.readers_follow_lanes.ensures.met size (pool_accesses h) q r js pool;
-      once = λ r. c.cells_stand_once.ensures.once size (pool_accesses h) r pool;
-      within = λ r k has. (c.cells_stand_once.ensures.within size (pool_accesses h) r k pool has).1;
-      one_lane = λ r q k. c.cells_stand_once.ensures.lane size (pool_accesses h) r q k pool;
-      stage = λ e xs z r. c.prefixes_have_one_stage.ensures plan.claims e xs z r table;
-    } in
+    let known = c.worlds_are_known.ensures plan h table sound.pool_lawful in
     let some : kinds_of s.setup.layout ≢ [] =
     some_row (shape_of s.setup.layout) (spread (consumers_of plan)) (pair_count s.setup.layout)
     (c.layouts_are_sound.ensures.pairs s.setup.layout).0 in

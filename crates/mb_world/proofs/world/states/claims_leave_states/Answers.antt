@@ -3,31 +3,21 @@ use Rattle.std.proofs.Common.{refl}
 use Rattle.mb_claim.specs.OneClaim.{claim_stage}
 use Rattle.mb_world.proofs.CompeteStates.{competed}
 use Rattle.mb_world.proofs.HeldStates.{claim_on, goes_unless_won}
-use Rattle.mb_world.proofs.StepKnown.{step_known}
 use Rattle.mb_world.proofs.world.states.claims_leave_states.Goals as goal
 
 -- each clause takes its lemma, with what the laws give for a step of this consumer on this lane
 pub returns-clause-going : goal.returns-clause-going
 returns-clause-going c s h d p k claim is has not_won =
-    let known = step_known c.layouts_are_sound.ensures.table c.prefixes_have_one_stage.ensures
-    c.cells_stand_once.ensures.lane c.cells_stand_once.ensures.once c.cells_stand_once.ensures.within
-    c.readers_follow_lanes.ensures.met c.loads_leave_pools.ensures c.worlds_are_sound.ensures.sound
-    c.history_extends.ensures.consumer s h is d p has.consumer has.lane in
+    let known = c.steps_are_known.ensures s h d p is has.consumer has.lane in
     goes_unless_won s h is d p has.consumer has.lane known k claim has.place not_won
 
 pub returns-clause-on : goal.returns-clause-on
 returns-clause-on c s h d p k claim is has =
-    let known = step_known c.layouts_are_sound.ensures.table c.prefixes_have_one_stage.ensures
-    c.cells_stand_once.ensures.lane c.cells_stand_once.ensures.once c.cells_stand_once.ensures.within
-    c.readers_follow_lanes.ensures.met c.loads_leave_pools.ensures c.worlds_are_sound.ensures.sound
-    c.history_extends.ensures.consumer s h is d p has.consumer has.lane in
+    let known = c.steps_are_known.ensures s h d p is has.consumer has.lane in
     claim_on s h is d p has.consumer has.lane known k claim has.place
 
 pub returns-clause-competed : goal.returns-clause-competed
 returns-clause-competed c s h d p word k claim now words x is has going keeps random made =
-    let known = step_known c.layouts_are_sound.ensures.table c.prefixes_have_one_stage.ensures
-    c.cells_stand_once.ensures.lane c.cells_stand_once.ensures.once c.cells_stand_once.ensures.within
-    c.readers_follow_lanes.ensures.met c.loads_leave_pools.ensures c.worlds_are_sound.ensures.sound
-    c.history_extends.ensures.consumer s h is d p has.consumer has.lane in
+    let known = c.steps_are_known.ensures s h d p is has.consumer has.lane in
     competed s h is d p has.consumer has.lane known k claim has.place going words now x keeps made (claim_stage now)
     refl word random
