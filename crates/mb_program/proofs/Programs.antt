@@ -126,10 +126,12 @@ there names says =
     built_moved names ∙ ap (λ (texts : List Text). built (program_with (texts_at texts))) says
 
 -- ---- clap's rules say which words the program takes
+-- clap says which matches a command line of the program gives
 pub program_is_simple : (app : App) → IsProgramApp app → is_simple app ≡ true
 unfolding clap_on_literals
 program_is_simple app is = ap is_simple is.2 ∙ refl
 
+-- no argument of the program has a rule on another. So clap says which faults its words have
 pub program_is_free : (app : App) → IsProgramApp app → is_simple_and_free app ≡ true
 unfolding clap_on_literals
 program_is_free app is = ap is_simple_and_free is.2 ∙ refl

@@ -70,8 +70,8 @@ IsProgramRun words source sink errs reader reader' writer writer' errors errors'
     ((choice : Choice) × WordsName words choice
     × WasCarriedOut choice source sink reader reader' writer writer' ending.Done)
     × (errors' ≡ errors)
--- It failed, and the line of its fault was written to the second writer: whole, or a prefix if that writer failed, or
--- nothing at all. If nothing was written, memory ran out, but no clause can say that.
+-- The command that the words name failed. The line of its fault was written to the second writer: whole, or a prefix
+-- if that writer failed, or nothing at all. If nothing was written, memory ran out, but no clause can say that.
 IsProgramRun words source sink errs reader reader' writer writer' errors errors' (ending.Failed fault) =
     ((choice : Choice) × WordsName words choice
     × WasCarriedOut choice source sink reader reader' writer writer' (ending.Failed fault))
@@ -83,6 +83,6 @@ IsProgramRun words source sink errs reader reader' writer writer' errors errors'
     × IsTold sink errs writer writer' errors errors' kind printed
     × ((choice : Choice) → takes program words ≡ true → command_in words ≡ Some (choice_name choice)
     → kind ≡ OutOfMemory)
--- the words are given, so the program does not end because there are none
+-- These two ends come only if the words of the command line could not be had. Here the words are given.
 IsProgramRun words source sink errs reader reader' writer writer' errors errors' ending.NonUtf8Args = ⊥
 IsProgramRun words source sink errs reader reader' writer writer' errors errors' ending.ArgsUnavailable = ⊥

@@ -35,7 +35,7 @@ ghost use Rattle.mb_program.specs.Source.{seed_bytes, source_from, words_from};
 
 use mb_mailbox::laws::calls_draw_the_first_words;
 
-/// A script of numbers that are too large has no spelling.
+/// A script has a spelling if each of its numbers is below 2^64, and else none.
 pub fn numbers_are_words()
     ensures largest { HasSpelling (record {
       table = Unary;
@@ -68,7 +68,7 @@ pub fn scripts_have_a_limit()
     ensures { MAX_SCRIPT_LEN ≡ 1048576 }
 {}
 
-/// Only a script without fault has an answer, and it has one line for each process.
+/// Only a script without fault has an answer. The answer has one line for each process of the script, and for no other.
 pub fn answers_fit_their_script()
     ensures nobody { IsAnswer (codes "ratify unary 2\ninputs\nturns\n") [] }
     ensures stranger { IsAnswer (codes "ratify unary 2\ninputs\nturns\n")
@@ -172,7 +172,7 @@ pub fn consumers_note_all_items()
     ensures own { AreOwnReaders nothing_done }
     ensures one_reader_for_all { AreOwnReaders (record nothing_done { reader_of = λ _. 0 }) → ⊥ }
 
-    // For a whole report: if a note is missing, the histories are long.
+    // If a whole report of a run lacks a note, its histories have many accesses.
     ensures short_run { (x : IsRunReport one_item (report_with [] (0 ∷ [])))
         → length x.histories.pool + length x.histories.claims < 2 ^ 64 - 2 → ⊥ }
 {}
