@@ -31,7 +31,7 @@ LiesIn command e = (e ≢ command.no_memory) × (e ≢ command.read_fault) × (e
 -- one call of a command did this, with its reader and its writer before it and after it
 pub record IsCommandIo {F X R W : Type 0} (command : Command F) (source : IoModel R) (sink : IoModel W)
     (reader reader' : R) (writer writer' : W) (result : Result X F) : Type 0 where
-  -- what the reader had is a script, and its answer was written
+  -- if the call did what was asked, the reader had a script, and the answer to it was written and nothing else
   pub answered : OnOk result ((bytes : List ℕ) × (text : List ℕ) × Had (source.bytes reader) bytes
       × command.IsAnswer bytes text × Appends (sink.bytes writer) (sink.bytes writer') text)
   -- a fault of the script is the first fault of what the reader had

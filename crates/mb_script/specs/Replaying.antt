@@ -18,7 +18,7 @@ pub record IsAnswer (bytes text : List ℕ) : Type 0 where
 abbrev pub IsOfWorld : Answer → Type 0
 IsOfWorld r = (r ≢ NoLane) × (r ≢ NoConsumer)
 
--- the fault of what was read, if it is one
+-- the fault of what was read, if reading found one
 abbrev pub fault_in : Result Script Fault → Option Fault
 fault_in (Err e) = Some e
 fault_in (Ok s) = None
