@@ -27,7 +27,7 @@ use Rattle.mb_program.specs.declared.options.Options.{Options}
 use Rattle.mb_program.proofs.RunLanes.{found_none, front_whole, front_within, sum_short}
 use Rattle.mb_program.proofs.RunNotes.{notes_told}
 
--- nothing is missing among what is there
+-- if each entry of a list is there, none is missing
 pub none_missing : {X Y : Type 0} (f : X → Y) (xs : List X) → count_missing (map (λ x. Some (f x)) xs) ≡ 0
 none_missing f [] = refl
 none_missing f (x ∷ xs) = none_missing f xs
@@ -40,7 +40,7 @@ place_of f a (suc n) zero low = let e : a + 0 ≡ a = omega arith in rw e refl
 place_of f a (suc n) (suc p) low =
     let e : a + 1 + p ≡ a + suc p = omega arith in place_of f (a + 1) n p (omega (arith, low)) ∙ ap (λ k. Some (f k)) e
 
--- the list of producer p
+-- the list of producer p stands at place p of all lists
 list_of : (producers count p : ℕ) → p < producers → slice_get (item_lists producers count) p ≡ Some (items_of p count)
 list_of producers count p low =
     let same : 0 + p ≡ p = omega arith in place_of (λ p. items_of p count) 0 producers p low
@@ -50,7 +50,7 @@ list_of producers count p low =
 same_some : {X : Type 0} {x y : X} → ◌≡◌ {A = Option X} (Some x) (Some y) → x ≡ y
 same_some e = cc
 
--- an element at the same place of the list beside
+-- if two lists are related place by place, an element of the first has one beside it in the second
 pub beside : {X Y : Type 0} (R : X → Y → Type 0) (xs : List X) (ys : List Y) (p : ℕ) (x : X)
     → AllZip R xs ys → slice_get xs p ≡ Some x
     → (y : Y) × (slice_get ys p ≡ Some y) × R x y
@@ -64,7 +64,7 @@ beside {X} {Y} R xs ys p x zip at = go (slice_get ys p) refl
     go (Some y) some is = (y, some, subst (λ o. IsSomeAnd o (R x)) some is)
 
 -- ---- the lanes of the report
--- lane p of the report, and what its producer left
+-- lane p of the report tells what the producer of that lane left
 record IsTold (count lanes consumers : ℕ) (h : HubView) (left : List LaneLeft) (r : ReportView) (p : ℕ) : Type 0 where
   one : LaneLeft
   there : slice_get left p ≡ Some one
@@ -249,7 +249,7 @@ run_report {budget} may_stop never o m old h r lists n w few asked plan size emp
         (t.one, t.there, ap length (sym (ap (λ (v : LaneView). v.put) is ∙ put) ∙ lane.2.whole) ∙ long)
 
 -- ---- what a gathering could fail for
--- all that was issued was taken in
+-- after a run all that the hub issued was taken in
 pub nothing_missing : {may_stop : Who → ℕ → Type 0} {budget : ℕ} (m : MailboxView) (old h : HubView)
     (lists : List (List ℕ)) (n : ℕ) (w : Worked)
     → old ≡ hub_empty m → IsWorked may_stop budget lists n w old h → count_missing h.puts + count_missing h.ledgers ≡ 0
@@ -265,7 +265,7 @@ nothing_missing m old h lists n w empty worked =
 pub not_missing : (f : GatherFault) (a b : ℕ) → f ≡ Missing a b → f ≡ NoMemory → ⊥
 not_missing f a b e g = let both : Missing a b ≡ NoMemory = sym e ∙ g in cc
 
--- there are as many numbers as are asked for
+-- a new hub has as many numbers as the options ask for, so a run does not ask for too many
 pub asks_enough : (o : Options) (m : MailboxView) (old : HubView) (lists sources : ℕ) → plan_at m
     ≡ plan_asked o → old ≡ hub_empty m
     → lists ≡ o.producers → sources ≡ o.consumers → AsksTooMany m lists sources old → ⊥

@@ -23,14 +23,16 @@ use Rattle.mb_program.proofs.SameTakes.{with_swapped}
 use Rattle.mb_program.proofs.SameWalk.{ReadsSame, Swap, finished_swapped, found_swapped, id_swapped, reacted_swapped, settled_swapped, swapped}
 use Rattle.mb_program.proofs.SameWalk.{walk_swapped, walked_swapped, with_default_swapped, word_met_swapped}
 
--- a search for any argument that does not look at the parser
+-- a search for any argument that does not look at the parser finds one after the change as before
 any_swapped : (s : Swap) (p : Rule → Bool) → ((a : Rule) → p (swapped s a) ≡ p a) → (c : List Rule)
     → list_any p (map (swapped s) c) ≡ list_any p c
 any_swapped s p same [] = refl
 any_swapped s p same (a ∷ c) = ap₂ (λ x y. x || y) (same a) (any_swapped s p same c)
 
+-- Each lemma from here on says of a function of clap that it finds the same faults, over the other parsers and over
+-- those before the change. The lemma is named after that function, with `same` for `fault`.
 module _ (s : Swap) (same : ReadsSame s) where
-  -- an argument with another parser
+  -- an argument with its parser changed
   abbrev f : Rule → Rule
   f = swapped s
 
@@ -81,7 +83,7 @@ module _ (s : Swap) (same : ReadsSame s) where
 
   -- ---- the walk, over the arguments c
   module _ (c : List Rule) (again : Bool) where
-    -- the arguments with other parsers
+    -- the arguments c with their parsers changed
     abbrev d : List Rule
     d = map f c
 
@@ -186,7 +188,7 @@ module _ (s : Swap) (same : ReadsSame s) where
 
   -- ---- the walk of a command
   module _ (top : Shape) where
-    -- the command with other parsers
+    -- the command `top` with the parsers of its arguments changed
     abbrev other : Shape
     other = with_swapped s top
 

@@ -23,15 +23,17 @@ use Rattle.mb_program.proofs.SameWalk.{ReadsSame, Swap, finished_swapped, found_
 abbrev pub with_swapped : Swap → Shape → Shape
 with_swapped s shape = record shape { rules = map (swapped s) shape.rules }
 
--- a test of all arguments that does not look at the parser
+-- a test of all arguments that does not look at the parser passes after the change as before
 pub all_swapped : (s : Swap) (p q : Rule → Bool) → ((a : Rule) → p (swapped s a) ≡ q a)
     → (c : List Rule)
     → list_all p (map (swapped s) c) ≡ list_all q c
 all_swapped s p q same [] = refl
 all_swapped s p q same (a ∷ c) = ap₂ (λ x y. x && y) (same a) (all_swapped s p q same c)
 
+-- Each lemma from here on says of a test of clap that it passes over the other parsers if it passes over those before
+-- the change, and only then. The lemma is named after that test, with `same` for `pass` or `passes`.
 module _ (s : Swap) (same : ReadsSame s) where
-  -- an argument with another parser
+  -- an argument with its parser changed
   abbrev f : Rule → Rule
   f = swapped s
 
@@ -84,7 +86,7 @@ module _ (s : Swap) (same : ReadsSame s) where
 
   -- ---- the walk, over the arguments c
   module _ (c : List Rule) (again : Bool) where
-    -- the arguments with other parsers
+    -- the arguments c with their parsers changed
     abbrev d : List Rule
     d = map f c
 
@@ -174,7 +176,7 @@ module _ (s : Swap) (same : ReadsSame s) where
 
   -- ---- the walk of a command
   module _ (top : Shape) where
-    -- the command with other parsers
+    -- the command `top` with the parsers of its arguments changed
     abbrev other : Shape
     other = with_swapped s top
 

@@ -19,7 +19,7 @@ use Rattle.clap.specs.declared.builder.value_parser.ValueParser.{ValueParser}
 abbrev pub Swap : Type 0
 Swap = Option ValueParser → Option ValueParser
 
--- the argument with another parser
+-- the argument with its parser changed
 abbrev pub swapped : Swap → Rule → Rule
 swapped s a = record a { parser = s a.parser }
 
@@ -32,7 +32,7 @@ pub record ReadsSame (s : Swap) : Type 0 where
   pub kind : (o : Option ValueParser)
       → refused_kind (parser_of_value (s o)) ≡ refused_kind (parser_of_value o)
 
--- a search that does not look at the parser
+-- a search for an argument that does not look at the parser finds the same argument, with its parser changed
 pub found_swapped : (s : Swap) (p : Rule → Bool) → ((a : Rule) → p (swapped s a) ≡ p a)
     → (c : List Rule)
     → find p (map (swapped s) c) ≡ option_map (swapped s) (find p c)
@@ -47,8 +47,10 @@ found_swapped s p same (a ∷ c) =
     go true e = refl
     go false e = e
 
+-- Each lemma from here on says of a function of clap that it comes to the same, over the other parsers and over those
+-- before the change. The lemma is named after that function.
 module _ (s : Swap) (same : ReadsSame s) where
-  -- an argument with another parser
+  -- an argument with its parser changed
   abbrev f : Rule → Rule
   f = swapped s
 
@@ -66,7 +68,7 @@ module _ (s : Swap) (same : ReadsSame s) where
 
   -- ---- the walk, over the arguments c
   module _ (c : List Rule) where
-    -- the arguments with other parsers
+    -- the arguments c with their parsers changed
     abbrev d : List Rule
     d = map f c
 
