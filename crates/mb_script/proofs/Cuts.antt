@@ -109,7 +109,7 @@ word_kept ws i w low =
 pub words_taken : (ws : List (Bor (List ℕ))) (i : ℕ) → i ≤ length ws → length (map (λ x. x.now) (take i ws)) ≡ i
 words_taken ws i low = length-map (take i ws) (λ (x : Bor (List ℕ)). x.now) ∙ length-take-le i ws low
 
--- ---- numbers of the words so far
+-- ---- the numbers that words spell
 -- how many bytes are left to be cut, and one more if a word is left
 abbrev pub bytes_left : Option (List ℕ) → ℕ
 bytes_left None = 0

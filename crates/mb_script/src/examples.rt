@@ -104,7 +104,7 @@ pub fn transcripts_keep_the_order()
         ≡ codes "push 0 idle\npush 1 link 2\n" }
 {}
 
-/// The text of a report of two lanes and one consumer, and that of a report with no note but a claim that is begun.
+/// The text of a report of two lanes and one consumer, and that of a report without notes, in which a claim is begun.
 pub fn reports_are_written()
     ensures two_lanes { report_text (record {
       lanes = record { put = 5 ∷ 6 ∷ 7 ∷ []; ended = true; left = 6 ∷ 7 ∷ [] }

@@ -37,7 +37,7 @@ pub fn read_all<R: CountedRead, A: Allocator + Drop>(
     ensures end { OnOk result (IsAtEnd (R.left reader.new)) }
     ensures limit { IfOk result (λ v. length v.items ≤ MAX_SCRIPT_LEN) }
 
-    // After an `Err` at most one byte more than the limit was read, and after `TooLong` exactly so many.
+    // After an `Err` at most `MAX_SCRIPT_LEN + 1` bytes were read, and after `TooLong` exactly so many.
     ensures early { OnErr result
         (ConsumesUpTo (MAX_SCRIPT_LEN + 1) (R.left reader.old) (R.left reader.new)) }
     ensures long { result ≡ Err ReadEnd.TooLong
@@ -56,7 +56,7 @@ pub fn read_all<R: CountedRead, A: Allocator + Drop>(
     ensures given_failed { result ≡ Err ReadEnd.ReadFault
         → CountGrowsUpTo MAX_SCRIPT_LEN (R.given reader.old) (R.given reader.new) }
 
-    // The call returns `ReadFault` exactly if a read failed, and then one read did.
+    // The call returns `ReadFault` exactly if a read failed. Then just one read did.
     ensures fault { result ≡ Err ReadEnd.ReadFault
         → R.failures reader.new ≡ one_more (R.failures reader.old) }
     ensures works { result ≢ Err ReadEnd.ReadFault → R.failures reader.new ≡ R.failures reader.old }
