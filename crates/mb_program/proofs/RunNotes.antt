@@ -96,6 +96,7 @@ pub notes_told : (may_stop : Who → ℕ → Type 0) (budget : ℕ) → ((w : Wh
 notes_told may_stop budget never count m h r left cs g told ledgers readers claims many stopped
     noted lanes c p low_c low_p = go one.stopped refl
   where
+    -- consumer c is among those that worked, and this is what it left
     there : c < length cs
     there = omega (arith, low_c, many)
 
@@ -108,15 +109,18 @@ notes_told may_stop budget never count m h r left cs g told ledgers readers clai
     at : slice_get cs c ≡ Some one
     at = found.1
 
+    -- the hub kept the ledger of consumer c
     kept : kept_at h.ledgers c ≡ Some one.ledger
     kept = ap (λ xs. kept_at xs c) ledgers ∙ rw (slice_get-map (λ (x : ConsumerLeft). Some x.ledger) cs c, at) refl
 
+    -- the notes in the report are those of the hub, and these are those of the ledger
     in_report : notes c p r ≡ notes_in c p h
     in_report = rw (told.lanes_count, lt-ltb p m.cells.size.lanes low_p, told.diary c p low_c low_p) refl
 
     in_ledger : notes_in c p h ≡ notes_on p one.ledger.notes
     in_ledger = rw kept refl
 
+    -- the parts of consumer c in the histories are those that it left, so its accesses are as many
     reads : part (Reader (g.histories.reader_of c)) g.histories.pool ≡ one.reads
     reads = ap (λ (k : ℕ). part (Reader k) g.histories.pool) (g.reader c)
         ∙ g.pool.parts (Reader c) one.reads (ap (λ xs. slice_get xs c) readers
@@ -128,6 +132,7 @@ notes_told may_stop budget never count m h r left cs g told ledgers readers clai
     made : accesses_by c g.histories ≡ length one.reads + length one.claimed
     made = rw (reads, claimed) refl
 
+    -- a consumer that was not stopped has all notes, and one that was stopped has made the accesses
     go : (b : Bool) → one.stopped ≡ b → HasNotedAll count budget c p g.histories r
     go false e =
         let l = lanes p low_p in

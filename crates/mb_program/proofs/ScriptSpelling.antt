@@ -23,16 +23,22 @@ use Rattle.mb_program.specs.Spelling.{HasSpelling, script_words, script_lines}
 
 -- the laws of mb_script of words, numbers and ASCII, on which the reading stands
 pub record TextLaws : Type 0 where
+  -- words with one space between each two are cut out again
   pub cut : (w : List ℕ) (ws : List (List ℕ)) → AllByRecursion IsWord (w ∷ ws)
       → words_in_line (join_with_byte 32 (w ∷ ws)) ≡ w ∷ ws
+  -- among words that may stand on a line none is empty
   pub none_empty : (ws : List (List ℕ)) → AllByRecursion IsWord ws → has_empty ws ≡ false
+  -- the decimals of numbers may stand on a line
   pub word : (n : ℕ) → n < 2 ^ 64 → IsWord (decimal n)
   pub words : (ns : List ℕ) → AllByRecursion (λ n. n < 2 ^ 64) ns → AllByRecursion IsWord (map decimal ns)
+  -- the decimals of numbers are read as these numbers
   pub read : (n : ℕ) → n < 2 ^ 64 → number_of (decimal n) ≡ Some n
   pub all_read : (ns : List ℕ) → AllByRecursion (λ n. n < 2 ^ 64) ns → numbers_of (map decimal ns) ≡ Some ns
+  -- words that were read as numbers are the decimals of these numbers
   pub spelled : (w : List ℕ) (n : ℕ) → number_of w ≡ Some n → (w ≡ decimal n) × (n < 2 ^ 64)
   pub all_spelled : (ws : List (List ℕ)) (ns : List ℕ) → numbers_of ws ≡ Some ns
       → (ws ≡ map decimal ns) × AllByRecursion (λ n. n < 2 ^ 64) ns
+  -- a text whose lines are lines of words is ASCII
   pub ascii : (bytes : List ℕ) (lines : List (List (List ℕ))) → AllByRecursion IsWordLine lines
       → lines_of bytes ≡ map (join_with_byte 32) lines → list_all is_ascii bytes ≡ true
 

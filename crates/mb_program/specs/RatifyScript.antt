@@ -13,8 +13,10 @@ use Rattle.mb_script.specs.Vocabulary.{◌>>=◌, table_named, lines_of, words_i
 
 -- a script as plain data
 pub record Script : Type 0 where
+  -- the name of the quorum table, and how many values the table is for
   pub table : TableName
   pub values : ℕ
+  -- the input of each process, and the process of each turn
   pub inputs : List ℕ
   pub turns : List ℕ
 

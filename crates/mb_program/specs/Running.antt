@@ -51,7 +51,9 @@ words_asked o = map (λ c. words_from (source_from o.seed c)) (range_with_len 0 
 -- ---- the report of a run
 -- lane p has ended, and the items put on it are all those of producer p
 pub record IsLaneOf (p count : ℕ) (l : LaneView) : Type 0 where
+  -- the lane has ended
   pub ended : l.ended ≡ true
+  -- the items put on the lane are those of producer p, in their order
   pub whole : l.put ≡ items_of p count
 
 -- how many accesses consumer c has made, to the words of the cells and to those of the claims

@@ -6,6 +6,7 @@ use Rattle.mb_script.specs.Devices.{AppendsFront, ConsumesCount, ConsumesUpTo, H
 
 -- a command: its answers, and its names for the faults that all commands share
 pub record Command (F : Type 0) : Type 1 where
+  -- the command's names for the faults that all commands share
   pub too_long : F
   pub no_memory : F
   pub read_fault : F
@@ -17,7 +18,9 @@ pub record Command (F : Type 0) : Type 1 where
 
 -- what contracts say of a device: its bytes, if they are known, and how many failures it has counted
 pub record IoModel (D : Type 0) : Type 0 where
+  -- the bytes that a reader has left, or that a writer holds
   pub bytes : D → Option (List ℕ)
+  -- how many reads or writes failed, modulo 2^64
   pub failures : D → ℕ
 
 -- the model of a device with these bytes and this count of failures

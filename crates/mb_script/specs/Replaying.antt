@@ -10,6 +10,7 @@ use Rattle.mb_script.specs.Scripts.{Script, script_of}
 
 -- the bytes are a script without fault, and the text is that of its replay
 pub record IsAnswer (bytes text : List ℕ) : Type 0 where
+  -- the bytes say this script, and the text is that of the replay of its events
   pub script : Script
   pub read : script_of bytes ≡ Ok script
   pub replayed : IsReplayText script.plan script.events text

@@ -25,6 +25,7 @@ use Rattle.mb_script.specs.Text.{lines_of, words_in_line, has_empty, number_of}
 -- what a first line makes: what a world is made of, how many pairs of deciding objects each cell has, and what it has
 -- beside them
 pub record Made : Type 0 where
+  -- the plan of the world, the number of pairs of each cell, and the shape of the cells
   pub plan : Plan
   pub pairs : ℕ
   pub shape : Shape
@@ -39,9 +40,11 @@ made_from shape p c m k t = record { plan = shaped_plan shape p c m k t; pairs =
 
 -- a script: what its first line makes, and its events, in their order
 pub record Script : Type 0 where
+  -- the plan of the world, the number of pairs of each cell, and the shape of the cells
   pub plan : Plan
   pub pairs : ℕ
   pub shape : Shape
+  -- the events, in the order of time
   pub events : List Event
 
 -- the script of what a first line makes, and of these events

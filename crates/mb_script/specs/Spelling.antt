@@ -14,10 +14,12 @@ use Rattle.mb_script.specs.Tables.{table_name}
 
 -- the numbers of a setup, its table, and the shape of its cells
 pub record Sizes : Type 0 where
+  -- the four numbers of a setup, in the order of the first line
   pub producers : ℕ
   pub consumers : ℕ
   pub cells : ℕ
   pub pairs : ℕ
+  -- the name of the quorum table, and the shape of the cells
   pub table : TableName
   pub shape : Shape
 
@@ -48,8 +50,11 @@ IsEventOf z (Step consumer lane word) = (lane < z.producers) × (consumer < z.co
 -- a script has these sizes and events: there is a world of these sizes, each event is of that world, and the events are
 -- not too many
 pub record IsScript (z : Sizes) (events : List Event) : Type 0 where
+  -- a setup of these numbers is not refused
   pub sizes : setup_refusal z.producers z.consumers z.cells z.pairs ≡ None
+  -- each event names a lane and a consumer of that world
   pub known : AllByRecursion (IsEventOf z) events
+  -- there are at most as many events as a script may have
   pub few : length events ≤ MAX_EVENTS
 
 -- what the first line makes of these sizes
