@@ -34,6 +34,7 @@ pub enum RatifyFault {
     WriteFault,
 }
 
+// `?` turns the faults of these calls into faults of `ratify`.
 impl From<AllocError> for RatifyFault {
     ghost from_gives = { λ _ e. e ≡ NoMemory };
 
@@ -96,6 +97,7 @@ pub enum RunFault {
     WriteFault,
 }
 
+// `?` turns the faults of these calls into faults of `run`.
 impl From<SetupFault> for RunFault {
     ghost from_gives = { λ why e. e ≡ run.BadSetup why };
 

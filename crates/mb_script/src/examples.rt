@@ -31,6 +31,7 @@ pub fn readers_lose_their_front()
     ensures up_to_two { ConsumesUpTo 2 (Some (codes "abc")) (Some (codes "c")) }
     ensures up_to_one { ConsumesUpTo 1 (Some (codes "abc")) (Some (codes "c")) → ⊥ }
     ensures other_end { ConsumesUpTo 2 (Some (codes "abc")) (Some (codes "b")) → ⊥ }
+    // What a reader had is all that it has left.
     ensures had { Had (Some (codes "ab")) (codes "ab") }
     ensures had_more { Had (Some (codes "ab")) (codes "a") → ⊥ }
 {}
