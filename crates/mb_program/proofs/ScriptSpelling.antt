@@ -1,4 +1,4 @@
--- A ratifier script that is spelled is read, and what was read was spelled so.
+-- A ratifier script that is spelled is read, and bytes that were read as a script spell that script.
 use Rattle.std.proofs.Common.{◌≡◌, ℕ, ◌<◌, ◌≤◌, ◌^◌, Bool, true, false, cond, nat_eq, nat_lt, List, [], ◌∷◌, length, codes, map, Option, Some, None, Result, Ok, Err, refl, ap, sym, subst, ◌∙◌, rules}
 use Rattle.std.specs.Prelude.{IfOk}
 use Rattle.std.specs.Fmt.{decimal}

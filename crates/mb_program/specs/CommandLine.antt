@@ -33,7 +33,7 @@ TextsAt = Bor (List (Bor Text))
 abbrev pub somewhere : {X : Type 0} → X → Bor X
 somewhere x = record { ref_ptr = (0, 0); now = x }
 
--- texts with such places
+-- texts, each with that place in memory
 abbrev pub texts_at : List Text → TextsAt
 texts_at texts = somewhere (map somewhere texts)
 

@@ -26,7 +26,8 @@ abbrev pub ended_by : {X F : Type 0} → (F → Failed) → Result X F → Progr
 ended_by fault (Ok done) = ending.Done
 ended_by fault (Err e) = ending.Failed (fault e)
 
--- a command was carried out from a reader to a writer, and the program ends so
+-- the command of this choice was carried out, with its reader and its writer before it and after it, and the program
+-- ends as `end` says
 abbrev pub WasCarriedOut : {R W : Type 0} → Choice → IoModel R → IoModel W → R → R → W → W → ProgramExit → Type 0
 WasCarriedOut Ratify source sink reader reader' writer writer' end =
     (r : Result (Unit {0}) RatifyFault) × IsCommandIo ratifying source sink reader reader' writer writer' r
@@ -62,7 +63,8 @@ IsTold sink errs writer writer' errors errors' kind printed =
     → (writer' ≡ writer) × ((text : List ℕ) × IsPrinted errs errors errors' text printed))
 
 -- ---- a run of the program
--- one run of the program over these words ends so, with its reader and two writers before it and after it
+-- one run of the program over these words ends as the last argument says, with its reader and its two writers before
+-- it and after it
 abbrev pub IsProgramRun : {R W E : Type 0} → List Text → IoModel R → IoModel W → IoModel E → R → R → W → W
     → E → E → ProgramExit → Type 0
 -- the command that the words name was carried out

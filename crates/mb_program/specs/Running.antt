@@ -28,7 +28,7 @@ setup_refused o = setup_refusal o.producers o.consumers (o.producers * o.items) 
 abbrev pub plan_asked : Options → Plan
 plan_asked o = shaped_plan o.shape o.producers o.consumers (o.producers * o.items) o.pairs Bits
 
--- what the options keep to if their setup is not refused: so few producers and consumers, and items of each producer
+-- if the setup is not refused, there are at most 16 producers, 64 consumers, and 256 items of each producer
 pub record AreFew (o : Options) : Type 0 where
   pub producers : o.producers ≤ 16
   pub consumers : o.consumers ≤ 64

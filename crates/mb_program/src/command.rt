@@ -69,7 +69,7 @@ fn choice_of(matches: &ArgMatches) -> Option<Choice>
 
 /// Reads the command line, whose first word is the program's name.
 ///
-/// Clap decides which lines are refused, and the text that says so. A call for help is such a refusal.
+/// Clap decides which lines are refused, and the text that says so. A call for help counts as a refusal.
 pub fn command_of<'a, S: AsStr>(alloc: Global, words: &'a [S]) -> Result<Choice, Error>
     // The choice is the command that the words name, and clap refuses none of the words.
     ensures choice { IfOk result (λ choice. command_in (map S.text words.entry.now)

@@ -1,4 +1,4 @@
--- The words of a line are cut off one by one: the first word, the words so far, and their numbers.
+-- The words of a line are cut off one by one: the first word, the words cut off so far, and their numbers.
 use Rattle.std.proofs.Common.{append-nil, option_map, ◌≡◌, ℕ, suc, Option, Some, None, ◌+◌, ◌<◌, ◌≤◌, nat_lt, sym, ◌∙◌, Bor, append_assoc, length-append}
 use Rattle.std.proofs.Common.{slice_set, Bool, true, false, cond, nat_eq, List, [], ◌∷◌, ◌++◌, length, take, drop, map, ◌||◌, refl, ap, arith}
 use Rattle.std.specs.Prelude.{not, option_and_then}
