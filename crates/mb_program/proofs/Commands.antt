@@ -43,6 +43,7 @@ alone_named app words m name choice is_program alone matches =
     ∙ ap (subcommand_of program) alone)
     ∙ alone_found name choice
 
+-- ---- two facts of results and options
 -- if `?` hands on the error that memory ran out, the result is an error of that kind
 pub kind_kept : {X : Type 0} (r : Result X Error) (e : Error) → IsErrAnd r (λ f. f ≡ e) → kind_of e ≡ OutOfMemory
     → IfErr r (λ f. kind_of f ≡ OutOfMemory)

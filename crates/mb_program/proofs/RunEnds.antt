@@ -23,7 +23,7 @@ no_ok y e is = absurd (cc)
 pub same_err : {Y : Type 0} (e f : RunFault) → ◌≡◌ {A = Result Y RunFault} (Err e) (Err f) → e ≡ f
 same_err e f is = cc
 
--- if a run has a result, its setup is not refused
+-- if a run has no fault, its setup is not refused
 not_refused : {Y : Type 0} (o : Options) (y : Y) → Refuses o (Ok y) → (why : SetupFault)
     → setup_refused o ≡ Some why → ⊥
 not_refused o y refuses why is = no_ok y _ ((refuses why).1 is)

@@ -1,5 +1,5 @@
--- Words and numbers that are spelled are read again, a word that was read as a number is its decimal, and lines of words
--- are ASCII.
+-- Words and numbers that are spelled are read again, a word that was read as a number is its decimal, and lines of
+-- words are ASCII.
 use Rattle.std.proofs.Common.{◌≡◌, ℕ, suc, zero, ◌<◌, ◌^◌, Bool, true, false, cond, nat_eq, nat_lt, ◌&&◌, ◌||◌, List, [], ◌∷◌, ◌++◌, length, get_or, map}
 use Rattle.std.proofs.Common.{Option, Some, None, refl, ap, sym, subst, ◌∙◌, arith, lit<, inl, inr}
 use Rattle.std.specs.Prelude.{slice_index, option_and_then}
