@@ -11,6 +11,7 @@ use Rattle.mb_program.specs.declared.options.Options.{Options}
 use Rattle.mb_program.specs.Running.{IsRun, IsRunText, setup_refused}
 use Rattle.mb_program.proofs.RunSetups.{no_refusal}
 
+-- ---- which setups are refused
 -- a result refuses the setup exactly if the options do, for the same reason
 abbrev Refuses : {Y : Type 0} → Options → Result Y RunFault → Type 0
 Refuses o r = (why : SetupFault) → (r ≡ Err (BadSetup why)) ↔ (setup_refused o ≡ Some why)
@@ -39,6 +40,7 @@ fault_behind {Y} o s e made other = λ why. (
       ∙ no_refusal (setup_refused o) s made in absurd (cc),
 )
 
+-- ---- the ways in which a run ends
 -- `IsRun` holds of a run that fails before it writes, and leaves its writer as it was
 fault_first : {X Y W : Type 0} (o : Options) (sink : IoModel W) (w : W) (e : RunFault)
     → e ≢ WriteFault → Refuses {Y = Y} o (Err e)

@@ -16,6 +16,7 @@ use Rattle.mb_script.specs.Shapes.{shape_named}
 use Rattle.mb_script.specs.Tables.{table_named}
 use Rattle.mb_script.specs.Text.{has_empty, words_in_line}
 
+-- ---- what holds of each fault of a result
 -- if the result is a fault, P holds of that fault
 abbrev pub For : {A F : Type 0} → (F → Type 0) → Result A F → Type 0
 For P r = IfErr r P
@@ -38,6 +39,7 @@ pub for_option : {A F : Type 0} (P : F → Type 0) (o : Option A) (e : F) → P 
 for_option P (Some x) e is = tt
 for_option P None e is = is
 
+-- ---- faults of the lines of events
 -- a fault is about line n
 abbrev pub About : ℕ → Fault → Type 0
 About n e = line_of e ≡ Some n
@@ -106,7 +108,8 @@ at_line plan n line =
     (for_bind (About n) (event_of n (words_in_line line)) (placed plan n)
     (at_event n (words_in_line line)) (at_placed plan n))
 
--- what holds of each fault of a setup holds of what the first line makes
+-- ---- faults of the first line
+-- what holds of each fault of a setup holds of each fault of what the first line makes
 for_made : (P : Fault → Type 0) (o : Option SetupFault) (made : Made)
     → ((f : SetupFault) → P (BadSetup 1 f)) → For P (made_of o made)
 for_made P None made bad = tt

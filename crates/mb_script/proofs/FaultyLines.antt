@@ -18,6 +18,7 @@ use Rattle.mb_script.specs.Spelling.{Spells}
 use Rattle.mb_script.proofs.ReadBack.{lines_take}
 use Rattle.mb_script.proofs.AboutLines.{At, at_line, at_setup}
 
+-- ---- equal results, and lists that begin alike
 -- equal options have one number
 some_is : (x y : ℕ) → ◌≡◌ {A = Option ℕ} (Some x) (Some y) → x ≡ y
 some_is x y e = cc
@@ -36,6 +37,7 @@ same_head : {X : Type 0} (k : ℕ) (a : X) (us bs : List X) → take (suc k) (a 
 same_head k a us [] e = absurd (cc)
 same_head k a us (b ∷ bs) e = (bs, cc, cc)
 
+-- ---- the lines after the first faulty one do not count
 -- the events from one line on, if the line gives r and the lines after it give `rest`. Or the line is one too many
 abbrev from_line : Bool → Result Event Fault → Result (List Event) Fault → Result (List Event) Fault
 from_line many r rest = cond many (Err TooManyEvents) (r >>= (λ event. rest >>= (λ events. Ok (event ∷ events))))
@@ -157,6 +159,7 @@ script_same us bs e m is about same short ascii =
     (lines_script (lines_of us)) e m is about in
     rw (le-ltb MAX_SCRIPT_LEN (length bs) short, ascii) (lines_same m (lines_of us) (lines_of bs) e read about same)
 
+-- ---- the lines before the first faulty one have no fault
 -- a line before the faulty one has no fault
 before_step : (n m : ℕ) (many : Bool) (r : Result Event Fault)
     (rest rest2 : Result (List Event) Fault) (e : Fault) → At n r
@@ -237,7 +240,7 @@ lines_before (suc k) (line ∷ lines) e is about some =
     (λ made fails. events_before made.plan 2 k (suc (suc k)) lines e
     (events_last made.plan 2 (suc (suc k)) lines e (omega arith) fails about) fails about (omega arith))
 
--- what stands before the first faulty line was spelled as a script
+-- the lines before the first faulty one spell a script
 pub script_before : (bytes : List ℕ) (e : Fault) (n : ℕ) → script_of bytes ≡ Err e → line_of e ≡ Some (suc n) → 0 < n
     → (t : Script) × Spells (take n (lines_of bytes)) t
 unfolding script_of

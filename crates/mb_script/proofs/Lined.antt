@@ -22,6 +22,7 @@ abbrev pub onto : List Event → Result (List Event) Fault → Result (List Even
 onto done (Ok events) = Ok (done ++ events)
 onto done (Err e) = Err e
 
+-- ---- lines with an empty word, or with too many or too few words
 -- if a key chooses between equal results, it does not matter which key it is
 any_key : (o p f s : Bool) (r : Result Event Fault) → cond o r (cond p r (cond f r (cond s r r))) ≡ r
 any_key true p f s r = refl
@@ -100,6 +101,7 @@ bad_setup line key ws cut is bad =
     let words : words_in_line line ≡ codes "setup" ∷ ws = cut ∙ ap (λ (k : List ℕ). k ∷ ws) is in
     rw words (bad_setup_by ws _ refl (rw words at bad))
 
+-- ---- one line more
 -- a line after the last that may have an event fails the whole with TooManyEvents
 pub line_too_many : (plan : Plan) (done : List Event) (n : ℕ) (line : List ℕ) (lines : List (List ℕ))
     (whole : Result (List Event) Fault) → MAX_EVENTS + 1 < n → onto done (events_of plan n (line ∷ lines)) ≡ whole

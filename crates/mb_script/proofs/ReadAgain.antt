@@ -24,6 +24,7 @@ use Rattle.mb_script.specs.Tables.{table_name}
 use Rattle.mb_script.specs.Text.{IsWord, IsWordLine, has_empty, lines_of, words_in_line}
 use Rattle.mb_script.proofs.Spelled.{ascii_lines, decimal_word, none_empty, number_again, words_ascii, words_join}
 
+-- ---- the first line
 -- if four tests in turn give no fault, none of them holds
 pub none_of : (a b c d : Bool) (w x y z : SetupFault)
     → cond a (Some w) (cond b (Some x) (cond c (Some y) (cond d (Some z) None))) ≡ None
@@ -137,6 +138,7 @@ setup_again z e =
     rw cut (setup_is behind (none_empty behind fit.1)
     ∙ sizes_again z.shape z.producers z.consumers z.cells z.pairs z.table e)
 
+-- ---- the lines of events
 -- a line of words is read as the event that these words say
 line_is : (plan : Plan) (n : ℕ) (w : List ℕ) (ws : List (List ℕ)) → AllByRecursion IsWord (w ∷ ws)
     → event_at plan n (join_with_byte 32 (w ∷ ws)) ≡ (event_of n (w ∷ ws) >>= placed plan n)
@@ -195,6 +197,7 @@ events_again z n (e ∷ events) sized are few =
       events_again z (suc n) events sized are.1 (omega (arith, few)),
     ) refl
 
+-- ---- the whole script
 -- all lines of a script are read as that script
 pub lines_again : (z : Sizes) (events : List Event) → IsScript z events
     → lines_script (script_lines z events) ≡ Ok (script_in z events)
