@@ -7,6 +7,7 @@ use mb_script::{CountingIo, write_all};
 use std::io::{self, IsTerminal};
 use std::process::ExitCode;
 
+// Nothing is read before the words of the command line are there. If they cannot be had, the program ends at once.
 fn main(rt: HostRuntime) -> ExitCode {
     let mut reader = CountingIo::new(rt.reader());
     let mut writer = CountingIo::new(rt.stdout());

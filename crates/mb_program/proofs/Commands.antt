@@ -1,4 +1,4 @@
--- A command that stands alone on the command line.
+-- The command that the words name, in what clap finds and in what it refuses.
 use Rattle.std.proofs.Common.{◌≡◌, inl, inr, subst, Bool, false, List, [], ◌∷◌, true, Option, Some, None, option_map, refl, sym, ap, ◌∙◌, arith, Result, Ok, Err}
 use Rattle.std.proofs.lemmas.Grind.{common_steps}
 use Rattle.std.specs.Prelude.{IfErr, IsErrAnd, IsSome}
@@ -13,7 +13,8 @@ use Rattle.mb_program.specs.declared.command.Choice.TheVariants.{Ratify, Replay,
 use Rattle.mb_program.specs.CommandLine.{IsProgramApp, IsRefusalOf, program, command_in, choice_name}
 use Rattle.mb_program.proofs.Programs.{commands_same, faults_alike, program_is_simple}
 
--- clap takes a command alone
+-- ---- a command that stands alone on the command line
+-- clap takes a command that stands alone
 pub alone_taken : (name : Text) (choice : Choice) → takes program (name ∷ choice_name choice ∷ []) ≡ true
 unfolding clap_on_literals
 alone_taken name Ratify = refl
@@ -27,11 +28,11 @@ alone_found name Ratify = refl
 alone_found name Replay = refl
 alone_found name (Run options) = refl
 
--- the name of the subcommand that was entered, by its rows
+-- the name that stands with the rows of the entered subcommand is the name of that subcommand
 rows_name : (m : ArgMatches) → option_map (λ (found : _). found.0) (subcommand_rows_of m) ≡ subcommand_name_of m
 rows_name m = grind (arith, common_steps)
 
--- so the matches name it
+-- the matches of a command that stands alone name that command
 pub alone_named : (app : App) (words : List Text) (m : ArgMatches) (name : Text) (choice : Choice) → IsProgramApp app
     → words ≡ name ∷ choice_name choice ∷ [] → HasMatchesOf app words m → subcommand_name_of m
     ≡ Some (choice_name choice)
@@ -42,24 +43,26 @@ alone_named app words m name choice is_program alone matches =
     ∙ ap (subcommand_of program) alone)
     ∙ alone_found name choice
 
--- an error that `?` hands on is of its kind
+-- ---- two facts of results and options
+-- if `?` hands on the error that memory ran out, the result is an error of that kind
 pub kind_kept : {X : Type 0} (r : Result X Error) (e : Error) → IsErrAnd r (λ f. f ≡ e) → kind_of e ≡ OutOfMemory
     → IfErr r (λ f. kind_of f ≡ OutOfMemory)
 kind_kept (Ok x) e same kind = tt
 kind_kept (Err f) e same kind = ap kind_of same ∙ kind
 
--- nothing is no choice
+-- an option that is `None` has no value
 pub not_some : {X : Type 0} (r : Option X) → r ≡ None → IsSome r → ⊥
 not_some {X} (Some x) e is = let both : ◌≡◌ {A = Option X} (Some x) None = e in absurd (cc)
 not_some None e is = let both : ◌≡◌ {A = Bool} false true = is in absurd (cc)
 
--- what the matches have is what clap finds in the words
+-- ---- the command that clap finds in the words
+-- the subcommand and the rows of the matches are those that clap finds in the words
 pub found_in : (app : App) (words : List Text) (m : ArgMatches) → IsProgramApp app → HasMatchesOf app words m
     → subcommand_rows_of m ≡ subcommand_of program words
 found_in app words m is_program matches =
     (matches (program_is_simple app is_program)).1 ∙ commands_same app words is_program
 
--- so the matches name the command that clap finds
+-- the matches name the command that clap finds in the words
 pub named_in : (app : App) (words : List Text) (m : ArgMatches) (choice : Choice) → IsProgramApp app
     → HasMatchesOf app words m
     → command_in words ≡ Some (choice_name choice) → subcommand_name_of m ≡ Some (choice_name choice)
@@ -74,14 +77,14 @@ told_in app words m choice is_program matches named =
     sym (ap (option_map (λ found. found.0)) (found_in app words m is_program matches)) ∙ rows_name m ∙ named
 
 -- ---- the kind of a refusal
--- an error that `?` hands on is as it was
+-- if `?` hands on an error, what holds of that error's kind holds of the kind of the result's error
 pub error_kept : {X : Type 0} (P : ErrorKind → Type 0) (r : Result X Error) (e : Error)
     → IsErrAnd r (λ f. f ≡ e) → P (kind_of e)
     → IfErr r (λ f. P (kind_of f))
 error_kept P (Ok x) e same kind = tt
 error_kept P (Err f) e same kind = subst (λ (g : Error). P (kind_of g)) (sym same) kind
 
--- the kinds of clap's rules are those of the program's words
+-- an error of a kind that clap's rules give for the words is a refusal of these words
 pub refused_by : (words : List Text) (app : App) (e : Error) → IsProgramApp app
     → HasKind (fault_of app words) e → IsRefusalOf words (kind_of e)
 refused_by words app e is has = elim has [
@@ -89,7 +92,7 @@ refused_by words app e is has = elim has [
   | inr among ↦ inr (inl (subst (λ (kinds : Kinds). IsAmong (kind_of e) kinds) (faults_alike app words is) among))
 ]
 
--- words whose matches are no choice name no command
+-- words whose matches are no choice name no command, and `InvalidSubcommand` is a refusal of them
 pub unnamed : (words : List Text) (app : App) (m : ArgMatches) (kind : ErrorKind)
     (r : Option Choice) → IsProgramApp app → HasMatchesOf app words m
     → r ≡ None → ((choice : Choice) → subcommand_name_of m ≡ Some (choice_name choice) → IsSome r)

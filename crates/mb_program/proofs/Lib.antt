@@ -4,6 +4,7 @@
 pub mod LongScripts
 pub mod Nobody
 pub mod ScriptSpelling
+-- Where clap's text goes
 pub mod Told
 -- The command line: what clap makes of it
 pub mod NumbersGiven

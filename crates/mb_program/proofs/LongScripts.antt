@@ -18,23 +18,23 @@ use Rattle.mb_program.specs.Refusal.{fault_from}
 use Rattle.mb_program.specs.RatifyScript.{Script, head_of, line_words, list_of, script_of, three_lines}
 use Rattle.mb_program.specs.Answer.{fault_in, fault_of}
 
--- bytes past the limit are too long a script
+-- a script of more bytes than the limit has the fault TooLong
 pub too_long : (bytes : List ℕ) → MAX_SCRIPT_LEN < length bytes → fault_of bytes ≡ Some TooLong
 unfolding script_of
 too_long bytes above = rw (lt-ltb MAX_SCRIPT_LEN (length bytes) above) refl
 
--- ---- a fault of a line is another than TooLong
+-- ---- the fault TooLong comes neither from a line nor from `ratify`
 -- the fault is not TooLong
 abbrev IsOther : RatifyFault → Type 0
 IsOther e = e ≡ TooLong → ⊥
 
--- it holds of the faults of a line's words
+-- a fault of the words of a line is not TooLong
 other_in_line : (n : ℕ) (lines : List (List ℕ)) → For IsOther (line_words n lines)
 unfolding line_words
 other_in_line n [] = λ is. absurd (cc)
 other_in_line n (line ∷ rest) = for_cond IsOther (has_empty (words_in_line line)) _ _ (λ is. absurd (cc)) tt
 
--- it holds of the faults of the first line
+-- a fault of the first line is not TooLong
 other_in_head : (words : List (List ℕ)) → For IsOther (head_of words)
 unfolding head_of
 other_in_head [] = λ is. absurd (cc)
@@ -49,7 +49,7 @@ other_in_head (key ∷ name ∷ values ∷ []) =
     (λ is. absurd (cc))
 other_in_head (key ∷ name ∷ values ∷ more ∷ words) = λ is. absurd (cc)
 
--- it holds of the faults of a list of numbers
+-- a fault of a list of numbers is not TooLong
 other_in_list : (n : ℕ) (key : List ℕ) (words : List (List ℕ)) → For IsOther (list_of n key words)
 unfolding list_of
 other_in_list n key [] = λ is. absurd (cc)
@@ -57,7 +57,7 @@ other_in_list n key (word ∷ words) =
     for_cond IsOther (bytes_eq word key) _ _
     (for_option IsOther (numbers_of words) (BadNumber n) (λ is. absurd (cc))) (λ is. absurd (cc))
 
--- it holds of the faults of all lines
+-- a fault of the three lines is not TooLong
 other_in_lines : (lines : List (List ℕ)) → For IsOther (three_lines lines)
 unfolding three_lines
 other_in_lines lines =
@@ -79,12 +79,12 @@ other_refusal (Some (refusal.BadInput place)) is = absurd (cc)
 other_refusal (Some (refusal.NoSuchProcess place)) is = absurd (cc)
 other_refusal (Some refusal.NoMemory) is = absurd (cc)
 
--- it holds of the faults of a script
+-- if reading has another fault than TooLong or none, the fault of what was read is not TooLong
 fault_other : (r : Result Script RatifyFault) → For IsOther r → fault_in r ≡ Some TooLong → ⊥
 fault_other (Ok s) other is = other_refusal (refusal_of s.values s.inputs s.turns) is
 fault_other (Err e) other is = other (let same : ◌≡◌ {A = Option RatifyFault} (Some e) (Some TooLong) = is in cc)
 
--- so a script that is too long has more bytes than the limit
+-- a text whose fault is TooLong has more bytes than the limit, by its tests
 long_test : (long ascii : Bool) (lines : List (List ℕ))
     → fault_in (if long then Err TooLong else if ascii then three_lines lines else Err NotAscii)
     ≡ Some TooLong → long ≡ true
@@ -92,7 +92,7 @@ long_test true ascii lines is = refl
 long_test false true lines is = absurd (fault_other (three_lines lines) (other_in_lines lines) is)
 long_test false false lines is = absurd (cc)
 
--- only a text of more bytes than the limit is too long
+-- only a text of more bytes than the limit has the fault TooLong
 pub only_long : (bytes : List ℕ) → fault_of bytes ≡ Some TooLong → MAX_SCRIPT_LEN < length bytes
 unfolding script_of
 only_long bytes is = ltb-true MAX_SCRIPT_LEN (length bytes) (long_test _ (list_all is_ascii bytes) (lines_of bytes) is)

@@ -5,16 +5,16 @@ use Rattle.mb_script.specs.Vocabulary.{number_of, numbers_of}
 use Rattle.mb_program.specs.Answer.{IsAnswer}
 use Rattle.mb_program.specs.RatifyScript.{Script, script_of, three_lines, line_words, head_of, list_of}
 
--- a script of nobody, for so many values
+-- the script of no process, for this number of values
 abbrev pub nobody : ℕ → Script
 nobody m = record { table = Unary; values = m; inputs = []; turns = [] }
 
--- the bytes of that script say so
+-- these bytes say the script of no process for two values
 pub reads_two : script_of (codes "ratify unary 2\ninputs\nturns\n") ≡ Ok (nobody 2)
 unfolding script_of three_lines line_words head_of list_of number_of numbers_of
 reads_two = refl
 
--- the answer to that script is empty
+-- the answer to the script of no process for two values is empty
 pub nobody_answered : IsAnswer (codes "ratify unary 2\ninputs\nturns\n") []
 nobody_answered = record {
   script = nobody 2;

@@ -23,7 +23,7 @@ read_out default t outside = go (is_unsigned_in 0 most t) refl
     go true passed = absurd (outside (accepts-Accepts false (Unsigned 0 most) t passed))
     go false failed = rw failed refl
 
--- `get_one` reads the text so
+-- what `get_one` gives, or else the default, is the number of the text that clap found
 pub number_read : (E : Type 0) (G : List ℕ → Result ℕ E → Type 0) (default : ℕ) (f : Found) (id : Text) (r : Option ℕ)
     → ((u : List ℕ) (x : Result ℕ E) → G u x → ParsesUnsigned 64 10 u x)
     → (one_text f id ≡ None → r ≡ None) → ((t : Text) → one_text f id ≡ Some t → ReadsOne G t r)

@@ -18,7 +18,8 @@ use Rattle.mb_program.proofs.SameProgram.{below_swapped, entered_same, fault_sam
 use Rattle.mb_program.proofs.SameWalk.{ReadsSame, Swap}
 use Rattle.mb_program.specs.CommandLine.{IsProgramApp, TextsAt, program, program_with, shape_names, somewhere, texts_at}
 
--- a parser of words, with the words put elsewhere
+-- ---- parsers whose words are put elsewhere
+-- the same names, put elsewhere in memory
 abbrev moved : TextsAt → TextsAt
 moved names = texts_at (map (λ (n : Bor Text). n.now) names.now)
 
@@ -64,7 +65,7 @@ same_accepts i vp.Float t = refl
 same_accepts i vp.Char t = refl
 same_accepts i (vp.Values values) t = refl
 
--- it reads values in the same way
+-- a parser with its words elsewhere reads values in the same way
 same_reading : (p : ValueParser) → reading_of (moved_parser p) ≡ reading_of p
 same_reading (vp.Names names) = refl
 same_reading vp.String = refl
@@ -78,7 +79,7 @@ same_reading vp.Float = refl
 same_reading vp.Char = refl
 same_reading (vp.Values values) = refl
 
--- it refuses values for the same kind of reason
+-- a parser with its words elsewhere refuses values for the same kind of reason
 same_kind : (p : ValueParser) → refused_kind (moved_parser p) ≡ refused_kind p
 same_kind (vp.Names names) = refl
 same_kind vp.String = refl
@@ -92,25 +93,25 @@ same_kind vp.Float = refl
 same_kind vp.Char = refl
 same_kind (vp.Values values) = refl
 
--- that holds of an argument's parser, if it has one
+-- an argument reads values in the same way, if its parser is changed so
 reading_kept : (o : Option ValueParser)
     → reading_of (parser_of_value (swap o)) ≡ reading_of (parser_of_value o)
 reading_kept None = refl
 reading_kept (Some p) = same_reading p
 
--- an argument accepts the same values
+-- an argument accepts the same values, if its parser is changed so
 accepts_kept : (i : Bool) (o : Option ValueParser) (t : Text)
     → accepts i (parser_of_value (swap o)) t ≡ accepts i (parser_of_value o) t
 accepts_kept i None t = refl
 accepts_kept i (Some p) t = same_accepts i p t
 
--- an argument refuses values for the same kind of reason
+-- an argument refuses values for the same kind of reason, if its parser is changed so
 kind_kept : (o : Option ValueParser)
     → refused_kind (parser_of_value (swap o)) ≡ refused_kind (parser_of_value o)
 kind_kept None = refl
 kind_kept (Some p) = same_kind p
 
--- so the change is one to parsers that do as the old ones
+-- the changed parsers read, accept and refuse values as the old ones do
 reads_same : ReadsSame swap
 reads_same = record { reading = reading_kept; accepts = accepts_kept; kind = kind_kept }
 
@@ -126,16 +127,18 @@ there names says =
     built_moved names ∙ ap (λ (texts : List Text). built (program_with (texts_at texts))) says
 
 -- ---- clap's rules say which words the program takes
+-- clap says which matches a command line of the program gives
 pub program_is_simple : (app : App) → IsProgramApp app → is_simple app ≡ true
 unfolding clap_on_literals
 program_is_simple app is = ap is_simple is.2 ∙ refl
 
+-- no argument of the program has a rule on another. So clap says which faults its words have
 pub program_is_free : (app : App) → IsProgramApp app → is_simple_and_free app ≡ true
 unfolding clap_on_literals
 program_is_free app is = ap is_simple_and_free is.2 ∙ refl
 
 -- ---- what clap makes of the words
--- clap finds the same command
+-- clap finds the same command in the words, wherever the names of shapes lie
 pub commands_same : (app : App) (words : List Text) → IsProgramApp app
     → subcommand_of app words ≡ subcommand_of program words
 commands_same app words is =
@@ -144,7 +147,7 @@ commands_same app words is =
     ap (λ x. subcommand_of x words) is.2 ∙ sym (entered_same swap reads_same (built at) stop)
     ∙ ap (λ x. entered x stop) (there is.0 is.1)
 
--- clap takes the same words
+-- clap takes the same words, wherever the names of shapes lie
 pub takes_alike : (app : App) (words : List Text) → IsProgramApp app
     → takes app words ≡ takes program words
 takes_alike app words is =
@@ -155,7 +158,7 @@ takes_alike app words is =
     ∙ ap (λ x. is_simple at && built_takes x nothing_held (argument_words at words))
     (there is.0 is.1)
 
--- clap refuses words for the same reasons
+-- clap refuses words for the same reasons, wherever the names of shapes lie
 pub faults_alike : (app : App) (words : List Text) → IsProgramApp app
     → fault_of app words ≡ fault_of program words
 faults_alike app words is =

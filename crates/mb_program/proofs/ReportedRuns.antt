@@ -18,7 +18,7 @@ use Rattle.mb_program.specs.Running.{item_lists, plan_asked, terms_asked, words_
 use Rattle.mb_program.specs.Source.{source_from, words_from}
 use Rattle.mb_program.specs.declared.options.Options.{Options}
 
--- the words of the sources that are asked for
+-- the random words of the sources that were made are those that the options ask for
 pub words_given : (o : Options) (rngs : List ChaCha) → rngs ≡ map (source_from o.seed) (range_with_len 0 o.consumers)
     → map words_from rngs ≡ words_asked o
 words_given o rngs are = ap (map words_from) are

@@ -11,19 +11,20 @@ use Rattle.mb_program.specs.declared.options.Options.{Options}
 use Rattle.mb_program.specs.Running.{IsRun, IsRunText, setup_refused}
 use Rattle.mb_program.proofs.RunSetups.{no_refusal}
 
+-- ---- which setups are refused
 -- a result refuses the setup exactly if the options do, for the same reason
 abbrev Refuses : {Y : Type 0} → Options → Result Y RunFault → Type 0
 Refuses o r = (why : SetupFault) → (r ≡ Err (BadSetup why)) ↔ (setup_refused o ≡ Some why)
 
--- a result is no fault
+-- an `Ok` is no `Err`
 no_ok : {Y : Type 0} (y : Y) (e : RunFault) → ◌≡◌ {A = Result Y RunFault} (Ok y) (Err e) → ⊥
 no_ok y e is = absurd (cc)
 
--- a result has one fault
+-- equal results have one fault
 pub same_err : {Y : Type 0} (e f : RunFault) → ◌≡◌ {A = Result Y RunFault} (Err e) (Err f) → e ≡ f
 same_err e f is = cc
 
--- if a run has a result, its setup is not refused
+-- if a run has no fault, its setup is not refused
 not_refused : {Y : Type 0} (o : Options) (y : Y) → Refuses o (Ok y) → (why : SetupFault)
     → setup_refused o ≡ Some why → ⊥
 not_refused o y refuses why is = no_ok y _ ((refuses why).1 is)
@@ -39,7 +40,8 @@ fault_behind {Y} o s e made other = λ why. (
       ∙ no_refusal (setup_refused o) s made in absurd (cc),
 )
 
--- a run that fails before it writes leaves its writer
+-- ---- the ways in which a run ends
+-- `IsRun` holds of a run that fails before it writes, and leaves its writer as it was
 fault_first : {X Y W : Type 0} (o : Options) (sink : IoModel W) (w : W) (e : RunFault)
     → e ≢ WriteFault → Refuses {Y = Y} o (Err e)
     → IsRun {X = X} o sink w w (Err e)
@@ -60,7 +62,7 @@ from_err : {X F : Type 0} (P : Result X F → Type 0) (r : Result X F) (e : F) �
 from_err P (Ok x) e is here = absurd is
 from_err P (Err f) e is here = subst (λ f. P (Err f)) (sym is) here
 
--- a run without a report ends so
+-- `IsRun` holds of a run that has no report because of a fault
 pub ends_without_report : {X Y W : Type 0} (o : Options) (sink : IoModel W) (w : W)
     (r : Result X RunFault) (e : RunFault)
     → IsErrAnd r (λ f. f ≡ e) → ◌≢◌ {A = Result Y RunFault} (Err e) (Err WriteFault)
@@ -69,7 +71,7 @@ ends_without_report {X} {Y} {W} o sink w r e is other refuses =
     from_err (λ r. IsRun o sink w w r) r e is
     (fault_first {X = X} {Y = Y} o sink w e (λ same. other (ap (λ f. Err f) same)) refuses)
 
--- a run without memory for its text ends so
+-- `IsRun` holds of a run without memory for its text
 pub ends_without_text : {X Y W : Type 0} (o : Options) (sink : IoModel W) (w : W)
     (r : Result X RunFault) (e : RunFault) (y : Y)
     → IsErrAnd r (λ f. f ≡ e) → e ≡ NoMemory → Refuses o (Ok y) → IsRun o sink w w r
@@ -82,7 +84,7 @@ ends_without_text {X} {Y} {W} o sink w r e y is none refuses =
       λ is. absurd (not_refused o y refuses why is),
     ))))
 
--- a run whose text is written ends so
+-- `IsRun` holds of a run whose whole text was written
 pub ends_written : {X Y W : Type 0} (o : Options) (sink : IoModel W) (w w' : W) (x : X) (y : Y)
     (text : List ℕ) → Refuses o (Ok y)
     → IsRunText o text → Appends (sink.bytes w) (sink.bytes w') text → sink.failures w'
@@ -96,7 +98,7 @@ ends_written {X} o sink w w' x y text refuses is appends worked = record {
   untouched = tt;
 }
 
--- a run of which a write failed ends so
+-- `IsRun` holds of a run of which a write failed
 pub ends_half_written : {X Y W : Type 0} (o : Options) (sink : IoModel W) (w w' : W)
     (r : Result X RunFault) (e : RunFault) (y : Y) (text : List ℕ)
     → IsErrAnd r (λ f. f ≡ e) → e ≡ WriteFault → Refuses o (Ok y) → IsRunText o text

@@ -6,7 +6,7 @@ use Rattle.std.proofs.lemmas.List.{map-append}
 use Rattle.mb_mailbox.specs.Worked.{lists_in}
 use Rattle.mb_program.specs.Running.{items_of, item_lists}
 
--- the numbers from a on, with one more
+-- one more number from a on stands at the end of the others
 range_more : (a n : ℕ) → range_with_len a (suc n) ≡ range_with_len a n ++ (a + n) ∷ []
 range_more a zero = let e : a + 0 ≡ a = omega arith in rw e refl
 range_more a (suc n) = ap (λ xs. a ∷ xs)
@@ -22,11 +22,11 @@ map_more f n =
     ∙ ap (map f) (range_more 0 n ∙ ap (λ k. range_with_len 0 n ++ k ∷ []) last)
     ∙ map-append f (range_with_len 0 n) (n ∷ [])
 
--- a producer's list with one item more
+-- a producer's list of n items with the next item at its end is its list of n + 1 items
 pub items_more : (p n : ℕ) (xs : List ℕ) → xs ≡ items_of p n → xs ++ (1000 * p + n) ∷ [] ≡ items_of p (n + 1)
 items_more p n xs is = ap (λ ys. ys ++ (1000 * p + n) ∷ []) is ∙ sym (map_more (λ i. 1000 * p + i) n)
 
--- the lists with one producer more
+-- the lists of p producers with one more list at their end are those of p + 1 producers
 pub lists_more : {Z : Type 0} (p count : ℕ) (vs : List (Vec ℕ Z)) (v : Vec ℕ Z) → lists_in vs
     ≡ item_lists p count → v.items ≡ items_of p count
     → lists_in (vs ++ v ∷ []) ≡ item_lists (p + 1) count

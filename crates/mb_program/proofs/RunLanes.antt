@@ -1,5 +1,5 @@
--- In a run whose gate stops nobody no producer is stopped, so one that put less than its list found no cell. What sums
--- and beginnings of lists say of that.
+-- In a run whose gate stops nobody no producer is stopped. So a producer that put less than its list found no cell.
+-- After that stand lemmas of sums and of beginnings of lists.
 use Rattle.std.proofs.Common.{◌≡◌, ◌+◌, ◌*◌, ◌++◌, ◌<◌, ◌≤◌, ℕ, zero, suc, Bool, true, false, List, [], ◌∷◌, Some, inl, inr, length, slice_get, refl, sym, ap, ◌∙◌, subst, arith}
 use Rattle.std.specs.Prelude.{slice_index_or}
 use Rattle.std.specs.List.{All, sum_by}
@@ -13,7 +13,7 @@ use Rattle.mb_mailbox.specs.Worked.{AreCutByCells, AreStoppedPuts, IsStoppedPut,
 use Rattle.mb_mailbox.specs.declared.gate.Who.{Who}
 
 -- ---- what is told of all the lanes is told of each
--- what is told of producers that were stopped
+-- what is told of all producers that were stopped holds of producer p
 stopped_at : (may_stop : Who → ℕ → Type 0) (cells from : ℕ) (lists : List (List ℕ))
     (lanes : List LaneLeft) (p : ℕ) (list : List ℕ) (l : LaneLeft)
     → AreStoppedPuts may_stop cells from lists lanes → slice_get lists p ≡ Some list → slice_get lanes p ≡ Some l
@@ -32,7 +32,7 @@ stopped_at may_stop cells from (x ∷ xs) (y ∷ ys) (suc p) list l all at there
     subst (λ (k : ℕ). l.stopped ≡ true → IsStoppedPut may_stop cells k list l) next
     (stopped_at may_stop cells (suc from) xs ys p list l all.1 at there)
 
--- what is told of producers that found no cell
+-- what is told of all producers that found no cell holds of producer p
 cut_at : (cells from : ℕ) (lists : List (List ℕ)) (lanes : List LaneLeft) (p : ℕ) (list : List ℕ) (l : LaneLeft)
     → AreCutByCells cells from lists lanes → slice_get lists p ≡ Some list → slice_get lanes p ≡ Some l
     → l.stopped ≡ false → length l.put < length list → HasFoundNone cells (from + p) l.part
@@ -66,7 +66,7 @@ not_stopped may_stop never cells p list l few is = go l.stopped refl
           | inr last ↦ omega (arith, last, few, short)
         ] in absurd none
 
--- so, if a producer put less than its list, a fetch-add of it found no cell
+-- if the gate stops nobody and a producer put less than its list, a fetch-add of that producer found no cell
 pub found_none : (may_stop : Who → ℕ → Type 0) → ((w : Who) (n : ℕ) → may_stop w n → ⊥)
     → (cells : ℕ) (lists : List (List ℕ)) (lanes : List LaneLeft)
     → AreStoppedPuts may_stop cells 0 lists lanes → AreCutByCells cells 0 lists lanes
@@ -84,7 +84,7 @@ found_none may_stop never cells lists lanes stopped cut p list l at there few sh
 all_of : {X : Type 0} (P : X → Type 0) (xs : List X) → ((p : ℕ) (x : X) → slice_get xs p ≡ Some x → P x) → All P xs
 all_of P xs each = λ k d low. each k (slice_index_or xs k d) (slice_get-get_or xs k d low)
 
--- if none is over b and one is under it, the sum is under that of as many b
+-- if no value is over b and one is under it, the sum of the values is less than as many times b
 pub sum_short : {X : Type 0} (f : X → ℕ) (b : ℕ) (xs : List X) (p : ℕ) (x : X)
     → ((q : ℕ) (y : X) → slice_get xs q ≡ Some y → f y ≤ b)
     → slice_get xs p ≡ Some x → f x < b → sum_by f xs < length xs * b

@@ -19,14 +19,14 @@ same_some : {X : Type 0} {x y : X} → ◌≡◌ {A = Option X} (Some x) (Some y
 same_some e = cc
 
 -- ---- what is told of all is told of each
--- the part that was taken in of a consumer
+-- the part of a consumer that was taken in is the one that this consumer left
 taken_at : (cs : List ConsumerLeft) (c : ℕ) (one : ConsumerLeft) → slice_get cs c ≡ Some one
     → taken_part (map (λ x. Some x.claimed) cs) c ≡ one.claimed
 taken_at [] c one at = absurd (cc)
 taken_at (x ∷ xs) zero one at = ap (λ (y : ConsumerLeft). y.claimed) (same_some at)
 taken_at (x ∷ xs) (suc c) one at = taken_at xs c one at
 
--- what is told of consumers that were stopped
+-- what is told of all consumers that were stopped holds of consumer c
 stopped_at : (may_stop : Who → ℕ → Type 0) (budget from : ℕ) (cs : List ConsumerLeft) (c : ℕ)
     (one : ConsumerLeft) → AreStoppedPolls may_stop budget from cs
     → slice_get cs c ≡ Some one → one.stopped ≡ true
@@ -43,7 +43,7 @@ stopped_at may_stop budget from (x ∷ xs) (suc c) one all at =
     subst (λ (k : ℕ). one.stopped ≡ true → IsStoppedPoll may_stop budget k (length one.reads + length one.claimed)) next
     (stopped_at may_stop budget (suc from) xs c one all.1 at)
 
--- what is told of consumers that read to the end
+-- a consumer with a note at each item has as many notes on lane p as items were put on that lane
 noted_at : (from : ℕ) (lanes : List LaneLeft) (p : ℕ) (l : LaneLeft) (ledger : ConsumerRecordView)
     → HasNoteAtEach from lanes ledger → slice_get lanes p ≡ Some l
     → length (notes_on (from + p) ledger.notes) ≡ length l.put
@@ -55,13 +55,13 @@ noted_at from (x ∷ xs) (suc p) l ledger has at =
     let next : from + suc p ≡ suc from + p = omega arith in
     ap (λ (k : ℕ). length (notes_on k ledger.notes)) next ∙ noted_at (suc from) xs p l ledger has.1 at
 
--- at each place of a list is an element
+-- at each place below its length a list has an element
 one_at : {X : Type 0} (xs : List X) (k : ℕ) → k < length xs → (x : X) × (slice_get xs k ≡ Some x)
 one_at [] k low = absurd (omega (arith, low))
 one_at (x ∷ xs) zero low = (x, refl)
 one_at (x ∷ xs) (suc k) low = one_at xs k (omega (arith, low))
 
--- what holds of all holds of the element at a place
+-- what holds of all elements of a list holds of the one at place k
 of_one : {X : Type 0} (P : X → Type 0) (xs : List X) (k : ℕ) (x : X) → All P xs → k < length xs
     → slice_get xs k ≡ Some x → P x
 of_one P xs k x all low at = subst P (same_some (sym (slice_get-get_or xs k x low) ∙ at)) (all k x low)
@@ -81,7 +81,7 @@ come_to_last may_stop never budget c made was =
     ]
 
 -- ---- the notes of the report
--- each consumer has a note at each item, or has made as many accesses
+-- each consumer has a note at each item, or has made at least 2^64 - 2 accesses
 pub notes_told : (may_stop : Who → ℕ → Type 0) (budget : ℕ) → ((w : Who) (n : ℕ) → may_stop w n → ⊥)
     → (count : ℕ) (m : MailboxView) (h : HubView) (r : ReportView)
     (left : List LaneLeft) (cs : List ConsumerLeft) (g : IsGathered m h r)
@@ -96,6 +96,7 @@ pub notes_told : (may_stop : Who → ℕ → Type 0) (budget : ℕ) → ((w : Wh
 notes_told may_stop budget never count m h r left cs g told ledgers readers claims many stopped
     noted lanes c p low_c low_p = go one.stopped refl
   where
+    -- consumer c is among those that worked, and this is what it left
     there : c < length cs
     there = omega (arith, low_c, many)
 
@@ -108,15 +109,18 @@ notes_told may_stop budget never count m h r left cs g told ledgers readers clai
     at : slice_get cs c ≡ Some one
     at = found.1
 
+    -- the hub kept the ledger of consumer c
     kept : kept_at h.ledgers c ≡ Some one.ledger
     kept = ap (λ xs. kept_at xs c) ledgers ∙ rw (slice_get-map (λ (x : ConsumerLeft). Some x.ledger) cs c, at) refl
 
+    -- the notes in the report are those of the hub, and these are those of the ledger
     in_report : notes c p r ≡ notes_in c p h
     in_report = rw (told.lanes_count, lt-ltb p m.cells.size.lanes low_p, told.diary c p low_c low_p) refl
 
     in_ledger : notes_in c p h ≡ notes_on p one.ledger.notes
     in_ledger = rw kept refl
 
+    -- the parts of consumer c in the histories are those that it left, so its accesses are as many
     reads : part (Reader (g.histories.reader_of c)) g.histories.pool ≡ one.reads
     reads = ap (λ (k : ℕ). part (Reader k) g.histories.pool) (g.reader c)
         ∙ g.pool.parts (Reader c) one.reads (ap (λ xs. slice_get xs c) readers
@@ -128,6 +132,7 @@ notes_told may_stop budget never count m h r left cs g told ledgers readers clai
     made : accesses_by c g.histories ≡ length one.reads + length one.claimed
     made = rw (reads, claimed) refl
 
+    -- a consumer that was not stopped has all notes, and one that was stopped has made the accesses
     go : (b : Bool) → one.stopped ≡ b → HasNotedAll count budget c p g.histories r
     go false e =
         let l = lanes p low_p in

@@ -27,7 +27,7 @@ use Rattle.mb_program.specs.declared.options.Options.{Options}
 use Rattle.mb_program.proofs.RunLanes.{found_none, front_whole, front_within, sum_short}
 use Rattle.mb_program.proofs.RunNotes.{notes_told}
 
--- nothing is missing among what is there
+-- if each entry of a list is there, none is missing
 pub none_missing : {X Y : Type 0} (f : X → Y) (xs : List X) → count_missing (map (λ x. Some (f x)) xs) ≡ 0
 none_missing f [] = refl
 none_missing f (x ∷ xs) = none_missing f xs
@@ -40,7 +40,7 @@ place_of f a (suc n) zero low = let e : a + 0 ≡ a = omega arith in rw e refl
 place_of f a (suc n) (suc p) low =
     let e : a + 1 + p ≡ a + suc p = omega arith in place_of f (a + 1) n p (omega (arith, low)) ∙ ap (λ k. Some (f k)) e
 
--- the list of producer p
+-- the list of producer p stands at place p of all lists
 list_of : (producers count p : ℕ) → p < producers → slice_get (item_lists producers count) p ≡ Some (items_of p count)
 list_of producers count p low =
     let same : 0 + p ≡ p = omega arith in place_of (λ p. items_of p count) 0 producers p low
@@ -50,7 +50,7 @@ list_of producers count p low =
 same_some : {X : Type 0} {x y : X} → ◌≡◌ {A = Option X} (Some x) (Some y) → x ≡ y
 same_some e = cc
 
--- an element at the same place of the list beside
+-- if two lists are related place by place, an element of the first has one beside it in the second
 pub beside : {X Y : Type 0} (R : X → Y → Type 0) (xs : List X) (ys : List Y) (p : ℕ) (x : X)
     → AllZip R xs ys → slice_get xs p ≡ Some x
     → (y : Y) × (slice_get ys p ≡ Some y) × R x y
@@ -64,11 +64,14 @@ beside {X} {Y} R xs ys p x zip at = go (slice_get ys p) refl
     go (Some y) some is = (y, some, subst (λ o. IsSomeAnd o (R x)) some is)
 
 -- ---- the lanes of the report
--- lane p of the report, and what its producer left
+-- lane p of the report tells what the producer of that lane left
 record IsTold (count lanes consumers : ℕ) (h : HubView) (left : List LaneLeft) (r : ReportView) (p : ℕ) : Type 0 where
+  -- what producer p left, and that this stands at place p of what all producers left
   one : LaneLeft
   there : slice_get left p ≡ Some one
+  -- the items that were put are a beginning of those of producer p
   front : IsFront one.put (items_of p count)
+  -- the report has at place p the lane as the hub has it, and the hub kept what producer p left
   told : slice_get r.lanes p ≡ Some (lane_in consumers p h)
   kept : kept_at h.puts p ≡ Some (ended_list one)
 
@@ -88,6 +91,7 @@ is_told producers count lanes consumers h left r same told puts fronts p low =
       kept = ap (λ xs. kept_at xs p) puts ∙ kept_of left p one.0 one.1;
     }
   where
+    -- what the hub kept at place p is what stands at place p of what producers left
     kept_of : (left : List LaneLeft) (p : ℕ) (l : LaneLeft) → slice_get left p ≡ Some l
         → kept_at (map (λ l. Some (ended_list l)) left) p ≡ Some (ended_list l)
     kept_of left p l at = rw (slice_get-map (λ l. Some (ended_list l)) left p, at) refl
@@ -115,12 +119,15 @@ lanes_told producers count lanes consumers h left r same told puts fronts full p
       record { ended = rw (t.kept) refl; whole = put ∙ front_whole t.one.put (items_of p count) t.front long_enough },
     )
   where
+    -- each lane is told
     at : (p : ℕ) → p < producers → IsTold count lanes consumers h left r p
     at = is_told producers count lanes consumers h left r same told puts fronts
 
+    -- each producer's list has `count` items
     long_of : (p : ℕ) → length (items_of p count) ≡ count
     long_of p = length-map-range_with_len (λ i. 1000 * p + i) 0 count
 
+    -- no lane of the report has more than `count` items
     few : (q : ℕ) (l : LaneView) → slice_get r.lanes q ≡ Some l → length l.put ≤ count
     few q l there =
         let within = slice_get_within r.lanes q l there in
@@ -163,18 +170,22 @@ run_report {budget} may_stop never o m old h r lists n w few asked plan size emp
           polls noted whole c p (omega (arith, low_c, consumers)) (omega (arith, low_p, same)));
     }
   where
+    -- there are as many lanes as producers
     same : o.producers ≡ m.cells.size.lanes
     same = sym (ap (λ p. p.lanes) plan)
 
+    -- the hub has the items put and the part of each producer as the workers left them
     puts : h.puts ≡ map (λ l. Some (ended_list l)) worked.lanes
     puts = worked.run.puts ∙ ap (λ (g : HubView). g.puts ++ map (λ l. Some (ended_list l)) worked.lanes) empty
 
     parts : h.cells.roll.lanes ≡ map (λ l. Some l.part) worked.lanes
     parts = worked.run.parts ∙ ap (λ (g : HubView). g.cells.roll.lanes ++ map (λ l. Some l.part) worked.lanes) empty
 
+    -- the hub's table has as many cells as the mailbox
     cells : h.cells.table.size.cells ≡ m.cells.size.cells
     cells = ap (λ (t : CellsName). t.size.cells) of.cells
 
+    -- what the run says of stopped producers, and of those that found no cell, is said of the lists asked for
     stopped : AreStoppedPuts may_stop m.cells.size.cells 0 (item_lists o.producers o.items) worked.lanes
     stopped = subst (λ (k : ℕ). AreStoppedPuts may_stop k 0 (item_lists o.producers o.items) worked.lanes) cells
         (subst (λ (g : HubView). AreStoppedPuts may_stop h.cells.table.size.cells (length g.puts)
@@ -189,10 +200,12 @@ run_report {budget} may_stop never o m old h r lists n w few asked plan size emp
         (subst (λ (ls : List (List ℕ)). AreCutByCells h.cells.table.size.cells (length old.puts) ls
         worked.lanes) are worked.cut))
 
+    -- the part of lane p is the part that its producer left
     part_at : (left : List LaneLeft) (p : ℕ) (l : LaneLeft) → slice_get left p ≡ Some l
         → slice_get (map (λ l. Some l.part) left) p ≡ Some (Some l.part)
     part_at left p l at = rw (slice_get-map (λ l. Some l.part) left p, at) refl
 
+    -- if a producer put less than its list, as many items were put as there are cells
     all_put : (p : ℕ) (l : LaneLeft) → p < o.producers → slice_get worked.lanes p ≡ Some l
         → length l.put < length (items_of p o.items)
         → put_count r ≡ o.producers * o.items
@@ -206,9 +219,11 @@ run_report {budget} may_stop never o m old h r lists n w few asked plan size emp
         ap (λ xs. slice_get xs p) parts ∙ part_at worked.lanes p l there in
         full p l.part part none ∙ ap (λ (s : PoolSize). s.cells) size
 
+    -- there are as many consumers as the layout has
     consumers : o.consumers ≡ consumer_count m.claims.layout
     consumers = sym (ap consumers_of plan)
 
+    -- the hub has the ledger and both parts of each consumer as the workers left them
     ledgers : h.ledgers ≡ map (λ x. Some x.ledger) worked.consumers
     ledgers = worked.run.ledgers ∙ ap (λ (g : HubView). g.ledgers ++ map (λ x. Some x.ledger) worked.consumers) empty
 
@@ -220,9 +235,11 @@ run_report {budget} may_stop never o m old h r lists n w few asked plan size emp
     claims = worked.run.claimed ∙ ap (λ (g : HubView). g.claims.roll
         ++ map (λ x. Some x.claimed) worked.consumers) empty
 
+    -- as many consumers worked as the layout has
     many : length worked.consumers ≡ consumer_count m.claims.layout
     many = worked.run.count ∙ sources ∙ consumers
 
+    -- what the run says of stopped consumers, and of the notes of the others, is said from number 0 on
     polls : AreStoppedPolls may_stop budget 0 worked.consumers
     polls = subst (λ (g : HubView). AreStoppedPolls may_stop budget (length g.ledgers)
         worked.consumers) empty worked.stopped_polls
@@ -249,7 +266,7 @@ run_report {budget} may_stop never o m old h r lists n w few asked plan size emp
         (t.one, t.there, ap length (sym (ap (λ (v : LaneView). v.put) is ∙ put) ∙ lane.2.whole) ∙ long)
 
 -- ---- what a gathering could fail for
--- all that was issued was taken in
+-- after a run all that the hub issued was taken in
 pub nothing_missing : {may_stop : Who → ℕ → Type 0} {budget : ℕ} (m : MailboxView) (old h : HubView)
     (lists : List (List ℕ)) (n : ℕ) (w : Worked)
     → old ≡ hub_empty m → IsWorked may_stop budget lists n w old h → count_missing h.puts + count_missing h.ledgers ≡ 0
@@ -265,7 +282,7 @@ nothing_missing m old h lists n w empty worked =
 pub not_missing : (f : GatherFault) (a b : ℕ) → f ≡ Missing a b → f ≡ NoMemory → ⊥
 not_missing f a b e g = let both : Missing a b ≡ NoMemory = sym e ∙ g in cc
 
--- there are as many numbers as are asked for
+-- a new hub has as many numbers as the options ask for, so a run does not ask for too many
 pub asks_enough : (o : Options) (m : MailboxView) (old : HubView) (lists sources : ℕ) → plan_at m
     ≡ plan_asked o → old ≡ hub_empty m
     → lists ≡ o.producers → sources ≡ o.consumers → AsksTooMany m lists sources old → ⊥

@@ -1,4 +1,4 @@
--- There is a setup only if none is refused.
+-- A setup is made only if nothing refuses it.
 use Rattle.std.proofs.Common.{◌≡◌, Option, Some, None, Result, Ok, Err, refl}
 use Rattle.std.specs.Prelude.{IsOk, MatchOption}
 use Rattle.mb_world.specs.declared.setup.Setup.{Setup}

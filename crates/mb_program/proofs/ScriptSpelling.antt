@@ -1,4 +1,4 @@
--- A ratifier script that is spelled is read, and what was read was spelled so.
+-- A ratifier script that is spelled is read, and bytes that were read as a script spell that script.
 use Rattle.std.proofs.Common.{◌≡◌, ℕ, ◌<◌, ◌≤◌, ◌^◌, Bool, true, false, cond, nat_eq, nat_lt, List, [], ◌∷◌, length, codes, map, Option, Some, None, Result, Ok, Err, refl, ap, sym, subst, ◌∙◌, rules}
 use Rattle.std.specs.Prelude.{IfOk}
 use Rattle.std.specs.Fmt.{decimal}
@@ -21,22 +21,28 @@ use Rattle.mb_program.specs.Steps.{Gives}
 use Rattle.mb_program.specs.RatifyScript.{Script, view, line_words, head_of, list_of, three_lines, script_of}
 use Rattle.mb_program.specs.Spelling.{HasSpelling, script_words, script_lines}
 
--- the laws of texts on which the reading stands
+-- the laws of mb_script of words, numbers and ASCII, on which the reading stands
 pub record TextLaws : Type 0 where
+  -- words with one space between each two are cut out again
   pub cut : (w : List ℕ) (ws : List (List ℕ)) → AllByRecursion IsWord (w ∷ ws)
       → words_in_line (join_with_byte 32 (w ∷ ws)) ≡ w ∷ ws
+  -- among words that may stand on a line none is empty
   pub none_empty : (ws : List (List ℕ)) → AllByRecursion IsWord ws → has_empty ws ≡ false
+  -- the decimals of numbers may stand on a line
   pub word : (n : ℕ) → n < 2 ^ 64 → IsWord (decimal n)
   pub words : (ns : List ℕ) → AllByRecursion (λ n. n < 2 ^ 64) ns → AllByRecursion IsWord (map decimal ns)
+  -- the decimals of numbers are read as these numbers
   pub read : (n : ℕ) → n < 2 ^ 64 → number_of (decimal n) ≡ Some n
   pub all_read : (ns : List ℕ) → AllByRecursion (λ n. n < 2 ^ 64) ns → numbers_of (map decimal ns) ≡ Some ns
+  -- words that were read as numbers are the decimals of these numbers
   pub spelled : (w : List ℕ) (n : ℕ) → number_of w ≡ Some n → (w ≡ decimal n) × (n < 2 ^ 64)
   pub all_spelled : (ws : List (List ℕ)) (ns : List ℕ) → numbers_of ws ≡ Some ns
       → (ws ≡ map decimal ns) × AllByRecursion (λ n. n < 2 ^ 64) ns
+  -- a text whose lines are lines of words is ASCII
   pub ascii : (bytes : List ℕ) (lines : List (List (List ℕ))) → AllByRecursion IsWordLine lines
       → lines_of bytes ≡ map (join_with_byte 32) lines → list_all is_ascii bytes ≡ true
 
--- the step before one that succeeded
+-- if a step after another went well, the first step went well, too
 bind_ok : {A B : Type 0} (r : Result A RatifyFault) (f : A → Result B RatifyFault) (y : B) → (r >>= f) ≡ Ok y
     → (x : A) × (r ≡ Ok x) × (f x ≡ Ok y)
 bind_ok (Ok x) f y e = (x, refl, e)
@@ -67,7 +73,7 @@ some_from : {A : Type 0} (o : Option A) (d : RatifyFault) (x : A) → ok_or o d 
 some_from (Some y) d x e = ap (λ (z : _). Some z) (ok_is y x e)
 some_from None d x e = absurd (cc)
 
--- the words that were read are the line with one space between each two
+-- the words read from a line are that line, with one space between each two
 line_takes : (n : ℕ) (lines : List (List ℕ)) (x : List (List ℕ) × List (List ℕ)) → line_words n lines ≡ Ok x
     → lines ≡ join_with_byte 32 x.0 ∷ x.1
 unfolding line_words
@@ -83,7 +89,7 @@ line_again : TextLaws → (n : ℕ) (w : List ℕ) (ws rest : List (List ℕ)) �
 unfolding line_words
 line_again law n w ws rest are = rw (law.cut w ws are, law.none_empty (w ∷ ws) are) refl
 
--- a name that was read is the name of its table
+-- a word that was read as a table, by its tests, is that table's name
 table_takes : (word : List ℕ) (t : TableName) (u b m : Bool)
     → bytes_eq word (codes "unary") ≡ u → bytes_eq word (codes "bits") ≡ b → bytes_eq word (codes "middle") ≡ m
     → cond u (Some Unary) (cond b (Some Bits) (cond m (Some Middle) None)) ≡ Some t → word ≡ table_name t
@@ -98,11 +104,11 @@ table_takes word Unary false false true p q r e = absurd (cc)
 table_takes word Bits false false true p q r e = absurd (cc)
 table_takes word t false false false p q r e = absurd (cc)
 
--- the table and the number of the first line, one after the other
+-- what is left to be read of the first line after its table: the number of values
 abbrev head_values : List ℕ → TableName → Result (TableName × ℕ) RatifyFault
 head_values values t = ok_or (number_of values) (BadNumber 1) >>= (λ m. Ok (t, m))
 
--- what was read of the first line was spelled so
+-- words that were read as a table and a number of values spell them as the first line does
 head_takes : TextLaws → (ws : List (List ℕ)) (x : TableName × ℕ) → head_of ws ≡ Ok x
     → (ws ≡ codes "ratify" ∷ table_name x.0 ∷ decimal x.1 ∷ []) × (x.1 < 2 ^ 64)
 unfolding head_of
@@ -127,7 +133,7 @@ head_takes law (key ∷ name ∷ values ∷ []) x e =
     ∷ decimal y.1 ∷ []) × (y.1 < 2 ^ 64))
     (ok_is made x b.2) (whole, v.1)
 
--- what is spelled on the first line is read so
+-- a first line that spells a table and a number of values is read as these
 head_again : TextLaws → (t : TableName) (m : ℕ) → m < 2 ^ 64
     → head_of (codes "ratify" ∷ table_name t ∷ decimal m ∷ []) ≡ Ok (t, m)
 unfolding head_of
@@ -135,7 +141,7 @@ head_again law Unary m h = rw (law.read m h) refl
 head_again law Bits m h = rw (law.read m h) refl
 head_again law Middle m h = rw (law.read m h) refl
 
--- numbers that were read after a key were spelled so
+-- words that were read as a key and numbers are the key and the decimals of these numbers
 list_takes : TextLaws → (n : ℕ) (key : List ℕ) (ws : List (List ℕ)) (ns : List ℕ) → list_of n key ws ≡ Ok ns
     → (ws ≡ key ∷ map decimal ns) × AllByRecursion (λ k. k < 2 ^ 64) ns
 unfolding list_of
@@ -146,44 +152,45 @@ list_takes law n key (w ∷ ws) ns e =
     let v = law.all_spelled ws ns (some_from _ _ _ g.1) in
     (ap (λ (x : List ℕ). x ∷ ws) k ∙ ap (λ (x : List (List ℕ)). key ∷ x) v.0, v.1)
 
--- numbers that are spelled after a key are read so
+-- a key and the decimals of numbers are read as these numbers
 list_again : TextLaws → (n : ℕ) (key : List ℕ) (ns : List ℕ) → AllByRecursion (λ k. k < 2 ^ 64) ns
     → list_of n key (key ∷ map decimal ns) ≡ Ok ns
 unfolding list_of
 list_again law n key ns h = rw ((bytes_eq-Decides key key).1 refl, law.all_read ns h) refl
 
--- the type of lines, or of the words of one. What is left to do after each step of `three_lines` stands below it, the
--- last step first
+-- ---- the three lines
+-- the type of lines, or of the words of one. The six definitions below it say what is left to do after each step of
+-- `three_lines`, the last step first
 abbrev Lines : Type 0
 Lines = List (List ℕ)
 
--- after the numbers of line 3: the last test
+-- what is left to do after the numbers of line 3: the last test
 abbrev after_turns : TableName × ℕ → List ℕ → Lines → List ℕ → Result Script RatifyFault
 after_turns head inputs rest turns =
     cond (nat_eq (length rest) 0)
     (Ok (record { table = head.0; values = head.1; inputs = inputs; turns = turns })) (Err (BadLine 4))
 
--- after the words of line 3
+-- what is left to do after the words of line 3
 abbrev after_third : TableName × ℕ → List ℕ → Lines × Lines → Result Script RatifyFault
 after_third head inputs third = list_of 3 (codes "turns") third.0 >>= after_turns head inputs third.1
 
--- after the numbers of line 2
+-- what is left to do after the numbers of line 2
 abbrev after_inputs : TableName × ℕ → Lines → List ℕ → Result Script RatifyFault
 after_inputs head rest inputs = line_words 3 rest >>= after_third head inputs
 
--- after the words of line 2
+-- what is left to do after the words of line 2
 abbrev after_second : TableName × ℕ → Lines × Lines → Result Script RatifyFault
 after_second head second = list_of 2 (codes "inputs") second.0 >>= after_inputs head second.1
 
--- from the table and its values on
+-- what is left to do after the table and the number of values
 abbrev after_head : Lines → TableName × ℕ → Result Script RatifyFault
 after_head rest head = line_words 2 rest >>= after_second head
 
--- after the words of line 1
+-- what is left to do after the words of line 1
 abbrev after_first : Lines × Lines → Result Script RatifyFault
 after_first first = head_of first.0 >>= after_head first.1
 
--- lines that were read were spelled so
+-- lines that were read as a script are spelled as that script's lines
 lines_take : TextLaws → (lines : Lines) (s : Script) → three_lines lines ≡ Ok s → HasSpelling s
     × (lines ≡ script_lines s)
 unfolding three_lines
@@ -227,7 +234,7 @@ words_fit law s h = (
   ((search rules, law.words s.inputs h.inputs), ((search rules, law.words s.turns h.turns), tt)),
 )
 
--- lines that are spelled are read so
+-- the lines of a script that has a spelling are read as that script
 lines_again : TextLaws → (s : Script) → HasSpelling s → three_lines (script_lines s) ≡ Ok s
 unfolding three_lines
 lines_again law s h =
@@ -241,7 +248,7 @@ lines_again law s h =
       list_again law 3 (codes "turns") s.turns h.turns,
     ) refl
 
--- a script that was read was spelled so
+-- bytes that were read as a script have that script's lines
 script_takes : TextLaws → (bytes : List ℕ) (s : Script) → script_of bytes ≡ Ok s → HasSpelling s
     × (lines_of bytes ≡ script_lines s)
 unfolding script_of
@@ -252,7 +259,7 @@ script_takes law bytes s e =
     let b = passed (list_all is_ascii bytes) NotAscii read s a.1 in
     lines_take law (lines_of bytes) s b.1
 
--- a script that is spelled is read so
+-- bytes that have a script's lines are read as that script
 pub script_again : TextLaws → (bytes : List ℕ) (s : Script) → HasSpelling s → length bytes ≤ MAX_SCRIPT_LEN
     → lines_of bytes ≡ script_lines s → script_of bytes ≡ Ok s
 unfolding script_of
@@ -260,7 +267,7 @@ script_again law bytes s h short e =
     let ascii = law.ascii bytes (script_words s) (words_fit law s h) e in
     rw (le-ltb MAX_SCRIPT_LEN (length bytes) short, ascii, e) (lines_again law s h)
 
--- what a call found in bytes was spelled so
+-- if a call found a script in bytes, they have that script's lines
 pub is_found : {A : Type 0} → TextLaws → (bytes : List ℕ) (r : Result (code.RatifyScript A) RatifyFault)
     → Gives (λ s. view s) r (script_of bytes)
     → IfOk r (λ s. HasSpelling (view s) × (lines_of bytes ≡ script_lines (view s)))

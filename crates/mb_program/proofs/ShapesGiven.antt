@@ -10,7 +10,7 @@ use Rattle.mb_script.specs.Vocabulary.{shape_of_word}
 use Rattle.mb_program.specs.declared.options.TheConstants.{DEFAULTS}
 use Rattle.mb_program.specs.RunOptions.{shape_from, shape_in}
 
--- the shape of the text that it gives
+-- the shape that the text of `get_str` names, or else the default, is the shape of the rows
 shape_read : (f : Found) (o p : Option (Bor Text))
     → option_map (λ (s : Bor Text). s.now) o ≡ first_value f (codes "shape") → o ≡ p
     → shape_from (option_map (λ (s : Bor Text). s.now) p) ≡ shape_in (rows_of f)
@@ -28,7 +28,7 @@ word_read f o word named r gives is found made =
     made ∙ ap (λ (q : Option Shape). unwrap_or q DEFAULTS.shape) found
     ∙ shape_read f o (Some word) gives is
 
--- without a word the default holds
+-- if `get_str` gives no word, the default holds
 pub none_read : (f : Found) (o : Option (Bor Text))
     → option_map (λ (s : Bor Text). s.now) o ≡ first_value f (codes "shape") → o ≡ None
     → DEFAULTS.shape ≡ shape_in (rows_of f)

@@ -6,11 +6,11 @@ use Rattle.clap.specs.declared.error.ErrorKind.TheVariants.{DisplayHelp, Display
 use Rattle.mb_script.specs.Vocabulary.{IoModel}
 use Rattle.mb_program.specs.Program.{IsPrinted, IsTold}
 
--- the errors are no help, by clap's own test
+-- clap's test sends a text to the errors exactly if its kind is neither help nor the version
 abbrev Decides : Bool → ErrorKind → Type 0
 Decides stderr kind = IsTrue stderr ↔ ((kind ≢ DisplayHelp) × (kind ≢ DisplayVersion))
 
--- what is printed so ends so, under equal names
+-- what was printed may be told of an equal writer, and by an equal flag
 printed_as : {D : Type 0} (sink : IoModel D) (old new end : D) (text : List ℕ) (printed flag : Bool)
     → end ≡ new → flag ≡ printed
     → IsPrinted sink old new text printed → IsPrinted sink old end text flag
@@ -18,7 +18,7 @@ printed_as sink old new end text printed flag same equal wrote =
     subst (λ d. IsPrinted sink old d text flag) (sym same)
     (subst (λ b. IsPrinted sink old new text b) (sym equal) wrote)
 
--- clap's text went to the second writer
+-- if clap's test sent the text to the errors, the text went where it should: to the second writer
 pub told_errors : {W E : Type 0} (sink : IoModel W) (errs : IoModel E) (writer writer' : W)
     (errors errors' new : E) (kind : ErrorKind)
     (stderr printed flag : Bool) (text : List ℕ) → Decides stderr kind → stderr ≡ true → writer'
@@ -30,7 +30,7 @@ told_errors sink errs writer writer' errors errors' new kind stderr printed flag
       λ _ _. (same, (text, printed_as errs errors new errors' text printed flag end equal wrote)),
     )
 
--- clap's text went to the first writer
+-- if clap's test did not send the text to the errors, the text went where it should: to the first writer
 pub told_output : {W E : Type 0} (sink : IoModel W) (errs : IoModel E) (writer writer' new : W)
     (errors errors' : E) (kind : ErrorKind)
     (stderr printed flag : Bool) (text : List ℕ) → Decides stderr kind → stderr ≡ false → writer'
@@ -42,7 +42,7 @@ told_output sink errs writer writer' new errors errors' kind stderr printed flag
       λ no_help no_version. let both : false ≡ true = sym to_output ∙ is.1 (no_help, no_version) in absurd (cc),
     )
 
--- to nobody, for want of memory
+-- if memory ran out, no text was printed, and both writers are as they were
 pub told_nobody : {W E : Type 0} (sink : IoModel W) (errs : IoModel E) (writer writer' : W)
     (errors errors' : E) (kind : ErrorKind) (flag : Bool)
     → writer' ≡ writer → errors' ≡ errors → flag ≡ false → IsTold sink errs writer writer' errors errors' kind flag

@@ -32,9 +32,11 @@ fault_of bytes = fault_in (script_of bytes)
 
 -- the bytes are a script without fault, and the text is that of its trace
 pub record IsAnswer (bytes text : List ℕ) : Type 0 where
+  -- the bytes say this script, and `ratify` does not refuse it
   pub script : Script
   pub read : script_of bytes ≡ Ok script
   pub accepted : refused_as script ≡ None
+  -- the entries and outputs are the script's trace, and the text is that of the trace
   pub entries : List Entry
   pub outputs : List (Option Out)
   pub made : IsTraceOf script entries outputs

@@ -11,7 +11,7 @@ use Rattle.mb_program.specs.declared.command.Choice.{Choice}
 use Rattle.mb_program.specs.declared.command.Choice.TheVariants.{Ratify, Replay, Run}
 use Rattle.mb_program.specs.declared.options.TheConstants.{MAX_BUDGET}
 
--- an option that takes a number from `low` to `high`
+-- an option that takes a number from `low` to `high`, and else has this default
 abbrev pub number_rule : Text → Text → ℕ → ℕ → Rule
 number_rule name default low high = record (new_rule name) {
   long = Some name;
@@ -21,7 +21,7 @@ number_rule name default low high = record (new_rule name) {
   parser = Some (Unsigned low high);
 }
 
--- an option that takes any number below 2^64
+-- an option that takes any number below 2^64, with this default
 abbrev pub any_number : Text → Text → Rule
 any_number name default = number_rule name default 0 (2 ^ 64 - 1)
 
@@ -33,11 +33,11 @@ TextsAt = Bor (List (Bor Text))
 abbrev pub somewhere : {X : Type 0} → X → Bor X
 somewhere x = record { ref_ptr = (0, 0); now = x }
 
--- texts with such places
+-- texts, each with that place in memory
 abbrev pub texts_at : List Text → TextsAt
 texts_at texts = somewhere (map somewhere texts)
 
--- an option that takes one of these names
+-- an option that takes one of these names, and else has this default
 abbrev pub named_rule : Text → Text → TextsAt → Rule
 named_rule name default names = record (new_rule name) {
   long = Some name;
@@ -92,7 +92,7 @@ IsProgramApp = IsHanded program_with shape_names
 abbrev pub command_in : List Text → Option Text
 command_in words = option_map (λ found. found.0) (subcommand_of program words)
 
--- the name of a choice
+-- the name of the command that a choice is of
 abbrev pub choice_name : Choice → Text
 choice_name Ratify = codes "ratify"
 choice_name Replay = codes "replay"

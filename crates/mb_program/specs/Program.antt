@@ -26,7 +26,8 @@ abbrev pub ended_by : {X F : Type 0} → (F → Failed) → Result X F → Progr
 ended_by fault (Ok done) = ending.Done
 ended_by fault (Err e) = ending.Failed (fault e)
 
--- a command was carried out from a reader to a writer, and the program ends so
+-- the command of this choice was carried out, with its reader and its writer before it and after it, and the program
+-- ends as `end` says
 abbrev pub WasCarriedOut : {R W : Type 0} → Choice → IoModel R → IoModel W → R → R → W → W → ProgramExit → Type 0
 WasCarriedOut Ratify source sink reader reader' writer writer' end =
     (r : Result (Unit {0}) RatifyFault) × IsCommandIo ratifying source sink reader reader' writer writer' r
@@ -62,7 +63,8 @@ IsTold sink errs writer writer' errors errors' kind printed =
     → (writer' ≡ writer) × ((text : List ℕ) × IsPrinted errs errors errors' text printed))
 
 -- ---- a run of the program
--- one run of the program over these words ends so, with its reader and two writers before it and after it
+-- one run of the program over these words ends as the last argument says, with its reader and its two writers before
+-- it and after it
 abbrev pub IsProgramRun : {R W E : Type 0} → List Text → IoModel R → IoModel W → IoModel E → R → R → W → W
     → E → E → ProgramExit → Type 0
 -- the command that the words name was carried out
@@ -70,8 +72,8 @@ IsProgramRun words source sink errs reader reader' writer writer' errors errors'
     ((choice : Choice) × WordsName words choice
     × WasCarriedOut choice source sink reader reader' writer writer' ending.Done)
     × (errors' ≡ errors)
--- It failed, and the line of its fault was written to the second writer: whole, or a prefix if that writer failed, or
--- nothing at all. If nothing was written, memory ran out, but no clause can say that.
+-- The command that the words name failed. The line of its fault was written to the second writer: whole, or a prefix
+-- if that writer failed, or nothing at all. If nothing was written, memory ran out, but no clause can say that.
 IsProgramRun words source sink errs reader reader' writer writer' errors errors' (ending.Failed fault) =
     ((choice : Choice) × WordsName words choice
     × WasCarriedOut choice source sink reader reader' writer writer' (ending.Failed fault))
@@ -83,6 +85,6 @@ IsProgramRun words source sink errs reader reader' writer writer' errors errors'
     × IsTold sink errs writer writer' errors errors' kind printed
     × ((choice : Choice) → takes program words ≡ true → command_in words ≡ Some (choice_name choice)
     → kind ≡ OutOfMemory)
--- the words are given, so the program does not end because there are none
+-- These two ends come only if the words of the command line could not be had. Here the words are given.
 IsProgramRun words source sink errs reader reader' writer writer' errors errors' ending.NonUtf8Args = ⊥
 IsProgramRun words source sink errs reader reader' writer writer' errors errors' ending.ArgsUnavailable = ⊥

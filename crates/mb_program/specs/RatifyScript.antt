@@ -13,21 +13,23 @@ use Rattle.mb_script.specs.Vocabulary.{◌>>=◌, table_named, lines_of, words_i
 
 -- a script as plain data
 pub record Script : Type 0 where
+  -- the name of the quorum table, and how many values the table is for
   pub table : TableName
   pub values : ℕ
+  -- the input of each process, and the process of each turn
   pub inputs : List ℕ
   pub turns : List ℕ
 
--- a script of the code
+-- a script of the code, as plain data
 abbrev pub view : {A : Type 0} → code.RatifyScript A → Script
 view s = record { table = s.table; values = s.values; inputs = s.inputs.items; turns = s.turns.items }
 
--- the words of line n, which is the first of these, and the lines after it
+-- the words of line n, which is the first of these lines, and the lines after it. Or the fault of line n
 unfoldable pub line_words : ℕ → List (List ℕ) → Result (List (List ℕ) × List (List ℕ)) RatifyFault
 line_words n [] = Err (BadLine n)
 line_words n (line ∷ rest) = if has_empty (words_in_line line) then Err (BadLine n) else Ok (words_in_line line, rest)
 
--- the table and the number that the words of the first line say
+-- the table and the number of values that the words of the first line say, or the fault of that line
 unfoldable pub head_of : List (List ℕ) → Result (TableName × ℕ) RatifyFault
 head_of (key ∷ name ∷ values ∷ []) =
     if bytes_eq key (codes "ratify")
@@ -35,7 +37,7 @@ head_of (key ∷ name ∷ values ∷ []) =
     else Err (BadLine 1)
 head_of words = Err (BadLine 1)
 
--- the numbers after the key on line n
+-- the numbers after the key in these words of line n, or the fault of that line
 unfoldable pub list_of : ℕ → List ℕ → List (List ℕ) → Result (List ℕ) RatifyFault
 list_of n key [] = Err (BadLine n)
 list_of n key (word ∷ words) = if bytes_eq word key then ok_or (numbers_of words) (BadNumber n) else Err (BadLine n)

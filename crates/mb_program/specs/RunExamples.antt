@@ -31,7 +31,7 @@ run_words more = codes "mailbox" ∷ codes "run" ∷ more
 abbrev pub nothing_done : Histories
 nothing_done = record { claims = []; pool = []; reader_of = λ c. c }
 
--- one lane on which item 0 was put, and one consumer
+-- a report on one lane, on which item 0 was put, and on one consumer: it has these notes and these items left
 abbrev pub report_with : List Note → List ℕ → ReportView
 report_with notes left = record {
   lanes = record { put = 0 ∷ []; ended = true; left = left } ∷ [];

@@ -17,11 +17,11 @@ number_from low high default None = default
 number_from low high default (Some text) =
     if is_unsigned_in low high text then digits_value 10 (without_leading_plus text) else default
 
--- the number of the option of this name in what clap found
+-- the number of the option of this name in the rows that clap found, or else this default
 abbrev pub number_in : Text → ℕ → List Row → ℕ
 number_in name default rows = number_from 0 (2 ^ 64 - 1) default (one_of name rows)
 
--- the budget of the rows, or else the default if it is out of its range
+-- the budget in the rows that clap found, or else the default if it is out of its range
 abbrev pub budget_in : List Row → ℕ
 budget_in rows =
     let budget = number_in (codes "budget") DEFAULTS.budget rows in
@@ -32,11 +32,11 @@ abbrev pub shape_from : Option Text → Shape
 shape_from None = DEFAULTS.shape
 shape_from (Some word) = unwrap_or (shape_of_word word) DEFAULTS.shape
 
--- the shape of the rows
+-- the shape that the option `shape` of the rows names, or else plain
 abbrev pub shape_in : List Row → Shape
 shape_in rows = shape_from (first_of (codes "shape") rows)
 
--- all options of the rows
+-- the options of `run` that the rows give, with the defaults of the others
 abbrev pub options_in : List Row → Options
 options_in rows = record {
   producers = number_in (codes "producers") DEFAULTS.producers rows;
@@ -48,16 +48,16 @@ options_in rows = record {
   shape = shape_in rows;
 }
 
--- the options of `run` are those that clap found with the command's name
+-- If the choice is `run`, its options are those of the rows that clap found with the command's name
 abbrev pub HasOptions : Option (Text × List Row) → Choice → Type 0
 HasOptions found (Run options) = option_map (λ f. options_in f.1) found ≡ Some options
 HasOptions found _ = Unit {0}
 
--- the options of a choice are those that the words give
+-- If the choice is `run`, its options are those that the words of the command line give
 abbrev pub HasToldOptions : List Text → Choice → Type 0
 HasToldOptions words choice = HasOptions (subcommand_of program words) choice
 
--- the budget of `run` lies in its range
+-- if the choice is `run`, its budget lies in its range
 abbrev pub HasBudget : Choice → Type 0
 HasBudget (Run options) = (1 ≤ options.budget) × (options.budget ≤ MAX_BUDGET)
 HasBudget _ = Unit {0}

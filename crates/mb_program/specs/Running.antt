@@ -28,30 +28,32 @@ setup_refused o = setup_refusal o.producers o.consumers (o.producers * o.items) 
 abbrev pub plan_asked : Options → Plan
 plan_asked o = shaped_plan o.shape o.producers o.consumers (o.producers * o.items) o.pairs Bits
 
--- the limits that keep a mailbox from being refused
+-- if the setup is not refused, there are at most 16 producers, 64 consumers, and 256 items of each producer
 pub record AreFew (o : Options) : Type 0 where
   pub producers : o.producers ≤ 16
   pub consumers : o.consumers ≤ 64
   pub items : o.items ≤ 256
 
 -- ---- the items that producers put
--- what producer p puts, in order
+-- the items that producer p puts, in order, if each producer puts `count` of them
 abbrev pub items_of : ℕ → ℕ → List ℕ
 items_of p count = map (λ i. 1000 * p + i) (range_with_len 0 count)
 
--- the lists of all producers
+-- the items of all producers, a list for each
 abbrev pub item_lists : ℕ → ℕ → List (List ℕ)
 item_lists producers count = map (λ p. items_of p count) (range_with_len 0 producers)
 
 -- ---- the random words that are drawn
--- the words of each consumer's source, from its beginning
+-- the random words that each consumer's source gives from its beginning on
 abbrev pub words_asked : Options → List Stream
 words_asked o = map (λ c. words_from (source_from o.seed c)) (range_with_len 0 o.consumers)
 
 -- ---- the report of a run
--- lane p has ended, and all items of producer p are put on it
+-- lane p has ended, and the items put on it are all those of producer p
 pub record IsLaneOf (p count : ℕ) (l : LaneView) : Type 0 where
+  -- the lane has ended
   pub ended : l.ended ≡ true
+  -- the items put on the lane are those of producer p, in their order
   pub whole : l.put ≡ items_of p count
 
 -- how many accesses consumer c has made, to the words of the cells and to those of the claims
@@ -93,7 +95,7 @@ pub record IsRunReport (o : Options) (r : ReportView) : Type 0 where
   -- alone. For a run of `work` see `IsWorked`.
   pub noted : (c p : ℕ) → c < o.consumers → p < o.producers → HasNotedAll o.items o.budget c p histories r
 
--- the text is that of such a report
+-- the text is that of a report of a run with these options
 abbrev pub IsRunText : Options → List ℕ → Type 0
 IsRunText o text = (r : ReportView) × IsRunReport o r × (text ≡ report_text r)
 
@@ -101,7 +103,7 @@ IsRunText o text = (r : ReportView) × IsRunReport o r × (text ≡ report_text 
 -- one call of the command `run` has this result, with its writer before it and after it
 pub record IsRun {X W : Type 0} (o : Options) (sink : IoModel W) (writer writer' : W)
     (result : Result X RunFault) : Type 0 where
-  -- the text of such a report was written, and nothing else
+  -- if the call did what was asked, the text of a report of such a run was written, and nothing else
   pub answered : OnOk result ((text : List ℕ) × IsRunText o text
       × Appends (sink.bytes writer) (sink.bytes writer') text)
   -- the setup is refused exactly if the options are out of range, for the first reason
@@ -109,7 +111,7 @@ pub record IsRun {X W : Type 0} (o : Options) (sink : IoModel W) (writer writer'
   -- a failed write comes exactly if the writer failed in this call, and it failed once
   pub write_failed : result ≡ Err WriteFault → sink.failures writer' ≡ one_more (sink.failures writer)
   pub write_worked : result ≢ Err WriteFault → sink.failures writer' ≡ sink.failures writer
-  -- after a failed write a prefix of such a text was written, after any other fault nothing
+  -- after a failed write a prefix of such a report's text was written, and after any other fault nothing
   pub front : result ≡ Err WriteFault →
       (text : List ℕ) × IsRunText o text × AppendsFront (sink.bytes writer) (sink.bytes writer') text
   pub untouched : IfErr result (λ e. e ≢ WriteFault → writer' ≡ writer)

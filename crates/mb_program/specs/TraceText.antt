@@ -11,7 +11,7 @@ use Rattle.mb_script.specs.Vocabulary.{act_text}
 abbrev pub out_text : Out → List ℕ
 out_text out = cond out.decided (codes "1 ") (codes "0 ") ++ decimal out.value
 
--- the line of a turn
+-- the line of one turn's entry in a trace
 abbrev pub entry_text : Entry → List ℕ
 entry_text (Access process act None) = decimal process ++ codes " " ++ act_text act ++ codes "\n"
 entry_text (Access process act (Some out)) =

@@ -69,7 +69,7 @@ fn choice_of(matches: &ArgMatches) -> Option<Choice>
 
 /// Reads the command line, whose first word is the program's name.
 ///
-/// Clap decides which lines are refused, and the text that says so. A call for help is such a refusal.
+/// Clap decides which lines are refused, and the text that says so. A call for help counts as a refusal.
 pub fn command_of<'a, S: AsStr>(alloc: Global, words: &'a [S]) -> Result<Choice, Error>
     // The choice is the command that the words name, and clap refuses none of the words.
     ensures choice { IfOk result (λ choice. command_in (map S.text words.entry.now)
@@ -83,7 +83,8 @@ pub fn command_of<'a, S: AsStr>(alloc: Global, words: &'a [S]) -> Result<Choice,
     // A refusal has a kind that the words give: help comes only if they ask for it.
     ensures kinds { IfErr result (λ e. IsRefusalOf (map S.text words.entry.now) (kind_of e)) }
 
-    // Words that clap takes and that name a command are refused only if memory runs out. So it is with a command alone.
+    // Words that clap takes and that name a command are refused only if memory runs out. So are the two words of the
+    // program's name and a command's name.
     ensures refused { (choice : Choice) → takes program (map S.text words.entry.now) ≡ true
         → command_in (map S.text words.entry.now) ≡ Some (choice_name choice)
         → IfErr result (λ e. kind_of e ≡ ErrorKind.OutOfMemory) }

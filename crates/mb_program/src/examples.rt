@@ -35,7 +35,7 @@ ghost use Rattle.mb_program.specs.Source.{seed_bytes, source_from, words_from};
 
 use mb_mailbox::laws::calls_draw_the_first_words;
 
-/// A script of numbers that are too large has no spelling.
+/// A script has a spelling if each of its numbers is below 2^64, and else none.
 pub fn numbers_are_words()
     ensures largest { HasSpelling (record {
       table = Unary;
@@ -68,7 +68,7 @@ pub fn scripts_have_a_limit()
     ensures { MAX_SCRIPT_LEN ≡ 1048576 }
 {}
 
-/// Only a script without fault has an answer, and it has one line for each process.
+/// Only a script without fault has an answer. The answer has one line for each process of the script, and for no other.
 pub fn answers_fit_their_script()
     ensures nobody { IsAnswer (codes "ratify unary 2\ninputs\nturns\n") [] }
     ensures stranger { IsAnswer (codes "ratify unary 2\ninputs\nturns\n")
@@ -134,7 +134,9 @@ pub fn shapes_are_told()
 
 /// What the options ask for, and how a lane of a run ends.
 pub fn lanes_have_their_lists()
+    // The items of producer 1, if each producer puts three.
     ensures items { items_of 1 3 ≡ 1000 ∷ 1001 ∷ 1002 ∷ [] }
+    // Options with too many cells or no consumer are refused, for the first reason.
     ensures cells { setup_refused (record asked {
       producers = 16;
       items = 2 ^ 60;
@@ -144,8 +146,10 @@ pub fn lanes_have_their_lists()
       items = 2 ^ 63;
     }) ≡ Some BadConsumers }
     ensures none { setup_refused asked ≡ None }
+    // Each cell has the deciding objects of the shape that is asked for.
     ensures shape { (o : Options) → (plan_asked o).claims.kinds
         ≡ row_of o.shape (spread o.consumers) o.pairs }
+    // A lane of a run has ended, and has exactly its producer's items, in their order.
     ensures whole { IsLaneOf 0 2 (record { put = 0 ∷ 1 ∷ []; ended = true; left = [] }) }
     ensures begun { IsLaneOf 0 2 (record { put = 0 ∷ []; ended = true; left = [] }) → ⊥ }
     ensures empty { IsLaneOf 0 2 (record { put = []; ended = true; left = [] }) → ⊥ }
@@ -164,15 +168,17 @@ pub fn sources_have_their_seeds()
 /// A consumer of a run has a note at each item, or the histories have many accesses of it. It is the reader of its own
 /// number.
 pub fn consumers_note_all_items()
+    // One lane with item 0, one consumer, and a budget of 64.
     ensures noted { HasNotedAll 1 64 0 0 nothing_done (report_with (Took 0 ∷ []) []) }
     ensures undecided { HasNotedAll 1 64 0 0 nothing_done (report_with (Undecided ∷ []) (0 ∷ [])) }
     ensures not_noted { HasNotedAll 1 64 0 0 nothing_done (report_with [] (0 ∷ [])) → ⊥ }
     ensures past_the_budget { (hs : Histories) → 64 * (2 ^ 64 - 2) < accesses_by 0 hs
         → HasNotedAll 1 64 0 0 hs (report_with [] (0 ∷ [])) → ⊥ }
+    // Consumer c is reader c.
     ensures own { AreOwnReaders nothing_done }
     ensures one_reader_for_all { AreOwnReaders (record nothing_done { reader_of = λ _. 0 }) → ⊥ }
 
-    // For a whole report: if a note is missing, the histories are long.
+    // If a whole report of a run lacks a note, its histories have many accesses.
     ensures short_run { (x : IsRunReport one_item (report_with [] (0 ∷ [])))
         → length x.histories.pool + length x.histories.claims < 2 ^ 64 - 2 → ⊥ }
 {}
@@ -192,12 +198,15 @@ pub fn runs_draw_from_their_seed()
 
 /// What the program does with its words: a script of no process, one with a fault, words that clap refuses, and help.
 pub fn runs_do_what_the_words_ask()
+    // `ratify` and a script of no process: nothing is written to either writer.
     ensures done { IsRunOver ratify_words nobody_script [] [] [] ending.Done }
     ensures done_and_told { IsRunOver ratify_words nobody_script [] [] (codes "x") ending.Done → ⊥ }
+    // `ratify` and a script with a fault: the whole line of the fault goes to the second writer.
     ensures fault { IsRunOver ratify_words (codes "x\n") [] [] (codes "fault 3 BadLine 1\n")
         (ending.Failed (failed.Ratify (BadLine 1))) }
     ensures half_a_line { IsRunOver ratify_words (codes "x\n") [] [] (codes "fault")
         (ending.Failed (failed.Ratify (BadLine 1))) → ⊥ }
+    // Words that clap refuses: nothing is read, and clap's text goes to the second writer.
     ensures refused { IsRunOver (codes "mailbox" ∷ []) (codes "a") (codes "a") [] (codes "usage")
         (ending.Refused MissingSubcommand true) }
     ensures refused_and_read { IsRunOver (codes "mailbox" ∷ []) (codes "a") [] [] (codes "usage")
@@ -205,6 +214,7 @@ pub fn runs_do_what_the_words_ask()
     ensures refused_on_the_output { IsRunOver (codes "mailbox" ∷ []) [] [] (codes "usage") []
         (ending.Refused MissingSubcommand true) → ⊥ }
     ensures refused_and_done { IsRunOver ratify_now nobody_script [] [] [] ending.Done → ⊥ }
+    // Help comes only if the words ask for it, and goes to the first writer.
     ensures help { IsRunOver help_words (codes "a") (codes "a") (codes "help") []
         (ending.Refused DisplayHelp true) }
     ensures help_on_the_errors { IsRunOver help_words [] [] [] (codes "help")

@@ -22,9 +22,9 @@ pub enum RatifyFault {
     BadNumber(usize),
     /// The number of values is out of range.
     BadValues,
-    /// The input at this place, counted from 0, is not below the number of values. It is the first such.
+    /// The input at this place, counted from 0, is not below the number of values. It is the first such input.
     BadInput(usize),
-    /// The turn at this place, counted from 0, names no process. It is the first such.
+    /// The turn at this place, counted from 0, names no process. It is the first such turn.
     NoSuchProcess(usize),
     /// Memory ran out.
     NoMemory,
@@ -34,6 +34,7 @@ pub enum RatifyFault {
     WriteFault,
 }
 
+// `?` turns the faults of these calls into faults of `ratify`.
 impl From<AllocError> for RatifyFault {
     ghost from_gives = { λ _ e. e ≡ NoMemory };
 
@@ -96,6 +97,7 @@ pub enum RunFault {
     WriteFault,
 }
 
+// `?` turns the faults of these calls into faults of `run`.
 impl From<SetupFault> for RunFault {
     ghost from_gives = { λ why e. e ≡ run.BadSetup why };
 

@@ -5,11 +5,11 @@
 pub(crate) const PROGRAM: &str = "\
 Each command has a help of its own, as `mailbox run --help`.";
 
-/// What `ratify` does.
+/// What `ratify` does, in the line that the help begins with.
 pub(crate) const RATIFY_ABOUT: &str =
     "Runs one ratifier by a script from standard input, and prints each access and output";
 
-/// What the help of `ratify` says after that.
+/// What the help of `ratify` says after its options.
 pub(crate) const RATIFY: &str = "\
 A script has three lines of words, with one space between each two:
   ratify <table> <m>      the quorum table, unary, bits or middle, for m values, 1 to 64
@@ -21,11 +21,11 @@ For example:
   inputs 0 1
   turns 0 0 0 0 1 1 1";
 
-/// What `replay` does.
+/// What `replay` does, in the line that the help begins with.
 pub(crate) const REPLAY_ABOUT: &str =
     "Replays a script from standard input, and prints each event's answer and the report";
 
-/// What the help of `replay` says after that.
+/// What the help of `replay` says after its options.
 pub(crate) const REPLAY: &str = "\
 A script is lines of words, with one space between each two. The first is
   setup <producers> <consumers> <cells> <pairs> <table> <shape>
@@ -39,7 +39,7 @@ For example:
   offer 0 7
   push 0";
 
-/// What `run` does.
+/// What `run` does, in the line that the help begins with.
 pub(crate) const RUN_ABOUT: &str =
     "Lets producers and consumers work in threads, and prints the report of what they did";
 

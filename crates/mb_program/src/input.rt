@@ -78,6 +78,7 @@ fn list<A: Allocator + Drop>(
     numbers(alloc, behind)?.ok_or(RatifyFault::BadNumber(n))
 }
 
+/// The script that the three lines of the text say, or the fault of the first faulty line.
 #[tactic(auto, unfolding(crate::specs::RatifyScript::three_lines))]
 fn read_lines<A: Allocator + Copy>(alloc: A, text: &str) -> Result<RatifyScript<A>, RatifyFault>
     ensures { Gives (λ s. view s) result (three_lines (lines_of text.now)) }
@@ -99,6 +100,7 @@ fn read_lines<A: Allocator + Copy>(alloc: A, text: &str) -> Result<RatifyScript<
     })
 }
 
+/// What the bytes say: a script, or their first fault. Too many bytes and a byte that is not ASCII come first.
 #[tactic(auto, unfolding(crate::specs::RatifyScript::script_of))]
 fn read_bytes<A: Allocator + Copy>(alloc: A, bytes: &[u8]) -> Result<RatifyScript<A>, RatifyFault>
     ensures exact { Gives (λ s. view s) result (script_of bytes.now) }
@@ -126,7 +128,7 @@ pub fn read_script<A: Allocator + Copy>(
         → lines_of bytes.now ≡ script_lines s
         → Gives (λ s. view s) result (Ok s) }
 
-    // The script, or which fault, unless memory runs out.
+    // The call returns the script that the bytes say, or their first fault, unless memory runs out.
     ensures exact { Gives (λ s. view s) result (script_of bytes.now) }
 {
     words_are_cut_as_spelled();

@@ -7,16 +7,17 @@ use std::alloc::Allocator;
 /// Where the fault lies.
 #[derive(Clone, Copy)]
 enum Spot {
-    /// In the whole, or outside of the script.
+    /// The fault is of the whole script, or lies outside of it.
     Whole,
-    /// On the line of this number, counted from 1.
+    /// The fault lies on the line of this number, counted from 1.
     Line(usize),
-    /// At the input of this number, counted from 0.
+    /// The fault lies at the input of this number, counted from 0.
     Input(usize),
-    /// At the turn of this number, counted from 0.
+    /// The fault lies at the turn of this number, counted from 0.
     Turn(usize),
 }
 
+// The words for faults that more than one command has, or that have more than one cause.
 const TOO_LONG: &str = "the script is longer than 1048576 bytes";
 
 const NOT_ASCII: &str = "the script has a byte that is not ASCII";
@@ -36,6 +37,7 @@ const NO_INPUT: &str = "standard input cannot be read";
 
 const NO_OUTPUT: &str = "standard output cannot be written";
 
+/// The words for a fault of a setup.
 fn of_setup(fault: SetupFault) -> &'static str {
     match fault {
         SetupFault::BadProducers => "the number of producers is 1 to 16",
@@ -45,6 +47,7 @@ fn of_setup(fault: SetupFault) -> &'static str {
     }
 }
 
+/// Where a fault of `ratify` lies, and the words for it.
 fn of_ratify(fault: RatifyFault) -> (Spot, &'static str) {
     match fault {
         RatifyFault::TooLong => (Spot::Whole, TOO_LONG),
@@ -63,6 +66,7 @@ fn of_ratify(fault: RatifyFault) -> (Spot, &'static str) {
     }
 }
 
+/// Where a fault of `replay` lies, and the words for it.
 fn of_replay(fault: Fault) -> (Spot, &'static str) {
     match fault {
         Fault::TooLong => (Spot::Whole, TOO_LONG),
@@ -80,6 +84,7 @@ fn of_replay(fault: Fault) -> (Spot, &'static str) {
     }
 }
 
+/// The words for a fault of `run`.
 fn of_run(fault: RunFault) -> &'static str {
     match fault {
         RunFault::BadSetup(why) => of_setup(why),

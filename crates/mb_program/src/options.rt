@@ -170,7 +170,8 @@ fn number_given(given: &ArgMatches, name: &str, default: u64) -> u64
     given.get_one::<u64>(name).unwrap_or(default)
 }
 
-/// The budget. Clap takes only numbers in its range, but no clause here says so: hence the check.
+/// The budget that the options give. Clap takes only numbers in its range, but no clause here says so. So the number is
+/// checked.
 fn budget_given(given: &ArgMatches) -> u64
     ensures number { result ≡ budget_in (rows_of (found_of given.now)) }
     ensures range { (1 ≤ result) × (result ≤ MAX_BUDGET) }

@@ -26,7 +26,8 @@ pub enum ProgramExit {
     Done,
     /// The command failed.
     Failed(Failed),
-    /// Clap did not read the command line, for a reason of this kind. Its text was printed, or it could not be.
+    /// No command was run: clap refused the words, or help was asked for. `kind` is clap's reason, and `printed` says
+    /// whether its text was printed whole.
     Refused { kind: ErrorKind, printed: bool },
     /// A word of the command line is not UTF-8.
     NonUtf8Args,
@@ -34,6 +35,7 @@ pub enum ProgramExit {
     ArgsUnavailable,
 }
 
+/// Appends the number and the name of a setup's fault.
 fn push_setup_fault<A: Allocator>(text: &mut String<A>, fault: SetupFault) -> Result<(), NoMemory>
     ensures { OnOk result
         (string_bytes text.new ≡ string_bytes text.old ++ setup_fault_text fault) }
@@ -46,6 +48,7 @@ fn push_setup_fault<A: Allocator>(text: &mut String<A>, fault: SetupFault) -> Re
     })
 }
 
+/// The line of a fault of `ratify`.
 fn ratify_fault_text<A: Allocator>(alloc: A, fault: RatifyFault) -> Result<String<A>, NoMemory>
     ensures { IfOk result (λ text. string_bytes text ≡ fault_line (Ratify fault)) }
 {
@@ -65,6 +68,7 @@ fn ratify_fault_text<A: Allocator>(alloc: A, fault: RatifyFault) -> Result<Strin
     Ok(text)
 }
 
+/// The line of a fault of `replay`.
 fn replay_fault_text<A: Allocator>(alloc: A, fault: Fault) -> Result<String<A>, NoMemory>
     ensures { IfOk result (λ text. string_bytes text ≡ fault_line (Replay fault)) }
 {
@@ -90,6 +94,7 @@ fn replay_fault_text<A: Allocator>(alloc: A, fault: Fault) -> Result<String<A>, 
     Ok(text)
 }
 
+/// The line of a fault of `run`.
 fn run_fault_text<A: Allocator>(alloc: A, fault: RunFault) -> Result<String<A>, NoMemory>
     ensures { IfOk result (λ text. string_bytes text ≡ fault_line (Run fault)) }
 {
@@ -134,6 +139,7 @@ pub fn status_of(failed: &Failed) -> u8
     }
 }
 
+/// The exit status if clap returned no choice, and its text was printed or not.
 fn status_of_refusal(kind: ErrorKind, printed: bool) -> u8
     ensures { result ≡ refusal_status kind printed }
 {

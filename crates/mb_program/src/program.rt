@@ -35,7 +35,8 @@ pub fn run<
         (meter O.held O.failures) (meter E.held E.failures)
         reader.old reader.new writer.old writer.new errors.old errors.new result }
 
-    // For every reader, also for one whose bytes are not known, such as standard input.
+    // At most `MAX_SCRIPT_LEN + 1` bytes are read. This holds of every reader, also of one whose bytes are not known,
+    // such as standard input.
     ensures given { CountGrowsUpTo (MAX_SCRIPT_LEN + 1) (I.given reader.old) (I.given reader.new) }
 {
     match command_of(rt.alloc(), words) {

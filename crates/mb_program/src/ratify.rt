@@ -53,7 +53,7 @@ pub fn ratify_text<A: Allocator + Copy, R: CountedRead, W: CountedWrite>(
     ensures exchange { IsCommandIo ratifying (meter R.left R.failures) (meter W.held W.failures)
         reader.old reader.new writer.old writer.new result }
 
-    // For every reader, also for one whose bytes are not known.
+    // These clauses hold of every reader, also of one whose bytes are not known.
     ensures given { CountGrowsUpTo (MAX_SCRIPT_LEN + 1) (R.given reader.old) (R.given reader.new) }
     ensures given_long { result ≡ Err TooLong
         → CountGrows (MAX_SCRIPT_LEN + 1) (R.given reader.old) (R.given reader.new) }

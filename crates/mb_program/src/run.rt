@@ -71,7 +71,7 @@ fn item_lists<A: Allocator + Copy + Drop>(
     Ok(lists)
 }
 
-/// The sources of all consumers, one for each.
+/// The sources of the consumers' random words, one for each consumer.
 fn sources<A: Allocator + Drop>(
     alloc: A,
     seed: u64,

@@ -8,6 +8,7 @@ use mb_deciding::{Entry, Out, Trace};
 use mb_script::push_act;
 use std::alloc::{AllocError, Allocator};
 
+/// Appends the text of an output: whether it is decided, and its value.
 fn push_out<A: Allocator>(text: &mut String<A>, out: Out) -> Result<(), AllocError>
     ensures { OnOk result (string_bytes text.new ≡ string_bytes text.old ++ out_text out) }
 {
@@ -15,6 +16,7 @@ fn push_out<A: Allocator>(text: &mut String<A>, out: Out) -> Result<(), AllocErr
     write!(text, "{}", out.value)
 }
 
+/// Appends the line of one entry of a trace.
 fn push_entry<A: Allocator>(text: &mut String<A>, entry: Entry) -> Result<(), AllocError>
     ensures { OnOk result (string_bytes text.new ≡ string_bytes text.old ++ entry_text entry) }
 {
@@ -32,6 +34,7 @@ fn push_entry<A: Allocator>(text: &mut String<A>, entry: Entry) -> Result<(), Al
     }
 }
 
+/// Appends the line of a process with its output, if it has one.
 fn push_process<A: Allocator>(
     text: &mut String<A>,
     process: usize,
@@ -48,6 +51,7 @@ fn push_process<A: Allocator>(
     text.push_str("\n")
 }
 
+/// Appends a line for each entry.
 fn push_entries<A: Allocator>(text: &mut String<A>, entries: &[Entry]) -> Result<(), AllocError>
     ensures { OnOk result (string_bytes text.new ≡ string_bytes text.old
         ++ flat_map entry_text entries.now) }
@@ -58,6 +62,7 @@ fn push_entries<A: Allocator>(text: &mut String<A>, entries: &[Entry]) -> Result
     Ok(())
 }
 
+/// Appends a line for each process, from process 0 on.
 fn push_processes<A: Allocator>(
     text: &mut String<A>,
     outputs: &[Option<Out>],

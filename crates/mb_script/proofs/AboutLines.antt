@@ -16,7 +16,8 @@ use Rattle.mb_script.specs.Shapes.{shape_named}
 use Rattle.mb_script.specs.Tables.{table_named}
 use Rattle.mb_script.specs.Text.{has_empty, words_in_line}
 
--- a fault, if there is one, is one of these
+-- ---- what holds of each fault of a result
+-- if the result is a fault, P holds of that fault
 abbrev pub For : {A F : Type 0} → (F → Type 0) → Result A F → Type 0
 For P r = IfErr r P
 
@@ -33,11 +34,12 @@ pub for_cond : {A F : Type 0} (P : F → Type 0) (b : Bool) (r s : Result A F) �
 for_cond P true r s p q = p
 for_cond P false r s p q = q
 
--- what holds of a fault holds of an option that has it if it is empty
+-- what holds of a fault holds of an option that gives this fault if it is empty
 pub for_option : {A F : Type 0} (P : F → Type 0) (o : Option A) (e : F) → P e → For P (ok_or o e)
 for_option P (Some x) e is = tt
 for_option P None e is = is
 
+-- ---- faults of the lines of events
 -- a fault is about line n
 abbrev pub About : ℕ → Fault → Type 0
 About n e = line_of e ≡ Some n
@@ -91,14 +93,14 @@ at_event n (key ∷ ws) =
     (for_cond (About n) (bytes_eq key (codes "step")) _ _
     (for_bind (About n) (three_numbers n ws) _ (at_three n ws) (λ x. tt)) refl)))
 
--- a fault of an event's place is about its line
+-- a fault of an event whose lane or consumer is not there is about the event's line
 at_placed : (plan : Plan) (n : ℕ) (e : Event) → At n (placed plan n e)
 unfolding placed
 at_placed plan n e =
     for_cond (About n) (nat_lt (lane_of e) plan.lanes) _ _
     (for_cond (About n) (has_consumer plan (consumer_in e)) _ _ tt refl) refl
 
--- a fault of line n is about line n
+-- a fault of reading line n is about line n
 pub at_line : (plan : Plan) (n : ℕ) (line : List ℕ) → At n (event_at plan n line)
 unfolding event_at
 at_line plan n line =
@@ -106,7 +108,8 @@ at_line plan n line =
     (for_bind (About n) (event_of n (words_in_line line)) (placed plan n)
     (at_event n (words_in_line line)) (at_placed plan n))
 
--- what holds of each fault of a setup holds of what the first line makes
+-- ---- faults of the first line
+-- what holds of each fault of a setup holds of each fault of what the first line makes
 for_made : (P : Fault → Type 0) (o : Option SetupFault) (made : Made)
     → ((f : SetupFault) → P (BadSetup 1 f)) → For P (made_of o made)
 for_made P None made bad = tt

@@ -5,13 +5,13 @@ use Rattle.std.specs.List.{list_any, list_all}
 use Rattle.std.specs.Char.{is_ascii}
 use Rattle.std.proofs.lemmas.Bool.{lt-ltb}
 
--- a test of some image is a test of some element
+-- a test holds of some image of the elements if it holds of the image of some element
 pub list_any-map : {X Y : Type 0} (p : Y → Bool) (f : X → Y) (xs : List X)
     → list_any p (map f xs) ≡ list_any (λ x. p (f x)) xs
 list_any-map p f [] = refl
 list_any-map p f (x ∷ xs) = ap (λ (b : Bool). p (f x) || b) (list_any-map p f xs)
 
--- the test of each byte, from the bound on each
+-- if each byte is below 128, all pass the test of ASCII
 pub all_ascii : (bs : List ℕ) → ((i : ℕ) → slice_index bs i < 128) → list_all is_ascii bs ≡ true
 all_ascii [] below = refl
 all_ascii (b ∷ bs) below = rw (lt-ltb b 128 (below 0)) (all_ascii bs (λ i. below (suc i)))

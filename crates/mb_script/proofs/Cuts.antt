@@ -1,4 +1,4 @@
--- The first word of a line.
+-- The words of a line are cut off one by one: the first word, the words cut off so far, and their numbers.
 use Rattle.std.proofs.Common.{append-nil, option_map, ◌≡◌, ℕ, suc, Option, Some, None, ◌+◌, ◌<◌, ◌≤◌, nat_lt, sym, ◌∙◌, Bor, append_assoc, length-append}
 use Rattle.std.proofs.Common.{slice_set, Bool, true, false, cond, nat_eq, List, [], ◌∷◌, ◌++◌, length, take, drop, map, ◌||◌, refl, ap, arith}
 use Rattle.std.specs.Prelude.{not, option_and_then}
@@ -11,7 +11,7 @@ use Rattle.mb_script.specs.Text.{words_in_line, has_empty, number_of, numbers_of
 abbrev pub parts : ℕ → Bool
 parts b = nat_eq b 32
 
--- one byte more, which ends the word or not
+-- one byte more in front of a line with a space: the byte ends the first word, or belongs to it
 cut_step : (b : ℕ) (bs : List ℕ) (t : Bool) → cond (not t) (1 + position_or_len parts bs) 0 < suc (length bs)
     → (position_or_len parts bs < length bs → words_in_line bs ≡ before_first parts bs
     ∷ words_in_line (after_first parts bs))
@@ -32,14 +32,14 @@ pub words_cut : (bs : List ℕ) → position_or_len parts bs < length bs
 words_cut [] within = absurd (omega arith)
 words_cut (b ∷ bs) within = cut_step b bs (nat_eq b 32) within (words_cut bs)
 
--- one byte more in front of a line with no space
+-- one byte more, which is no space, in front of a line with no space
 last_step : (b : ℕ) (bs : List ℕ) (t : Bool) → cond (not t) (1 + position_or_len parts bs) 0 ≡ suc (length bs)
     → (position_or_len parts bs ≡ length bs → words_in_line bs ≡ bs ∷ [])
     → cond t ([] ∷ words_in_line bs) (onto_first b (words_in_line bs)) ≡ (b ∷ bs) ∷ []
 last_step b bs true none rest = absurd (omega arith)
 last_step b bs false none rest = ap (onto_first b) (rest (omega arith))
 
--- if there is none, the line is its only word
+-- if there is no space, the line is its only word
 pub words_last : (bs : List ℕ) → position_or_len parts bs ≡ length bs → words_in_line bs ≡ bs ∷ []
 words_last [] none = refl
 words_last (b ∷ bs) none = last_step b bs (nat_eq b 32) none (words_last bs)
@@ -55,17 +55,18 @@ pub some_word : (bs : List ℕ) → 0 < length (words_in_line bs)
 some_word [] = omega arith
 some_word (b ∷ bs) = first_step b (words_in_line bs) (nat_eq b 32) (some_word bs)
 
--- a test among three, one after the other
+-- ---- empty words, and too many words
+-- of three tests it does not matter which two are joined first
 any_step : (a b c t : Bool) → a ≡ (b || c) → (t || a) ≡ ((t || b) || c)
 any_step a b c true e = refl
 any_step a b c false e = e
 
--- an empty word among the first words or after them
+-- an empty word is among two lists of words if one of the lists has one
 empty_among : (ws vs : List (List ℕ)) → has_empty (ws ++ vs) ≡ (has_empty ws || has_empty vs)
 empty_among [] vs = refl
 empty_among (w ∷ ws) vs = any_step _ (has_empty ws) (has_empty vs) (nat_eq (length w) 0) (empty_among ws vs)
 
--- after words none of which is empty an empty one is found
+-- if an empty word comes after others, all the words together have an empty one
 pub empty_behind : (ws : List (List ℕ)) (w : List ℕ) (vs all : List (List ℕ)) (long : Bool) → has_empty ws ≡ false
     → nat_eq (length w) 0 ≡ true → ws ++ w ∷ vs ≡ all → (has_empty all || long) ≡ true
 empty_behind ws w vs all long full empty cut = rw (sym cut, empty_among ws (w ∷ vs), full, empty) refl
@@ -75,12 +76,12 @@ pub none_behind : (ws : List (List ℕ)) (w : List ℕ) → has_empty ws ≡ fal
     → has_empty (ws ++ w ∷ []) ≡ false
 none_behind ws w full some = rw (empty_among ws (w ∷ []), full, some) refl
 
--- a test that holds beside another
+-- if the second of two tests holds, one of the two does
 or_true : (a b : Bool) → b ≡ true → (a || b) ≡ true
 or_true true b e = refl
 or_true false b e = e
 
--- so many words, one more, and a line after it are too many
+-- if `most` words are cut off and a line is left, all the words are more than `most`
 pub too_many : (ws : List (List ℕ)) (w bs : List ℕ) (all : List (List ℕ)) (most : ℕ) → length ws + 1 ≡ most
     → ws ++ w ∷ words_in_line bs ≡ all → (has_empty all || nat_lt most (length all)) ≡ true
 too_many ws w bs all most count cut =
@@ -96,18 +97,20 @@ pub word_moves : (ws : List (List ℕ)) (w bs after : List ℕ) (all : List (Lis
 word_moves ws w bs after all cut whole =
     append_assoc ws (w ∷ []) (words_in_line after) ∙ ap (λ (l : List (List ℕ)). ws ++ l) (sym cut) ∙ whole
 
--- one word more in an array
+-- ---- words in an array
+-- if a word is stored at place i, the first i + 1 words are the first i and this word
 pub word_kept : (ws : List (Bor (List ℕ))) (i : ℕ) (w : Bor (List ℕ)) → i < length ws
     → map (λ x. x.now) (take (i + 1) (slice_set ws i w)) ≡ map (λ x. x.now) (take i ws) ++ w.now ∷ []
 word_kept ws i w low =
     ap (λ (l : List (Bor (List ℕ))). map (λ x. x.now) l) (take_more_set ws i w low)
     ∙ map-append (λ (x : Bor (List ℕ)). x.now) (take i ws) (w ∷ [])
 
--- the first words of an array are so many
+-- the first i words of an array are i words
 pub words_taken : (ws : List (Bor (List ℕ))) (i : ℕ) → i ≤ length ws → length (map (λ x. x.now) (take i ws)) ≡ i
 words_taken ws i low = length-map (take i ws) (λ (x : Bor (List ℕ)). x.now) ∙ length-take-le i ws low
 
--- how much is left, and one more if a word is left
+-- ---- the numbers that words spell
+-- how many bytes are left to be cut, and one more if a word is left
 abbrev pub bytes_left : Option (List ℕ) → ℕ
 bytes_left None = 0
 bytes_left (Some rest) = suc (length rest)
@@ -118,7 +121,7 @@ pub number_fails : (done : List ℕ) (w : List ℕ) (ws : List (List ℕ)) (whol
 unfolding numbers_of
 number_fails done w ws whole fails same = sym (rw fails refl) ∙ same
 
--- one number more in front of others
+-- one more number may be put after the numbers `done`, or before the further ones: the whole is the same
 map_one : (done : List ℕ) (n : ℕ) (o : Option (List ℕ)) → option_map (λ (ns : List ℕ). (done ++ n ∷ []) ++ ns) o
     ≡ option_map (λ ns. done ++ ns) (option_and_then (λ ns. Some (n ∷ ns)) o)
 map_one done n None = refl

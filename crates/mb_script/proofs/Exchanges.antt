@@ -4,7 +4,7 @@ use Rattle.mb_script.specs.declared.transfer.TheConstants.{MAX_SCRIPT_LEN}
 use Rattle.mb_script.specs.Devices.{ConsumesCount, Had}
 use Rattle.mb_script.specs.CommandIo.{AreApart, Command}
 
--- if one byte past the limit was read, what the reader had is too long a script
+-- if one byte past the limit was read, the bytes that the reader had are a script with the fault `too_long`
 pub too_long_read : {F : Type 0} (command : Command F)
     → ((bytes : List ℕ) → MAX_SCRIPT_LEN < length bytes → command.fault_of bytes ≡ Some command.too_long)
     → (old new : Option (List ℕ)) → ConsumesCount (MAX_SCRIPT_LEN + 1) old new
@@ -16,7 +16,7 @@ too_long_read command too_long (Some left) (Some rest) taken =
     subst (λ (l : List ℕ). length l ≡ length taken.0 + length rest) (sym taken.2) (length-append taken.0 rest) in
     (left, refl, too_long left (omega (arith, more, taken.1)))
 
--- a script that is within the limit has another fault than its length
+-- a script that is within the limit has another fault than `too_long`
 pub not_too_long : {F : Type 0} (command : Command F) → AreApart command
     → ((bytes : List ℕ) → command.fault_of bytes ≡ Some command.too_long → MAX_SCRIPT_LEN < length bytes)
     → (e : F) (bytes : List ℕ) → length bytes ≤ MAX_SCRIPT_LEN

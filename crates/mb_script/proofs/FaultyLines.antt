@@ -18,29 +18,31 @@ use Rattle.mb_script.specs.Spelling.{Spells}
 use Rattle.mb_script.proofs.ReadBack.{lines_take}
 use Rattle.mb_script.proofs.AboutLines.{At, at_line, at_setup}
 
--- an option has one number
+-- ---- equal results, and lists that begin alike
+-- equal options have one number
 some_is : (x y : ℕ) → ◌≡◌ {A = Option ℕ} (Some x) (Some y) → x ≡ y
 some_is x y e = cc
 
--- a result has one fault
+-- equal results have one fault
 pub err_is : {A : Type 0} (d e : Fault) → ◌≡◌ {A = Result A Fault} (Err d) (Err e) → d ≡ e
 err_is d e is = cc
 
--- a fault is about one line
+-- equal faults are about one line
 one_line : (d e : Fault) (n m : ℕ) → line_of d ≡ Some n → d ≡ e → line_of e ≡ Some m → n ≡ m
 one_line d e n m first same second = some_is n m (sym first ∙ ap line_of same ∙ second)
 
--- lists that begin alike
+-- of two lists that begin alike, the second has the head of the first, and their tails begin alike
 same_head : {X : Type 0} (k : ℕ) (a : X) (us bs : List X) → take (suc k) (a ∷ us) ≡ take (suc k) bs
     → (rest : List X) × (bs ≡ a ∷ rest) × (take k us ≡ take k rest)
 same_head k a us [] e = absurd (cc)
 same_head k a us (b ∷ bs) e = (bs, cc, cc)
 
--- a line, and what stands after it
+-- ---- the lines after the first faulty one do not count
+-- the events from one line on, if the line gives r and the lines after it give `rest`. Or the line is one too many
 abbrev from_line : Bool → Result Event Fault → Result (List Event) Fault → Result (List Event) Fault
 from_line many r rest = cond many (Err TooManyEvents) (r >>= (λ event. rest >>= (λ events. Ok (event ∷ events))))
 
--- a fault is not about a line before
+-- a fault of the lines from line n on is not about a line before n, if this holds from line n + 1 on
 least_step : (n m : ℕ) (many : Bool) (r : Result Event Fault) (rest : Result (List Event) Fault)
     (e : Fault) → n ≤ MAX_EVENTS + 2
     → At n r → line_of e ≡ Some m → from_line many r rest ≡ Err e → (many ≡ false → rest ≡ Err e → suc n ≤ m) → n ≤ m
@@ -52,11 +54,11 @@ least_step n m false (Err d) rest e low at about is on =
 least_step n m false (Ok x) (Ok ys) e low at about is on = absurd (cc)
 least_step n m false (Ok x) (Err d) e low at about is on = let more = on refl is in omega (arith, more)
 
--- at most the last line that may have an event, by the test
+-- if line n may have an event, by the test, line n + 1 is at most the first line that is one too many
 below_by : (n : ℕ) → nat_lt (MAX_EVENTS + 1) n ≡ false → suc n ≤ MAX_EVENTS + 2
 below_by n test = let low : n ≤ MAX_EVENTS + 1 = grind (arith, nat_tests, test) in omega (arith, low)
 
--- a fault of the lines from line n on is about none before
+-- a fault of the lines from line n on is not about a line before n
 pub events_least : (plan : Plan) (n m : ℕ) (us : List (List ℕ)) (e : Fault) → n ≤ MAX_EVENTS + 2
     → events_of plan n us ≡ Err e
     → line_of e ≡ Some m → n ≤ m
@@ -75,7 +77,7 @@ same_step false (Err d) rest rest2 e is on = is
 same_step false (Ok x) (Ok ys) rest2 e is on = absurd (cc)
 same_step false (Ok x) (Err d) rest2 e is on = rw (on refl is) refl
 
--- lines that begin alike have the same fault there
+-- lists of lines that begin alike have the same fault, if it is about a line of that beginning
 events_same : (plan : Plan) (n k m : ℕ) (us bs : List (List ℕ)) (e : Fault) → n ≤ MAX_EVENTS + 2
     → events_of plan n us ≡ Err e
     → line_of e ≡ Some m → n + k ≡ suc m → take k us ≡ take k bs → events_of plan n bs ≡ Err e
@@ -90,14 +92,14 @@ events_same plan n (suc k) m (line ∷ lines) bs e low is about count same =
     (λ few fails. events_same plan (suc n) k m lines h.0 e (below_by n few) fails about (omega (arith, count)) h.2) in
     subst (λ (t : List (List ℕ)). events_of plan n t ≡ Err e) (sym h.1) further
 
--- what was made by the first line changes no later fault
+-- if the events of one script have the fault that the events of another have, the first script has it, too
 events_step : (made : Made) (r s : Result (List Event) Fault) (e : Fault)
     → (r >>= (λ es. Ok (script_with made es))) ≡ Err e
     → (r ≡ Err e → s ≡ Err e) → (s >>= (λ es. Ok (script_with made es))) ≡ Err e
 events_step made (Ok ys) s e is on = absurd (cc)
 events_step made (Err d) s e is on = rw (on (ap (λ (f : Fault). Err f) (err_is d e is))) refl
 
--- a script with the same first line has the same fault of its events
+-- scripts with the same first line have the same fault, if their events have
 setup_step : (r : Result Made Fault) (f g : Made → Result (List Event) Fault) (e : Fault)
     → (r >>= (λ made. f made >>= (λ es. Ok (script_with made es)))) ≡ Err e → ((x : Made) → f x ≡ Err e → g x ≡ Err e)
     → (r >>= (λ made. g made >>= (λ es. Ok (script_with made es)))) ≡ Err e
@@ -111,7 +113,7 @@ least_behind made (Ok ys) m e is on = absurd (cc)
 least_behind made (Err d) m e is on =
     let more = on (ap (λ (f : Fault). Err f) (err_is d e is)) in omega (arith, more)
 
--- a fault is about line 1 or one after
+-- a fault of a script's lines is about line 1 or a later one
 setup_least : (r : Result Made Fault) (f : Made → Result (List Event) Fault) (m : ℕ) (e : Fault)
     → At 1 r → line_of e ≡ Some m
     → (r >>= (λ made. f made >>= (λ es. Ok (script_with made es)))) ≡ Err e → ((x : Made) → f x ≡ Err e → 2 ≤ m) → 1 ≤ m
@@ -119,7 +121,7 @@ setup_least (Err d) f m e at about is on =
     let same = one_line d e 1 m at (err_is d e is) about in omega (arith, same)
 setup_least (Ok x) f m e at about is on = least_behind x (f x) m e is (on x)
 
--- texts that begin alike have the same fault there
+-- scripts whose lines begin alike have the same fault, if it is about a line of that beginning
 lines_same : (m : ℕ) (us bs : List (List ℕ)) (e : Fault) → lines_script us ≡ Err e → line_of e ≡ Some m
     → take m us ≡ take m bs → lines_script bs ≡ Err e
 unfolding lines_script
@@ -140,7 +142,7 @@ lines_same (suc k) (line ∷ lines) bs e is about same =
     (λ made fails. events_same made.plan 2 k (suc k) lines h.0 e (omega arith) fails about (omega arith) h.2) in
     subst (λ (t : List (List ℕ)). lines_script t ≡ Err e) (sym h.1) further
 
--- a fault about a line lies in the lines
+-- a fault that is about a line comes from the lines, and not from the tests of all bytes
 pub by_lines : (long ascii : Bool) (read : Result Script Fault) (e : Fault) (m : ℕ)
     → cond long (Err TooLong) (cond ascii read (Err NotAscii)) ≡ Err e → line_of e ≡ Some m → read ≡ Err e
 by_lines true ascii read e m is about = let none = ap line_of (err_is TooLong e is) ∙ about in absurd (cc)
@@ -157,6 +159,7 @@ script_same us bs e m is about same short ascii =
     (lines_script (lines_of us)) e m is about in
     rw (le-ltb MAX_SCRIPT_LEN (length bs) short, ascii) (lines_same m (lines_of us) (lines_of bs) e read about same)
 
+-- ---- the lines before the first faulty one have no fault
 -- a line before the faulty one has no fault
 before_step : (n m : ℕ) (many : Bool) (r : Result Event Fault)
     (rest rest2 : Result (List Event) Fault) (e : Fault) → At n r
@@ -182,7 +185,7 @@ events_before plan n (suc k) m (line ∷ lines) e low is about count =
     (events_of plan (suc n) (take k lines)) e (at_line plan n line) about refl (omega (arith, count)) low is
     (λ fails. events_before plan (suc n) k m lines e low fails about (omega (arith, count)))
 
--- of the first line, and what stands after it
+-- if events with a fault are replaced by events without one, the script has no fault
 events_well : (made : Made) (r s : Result (List Event) Fault) (e : Fault)
     → (r >>= (λ es. Ok (script_with made es))) ≡ Err e
     → (r ≡ Err e → (es : List Event) × (s ≡ Ok es)) → (t : Script) × ((s >>= (λ es. Ok (script_with made es))) ≡ Ok t)
@@ -200,7 +203,7 @@ setup_well (Err d) f g e m at about more is on =
     let same = one_line d e 1 m at (err_is d e is) about in absurd (omega (arith, same, more))
 setup_well (Ok x) f g e m at about more is on = events_well x (f x) (g x) e is (on x)
 
--- a fault is about no line after the last that may be read
+-- a fault of the lines from line n on is about no line after the last that may be read, if this holds from n + 1 on
 last_step : (n m : ℕ) (many : Bool) (r : Result Event Fault) (rest : Result (List Event) Fault)
     (e : Fault) → n ≤ MAX_EVENTS + 2
     → At n r → line_of e ≡ Some m → from_line many r rest ≡ Err e → (many ≡ false → rest ≡ Err e → m ≤ MAX_EVENTS + 2)
@@ -237,7 +240,7 @@ lines_before (suc k) (line ∷ lines) e is about some =
     (λ made fails. events_before made.plan 2 k (suc (suc k)) lines e
     (events_last made.plan 2 (suc (suc k)) lines e (omega arith) fails about) fails about (omega arith))
 
--- what stands before the first faulty line was spelled as a script
+-- the lines before the first faulty one spell a script
 pub script_before : (bytes : List ℕ) (e : Fault) (n : ℕ) → script_of bytes ≡ Err e → line_of e ≡ Some (suc n) → 0 < n
     → (t : Script) × Spells (take n (lines_of bytes)) t
 unfolding script_of

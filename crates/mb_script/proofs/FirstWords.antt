@@ -1,4 +1,4 @@
--- The first word of a replay script.
+-- The first word of a replay script, and the fault NoSetup.
 use Rattle.std.proofs.Common.{◌≡◌, ◌≢◌, ℕ, ◌≤◌, Bool, true, false, cond, nat_lt, List, [], ◌∷◌, length, codes, Option, Some, Result, Ok, Err, refl, ap, sym, subst, arith}
 use Rattle.std.specs.Str.{bytes_eq}
 use Rattle.std.specs.List.{list_all}
@@ -16,26 +16,26 @@ use Rattle.mb_script.specs.Text.{has_empty, lines_of, words_in_line}
 use Rattle.mb_script.proofs.AboutLines.{For, for_cond, for_sizes}
 use Rattle.mb_script.proofs.FaultyLines.{by_lines, err_is, events_least}
 
--- other words after `setup` are no reason for NoSetup
+-- the words after `setup` are no reason for NoSetup
 not_behind : (ws : List (List ℕ)) → For (λ e. e ≢ NoSetup) (setup_of (codes "setup" ∷ ws))
 unfolding setup_of
 not_behind ws =
     for_cond (λ e. e ≢ NoSetup) (has_empty ws) _ _ (λ e. cc)
     (for_sizes (λ e. e ≢ NoSetup) ws (λ e. cc) (λ e. cc) (λ f e. cc))
 
--- the other lines are no reason for NoSetup
+-- the lines after the first are no reason for NoSetup
 never_behind : (made : Made) (r : Result (List Event) Fault) → r ≢ Err NoSetup
     → (r >>= (λ es. Ok (script_with made es))) ≢ Err NoSetup
 never_behind made (Ok ys) never = λ is. cc
 never_behind made (Err d) never = λ is. never (ap (λ (f : Fault). Err f) (err_is d NoSetup is))
 
--- a script is not without a setup, if neither its first line nor the others say so
+-- if neither the first line of a script nor the others have the fault NoSetup, the script does not have it
 never_step : (r : Result Made Fault) (f : Made → Result (List Event) Fault) → For (λ e. e ≢ NoSetup) r
     → ((x : Made) → f x ≢ Err NoSetup) → (r >>= (λ made. f made >>= (λ es. Ok (script_with made es)))) ≢ Err NoSetup
 never_step (Err d) f first behind = λ is. first (err_is d NoSetup is)
 never_step (Ok x) f first behind = λ is. never_behind x (f x) (behind x) is
 
--- an option has one word
+-- equal options have one word
 word_is : (w v : List ℕ) → ◌≡◌ {A = Option (List ℕ)} (Some w) (Some v) → w ≡ v
 word_is w v e = cc
 
@@ -50,13 +50,13 @@ no_setup_by (key ∷ ws) lines e =
     (λ made fails. let least = events_least made.plan 2 1 lines NoSetup (omega arith) fails refl
     in omega (arith, least))
 
--- so NoSetup comes only if the first word is no `setup`
+-- the lines of a script have the fault NoSetup only if the first word is no `setup`
 no_setup_lines : (us : List (List ℕ)) → lines_script us ≡ Err NoSetup → first_word_in us ≢ Some (codes "setup")
 unfolding lines_script
 no_setup_lines [] is = λ e. cc
 no_setup_lines (line ∷ lines) is = λ e. no_setup_by (words_in_line line) lines e is
 
--- another first word is a reason for NoSetup
+-- a first word that is not `setup` gives NoSetup, by its test
 other_by : (key : List ℕ) (ws : List (List ℕ)) (t : Bool) → bytes_eq key (codes "setup") ≡ t → key ≢ codes "setup"
     → cond t (cond (has_empty ws) (Err (BadLine 1)) (sizes_of ws)) (Err NoSetup) ≡ Err NoSetup
 other_by key ws true is other = absurd (other ((bytes_eq-Decides key (codes "setup")).0 is))
@@ -83,7 +83,7 @@ no_setup_told bytes is =
     (by_lines (nat_lt MAX_SCRIPT_LEN (length bytes)) (list_all is_ascii bytes)
     (lines_script (lines_of bytes)) NoSetup 1 is refl)
 
--- a text of few bytes of ASCII whose first word is no `setup` has NoSetup
+-- a text of few bytes of ASCII whose first word is no `setup` has the fault NoSetup
 pub no_setup_always : (bytes : List ℕ) → length bytes ≤ MAX_SCRIPT_LEN → list_all is_ascii bytes ≡ true
     → first_word_in (lines_of bytes) ≢ Some (codes "setup") → script_of bytes ≡ Err NoSetup
 unfolding script_of

@@ -30,7 +30,7 @@ linked : (b : Bool) (v : ℕ) (r : Answer)
 linked true v r is = (λ e. cc, λ e. cc)
 linked false v r is = (λ e. cc, λ e. cc)
 
--- nor does an answer to an access to the cells
+-- an answer to an access to the cells says nothing of missing lanes or consumers
 cells_known : (cells : ℕ) (w : Word) (act : PoolAct) (r : Answer) → answer_to cells w act ≡ Some r → IsOfWorld r
 cells_known cells Counter (FetchAdd x n) r is = (λ e. cc, λ e. cc)
 cells_known cells Counter (Load v) r is = absurd (cc)
@@ -45,7 +45,7 @@ cells_known cells (Item k) (FetchAdd x n) r is = absurd (cc)
 cells_known cells (Item k) (Load v) r is = (λ e. cc, λ e. cc)
 cells_known cells (Item k) (Store v) r is = (λ e. cc, λ e. cc)
 
--- no answer that names an access does
+-- an answer that names an access says nothing of missing lanes or consumers
 named_known : (plan : Plan) (r : Answer) (a : WorldAccess) (h : WorldHistory) → AnswerNames plan r a h → IsOfWorld r
 named_known plan r (ToCells a) h names = cells_known plan.claims.cells a.word a.act r names
 named_known plan r (ToClaims a) h names = let is = names.2 in (λ e. cc, λ e. cc)
@@ -58,7 +58,7 @@ IsEventIn plan (event.Push p) = p < plan.lanes
 IsEventIn plan (event.Finish p) = p < plan.lanes
 IsEventIn plan (event.Step c p word) = (p < plan.lanes) × (c < consumers_of plan)
 
--- its refusal is another than that they are not
+-- if an event's lane and consumer are there, its refusal says nothing of missing lanes or consumers
 refused_known : (plan : Plan) (e : Event) (r : Answer) (h : WorldHistory) → IsEventIn plan e
     → IsRefused plan e r h → IsOfWorld r
 refused_known plan (event.Offer p x) r h there (inl none) = absurd (omega (arith, there, none.0))
@@ -70,13 +70,13 @@ refused_known plan (event.Finish p) r h there (inr why) = let is = why.1.4 in (�
 refused_known plan (event.Step c p word) r h there (inl none) = absurd (omega (arith, there.0, none.0))
 refused_known plan (event.Step c p word) r h there (inr why) = absurd (omega (arith, there.1, why.1))
 
--- its answer is another than that they are not
+-- if an event's lane and consumer are there, its answer says nothing of missing lanes or consumers
 entry_known : (plan : Plan) (e : Event) (r : Answer) (a : Option WorldAccess) (h : WorldHistory) → IsEventIn plan e
     → HasAnswer plan e r a h → IsOfWorld r
 entry_known plan e r None h there entry = refused_known plan e r h there entry
 entry_known plan e r (Some a) h there entry = named_known plan r a h entry.1
 
--- so are all answers of a replay of such events
+-- if the lane and consumer of each event are there, no answer of a replay says that one is missing
 replay_known : (plan : Plan) (es : List Event) (rs : List Answer) (was now : WorldHistory)
     → AllByRecursion (IsEventIn plan) es → IsReplay plan es rs was now → AllByRecursion IsOfWorld rs
 replay_known plan [] [] was now there replay = tt
@@ -102,13 +102,13 @@ event_there values z events (event.Finish p) of = of
 event_there values z events (event.Step c p word) of =
     (of.0, subst (λ n. c < n) (sym (values z.table z.consumers)) of.1)
 
--- so have all events of a script
+-- all events that are spelled have their lane and their consumer in the script's world
 all_there : TablesHaveTheirValues → (z : Sizes) (events es : List Event) → AllByRecursion (IsEventOf z) es
     → AllByRecursion (IsEventIn (script_in z events).plan) es
 all_there values z events [] of = tt
 all_there values z events (e ∷ es) of = (event_there values z events e of.0, all_there values z events es of.1)
 
--- so no answer to a script says that a lane or a consumer is missing
+-- no answer to a script says that a lane or a consumer is missing
 pub answers_known : TablesHaveTheirValues → (bytes text : List ℕ) (a : IsAnswer bytes text)
     → AllByRecursion IsOfWorld a.replayed.answers
 answers_known values bytes text a =

@@ -19,11 +19,11 @@ Consumes-twice (Some u) None c xs ys p q = absurd p
 Consumes-twice (Some u) (Some v) None xs ys p q = absurd q
 Consumes-twice (Some u) (Some v) (Some w) xs ys p q = p ∙ ap (λ l. xs ++ l) q ∙ sym (append_assoc xs ys w)
 
--- all of what is left of a text
+-- of what a text has from place i on, the first `length t - i` bytes are all
 pub part-rest : (i : ℕ) (t : List ℕ) → take (length t - i) (drop i t) ≡ drop i t
 part-rest i t = ap (λ n. take n (drop i t)) (sym (length-drop i t)) ∙ take-length (drop i t)
 
--- the first i bytes of a text, and then n more
+-- bytes that grow by the first i of a text, and then by its next n, grow by the first i + n
 pub Appends-more : (a b c : Option (List ℕ)) (i n : ℕ) (t : List ℕ) → Appends a b (take i t)
     → Appends b c (take n (drop i t)) → Appends a c (take (i + n) t)
 Appends-more a b c i n t p q = subst (Appends a c) (sym (take-add i n t)) (Appends-twice a b c _ _ p q)

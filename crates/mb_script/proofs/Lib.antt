@@ -8,7 +8,7 @@ pub mod Cuts
 pub mod Lines
 pub mod Numerals
 pub mod Spelled
--- A replay script is read back
+-- What a replay script spells is read, and what was read is what it spells
 pub mod ReadAgain
 pub mod ManyLines
 pub mod Lined
@@ -21,6 +21,6 @@ pub mod FirstWords
 pub mod Replays
 pub mod KnownAnswers
 pub mod OneAnswer
--- The command `replay`
+-- Commands, and scripts that are too long
 pub mod LongScripts
 pub mod Exchanges

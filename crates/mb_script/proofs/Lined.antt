@@ -17,12 +17,13 @@ use Rattle.mb_script.specs.Scripts.{Made, one_number, two_numbers, three_numbers
 use Rattle.mb_script.specs.Tables.{table_named}
 use Rattle.mb_script.specs.Text.{words_in_line, has_empty}
 
--- events in front of those of the further lines, if these have no fault
+-- the events `done`, and then those of the further lines, or the fault of the further lines
 abbrev pub onto : List Event → Result (List Event) Fault → Result (List Event) Fault
 onto done (Ok events) = Ok (done ++ events)
 onto done (Err e) = Err e
 
--- a choice by the key between four equal results
+-- ---- lines with an empty word, or with too many or too few words
+-- if a key chooses between equal results, it does not matter which key it is
 any_key : (o p f s : Bool) (r : Result Event Fault) → cond o r (cond p r (cond f r (cond s r r))) ≡ r
 any_key true p f s r = refl
 any_key false true f s r = refl
@@ -30,7 +31,7 @@ any_key false false true s r = refl
 any_key false false false true r = refl
 any_key false false false false r = refl
 
--- no event has so many words
+-- a line of more than eight words is no event's
 long_event : (n : ℕ) (ws : List (List ℕ)) → 8 < length ws → event_of n ws ≡ Err (BadLine n)
 unfolding event_of one_number two_numbers three_numbers
 long_event n [] long = absurd (omega (arith, long))
@@ -42,7 +43,7 @@ long_event n (key ∷ a ∷ b ∷ c ∷ d ∷ ws) long =
     any_key (bytes_eq key (codes "offer")) (bytes_eq key (codes "push")) (bytes_eq key (codes "finish"))
     (bytes_eq key (codes "step")) (Err (BadLine n))
 
--- a line with an empty word or too many, by whether it has an empty one
+-- a line with an empty word or with too many words is a bad line, by the test for an empty word
 bad_by : (plan : Plan) (n : ℕ) (line : List ℕ) (empty : Bool) → has_empty (words_in_line line) ≡ empty
     → (empty || nat_lt 8 (length (words_in_line line))) ≡ true → event_at plan n line ≡ Err (BadLine n)
 unfolding event_at
@@ -55,13 +56,13 @@ pub bad_event : (plan : Plan) (n : ℕ) (line : List ℕ)
     → event_at plan n line ≡ Err (BadLine n)
 bad_event plan n line bad = bad_by plan n line _ refl bad
 
--- after a table's name, be it one or none, the line is bad
+-- if what comes after a table's name is bad, the line is bad, whether the name is a table's or not
 bad_either : (o : Option TableName)
     → ◌≡◌ {A = Result Made Fault} (ok_or o (BadLine 1) >>= (λ t. Err (BadLine 1))) (Err (BadLine 1))
 bad_either None = refl
 bad_either (Some t) = refl
 
--- no setup has so many words
+-- more than seven words after `setup` are no setup
 long_setup : (ws : List (List ℕ)) → 7 < length ws → sizes_of ws ≡ Err (BadLine 1)
 unfolding sizes_of
 long_setup [] long = absurd (omega (arith, long))
@@ -73,7 +74,7 @@ long_setup (a ∷ b ∷ c ∷ d ∷ e ∷ []) long = absurd (omega (arith, long)
 long_setup (a ∷ b ∷ c ∷ d ∷ e ∷ f ∷ []) long = absurd (omega (arith, long))
 long_setup (a ∷ b ∷ c ∷ d ∷ e ∷ f ∷ g ∷ ws) long = bad_either (table_named e)
 
--- no setup has so few words
+-- fewer than five words after `setup` are no setup
 pub short_setup : (ws : List (List ℕ)) → length ws < 5 → sizes_of ws ≡ Err (BadLine 1)
 unfolding sizes_of
 short_setup [] short = refl
@@ -83,7 +84,7 @@ short_setup (a ∷ b ∷ c ∷ []) short = refl
 short_setup (a ∷ b ∷ c ∷ d ∷ []) short = refl
 short_setup (a ∷ b ∷ c ∷ d ∷ e ∷ ws) short = absurd (omega (arith, short))
 
--- a first line with an empty word, or with too many words, is bad
+-- a first line with an empty word or with too many words is bad, by the test for an empty word
 bad_setup_by : (ws : List (List ℕ)) (empty : Bool) → has_empty ws ≡ empty
     → (empty || nat_lt 8 (suc (length ws))) ≡ true → setup_of (codes "setup" ∷ ws) ≡ Err (BadLine 1)
 unfolding setup_of
@@ -100,7 +101,8 @@ bad_setup line key ws cut is bad =
     let words : words_in_line line ≡ codes "setup" ∷ ws = cut ∙ ap (λ (k : List ℕ). k ∷ ws) is in
     rw words (bad_setup_by ws _ refl (rw words at bad))
 
--- a line after the last that may have an event
+-- ---- one line more
+-- a line after the last that may have an event fails the whole with TooManyEvents
 pub line_too_many : (plan : Plan) (done : List Event) (n : ℕ) (line : List ℕ) (lines : List (List ℕ))
     (whole : Result (List Event) Fault) → MAX_EVENTS + 1 < n → onto done (events_of plan n (line ∷ lines)) ≡ whole
     → whole ≡ Err TooManyEvents
@@ -115,13 +117,13 @@ unfolding events_of
 line_fails plan done n line lines e whole below same fails =
     sym same ∙ rw (le-ltb (MAX_EVENTS + 1) n below, fails) refl
 
--- an event before what the further lines hold
+-- one more event may be put after the events `done`, or before the further ones: the whole is the same
 onto_one : (done : List Event) (event : Event) (r : Result (List Event) Fault)
     → onto (done ++ event ∷ []) r ≡ onto done (r >>= (λ events. Ok (event ∷ events)))
 onto_one done event (Ok events) = ap (λ (l : List Event). Ok l) (append_assoc done (event ∷ []) events)
 onto_one done event (Err e) = refl
 
--- a line with an event adds it to those before
+-- a line with an event adds this event to those before
 pub line_works : (plan : Plan) (done : List Event) (n : ℕ) (line : List ℕ) (lines : List (List ℕ)) (event : Event)
     (whole : Result (List Event) Fault) → n ≤ MAX_EVENTS + 1 → onto done (events_of plan n (line ∷ lines)) ≡ whole
     → event_at plan n line ≡ Ok event → onto (done ++ event ∷ []) (events_of plan (suc n) lines) ≡ whole
@@ -135,7 +137,7 @@ pub lines_end : (plan : Plan) (done : List Event) (n : ℕ) (whole : Result (Lis
 unfolding events_of
 lines_end plan done n whole same = sym same ∙ ap (λ (l : List Event). Ok l) (append-nil done)
 
--- a fault that `?` hands on, if it decides the whole
+-- if a line's fault decides the whole, a call that hands this fault on gives what was to be read
 pub fails_whole : {X : Type 0} (view : X → List Event) (r : Result X Fault) (e : Fault) (read : Result Event Fault)
     (whole : Result (List Event) Fault) → IsErrAnd r (λ f. f ≡ e)
     → (e ≢ NoMemory → read ≡ Err e) × (e ≢ ReadFault) × (e ≢ WriteFault) → (read ≡ Err e → whole ≡ Err e)

@@ -9,7 +9,7 @@ use Rattle.mb_script.specs.Text.{lines_of}
 abbrev ends : ℕ → Bool
 ends b = nat_eq b 10
 
--- one byte more, which ends the line or not
+-- one byte more in front of a text with an LF: the byte ends the first line, or belongs to it
 cut_step : (b : ℕ) (bs : List ℕ) (t : Bool) → cond (not t) (1 + position_or_len ends bs) 0 < suc (length bs)
     → (position_or_len ends bs < length bs → lines_of bs ≡ before_first ends bs ∷ lines_of (after_first ends bs))
     → cond t ([] ∷ lines_of bs) (onto_first b (lines_of bs))
@@ -29,7 +29,7 @@ pub lines_cut : (bs : List ℕ) → position_or_len ends bs < length bs
 lines_cut [] within = absurd (omega arith)
 lines_cut (b ∷ bs) within = cut_step b bs (nat_eq b 10) within (lines_cut bs)
 
--- one byte more in front of a line with no LF
+-- one byte more, which is no LF, in front of a text with no LF
 last_step : (b : ℕ) (bs : List ℕ) (t : Bool) → cond (not t) (1 + position_or_len ends bs) 0 ≡ suc (length bs)
     → (position_or_len ends bs ≡ length bs → 0 < length bs → lines_of bs ≡ bs ∷ [])
     → cond t ([] ∷ lines_of bs) (onto_first b (lines_of bs)) ≡ (b ∷ bs) ∷ []
@@ -42,7 +42,7 @@ pub lines_last : (bs : List ℕ) → position_or_len ends bs ≡ length bs → 0
 lines_last [] none some = absurd (omega arith)
 lines_last (b ∷ bs) none some = last_step b bs (nat_eq b 10) none (lines_last bs)
 
--- the line before the LF and the text after it, or else the text and nothing
+-- the first line and the text after it are what stands before and after the first LF, or else the text and nothing
 pub line_taken : (t : List ℕ) (cut : Option (Bor (List ℕ) × Bor (List ℕ))) (all : Bor (List ℕ) × Bor (List ℕ))
     → MatchOption cut (position_or_len ends t ≡ length t)
     (λ x. (x.0.now ≡ before_first ends t) × (x.1.now ≡ after_first ends t) × (position_or_len ends t < length t))

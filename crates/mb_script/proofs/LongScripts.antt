@@ -15,23 +15,23 @@ use Rattle.mb_script.specs.Scripts.{Script, event_at, events_of, lines_script, s
 use Rattle.mb_script.specs.Replaying.{fault_in, fault_of}
 use Rattle.mb_script.proofs.AboutLines.{At, For, at_line, at_setup, for_bind, for_cond}
 
--- bytes past the limit are too long a script
+-- a script of more bytes than the limit has the fault TooLong
 pub too_long : (bytes : List ℕ) → MAX_SCRIPT_LEN < length bytes → fault_of bytes ≡ Some TooLong
 unfolding script_of
 too_long bytes above = rw (lt-ltb MAX_SCRIPT_LEN (length bytes) above) refl
 
--- ---- a fault of a line is another than TooLong
+-- ---- the fault TooLong comes from no line
 -- the fault is not TooLong
 abbrev IsOther : Fault → Type 0
 IsOther e = e ≡ TooLong → ⊥
 
--- a fault that is about a line is another
+-- a fault that is about a line is not TooLong
 other_at : {X : Type 0} (n : ℕ) (r : Result X Fault) → At n r → For IsOther r
 other_at n (Ok x) about = tt
 other_at n (Err e) about = λ is.
     let none : ◌≡◌ {A = Option ℕ} None (Some n) = subst (λ (f : Fault). line_of f ≡ Some n) is about in absurd (cc)
 
--- it holds of the faults of events
+-- a fault of the lines of events is not TooLong
 other_in_events : (plan : Plan) (n : ℕ) (lines : List (List ℕ)) → For IsOther (events_of plan n lines)
 unfolding events_of
 other_in_events plan n [] = tt
@@ -40,7 +40,7 @@ other_in_events plan n (line ∷ lines) =
     (for_bind IsOther (event_at plan n line) _ (other_at n _ (at_line plan n line))
     (λ e. for_bind IsOther (events_of plan (suc n) lines) _ (other_in_events plan (suc n) lines) (λ es. tt)))
 
--- it holds of the faults of all lines
+-- a fault of all lines is not TooLong
 other_in_lines : (lines : List (List ℕ)) → For IsOther (lines_script lines)
 unfolding lines_script
 other_in_lines [] = λ is. absurd (cc)
@@ -48,7 +48,7 @@ other_in_lines (line ∷ lines) =
     for_bind IsOther (setup_of (words_in_line line)) _ (other_at 1 _ (at_setup (words_in_line line)))
     (λ made. for_bind IsOther (events_of made.plan 2 lines) _ (other_in_events made.plan 2 lines) (λ es. tt))
 
--- so a script that is too long has more bytes than the limit
+-- if reading has another fault than TooLong or none, the fault of what was read is not TooLong
 fault_other : (r : Result Script Fault) → For IsOther r → fault_in r ≡ Some TooLong → ⊥
 fault_other (Ok s) other is = absurd (cc)
 fault_other (Err e) other is = other (let same : ◌≡◌ {A = Option Fault} (Some e) (Some TooLong) = is in cc)
@@ -61,7 +61,7 @@ long_test true ascii lines is = refl
 long_test false true lines is = absurd (fault_other (lines_script lines) (other_in_lines lines) is)
 long_test false false lines is = absurd (cc)
 
--- only a text of more bytes than the limit is too long
+-- only a text of more bytes than the limit has the fault TooLong
 pub only_long : (bytes : List ℕ) → fault_of bytes ≡ Some TooLong → MAX_SCRIPT_LEN < length bytes
 unfolding script_of
 only_long bytes is = ltb-true MAX_SCRIPT_LEN (length bytes) (long_test _ (list_all is_ascii bytes) (lines_of bytes) is)

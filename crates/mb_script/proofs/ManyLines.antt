@@ -13,7 +13,7 @@ use Rattle.mb_script.specs.Text.{lines_of}
 use Rattle.mb_script.specs.Spelling.{IsEventOf, IsScript, Sizes, event_words, script_lines}
 use Rattle.mb_script.proofs.ReadAgain.{event_again, plan_for, setup_again}
 
--- a line after so many events is one too many
+-- a line after as many events as a script may have is one too many
 events_many : (z : Sizes) (n : ℕ) (events : List Event) (line : List ℕ) (rest : List (List ℕ))
     → setup_refusal z.producers z.consumers z.cells z.pairs ≡ None → AllByRecursion (IsEventOf z) events
     → n + length events ≡ MAX_EVENTS + 2
@@ -27,14 +27,14 @@ events_many z n (e ∷ events) line rest sized are many =
       events_many z (suc n) events line rest sized are.1 (omega (arith, many)),
     ) refl
 
--- a script with such a line has that fault
+-- the lines of a script with such a line have the fault TooManyEvents
 lines_many : (z : Sizes) (events : List Event) (line : List ℕ) (rest : List (List ℕ)) → IsScript z events
     → length events ≡ MAX_EVENTS → lines_script (script_lines z events ++ line ∷ rest) ≡ Err TooManyEvents
 unfolding lines_script
 lines_many z events line rest is many =
     rw (setup_again z is.sizes, events_many z 2 events line rest is.sizes is.known (omega (arith, many))) refl
 
--- a text with such a line has that fault
+-- a text with such a line has the fault TooManyEvents
 pub script_many : (bytes : List ℕ) (z : Sizes) (events : List Event) (line : List ℕ)
     (rest : List (List ℕ)) → IsScript z events
     → length events ≡ MAX_EVENTS → lines_of bytes ≡ script_lines z events ++ line ∷ rest → length bytes ≤ MAX_SCRIPT_LEN

@@ -28,32 +28,38 @@ use Rattle.mb_script.specs.Transcript.{transcript_text}
 use Rattle.mb_script.proofs.ReadBack.{script_takes}
 
 -- ---- the laws of the crates below, one name for each
+-- each quorum table that has a name is lawful
 abbrev pub TablesAreLawful : Type 0
 TablesAreLawful = (name : TableName) (m : ℕ) → m ≤ MAX_VALUES → IsQuorumTable (table_of name m)
 
+-- the history of a new world is lawful
 abbrev pub WorldsBegin : Type 0
 WorldsBegin = (plan : Plan) → plan.claims.cells < END → IsWorldLawful plan []
 
+-- after a lawful history, events have at most one replay: one list of answers, and one history
 abbrev pub ReplaysDoNotDiffer : Type 0
 ReplaysDoNotDiffer = (plan : Plan) (es : List Event) (rs ss : List Answer) (was now other : WorldHistory)
     → IsQuorumTable plan.claims.table → IsWorldLawful plan was → IsReplay plan es rs was now
     → IsReplay plan es ss was other
     → (rs ≡ ss) × (now ≡ other)
 
+-- a replay after a lawful history leads to a lawful history
 abbrev pub ReplaysAreLawful : Type 0
 ReplaysAreLawful = (plan : Plan) (es : List Event) (rs : List Answer) (was now : WorldHistory)
     → IsQuorumTable plan.claims.table → IsWorldLawful plan was → IsReplay plan es rs was now → IsWorldLawful plan now
 
+-- the histories of a lawful world are sound
 abbrev pub WorldsAreSound : Type 0
 WorldsAreSound = (plan : Plan) (h : WorldHistory) → IsQuorumTable plan.claims.table → IsWorldLawful plan h
     → AreSound plan (histories_of h)
 
+-- sound histories have at most one report
 abbrev pub ReportsDoNotDiffer : Type 0
 ReportsDoNotDiffer = (plan : Plan) (hs : Histories) (r s : ReportView) → AreSound plan hs → IsReportOf plan hs r
     → IsReportOf plan hs s → r ≡ s
 
 -- ---- the numbers of a setup that is not refused
--- a setup that is not refused has no test of its consumers failed
+-- if a setup is not refused, the test for too many consumers does not hold
 few_consumers : (a b x : Bool) (rest : Option SetupFault)
     → (if a then Some BadProducers else if b || x then Some BadConsumers else rest) ≡ None → x ≡ false
 few_consumers true b x rest is = absurd (cc)
@@ -61,7 +67,7 @@ few_consumers false true x rest is = absurd (cc)
 few_consumers false false true rest is = absurd (cc)
 few_consumers false false false rest is = refl
 
--- it has no test of its cells failed
+-- if a setup is not refused, the test for too many cells does not hold
 few_cells : (a b x : Bool) (rest : Option SetupFault)
     → (if a then Some BadProducers else if b then Some BadConsumers else if x then Some BadCells
     else rest) ≡ None → x ≡ false
@@ -70,21 +76,21 @@ few_cells false true x rest is = absurd (cc)
 few_cells false false true rest is = absurd (cc)
 few_cells false false false rest is = refl
 
--- it has no more consumers than a table has values
+-- a setup that is not refused has no more consumers than a table may have values
 consumers_fit : (p c m k : ℕ) → setup_refusal p c m k ≡ None → c ≤ MAX_VALUES
 consumers_fit p c m k is =
     ltb-false MAX_VALUES c (few_consumers (nat_lt p 1 || nat_lt MAX_PRODUCERS p) (nat_lt c 1) (nat_lt MAX_VALUES c)
     (if nat_lt MAX_CELLS m then Some BadCells else if nat_lt k 1 || nat_lt MAX_PAIRS k then Some
     BadRounds else None) is)
 
--- it has no more cells than a script may have
+-- a setup that is not refused has no more cells than a script may have
 cells_fit : (p c m k : ℕ) → setup_refusal p c m k ≡ None → m ≤ MAX_CELLS
 cells_fit p c m k is =
     ltb-false MAX_CELLS m (few_cells (nat_lt p 1 || nat_lt MAX_PRODUCERS p)
     (nat_lt c 1 || nat_lt MAX_VALUES c) (nat_lt MAX_CELLS m)
     (if nat_lt k 1 || nat_lt MAX_PAIRS k then Some BadRounds else None) is)
 
--- so a script's table is lawful, and its cells are few
+-- the quorum table of a script's world is lawful
 table_lawful : TablesAreLawful → (bytes : List ℕ) (s : Script) → script_of bytes ≡ Ok s
     → IsQuorumTable s.plan.claims.table
 table_lawful tables bytes s read =
@@ -115,7 +121,7 @@ one_text plan es t u same lawful sound reports table begins a b =
     a.written ∙ ap₂ (λ (rs : List Answer) (r : ReportView). transcript_text es rs ++ report_text r)
     both.0 report ∙ sym b.written
 
--- a script has one answer
+-- a script that was read has one answer
 pub one_answer : (bytes t u : List ℕ) (s : Script) → TablesAreLawful → WorldsBegin
     → ReplaysDoNotDiffer → ReplaysAreLawful
     → WorldsAreSound → ReportsDoNotDiffer → script_of bytes ≡ Ok s → IsReplayText s.plan s.events t

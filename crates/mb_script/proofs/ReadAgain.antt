@@ -24,7 +24,8 @@ use Rattle.mb_script.specs.Tables.{table_name}
 use Rattle.mb_script.specs.Text.{IsWord, IsWordLine, has_empty, lines_of, words_in_line}
 use Rattle.mb_script.proofs.Spelled.{ascii_lines, decimal_word, none_empty, number_again, words_ascii, words_join}
 
--- four tests in turn, none of which holds
+-- ---- the first line
+-- if four tests in turn give no fault, none of them holds
 pub none_of : (a b c d : Bool) (w x y z : SetupFault)
     → cond a (Some w) (cond b (Some x) (cond c (Some y) (cond d (Some z) None))) ≡ None
     → (a ≡ false) × (b ≡ false) × (c ≡ false) × (d ≡ false)
@@ -34,16 +35,16 @@ none_of false false true d w x y z e = absurd (cc)
 none_of false false false true w x y z e = absurd (cc)
 none_of false false false false w x y z e = (refl, refl, refl, refl)
 
--- the second of two tests that fail
+-- if neither of two tests holds, the second one fails
 second : (x y : Bool) → (x || y) ≡ false → y ≡ false
 second true y e = absurd (cc)
 second false y e = e
 
--- what is not above a small number is small
+-- a number that is not above a limit of at most 256 is below 2^64
 small_by : (most n : ℕ) → most ≤ 256 → nat_lt most n ≡ false → n < 2 ^ 64
 small_by most n low e = let small : n ≤ most = grind (arith, nat_tests, e) in omega (arith, low, small)
 
--- so the numbers of a setup that is not refused have a spelling
+-- the numbers of a setup that is not refused are below 2^64
 pub sizes_small : (p c m k : ℕ) → setup_refusal p c m k ≡ None
     → (p < 2 ^ 64) × (c < 2 ^ 64) × (m < 2 ^ 64) × (k < 2 ^ 64)
 sizes_small p c m k e =
@@ -55,7 +56,7 @@ sizes_small p c m k e =
       small_by 8 k (omega arith) (second (nat_lt k 1) _ a.3),
     )
 
--- the consumers of a plan are those it was made of
+-- the consumers of a plan are as many as it was made with
 pub consumers_are : (shape : Shape) (p c m k : ℕ) (t : TableName)
     → consumers_of (shaped_plan shape p c m k t) ≡ c
 consumers_are shape p c m k t = named_values t c
@@ -64,14 +65,14 @@ consumers_are shape p c m k t = named_values t c
 abbrev pub plan_for : Sizes → Plan
 plan_for z = (made_for z).plan
 
--- the words of a shape are read so
+-- the words of a shape are read as that shape
 shape_again : (fast last : Bool) → shape_named (words_with fast last) ≡ Some (shape_with fast last)
 shape_again false false = refl
 shape_again true false = refl
 shape_again false true = refl
 shape_again true true = refl
 
--- the words after `setup` are read so
+-- the words after `setup` are read as what their sizes make
 sizes_again : (shape : Shape) (p c m k : ℕ) (t : TableName) → setup_refusal p c m k ≡ None
     → sizes_of (decimal p ∷ decimal c ∷ decimal m ∷ decimal k ∷ table_name t ∷ shape_words shape)
     ≡ Ok (made_from shape p c m k t)
@@ -102,7 +103,7 @@ shape_fit true false = (search rules, tt)
 shape_fit false true = (search rules, tt)
 shape_fit true true = (search rules, tt)
 
--- the words of a first line are words
+-- the words of a first line may stand on a line
 setup_fit : (z : Sizes) → setup_refusal z.producers z.consumers z.cells z.pairs ≡ None
     → AllByRecursion IsWord (setup_words z)
 setup_fit z e =
@@ -120,12 +121,12 @@ setup_fit z e =
       ),
     )
 
--- a key and words none of which is empty
+-- if none of the words after `setup` is empty, they are read as sizes
 setup_is : (ws : List (List ℕ)) → has_empty ws ≡ false → setup_of (codes "setup" ∷ ws) ≡ sizes_of ws
 unfolding setup_of
 setup_is ws e = rw e refl
 
--- the first line is read so
+-- a first line that is spelled is read as what its sizes make
 pub setup_again : (z : Sizes) → setup_refusal z.producers z.consumers z.cells z.pairs ≡ None
     → setup_of (words_in_line (join_with_byte 32 (setup_words z))) ≡ Ok (made_for z)
 setup_again z e =
@@ -137,18 +138,19 @@ setup_again z e =
     rw cut (setup_is behind (none_empty behind fit.1)
     ∙ sizes_again z.shape z.producers z.consumers z.cells z.pairs z.table e)
 
--- a line of words is read by its words
+-- ---- the lines of events
+-- a line of words is read as the event that these words say
 line_is : (plan : Plan) (n : ℕ) (w : List ℕ) (ws : List (List ℕ)) → AllByRecursion IsWord (w ∷ ws)
     → event_at plan n (join_with_byte 32 (w ∷ ws)) ≡ (event_of n (w ∷ ws) >>= placed plan n)
 unfolding event_at
 line_is plan n w ws are = rw (words_join w ws are, none_empty (w ∷ ws) are) refl
 
--- a lane's number is small
+-- the number of a lane is below 2^64, if the setup is not refused
 lane_small : (z : Sizes) (l : ℕ) → setup_refusal z.producers z.consumers z.cells z.pairs ≡ None
     → l < z.producers → l < 2 ^ 64
 lane_small z l e low = let s = sizes_small z.producers z.consumers z.cells z.pairs e in omega (arith, low, s.0)
 
--- the line of an event is read so
+-- the line of an event is read as that event
 pub event_again : (z : Sizes) (n : ℕ) (e : Event)
     → setup_refusal z.producers z.consumers z.cells z.pairs ≡ None → IsEventOf z e
     → event_at (plan_for z) n (join_with_byte 32 (event_words e)) ≡ Ok e
@@ -181,7 +183,7 @@ event_again z n (Step consumer lane word) sized is =
       lt-ltb consumer z.consumers is.1,
     ) refl
 
--- the lines from line n on are read so
+-- the lines of events, from line n on, are read as these events
 pub events_again : (z : Sizes) (n : ℕ) (events : List Event)
     → setup_refusal z.producers z.consumers z.cells z.pairs ≡ None
     → AllByRecursion (IsEventOf z) events → n + length events ≤ MAX_EVENTS + 2
@@ -195,7 +197,8 @@ events_again z n (e ∷ events) sized are few =
       events_again z (suc n) events sized are.1 (omega (arith, few)),
     ) refl
 
--- all lines are read so
+-- ---- the whole script
+-- all lines of a script are read as that script
 pub lines_again : (z : Sizes) (events : List Event) → IsScript z events
     → lines_script (script_lines z events) ≡ Ok (script_in z events)
 unfolding lines_script
@@ -203,7 +206,7 @@ lines_again z events is =
     let few = is.few in
     rw (setup_again z is.sizes, events_again z 2 events is.sizes is.known (omega (arith, few))) refl
 
--- the words of an event are words
+-- the words of an event may stand on a line
 event_fit : (z : Sizes) (e : Event) → setup_refusal z.producers z.consumers z.cells z.pairs ≡ None → IsEventOf z e
     → IsWordLine (event_words e)
 event_fit z (Offer lane item) sized is =
@@ -225,7 +228,7 @@ events_fit : (z : Sizes) (events : List Event) → setup_refusal z.producers z.c
 events_fit z [] sized are = tt
 events_fit z (e ∷ events) sized are = (event_fit z e sized are.0, events_fit z events sized are.1)
 
--- a script that is spelled is read so
+-- bytes that spell a script are read as that script
 pub script_again : (bytes : List ℕ) (z : Sizes) (events : List Event) → IsScript z events
     → length bytes ≤ MAX_SCRIPT_LEN
     → lines_of bytes ≡ script_lines z events → script_of bytes ≡ Ok (script_in z events)

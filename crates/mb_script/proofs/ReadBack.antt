@@ -1,4 +1,4 @@
--- What is read of a replay script was spelled so.
+-- Bytes that were read as a replay script spell that script.
 use Rattle.std.proofs.Common.{◌≡◌, ℕ, suc, ◌+◌, ◌<◌, ◌≤◌, ◌^◌, Bool, true, false, cond, nat_lt, List, [], ◌∷◌, length, codes, map, Option, Some, None}
 use Rattle.std.proofs.Common.{Result, Ok, Err, refl, ap, sym, ◌∙◌, subst, arith}
 use Rattle.std.specs.Prelude.{IfOk}
@@ -37,7 +37,8 @@ use Rattle.mb_script.proofs.Bound.{avoided, bind_ok, ok_is, passed, some_from}
 use Rattle.mb_script.proofs.ReadAgain.{consumers_are, plan_for}
 use Rattle.mb_script.proofs.Spelled.{number_takes}
 
--- a name that was read is the name of its table
+-- ---- words and numbers
+-- a word that was read as a table, by its tests, is that table's name
 table_takes : (word : List ℕ) (t : TableName) (u b m : Bool)
     → bytes_eq word (codes "unary") ≡ u → bytes_eq word (codes "bits") ≡ b → bytes_eq word (codes "middle") ≡ m
     → cond u (Some Unary) (cond b (Some Bits) (cond m (Some Middle) None)) ≡ Some t → word ≡ table_name t
@@ -52,7 +53,7 @@ table_takes word Unary false false true p q r e = absurd (cc)
 table_takes word Bits false false true p q r e = absurd (cc)
 table_takes word t false false false p q r e = absurd (cc)
 
--- a word that was read as a shape is that shape's
+-- a word that was read as a shape, by its tests, is that shape's word
 word_takes : (word : List ℕ) (f : Shape) (a b c : Bool)
     → bytes_eq word (codes "fast") ≡ a → bytes_eq word (codes "last") ≡ b
     → bytes_eq word (codes "fastlast") ≡ c
@@ -73,7 +74,7 @@ word_takes word f false false true p q r e =
     subst (λ g. word ∷ [] ≡ shape_words g) same (ap (λ (w : List ℕ). w ∷ []) is)
 word_takes word f false false false p q r e = absurd (cc)
 
--- words that were read as a shape are that shape's
+-- words that were read as a shape are that shape's words
 shape_takes : (words : List (List ℕ)) (f : Shape) → shape_named words ≡ Some f
     → words ≡ shape_words f
 shape_takes [] f e =
@@ -82,18 +83,18 @@ shape_takes [] f e =
 shape_takes (word ∷ []) f e = word_takes word f _ _ _ refl refl refl e
 shape_takes (word ∷ other ∷ words) f e = absurd (cc)
 
--- a number that was read was spelled so
+-- a word that was read as a number is the decimal of that number
 at_takes : (n : ℕ) (w : List ℕ) (x : ℕ) → number_at n w ≡ Ok x → (w ≡ decimal x) × (x < 2 ^ 64)
 at_takes n w x e = number_takes w x (some_from _ _ _ e)
 
--- one number that was read was spelled so
+-- words that were read as one number are the decimal of that number
 one_takes : (n : ℕ) (ws : List (List ℕ)) (x : ℕ) → one_number n ws ≡ Ok x → (ws ≡ decimal x ∷ []) × (x < 2 ^ 64)
 unfolding one_number
 one_takes n [] x e = absurd (cc)
 one_takes n (a ∷ b ∷ ws) x e = absurd (cc)
 one_takes n (a ∷ []) x e = let t = at_takes n a x e in (ap (λ (w : List ℕ). w ∷ []) t.0, t.1)
 
--- two numbers that were read were spelled so
+-- words that were read as two numbers are the decimals of these numbers
 two_takes : (n : ℕ) (ws : List (List ℕ)) (x : ℕ × ℕ) → two_numbers n ws ≡ Ok x
     → (ws ≡ decimal x.0 ∷ decimal x.1 ∷ []) × (x.0 < 2 ^ 64) × (x.1 < 2 ^ 64)
 unfolding two_numbers
@@ -114,7 +115,7 @@ two_takes n (a ∷ b ∷ []) x e =
 abbrev Three : Type 0
 Three = ℕ × ℕ × ℕ
 
--- three numbers that were read were spelled so
+-- words that were read as three numbers are the decimals of these numbers
 three_takes : (n : ℕ) (ws : List (List ℕ)) (x : Three) → three_numbers n ws ≡ Ok x
     → (ws ≡ decimal x.0 ∷ decimal x.1 ∷ decimal x.2 ∷ []) × (x.0 < 2 ^ 64) × (x.1 < 2 ^ 64) × (x.2 < 2 ^ 64)
 unfolding three_numbers
@@ -141,7 +142,7 @@ three_takes n (a ∷ b ∷ c ∷ []) x e =
     )
 
 -- ---- the first line
--- the first definitions say what is left to do after each step of `sizes_of`, the last step first
+-- the six definitions from here on say what is left to be read after each step of `sizes_of`, the last step first
 abbrev with_pairs : ℕ → ℕ → ℕ → Shape → TableName → ℕ → Result Made Fault
 with_pairs p c m f t k = made_of (setup_refusal p c m k) (made_from f p c m k t)
 
@@ -161,16 +162,16 @@ abbrev with_table : List ℕ → List ℕ → List ℕ → List ℕ → List (Li
 with_table producers consumers cells pairs shape t =
     ok_or (shape_named shape) (BadLine 1) >>= with_shape producers consumers cells pairs t
 
--- what a first line made was not refused
+-- if a setup was made, it was not refused
 made_takes : (o : Option SetupFault) (x y : Made) → made_of o x ≡ Ok y → (o ≡ None) × (x ≡ y)
 made_takes None x y e = (refl, ok_is x y e)
 made_takes (Some f) x y e = absurd (cc)
 
--- sizes of a world that make this, and are not refused
+-- these sizes are not refused, and this is what they make
 abbrev pub Sized : Made → Sizes → Type 0
 Sized made z = (setup_refusal z.producers z.consumers z.cells z.pairs ≡ None) × (made_for z ≡ made)
 
--- words after `setup` that were read spell sizes
+-- words after `setup` that were read without a fault spell sizes
 sizes_take : (ws : List (List ℕ)) (made : Made) → sizes_of ws ≡ Ok made
     → (z : Sizes) × (codes "setup" ∷ ws ≡ setup_words z) × Sized made z
 unfolding sizes_of
@@ -206,7 +207,7 @@ sizes_take (producers ∷ consumers ∷ cells ∷ pairs ∷ name ∷ shape) made
     ∷ decimal k.0 ∷ table_name t.0 ∷ ws) shaped in
     (z, whole, sized)
 
--- a first line that was read spells sizes
+-- a first line that was read without a fault spells sizes
 setup_take : (ws : List (List ℕ)) (made : Made) → setup_of ws ≡ Ok made → (z : Sizes)
     × (ws ≡ setup_words z) × Sized made z
 unfolding setup_of
@@ -230,12 +231,12 @@ Small (Step consumer lane word) = (consumer < 2 ^ 64) × (lane < 2 ^ 64) × (wor
 abbrev SpellsOne : List (List ℕ) → Event → Type 0
 SpellsOne ws e = (ws ≡ event_words e) × Small e
 
--- the word that stands first, and the others
+-- if a key is this name and the words after it are those words, all the words are the name and those words
 key_is : (key name : List ℕ) (ws vs : List (List ℕ)) → bytes_eq key name ≡ true → ws ≡ vs → key ∷ ws ≡ name ∷ vs
 key_is key name ws vs is same =
     ap (λ (w : List ℕ). w ∷ ws) ((bytes_eq-Decides key name).0 is) ∙ ap (λ (t : List (List ℕ)). name ∷ t) same
 
--- what was read of words spells an event, by their key
+-- if an event was read from words, by the tests of their key, the words spell that event
 by_key : (n : ℕ) (key : List ℕ) (ws : List (List ℕ)) (e : Event) (o p f s : Bool) → bytes_eq key (codes "offer") ≡ o
     → bytes_eq key (codes "push") ≡ p → bytes_eq key (codes "finish") ≡ f → bytes_eq key (codes "step") ≡ s
     → cond o (two_numbers n ws >>= (λ x. Ok (Offer x.0 x.1)))
@@ -263,13 +264,13 @@ by_key n key ws e false false false true is_o is_p is_f is_s read =
     (key_is key (codes "step") ws _ is_s t.0, (t.1, t.2, t.3))
 by_key n key ws e false false false false is_o is_p is_f is_s read = absurd (cc)
 
--- the words of an event that was read spell it
+-- if an event was read from words, the words spell that event
 event_takes : (n : ℕ) (ws : List (List ℕ)) (e : Event) → event_of n ws ≡ Ok e → SpellsOne ws e
 unfolding event_of
 event_takes n [] e read = absurd (cc)
 event_takes n (key ∷ ws) e read = by_key n key ws e _ _ _ _ refl refl refl refl read
 
--- an event that has a place in the world of these sizes
+-- an event whose lane and consumer are in the world of these sizes is an event of that world
 place_takes : (z : Sizes) (n : ℕ) (e : Event) → nat_lt (lane_of e) z.producers ≡ true
     → has_consumer (plan_for z) (consumer_in e) ≡ true → Small e → IsEventOf z e
 place_takes z n (Offer lane item) low has small = (ltb-true _ _ low, small.1)
@@ -282,7 +283,7 @@ place_takes z n (Step consumer lane word) low has small = (
   small.2,
 )
 
--- an event that was placed is one of that world
+-- if an event passed the tests of its lane and its consumer, it is an event of that world
 placed_takes : (z : Sizes) (n : ℕ) (d e : Event) → placed (plan_for z) n d ≡ Ok e → Small d → (d ≡ e) × IsEventOf z d
 unfolding placed
 placed_takes z n d e read small =
@@ -291,7 +292,7 @@ placed_takes z n d e read small =
     let b = passed (has_consumer (plan_for z) (consumer_in d)) (NoConsumer n) (Ok d) e a.1 in
     (ok_is d e b.1, place_takes z n d a.0 b.0 small)
 
--- the line of an event was spelled so
+-- a line that was read as an event is spelled as that event's words
 pub line_takes : (z : Sizes) (n : ℕ) (line : List ℕ) (e : Event) → event_at (plan_for z) n line ≡ Ok e
     → (line ≡ join_with_byte 32 (event_words e)) × IsEventOf z e
 unfolding event_at
@@ -306,12 +307,12 @@ line_takes z n line e read =
     subst (λ (f : Event). (line ≡ join_with_byte 32 (event_words f)) × IsEventOf z f) d.0 (spelled, d.1)
 
 -- ---- all lines of a script
--- one line in front of others
+-- equal lines in front of equal lists of lines are equal lists
 line_before : (line line2 : List ℕ) (lines lines2 : List (List ℕ)) → line ≡ line2 → lines ≡ lines2
     → line ∷ lines ≡ line2 ∷ lines2
 line_before line line2 lines lines2 e f = ap (λ (l : List ℕ). l ∷ lines) e ∙ ap (λ (t : List (List ℕ)). line2 ∷ t) f
 
--- what the lines from line n on are, if they have no fault
+-- the lines from line n on spell these events, which are of the world of these sizes, and not too many
 abbrev Lines : Sizes → ℕ → List (List ℕ) → List Event → Type 0
 Lines z n lines events =
     (lines ≡ map (join_with_byte 32) (map event_words events)) × AllByRecursion (IsEventOf z) events
@@ -337,7 +338,7 @@ events_take z n (line ∷ lines) events read =
     subst (Lines z n (line ∷ lines)) (ok_is (b.0 ∷ c.0) events c.2)
     (line_before _ _ _ _ first.0 rest.0, (first.1, rest.1), λ h. omega (arith, few))
 
--- a plan with pairs, and events, as one script
+-- if sizes make this, it is with the events the script of those sizes and events
 script_is : (z : Sizes) (made : Made) (events : List Event) → made_for z ≡ made
     → script_with made events ≡ script_in z events
 script_is z made events e = ap (λ (m : Made). script_with m events) (sym e)
@@ -364,7 +365,7 @@ lines_take (line ∷ lines) s read =
       script_is z a.0 b.0 set.2.1,
     )
 
--- a script that was read was spelled so
+-- bytes that were read as a script spell that script
 pub script_takes : (bytes : List ℕ) (s : Script) → script_of bytes ≡ Ok s → Spells (lines_of bytes) s
 unfolding script_of
 script_takes bytes s e =
@@ -374,7 +375,7 @@ script_takes bytes s e =
     let b = passed (list_all is_ascii bytes) NotAscii read s a.1 in
     lines_take (lines_of bytes) s b.1
 
--- what a call found in bytes was spelled so
+-- if a call found a script in bytes, their lines spell that script
 pub is_found : {A : Type 0} (bytes : List ℕ) (r : Result (code.Script A) Fault)
     → Gives (λ s. view s) r (script_of bytes)
     → IfOk r (λ s. Spells (lines_of bytes) (view s))

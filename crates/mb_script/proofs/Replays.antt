@@ -18,7 +18,7 @@ use Rattle.mb_script.specs.ReportText.{report_text}
 use Rattle.mb_script.specs.Transcribed.{IsTranscribed}
 use Rattle.mb_script.specs.Transcript.{entry_text, transcript_text}
 
--- a replay with one event more at its end
+-- if one more event has an answer after a replay, the replay goes on to the history with that event's access
 pub IsReplay-more : (plan : Plan) (e : Event) (r : Answer) (a : Option WorldAccess) (es : List Event) (rs : List Answer)
     (was now : WorldHistory) → IsReplay plan es rs was now → HasAnswer plan e r a now
     → IsReplay plan (es ++ e ∷ []) (rs ++ r ∷ []) was (with_access a now)
@@ -29,7 +29,7 @@ IsReplay-more plan e r a (d ∷ es) [] was now here entry = absurd here
 IsReplay-more plan e r a (d ∷ es) (s ∷ rs) was now here entry =
     (here.0, here.1, IsReplay-more plan e r a es rs (with_access here.0 was) now here.2 entry)
 
--- the transcript then has its line at its end
+-- the transcript of a replay with one event more has that event's line at its end
 pub transcript_text-more : (plan : Plan) (e : Event) (r : Answer) (es : List Event) (rs : List Answer)
     (was now : WorldHistory) → IsReplay plan es rs was now
     → transcript_text (es ++ e ∷ []) (rs ++ r ∷ []) ≡ transcript_text es rs ++ entry_text e r
@@ -40,7 +40,7 @@ transcript_text-more plan e r (d ∷ es) (s ∷ rs) was now here =
     ap (λ (t : List ℕ). entry_text d s ++ t) (transcript_text-more plan e r es rs _ now here.2)
     ∙ sym (append_assoc (entry_text d s) (transcript_text es rs) (entry_text e r))
 
--- what an event adds to a replay
+-- if an event is added to a replay, and its line to the text, the text stays the transcript
 pub IsTranscribed-more : (events more : List Event) (e : Event) (r : Answer) (was : WorldHistory)
     (then now : WorldState)
     (old text new : List ℕ) → IsTranscribed events was then old text → more ≡ events ++ e ∷ [] → now.setup ≡ then.setup

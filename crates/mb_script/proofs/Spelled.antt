@@ -1,4 +1,5 @@
--- Words that are spelled are cut out again, and what was cut was spelled so.
+-- Words and numbers that are spelled are read again, a word that was read as a number is its decimal, and lines of
+-- words are ASCII.
 use Rattle.std.proofs.Common.{◌≡◌, ℕ, suc, zero, ◌<◌, ◌^◌, Bool, true, false, cond, nat_eq, nat_lt, ◌&&◌, ◌||◌, List, [], ◌∷◌, ◌++◌, length, get_or, map}
 use Rattle.std.proofs.Common.{Option, Some, None, refl, ap, sym, subst, ◌∙◌, arith, lit<, inl, inr}
 use Rattle.std.specs.Prelude.{slice_index, option_and_then}
@@ -23,22 +24,22 @@ words_join w (v ∷ ws) are =
     slice_split_at (λ b. nat_eq b 32) w 32 (join_with_byte 32 (v ∷ ws)) (All-from_recursion _ w are.0.0) refl
     ∙ ap (λ (t : List (List ℕ)). w ∷ t) (words_join v ws are.1)
 
--- no word is empty
+-- among words that may stand on a line none is empty
 pub none_empty : (ws : List (List ℕ)) → AllByRecursion IsWord ws → has_empty ws ≡ false
 none_empty [] are = refl
 none_empty (w ∷ ws) are = rw (are.0.1) (none_empty ws are.1)
 
--- a digit is no space
+-- a byte that is a digit is no space, by the test
 digit_no_space : (b : ℕ) (t : Bool) → nat_eq b 32 ≡ t → is_ascii_digit b ≡ true → t ≡ false
 digit_no_space b true e d = absurd (false≢true (subst (λ (k : ℕ). is_ascii_digit k ≡ true) (eqb-true b 32 e) d))
 digit_no_space b false e d = refl
 
--- both tests hold
+-- if two tests hold together, each of them holds
 and_parts : (x y : Bool) → (x && y) ≡ true → (x ≡ true) × (y ≡ true)
 and_parts true y e = (refl, e)
 and_parts false y e = absurd (cc)
 
--- no digit is a space
+-- among digits there is no space
 digits_no_space : (w : List ℕ) → all_ascii_digits w ≡ true → AllByRecursion (λ b. nat_eq b 32 ≡ false) w
 digits_no_space [] h = tt
 digits_no_space (b ∷ w) h =
@@ -73,23 +74,23 @@ lead : (n : ℕ) → n < 2 ^ 64 → (nat_lt 48 (slice_index (decimal n) 0) || na
 lead zero h = rw (decimal_digit 0 (lit< tt)) refl
 lead (suc n) h = rw (lt-ltb 48 (get_or (decimal (suc n)) 0 0) (first_decimal (suc n) (omega arith) h)) refl
 
--- a number that is spelled is read so
+-- the decimal of a number is read as that number
 pub number_again : (n : ℕ) → n < 2 ^ 64 → number_of (decimal n) ≡ Some n
 unfolding number_of
 number_again n h = rw (digits_decimal own n h, lead n h, digits_value-decimal own n h, lt-ltb n (2 ^ 64) h) refl
 
--- numbers that are spelled are read again
+-- the decimals of numbers are read as these numbers
 pub numbers_again : (ns : List ℕ) → AllByRecursion (λ n. n < 2 ^ 64) ns → numbers_of (map decimal ns) ≡ Some ns
 unfolding numbers_of
 numbers_again [] h = refl
 numbers_again (n ∷ ns) h = rw (number_again n h.0, numbers_again ns h.1) refl
 
--- what is left of a value after a test had the test hold
+-- if a value is given only after a test and was given, the test held
 guard : (b : Bool) (v n : ℕ) → cond b (Some v) None ≡ Some n → (b ≡ true) × (v ≡ n)
 guard true v n e = (refl, cc)
 guard false v n e = absurd (cc)
 
--- the test of the first byte, as a fact
+-- a word that passes the test of its first byte is not empty, and begins with 0 only if it has one byte
 led : (w : List ℕ) → (nat_lt 48 (slice_index w 0) || nat_eq (length w) 1) ≡ true
     → (0 < length w) × (get_or w 0 0 ≡ 48 → length w ≡ 1)
 led [] h = absurd (false≢true h)
@@ -101,7 +102,7 @@ led (c ∷ cs) h = (
   ],
 )
 
--- a number that was read was spelled so
+-- a word that was read as a number is the decimal of that number
 pub number_takes : (w : List ℕ) (n : ℕ) → number_of w ≡ Some n → (w ≡ decimal n) × (n < 2 ^ 64)
 unfolding number_of
 number_takes w n e =
@@ -112,7 +113,7 @@ number_takes w n e =
     let small = ltb-true _ _ a.1 in
     (sym (decimal-digits_value own w d.0 f.0 f.1 small) ∙ ap decimal g.1, subst (λ (k : ℕ). k < 2 ^ 64) g.1 small)
 
--- the step before one that gave a value
+-- if a step after another gave a value, the first step gave one, too
 bind_some : {A B : Type 0} (o : Option A) (f : A → Option B) (y : B) → option_and_then f o ≡ Some y
     → (x : A) × (o ≡ Some x) × (f x ≡ Some y)
 bind_some (Some x) f y e = (x, refl, e)
@@ -126,7 +127,7 @@ some x = Some x
 some_is : {A : Type 0} (x y : A) → some x ≡ some y → x ≡ y
 some_is x y e = cc
 
--- numbers that were read were spelled so
+-- words that were read as numbers are the decimals of these numbers
 pub numbers_take : (ws : List (List ℕ)) (ns : List ℕ) → numbers_of ws ≡ Some ns
     → (ws ≡ map decimal ns) × AllByRecursion (λ n. n < 2 ^ 64) ns
 unfolding numbers_of
@@ -142,7 +143,7 @@ numbers_take (w ∷ ws) ns e =
     subst (λ (l : List ℕ). (w ∷ ws ≡ map decimal l) × AllByRecursion (λ n. n < 2 ^ 64) l)
     (some_is (a.0 ∷ b.0) ns b.2) (one, (first.1, rest.1))
 
--- two lists of ASCII one after the other
+-- two lists of ASCII, one after the other, are one list of ASCII
 ascii_append : (xs ys : List ℕ) → list_all is_ascii xs ≡ true → list_all is_ascii ys ≡ true
     → list_all is_ascii (xs ++ ys) ≡ true
 ascii_append [] ys h k = k
@@ -155,7 +156,7 @@ pub ascii_join : (w : List ℕ) (ws : List (List ℕ)) → AllByRecursion IsWord
 ascii_join w [] are = are.0.2
 ascii_join w (v ∷ ws) are = ascii_append w (32 ∷ join_with_byte 32 (v ∷ ws)) are.0.2 (ascii_join v ws are.1)
 
--- one byte more in front of lines of ASCII, which ends a line or not
+-- if the lines of a text are ASCII, its first byte is, too, whether that byte ends a line or not
 ascii_step : (b : ℕ) (bs : List ℕ) (lines : List (List ℕ)) (t : Bool) → nat_eq b 10 ≡ t
     → AllByRecursion (λ l. list_all is_ascii l ≡ true) (cond t ([] ∷ lines) (onto_first b lines))
     → (AllByRecursion (λ l. list_all is_ascii l ≡ true) lines → list_all is_ascii bs ≡ true)

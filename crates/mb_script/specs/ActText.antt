@@ -6,7 +6,7 @@ use Rattle.mb_deciding.specs.declared.access.Reg.TheVariants.{Value, Proposal, Q
 use Rattle.mb_deciding.specs.declared.access.Act.{Act}
 use Rattle.mb_deciding.specs.declared.access.Act.TheVariants.{Load, Store, Exchange}
 
--- the text of a word: a conciliator's, the proposal, a quorum register by its index, or that of a last object
+-- the name of a word: of a conciliator's word, the proposal, a quorum register with its index, or a last object's word
 abbrev pub reg_text : Reg → List ℕ
 reg_text Value = codes "c"
 reg_text Proposal = codes "p"

@@ -6,6 +6,7 @@ use Rattle.mb_script.specs.Devices.{AppendsFront, ConsumesCount, ConsumesUpTo, H
 
 -- a command: its answers, and its names for the faults that all commands share
 pub record Command (F : Type 0) : Type 1 where
+  -- the command's names for the faults that all commands share
   pub too_long : F
   pub no_memory : F
   pub read_fault : F
@@ -17,7 +18,9 @@ pub record Command (F : Type 0) : Type 1 where
 
 -- what contracts say of a device: its bytes, if they are known, and how many failures it has counted
 pub record IoModel (D : Type 0) : Type 0 where
+  -- the bytes that a reader has left, or that a writer holds
   pub bytes : D → Option (List ℕ)
+  -- how many reads or writes failed, modulo 2^64
   pub failures : D → ℕ
 
 -- the model of a device with these bytes and this count of failures
@@ -31,7 +34,7 @@ LiesIn command e = (e ≢ command.no_memory) × (e ≢ command.read_fault) × (e
 -- one call of a command did this, with its reader and its writer before it and after it
 pub record IsCommandIo {F X R W : Type 0} (command : Command F) (source : IoModel R) (sink : IoModel W)
     (reader reader' : R) (writer writer' : W) (result : Result X F) : Type 0 where
-  -- what the reader had is a script, and its answer was written
+  -- if the call did what was asked, the reader had a script, and the answer to it was written and nothing else
   pub answered : OnOk result ((bytes : List ℕ) × (text : List ℕ) × Had (source.bytes reader) bytes
       × command.IsAnswer bytes text × Appends (sink.bytes writer) (sink.bytes writer') text)
   -- a fault of the script is the first fault of what the reader had

@@ -16,6 +16,6 @@ fault_at end.ReadFault = ReadFault
 abbrev pub LiesInScript : Fault → Type 0
 LiesInScript e = (e ≢ NoMemory) × (e ≢ ReadFault) × (e ≢ WriteFault)
 
--- what a call returned, seen by view, is what was to be read, unless memory ran out
+-- what a call returned, seen by `view`, is what was to be read, unless memory ran out. No device fails in the call
 abbrev pub Gives : {X Y : Type 0} → (X → Y) → Result X Fault → Result Y Fault → Type 0
 Gives view result read = GivesUnless NoMemory ReadFault WriteFault view result read

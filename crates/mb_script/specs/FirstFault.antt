@@ -20,12 +20,12 @@ line_of NoMemory = None
 line_of ReadFault = None
 line_of WriteFault = None
 
--- the first of the words of a line
+-- the first of these words, if there is one
 abbrev pub first_of : List (List ℕ) → Option (List ℕ)
 first_of [] = None
 first_of (word ∷ words) = Some word
 
--- the first word of the first of these lines
+-- the first word of the first of these lines, if there is a line
 abbrev pub first_word_in : List (List ℕ) → Option (List ℕ)
 first_word_in [] = None
 first_word_in (line ∷ lines) = first_of (words_in_line line)

@@ -11,13 +11,16 @@ use Rattle.mb_world.specs.World.{WorldHistory, histories_of}
 use Rattle.mb_script.specs.ReportText.{report_text}
 use Rattle.mb_script.specs.Transcript.{transcript_text}
 
--- the text of the replay of these events in a new mailbox
+-- the text is that of the replay of these events in a new world of this plan
 pub record IsReplayText (plan : Plan) (events : List Event) (text : List ℕ) : Type 0 where
+  -- the events have these answers, and lead from the empty history to this history
   pub answers : List Answer
   pub history : WorldHistory
   pub replayed : IsReplay plan events answers [] history
+  -- the report of that history
   pub report : ReportView
   pub reported : IsReportOf plan (histories_of history) report
-  -- one assignment agrees with the report, and nothing follows an end mark
+  -- one assignment agrees with the report, and no lane has anything after its end mark
   pub honest : IsHonest plan (histories_of history) report
+  -- the text is the transcript, and then the text of the report
   pub written : text ≡ transcript_text events answers ++ report_text report

@@ -10,6 +10,7 @@ use Rattle.mb_script.specs.Scripts.{Script, script_of}
 
 -- the bytes are a script without fault, and the text is that of its replay
 pub record IsAnswer (bytes text : List ℕ) : Type 0 where
+  -- the bytes say this script, and the text is that of the replay of its events
   pub script : Script
   pub read : script_of bytes ≡ Ok script
   pub replayed : IsReplayText script.plan script.events text
@@ -18,7 +19,7 @@ pub record IsAnswer (bytes text : List ℕ) : Type 0 where
 abbrev pub IsOfWorld : Answer → Type 0
 IsOfWorld r = (r ≢ NoLane) × (r ≢ NoConsumer)
 
--- the fault of what was read, if it is one
+-- the fault of what was read, if reading found one
 abbrev pub fault_in : Result Script Fault → Option Fault
 fault_in (Err e) = Some e
 fault_in (Ok s) = None

@@ -25,11 +25,12 @@ use Rattle.mb_script.specs.Text.{lines_of, words_in_line, has_empty, number_of}
 -- what a first line makes: what a world is made of, how many pairs of deciding objects each cell has, and what it has
 -- beside them
 pub record Made : Type 0 where
+  -- the plan of the world, the number of pairs of each cell, and the shape of the cells
   pub plan : Plan
   pub pairs : ℕ
   pub shape : Shape
 
--- what a setup of the code makes
+-- what a setup of the code makes, as plain data
 abbrev pub made_in : Setup → Made
 made_in setup = record { plan = plan_in setup; pairs = pairs_in setup; shape = shape_in setup }
 
@@ -39,9 +40,11 @@ made_from shape p c m k t = record { plan = shaped_plan shape p c m k t; pairs =
 
 -- a script: what its first line makes, and its events, in their order
 pub record Script : Type 0 where
+  -- the plan of the world, the number of pairs of each cell, and the shape of the cells
   pub plan : Plan
   pub pairs : ℕ
   pub shape : Shape
+  -- the events, in the order of time
   pub events : List Event
 
 -- the script of what a first line makes, and of these events
@@ -53,33 +56,33 @@ script_with made events = record {
   events = events;
 }
 
--- what a script of the code says
+-- what a script of the code says, as plain data
 abbrev pub view : {A : Type 0} → code.Script A → Script
 view s = script_with (made_in s.setup) s.events.items
 
 -- ---- the numbers of line n, if there are as many as there should be
--- the number of a word of line n
+-- the number that a word of line n spells, or the fault of that line
 abbrev pub number_at : ℕ → List ℕ → Result ℕ Fault
 number_at n word = ok_or (number_of word) (BadNumber n)
 
--- the number of a line's only word
+-- the number of a line's only word. A line with more words or none is bad
 unfoldable pub one_number : ℕ → List (List ℕ) → Result ℕ Fault
 one_number n (a ∷ []) = number_at n a
 one_number n words = Err (BadLine n)
 
--- the numbers of a line's two words
+-- the numbers of a line's two words. A line with more words or fewer is bad
 unfoldable pub two_numbers : ℕ → List (List ℕ) → Result (ℕ × ℕ) Fault
 two_numbers n (a ∷ b ∷ []) = number_at n a >>= (λ x. number_at n b >>= (λ y. Ok (x, y)))
 two_numbers n words = Err (BadLine n)
 
--- the numbers of a line's three words
+-- the numbers of a line's three words. A line with more words or fewer is bad
 unfoldable pub three_numbers : ℕ → List (List ℕ) → Result (ℕ × ℕ × ℕ) Fault
 three_numbers n (a ∷ b ∷ c ∷ []) =
     number_at n a >>= (λ x. number_at n b >>= (λ y. number_at n c >>= (λ z. Ok (x, y, z))))
 three_numbers n words = Err (BadLine n)
 
 -- ---- the first line: `setup`, four numbers, a table's name, and the shape of cells that have more than pairs
--- what a setup makes that is refused for this reason, or is not
+-- what a setup makes, or its fault, if the setup is refused for a reason
 abbrev pub made_of : Option SetupFault → Made → Result Made Fault
 made_of None made = Ok made
 made_of (Some fault) made = Err (BadSetup 1 fault)
@@ -96,8 +99,8 @@ sizes_of (producers ∷ consumers ∷ cells ∷ pairs ∷ name ∷ shape) = do
   made_of (setup_refusal p c m k) (made_from f p c m k t)
 sizes_of words = Err (BadLine 1)
 
--- what the words of the first line make, or their first fault. What else is wrong counts only if the first word is
--- `setup`
+-- what the words of the first line make, or their first fault. If the first word is not `setup`, no other fault of the
+-- line counts
 unfoldable pub setup_of : List (List ℕ) → Result Made Fault
 setup_of [] = Err NoSetup
 setup_of (key ∷ words) =
@@ -106,7 +109,7 @@ setup_of (key ∷ words) =
     else Err NoSetup
 
 -- ---- each further line: an event
--- the words of line n, as an event of some world
+-- the event that the words of line n say, of whatever world, or the fault of the line
 unfoldable pub event_of : ℕ → List (List ℕ) → Result Event Fault
 event_of n [] = Err (BadLine n)
 event_of n (key ∷ words) =
@@ -116,24 +119,24 @@ event_of n (key ∷ words) =
     else if bytes_eq key (codes "step") then three_numbers n words >>= (λ x. Ok (Step x.0 x.1 x.2))
     else Err (BadLine n)
 
--- the lane of an event
+-- the lane that an event names
 abbrev pub lane_of : Event → ℕ
 lane_of (Offer lane item) = lane
 lane_of (Push lane) = lane
 lane_of (Finish lane) = lane
 lane_of (Step consumer lane word) = lane
 
--- the consumer of an event, if it has one
+-- the consumer that an event names, if it names one
 abbrev pub consumer_in : Event → Option ℕ
 consumer_in (Step consumer lane word) = Some consumer
 consumer_in event = None
 
--- whether a world has this consumer, if an event has one
+-- whether a world has the consumer that an event names. An event that names none passes
 abbrev pub has_consumer : Plan → Option ℕ → Bool
 has_consumer plan None = true
 has_consumer plan (Some consumer) = nat_lt consumer (consumers_of plan)
 
--- an event of line n, if its lane and its consumer are there in this world
+-- the event of line n, if this world has the lane and the consumer that the event names, or else the fault of the line
 unfoldable pub placed : Plan → ℕ → Event → Result Event Fault
 placed plan n event =
     if nat_lt (lane_of event) plan.lanes

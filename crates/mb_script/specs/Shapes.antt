@@ -16,7 +16,7 @@ words_with true false = codes "fast" ∷ []
 words_with false true = codes "last" ∷ []
 words_with true true = codes "fastlast" ∷ []
 
--- the words of a shape
+-- the words of a shape on the first line of a script
 abbrev pub shape_words : Shape → List (List ℕ)
 shape_words shape = words_with shape.fast shape.last
 
@@ -28,7 +28,7 @@ shape_of_word word =
     else if bytes_eq word (codes "fastlast") then Some (shape_with true true)
     else None
 
--- the shape of the words after a table's name. If there is none, cells have pairs alone
+-- the shape that the words after a table's name say, if they say one. If there are no words, cells have pairs alone
 abbrev pub shape_named : List (List ℕ) → Option Shape
 shape_named [] = Some plain
 shape_named (word ∷ []) = shape_of_word word

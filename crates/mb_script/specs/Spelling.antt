@@ -14,14 +14,16 @@ use Rattle.mb_script.specs.Tables.{table_name}
 
 -- the numbers of a setup, its table, and the shape of its cells
 pub record Sizes : Type 0 where
+  -- the four numbers of a setup, in the order of the first line
   pub producers : ℕ
   pub consumers : ℕ
   pub cells : ℕ
   pub pairs : ℕ
+  -- the name of the quorum table, and the shape of the cells
   pub table : TableName
   pub shape : Shape
 
--- the words of the first line
+-- the words of the first line of a script with these sizes
 abbrev pub setup_words : Sizes → List (List ℕ)
 setup_words z =
     codes "setup" ∷ decimal z.producers ∷ decimal z.consumers ∷ decimal z.cells ∷ decimal z.pairs
@@ -34,7 +36,7 @@ event_words (Push lane) = codes "push" ∷ decimal lane ∷ []
 event_words (Finish lane) = codes "finish" ∷ decimal lane ∷ []
 event_words (Step consumer lane word) = codes "step" ∷ decimal consumer ∷ decimal lane ∷ decimal word ∷ []
 
--- the lines of a script: one space between each two words
+-- the lines of a script with these sizes and events: one space between each two words
 abbrev pub script_lines : Sizes → List Event → List (List ℕ)
 script_lines z events = map (join_with_byte 32) (setup_words z ∷ map event_words events)
 
@@ -45,17 +47,21 @@ IsEventOf z (Push lane) = lane < z.producers
 IsEventOf z (Finish lane) = lane < z.producers
 IsEventOf z (Step consumer lane word) = (lane < z.producers) × (consumer < z.consumers) × (word < 2 ^ 64)
 
--- the script may be spelled so: there is a world of these sizes, the events are its own, and they are not too many
+-- a script has these sizes and events: there is a world of these sizes, each event is of that world, and the events are
+-- not too many
 pub record IsScript (z : Sizes) (events : List Event) : Type 0 where
+  -- a setup of these numbers is not refused
   pub sizes : setup_refusal z.producers z.consumers z.cells z.pairs ≡ None
+  -- each event names a lane and a consumer of that world
   pub known : AllByRecursion (IsEventOf z) events
+  -- there are at most as many events as a script may have
   pub few : length events ≤ MAX_EVENTS
 
--- what the first line makes
+-- what the first line makes of these sizes
 abbrev pub made_for : Sizes → Made
 made_for z = made_from z.shape z.producers z.consumers z.cells z.pairs z.table
 
--- what the lines say
+-- the script that the lines of these sizes and events say
 abbrev pub script_in : Sizes → List Event → Script
 script_in z events = script_with (made_for z) events
 

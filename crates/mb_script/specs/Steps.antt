@@ -2,12 +2,12 @@
 use Rattle.std.specs.Prelude.{◌≡◌, ◌≢◌, Result, Ok, Err, MatchResult}
 
 infixl 10 ◌>>=◌
--- a step after one that may have failed
+-- the step f after one that may have failed: if that failed, its fault stays
 abbrev pub ◌>>=◌ : {A B E : Type 0} → Result A E → (A → Result B E) → Result B E
 (Ok x) >>= f = f x
 (Err e) >>= f = Err e
 
--- What a call returned, seen by view, is what was to be read, unless memory ran out. The call has no device, so it
+-- What a call returned, seen by `view`, is what was to be read, unless memory ran out. The call has no device, so it
 -- returns neither of the two faults of devices.
 abbrev pub GivesUnless : {X Y E : Type 0} → E → E → E → (X → Y) → Result X E → Result Y E → Type 0
 GivesUnless no_memory read_fault write_fault view result read =

@@ -14,12 +14,12 @@ lines_of (b ∷ bytes) = if b == 10 then [] ∷ lines_of bytes else onto_first b
 abbrev pub words_in_line : List ℕ → List (List ℕ)
 words_in_line line = slice_split (λ b. b == 32) line
 
--- the words after the first, if there are any
+-- the words of what stands after the first word of a line, if anything does
 abbrev pub words_behind : Option (List ℕ) → List (List ℕ)
 words_behind None = []
 words_behind (Some rest) = words_in_line rest
 
--- some word is empty
+-- whether some word is empty
 abbrev pub has_empty : List (List ℕ) → Bool
 has_empty words = list_any (λ w. length w == 0) words
 
@@ -42,7 +42,7 @@ numbers_of (w ∷ ws) =
 abbrev pub IsWord : List ℕ → Type 0
 IsWord w = AllByRecursion (λ b. (b == 32) ≡ false) w × ((length w == 0) ≡ false) × (list_all is_ascii w ≡ true)
 
--- words that may stand on one line: at least one
+-- words that may stand on one line: at least one word, and each may stand between two spaces
 abbrev pub IsWordLine : List (List ℕ) → Type 0
 IsWordLine [] = ⊥
 IsWordLine (w ∷ ws) = AllByRecursion IsWord (w ∷ ws)

@@ -26,39 +26,40 @@ event_text (event.Finish lane) = codes "finish " ++ decimal lane
 event_text (event.Step consumer lane word) = codes "step " ++ decimal consumer ++ codes " " ++ decimal lane
 
 -- ---- the text of an answer
--- the answer to an offer: the cell of the item, or why it has none
+-- the text of the answer to an offer: the cell of the item, or why it has none
 abbrev pub offer_text : Offer → List ℕ
 offer_text (offer.Cell cell) = codes "cell " ++ decimal cell
 offer_text offer.Full = codes "full"
 offer_text offer.Busy = codes "busy"
 offer_text offer.Closed = codes "closed"
 
--- the answer to a push: the cell whose item was stored, or that was linked
+-- the text of the answer to a push: the cell whose item was stored, or that was linked
 abbrev pub push_text : Push → List ℕ
 push_text (push.Item cell) = codes "item " ++ decimal cell
 push_text (push.Link cell) = codes "link " ++ decimal cell
 push_text push.Idle = codes "idle"
 
--- the answer to a finish: whether the lane has ended, or why not
+-- the text of the answer to a finish: whether the lane has ended, or why not
 abbrev pub finish_text : Finish → List ℕ
 finish_text finish.Ended = codes "ended"
 finish_text finish.Busy = codes "busy"
 finish_text finish.Closed = codes "closed"
 
--- the answer to a look: what the link says
+-- the text of the answer to a look: what the link says
 abbrev pub look_text : Look → List ℕ
 look_text look.Nothing = codes "nothing"
 look_text (look.Cell cell) = codes "found " ++ decimal cell
 look_text look.Ended = codes "ended"
 
--- how a claim has ended, if it has
+-- the text of a claim's stage: how the claim has ended, or nothing if it goes on
 abbrev pub stage_text : Stage → List ℕ
 stage_text stage.Going = []
 stage_text stage.Won = codes " won"
 stage_text (stage.Lost winner) = codes " lost " ++ decimal winner
 stage_text stage.Undecided = codes " undecided"
 
--- the answer to an event. The first two do not come if the script's lanes and consumers are the world's
+-- the text of the answer to an event. No event of a script has the answer `NoLane` or
+-- `NoConsumer`
 abbrev pub answer_text : Answer → List ℕ
 answer_text NoLane = codes "no lane"
 answer_text NoConsumer = codes "no consumer"

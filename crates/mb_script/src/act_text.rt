@@ -6,6 +6,7 @@ ghost use Rattle.mb_script.specs.ActText.{act_text, reg_text};
 use mb_deciding::{Act, Reg};
 use std::alloc::{AllocError, Allocator};
 
+/// Appends the name of a word: `c`, `p`, `l`, or `q` and an index.
 fn push_reg<A: Allocator>(text: &mut String<A>, reg: Reg) -> Result<(), AllocError>
     ensures { OnOk result (string_bytes text.new ≡ string_bytes text.old ++ reg_text reg) }
 {
@@ -17,7 +18,7 @@ fn push_reg<A: Allocator>(text: &mut String<A>, reg: Reg) -> Result<(), AllocErr
     }
 }
 
-/// Appends what was done, to which word, and its value.
+/// Appends what was done, which is `name`, to which word, and the value loaded or stored.
 fn push_access<A: Allocator>(
     text: &mut String<A>,
     name: &str,

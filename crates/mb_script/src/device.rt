@@ -17,9 +17,10 @@ pub trait CountedRead {
     // The bytes that reads will give from here on, if they are known.
     ghost left: { Self → Option (List ℕ) };
 
+    // How many reads failed, modulo 2^64.
     ghost failures: { Self → ℕ };
 
-    // How many bytes its reads gave, whether they are known or not. It stops at 2^64 - 1.
+    // How many bytes the reads gave, whether these are known or not. The count stops at 2^64 - 1.
     ghost given: { Self → ℕ };
 
     /// Reads some bytes, at most the buffer's length. It reads none only at the end, or if the buffer has no room.
@@ -37,6 +38,7 @@ pub trait CountedWrite {
     // The bytes that the writer holds, if they are known.
     ghost held: { Self → Option (List ℕ) };
 
+    // How many writes failed, modulo 2^64.
     ghost failures: { Self → ℕ };
 
     /// Writes the first bytes of the buffer, and returns how many.
@@ -74,6 +76,7 @@ impl<D: Drop> CountingIo<D> {
         }
     }
 
+    /// Counts one failure more.
     fn count_failure(&mut self)
         ensures device { self.new.device ≡ self.old.device }
         ensures failures { self.new.failures ≡ one_more self.old.failures }

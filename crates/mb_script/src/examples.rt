@@ -24,13 +24,14 @@ pub fn writers_get_a_prefix()
     ensures lost_byte { AppendsFront (Some (codes "ab")) (Some (codes "a")) (codes "cd") → ⊥ }
 {}
 
-/// A reader loses bytes from its front: just a number of them, or at most that number.
+/// A reader loses bytes from the beginning of what it has left: just a number of them, or at most that number.
 pub fn readers_lose_their_front()
     ensures two { ConsumesCount 2 (Some (codes "abc")) (Some (codes "c")) }
     ensures not_three { ConsumesCount 3 (Some (codes "abc")) (Some (codes "c")) → ⊥ }
     ensures up_to_two { ConsumesUpTo 2 (Some (codes "abc")) (Some (codes "c")) }
     ensures up_to_one { ConsumesUpTo 1 (Some (codes "abc")) (Some (codes "c")) → ⊥ }
     ensures other_end { ConsumesUpTo 2 (Some (codes "abc")) (Some (codes "b")) → ⊥ }
+    // What a reader had is all that it has left.
     ensures had { Had (Some (codes "ab")) (codes "ab") }
     ensures had_more { Had (Some (codes "ab")) (codes "a") → ⊥ }
 {}
@@ -46,7 +47,7 @@ pub fn counts_grow()
     ensures around { CountGrowsUpTo 2 (2 ^ 64 - 1) 1 → ⊥ }
 {}
 
-/// The events of a producer with their answers.
+/// The lines of a producer's events, with their answers.
 pub fn producers_are_answered()
     ensures offered { entry_text (Offer 0 7) (answer.Offered (offer.Cell 3))
         ≡ codes "offer 0 7 cell 3\n" }
@@ -59,7 +60,7 @@ pub fn producers_are_answered()
     ensures busy { entry_text (Finish 0) (answer.Finished finish.Busy) ≡ codes "finish 0 busy\n" }
 {}
 
-/// The steps of a consumer with their answers. The random word is not written.
+/// The lines of a consumer's steps, with their answers. The random word is not written.
 pub fn consumers_are_answered()
     ensures nothing { entry_text (Step 1 0 9) (answer.Looked look.Nothing)
         ≡ codes "step 1 0 nothing\n" }
@@ -84,7 +85,7 @@ pub fn consumers_are_answered()
     ensures took { entry_text (Step 1 0 9) (answer.Took 3 7) ≡ codes "step 1 0 took 7\n" }
 {}
 
-/// The words of shapes: at most one, and none if cells have pairs alone.
+/// A shape has at most one word on a setup line, and none if cells have pairs alone.
 pub fn shapes_have_words()
     ensures none { shape_named [] ≡ Some plain }
     ensures fast { shape_named (codes "fast" ∷ [])
@@ -97,14 +98,14 @@ pub fn shapes_have_words()
     ensures two_words { shape_named (codes "fast" ∷ codes "last" ∷ []) ≡ None }
 {}
 
-/// The lines are in the order of the events.
+/// The lines of a transcript are in the order of the events.
 pub fn transcripts_keep_the_order()
     ensures { transcript_text (Push 0 ∷ Push 1 ∷ [])
         (answer.Pushed push.Idle ∷ answer.Pushed (push.Link 2) ∷ [])
         ≡ codes "push 0 idle\npush 1 link 2\n" }
 {}
 
-/// A report of two lanes and one consumer, and one with nothing but a claim that is begun.
+/// The text of a report of two lanes and one consumer, and that of a report without notes, in which a claim is begun.
 pub fn reports_are_written()
     ensures two_lanes { report_text (record {
       lanes = record { put = 5 ∷ 6 ∷ 7 ∷ []; ended = true; left = 6 ∷ 7 ∷ [] }

@@ -36,6 +36,7 @@ pub enum Fault {
     WriteFault,
 }
 
+// `?` turns the faults of these calls into faults of a replay.
 impl From<AllocError> for Fault {
     ghost from_gives = { λ _ e. e ≡ NoMemory };
 

@@ -1,4 +1,4 @@
-//! The words of one line, without memory.
+//! The words of one line, in an array that takes no memory of an allocator.
 ghost use Rattle.std.specs.Prelude.{◌≤◌};
 
 /// Room for the words of one line. The most words of a line in a replay script are the seven of `setup`. A line with
@@ -8,6 +8,7 @@ pub const MAX_WORDS: usize = 8;
 /// The words of a line that has no empty word, and at most [`MAX_WORDS`] words.
 #[derive(Clone, Copy)]
 pub struct LineWords<'a> {
+    // The words of the line are the first `count` of these. The others are empty.
     words: [&'a str; MAX_WORDS],
     count: usize,
     pub ghost within: { count ≤ 8 },
@@ -20,7 +21,7 @@ impl<'a> LineWords<'a> {
 
     /// The words of a line, or `None` if some word is empty or there are more than [`MAX_WORDS`].
     ///
-    /// This takes no memory, however many words there are.
+    /// The call takes no memory, however many words there are.
     pub fn of_line(line: &'a str) -> Option<LineWords<'a>>
         ensures { MatchOption result
             ((has_empty (words_in_line line.now) || nat_lt MAX_WORDS

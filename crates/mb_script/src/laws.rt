@@ -36,7 +36,7 @@ pub fn numbers_are_read_as_spelled()
     ensures read { (n : ℕ) → n < 2 ^ 64 → number_of (decimal n) ≡ Some n }
     ensures spelled { (w : List ℕ) (n : ℕ) → number_of w ≡ Some n → (w ≡ decimal n) × (n < 2 ^ 64) }
 
-    // The same for lists of numbers.
+    // Lists of numbers are spelled and read so too.
     ensures words { (ns : List ℕ) → AllByRecursion (λ n. n < 2 ^ 64) ns
         → AllByRecursion IsWord (map decimal ns) }
     ensures all_read { (ns : List ℕ) → AllByRecursion (λ n. n < 2 ^ 64) ns

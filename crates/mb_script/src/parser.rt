@@ -19,12 +19,14 @@ use crate::transfer::MAX_SCRIPT_LEN;
 use mb_world::{Event, Setup};
 use std::alloc::Allocator;
 
+/// The number that a word of line `n` spells, or the fault of that line.
 fn number_at(n: usize, word: &str) -> Result<u64, Fault>
     ensures { Gives (λ x. x) result (number_read n word.now) }
 {
     number(word).ok_or(Fault::BadNumber(n))
 }
 
+/// The number of the only word, or the fault of line `n`.
 #[tactic(auto, unfolding(crate::specs::Scripts::one_number))]
 fn one_number(n: usize, words: &[&str]) -> Result<u64, Fault>
     ensures { Gives (λ x. x) result (one_read n (map (λ w. w.now) words.now)) }
@@ -35,6 +37,7 @@ fn one_number(n: usize, words: &[&str]) -> Result<u64, Fault>
     number_at(n, first)
 }
 
+/// The numbers of the two words, or the fault of line `n`.
 #[tactic(auto, unfolding(crate::specs::Scripts::two_numbers))]
 fn two_numbers(n: usize, words: &[&str]) -> Result<(u64, u64), Fault>
     ensures { Gives (λ x. x) result (two_read n (map (λ w. w.now) words.now)) }
@@ -45,6 +48,7 @@ fn two_numbers(n: usize, words: &[&str]) -> Result<(u64, u64), Fault>
     Ok((number_at(n, first)?, number_at(n, second)?))
 }
 
+/// The numbers of the three words, or the fault of line `n`.
 #[tactic(auto, unfolding(crate::specs::Scripts::three_numbers))]
 fn three_numbers(n: usize, words: &[&str]) -> Result<(u64, u64, u64), Fault>
     ensures { Gives (λ x. x) result (three_read n (map (λ w. w.now) words.now)) }
@@ -96,7 +100,7 @@ fn setup(line: &str) -> Result<Setup, Fault>
     sizes(sizes_words)
 }
 
-/// The words of line `n`, as an event of some world.
+/// The event that the words of line `n` say, of whatever world, or the fault of the line.
 #[tactic(auto, unfolding(crate::specs::Scripts::event_of))]
 fn event(n: usize, words: &[&str]) -> Result<Event, Fault>
     ensures { Gives (λ e. e) result (event_of n (map (λ w. w.now) words.now)) }
@@ -129,7 +133,7 @@ fn event(n: usize, words: &[&str]) -> Result<Event, Fault>
     }
 }
 
-/// The event, if this world has its lane and its consumer.
+/// The event of line `n`, if this world has the lane and the consumer that the event names, or else the line's fault.
 #[tactic(auto, unfolding(crate::specs::Scripts::placed))]
 fn place(setup: &Setup, n: usize, event: Event) -> Result<Event, Fault>
     ensures { Gives (λ e. e) result (placed (plan_in setup.now) n event) }
@@ -175,6 +179,7 @@ fn events<A: Allocator>(alloc: A, setup: &Setup, text: &str) -> Result<Vec<Event
     Ok(events)
 }
 
+/// The script that the lines of the text say, or the fault of the first faulty line.
 #[tactic(auto, unfolding(crate::specs::Scripts::lines_script))]
 fn read_lines<A: Allocator>(alloc: A, text: &str) -> Result<Script<A>, Fault>
     ensures { Gives (λ s. view s) result (lines_script (lines_of text.now)) }
@@ -187,6 +192,7 @@ fn read_lines<A: Allocator>(alloc: A, text: &str) -> Result<Script<A>, Fault>
     Ok(Script { setup, events })
 }
 
+/// What the bytes say: a script, or their first fault. Too many bytes and a byte that is not ASCII come first.
 #[tactic(auto, unfolding(crate::specs::Scripts::script_of))]
 fn read_bytes<A: Allocator>(alloc: A, bytes: &[u8]) -> Result<Script<A>, Fault>
     ensures exact { Gives (λ s. view s) result (script_of bytes.now) }
@@ -210,7 +216,7 @@ pub fn parse<A: Allocator>(alloc: A, bytes: &[u8]) -> Result<Script<A>, Fault>
         → length bytes.now ≤ MAX_SCRIPT_LEN → lines_of bytes.now ≡ script_lines z events
         → Gives (λ s. view s) result (Ok (script_in z events)) }
 
-    // The script, or which fault, unless memory runs out.
+    // The call returns the script that the bytes say, or their first fault, unless memory runs out.
     ensures exact { Gives (λ s. view s) result (script_of bytes.now) }
 {
     read_bytes(alloc, bytes)

@@ -8,6 +8,7 @@ use mb_cells::NoMemory;
 use mb_world::{Diary, LaneReport, Note, Report};
 use std::alloc::Allocator;
 
+/// Appends items, each after a space.
 fn push_items<A: Allocator>(text: &mut String<A>, items: &[u64]) -> Result<(), NoMemory>
     ensures { OnOk result (string_bytes text.new ≡ string_bytes text.old ++ items_text items.now) }
 {
@@ -17,6 +18,7 @@ fn push_items<A: Allocator>(text: &mut String<A>, items: &[u64]) -> Result<(), N
     Ok(())
 }
 
+/// Appends the first line of lane `p`: whether the lane has ended, and the items put.
 fn push_put<A: Allocator, B: Allocator + Drop>(
     text: &mut String<A>,
     p: usize,
@@ -34,6 +36,7 @@ fn push_put<A: Allocator, B: Allocator + Drop>(
     text.push_str("\n")
 }
 
+/// Appends the second line of lane `p`: the items left.
 fn push_left<A: Allocator, B: Allocator + Drop>(
     text: &mut String<A>,
     p: usize,
@@ -46,6 +49,7 @@ fn push_left<A: Allocator, B: Allocator + Drop>(
     text.push_str("\n")
 }
 
+/// Appends a note, after a space.
 fn push_note<A: Allocator>(text: &mut String<A>, note: Note) -> Result<(), NoMemory>
     ensures { OnOk result (string_bytes text.new ≡ string_bytes text.old ++ note_text note) }
 {
@@ -56,6 +60,7 @@ fn push_note<A: Allocator>(text: &mut String<A>, note: Note) -> Result<(), NoMem
     }
 }
 
+/// Appends notes, each after a space.
 fn push_notes<A: Allocator>(text: &mut String<A>, notes: &[Note]) -> Result<(), NoMemory>
     ensures { OnOk result
         (string_bytes text.new ≡ string_bytes text.old ++ flat_map note_text notes.now) }
@@ -66,6 +71,7 @@ fn push_notes<A: Allocator>(text: &mut String<A>, notes: &[Note]) -> Result<(), 
     Ok(())
 }
 
+/// Appends the line of a diary: its consumer, its lane, its notes, and whether a claim after them is begun.
 fn push_diary<A: Allocator, B: Allocator + Drop>(
     text: &mut String<A>,
     diary: &Diary<B>,
@@ -77,6 +83,7 @@ fn push_diary<A: Allocator, B: Allocator + Drop>(
     text.push_str(if diary.begun { " begun\n" } else { "\n" })
 }
 
+/// Appends two lines for each lane, from lane 0 on.
 fn push_lanes<A: Allocator, B: Allocator + Drop>(
     text: &mut String<A>,
     lanes: &[LaneReport<B>],
@@ -91,6 +98,7 @@ fn push_lanes<A: Allocator, B: Allocator + Drop>(
     Ok(())
 }
 
+/// Appends a line for each diary.
 fn push_diaries<A: Allocator, B: Allocator + Drop>(
     text: &mut String<A>,
     diaries: &[Diary<B>],

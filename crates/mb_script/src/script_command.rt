@@ -26,10 +26,10 @@ pub trait ScriptCommand {
     /// Why the command stops.
     type Fault: Copy;
 
-    // The answers and faults of which its contracts speak.
+    // The answers and faults of the command, of which the contracts below speak.
     ghost command: { Command Self.Fault };
 
-    /// Its names for the faults that all commands share.
+    /// The command's names for the faults that all commands share.
     fn faults() -> Faults<Self::Fault>
         ensures too_long { result.too_long ≡ command.too_long }
         ensures no_memory { result.no_memory ≡ command.no_memory }
@@ -64,7 +64,7 @@ pub fn answer_script<C: ScriptCommand, A: Allocator + Copy, R: CountedRead, W: C
     ensures exchange { IsCommandIo C.command (meter R.left R.failures) (meter W.held W.failures)
         reader.old reader.new writer.old writer.new result }
 
-    // For every reader, also for one whose bytes are not known.
+    // These clauses hold of every reader, also of one whose bytes are not known.
     ensures given { CountGrowsUpTo (MAX_SCRIPT_LEN + 1) (R.given reader.old) (R.given reader.new) }
     ensures given_long { result ≡ Err C.command.too_long
         → CountGrows (MAX_SCRIPT_LEN + 1) (R.given reader.old) (R.given reader.new) }

@@ -9,6 +9,7 @@ use mb_claim::Stage;
 use mb_world::{Answer, Event};
 use std::alloc::{AllocError, Allocator};
 
+/// Appends the words of an event, except the random word of a step.
 fn push_event<A: Allocator>(text: &mut String<A>, event: Event) -> Result<(), AllocError>
     ensures { OnOk result (string_bytes text.new ≡ string_bytes text.old ++ event_text event) }
 {
@@ -24,6 +25,7 @@ fn push_event<A: Allocator>(text: &mut String<A>, event: Event) -> Result<(), Al
     }
 }
 
+/// Appends the answer to an offer: the cell of the item, or why it has none.
 fn push_offer<A: Allocator>(text: &mut String<A>, answer: Offer) -> Result<(), AllocError>
     ensures { OnOk result (string_bytes text.new ≡ string_bytes text.old ++ offer_text answer) }
 {
@@ -35,6 +37,7 @@ fn push_offer<A: Allocator>(text: &mut String<A>, answer: Offer) -> Result<(), A
     }
 }
 
+/// Appends the answer to a push: the cell whose item was stored, or that was linked.
 fn push_push<A: Allocator>(text: &mut String<A>, answer: Push) -> Result<(), AllocError>
     ensures { OnOk result (string_bytes text.new ≡ string_bytes text.old ++ push_text answer) }
 {
@@ -45,6 +48,7 @@ fn push_push<A: Allocator>(text: &mut String<A>, answer: Push) -> Result<(), All
     }
 }
 
+/// Appends the answer to a finish: whether the lane has ended, or why not.
 fn push_finish<A: Allocator>(text: &mut String<A>, answer: Finish) -> Result<(), AllocError>
     ensures { OnOk result (string_bytes text.new ≡ string_bytes text.old ++ finish_text answer) }
 {
@@ -55,6 +59,7 @@ fn push_finish<A: Allocator>(text: &mut String<A>, answer: Finish) -> Result<(),
     })
 }
 
+/// Appends the answer to a look: what the link says.
 fn push_look<A: Allocator>(text: &mut String<A>, answer: Look) -> Result<(), AllocError>
     ensures { OnOk result (string_bytes text.new ≡ string_bytes text.old ++ look_text answer) }
 {
@@ -65,6 +70,7 @@ fn push_look<A: Allocator>(text: &mut String<A>, answer: Look) -> Result<(), All
     }
 }
 
+/// Appends how a claim has ended, after a space, or nothing if the claim goes on.
 fn push_stage<A: Allocator>(text: &mut String<A>, stage: Stage) -> Result<(), AllocError>
     ensures { OnOk result (string_bytes text.new ≡ string_bytes text.old ++ stage_text stage) }
 {
@@ -76,6 +82,7 @@ fn push_stage<A: Allocator>(text: &mut String<A>, stage: Stage) -> Result<(), Al
     }
 }
 
+/// Appends the answer to an event.
 fn push_answer<A: Allocator>(text: &mut String<A>, answer: Answer) -> Result<(), AllocError>
     ensures { OnOk result (string_bytes text.new ≡ string_bytes text.old ++ answer_text answer) }
 {

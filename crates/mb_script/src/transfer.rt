@@ -37,17 +37,17 @@ pub fn read_all<R: CountedRead, A: Allocator + Drop>(
     ensures end { OnOk result (IsAtEnd (R.left reader.new)) }
     ensures limit { IfOk result (λ v. length v.items ≤ MAX_SCRIPT_LEN) }
 
-    // If it stopped early, it has read at most one byte more than the limit.
+    // After an `Err` at most `MAX_SCRIPT_LEN + 1` bytes were read, and after `TooLong` exactly so many.
     ensures early { OnErr result
         (ConsumesUpTo (MAX_SCRIPT_LEN + 1) (R.left reader.old) (R.left reader.new)) }
     ensures long { result ≡ Err ReadEnd.TooLong
         → ConsumesCount (MAX_SCRIPT_LEN + 1) (R.left reader.old) (R.left reader.new) }
 
-    // After one byte too many it reads no more, so no read fails there.
+    // After one byte too many nothing more is read. So before a failed read at most the limit was read.
     ensures failed { result ≡ Err ReadEnd.ReadFault
         → ConsumesUpTo MAX_SCRIPT_LEN (R.left reader.old) (R.left reader.new) }
 
-    // For every reader, also for one whose bytes are not known.
+    // These clauses hold of every reader, also of one whose bytes are not known.
     ensures given { CountGrowsUpTo (MAX_SCRIPT_LEN + 1) (R.given reader.old) (R.given reader.new) }
     ensures given_whole { IfOk result
         (λ v. CountGrows (length v.items) (R.given reader.old) (R.given reader.new)) }
@@ -56,7 +56,7 @@ pub fn read_all<R: CountedRead, A: Allocator + Drop>(
     ensures given_failed { result ≡ Err ReadEnd.ReadFault
         → CountGrowsUpTo MAX_SCRIPT_LEN (R.given reader.old) (R.given reader.new) }
 
-    // It returns ReadFault exactly if a read failed.
+    // The call returns `ReadFault` exactly if a read failed. Then just one read did.
     ensures fault { result ≡ Err ReadEnd.ReadFault
         → R.failures reader.new ≡ one_more (R.failures reader.old) }
     ensures works { result ≢ Err ReadEnd.ReadFault → R.failures reader.new ≡ R.failures reader.old }

@@ -4,6 +4,7 @@ use Rattle.std.proofs.lemmas.Result.{IfOk-weaker}
 use Rattle.clap.specs.Words.{App, with_subcommand}
 use Rattle.mb_program.proofs.command.program.Goals as goal
 
+-- the three commands are added one by one to the program without commands
 pub returns : goal.returns
 returns c =
     let ratify = ap (λ (a : App). a.top) c.named_subcommand.ensures.app in

@@ -1,5 +1,4 @@
--- Proof of `examples::answers_fit_their_script`: only a script without fault has an answer, and it has one line for
--- each process.
+-- Proof of `examples::answers_fit_their_script`: only a script without fault has an answer.
 use Rattle.std.proofs.Common.{◌≡◌, ℕ, List, [], ◌∷◌, codes, Option, Some, None, Result, Ok, refl, ap, sym, ◌∙◌, subst}
 use Rattle.mb_deciding.specs.declared.object.Out.{Out}
 use Rattle.mb_deciding.specs.declared.trace.Entry.{Entry}
@@ -12,16 +11,16 @@ use Rattle.mb_program.specs.TraceText.{trace_text}
 use Rattle.mb_program.proofs.Nobody.{nobody, nobody_answered, reads_two}
 use Rattle.mb_program.proofs.examples.answers_fit_their_script.Goals as goal
 
--- a script for no value
+-- these bytes say the script of no process for no value
 reads_none : script_of (codes "ratify unary 0\ninputs\nturns\n") ≡ Ok (nobody 0)
 unfolding script_of three_lines line_words head_of list_of number_of numbers_of
 reads_none = refl
 
--- bytes say one script
+-- two scripts that the same bytes say are one script
 same : (bytes : List ℕ) (s t : Script) → script_of bytes ≡ Ok s → script_of bytes ≡ Ok t → s ≡ t
 same bytes s t e f = let both : ◌≡◌ {A = Result Script RatifyFault} (Ok s) (Ok t) = sym e ∙ f in cc
 
--- a script of nobody has an empty text
+-- each trace of the script of no process has an empty text
 no_text : (entries : List Entry) (outputs : List (Option Out))
     → IsTraceOf (nobody 2) entries outputs → trace_text entries outputs ≡ []
 no_text [] [] made = refl

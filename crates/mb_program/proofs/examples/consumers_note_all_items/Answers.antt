@@ -6,22 +6,25 @@ use Rattle.std.specs.List.{filter_map}
 use Rattle.mb_mailbox.specs.Imports.{Reader, consumer_part, part}
 use Rattle.mb_program.proofs.examples.consumers_note_all_items.Goals as goal
 
--- a part is no longer than the whole
+-- one element more, which the filter keeps or not
 filtered_on : {X : Type 0} (f : X → Bool) (x : X) (xs : List X) (b : Bool) → f x ≡ b → length (filter f xs) ≤ length xs
     → length (filter f (x ∷ xs)) ≤ suc (length xs)
 filtered_on f x xs true e rest = rw e (omega (arith, rest))
 filtered_on f x xs false e rest = rw e (omega (arith, rest))
 
+-- what a filter keeps is no longer than the whole
 filtered : {X : Type 0} (f : X → Bool) (xs : List X) → length (filter f xs) ≤ length xs
 filtered f [] = omega arith
 filtered f (x ∷ xs) = filtered_on f x xs (f x) refl (filtered f xs)
 
+-- one element more, which the filtering map keeps or not
 mapped_on : {X Y : Type 0} (f : X → Option Y) (x : X) (xs : List X) (o : Option Y) → f x ≡ o
     → length (filter_map f xs) ≤ length xs
     → length (filter_map f (x ∷ xs)) ≤ suc (length xs)
 mapped_on f x xs (Some y) e rest = rw e (omega (arith, rest))
 mapped_on f x xs None e rest = rw e (omega (arith, rest))
 
+-- what a filtering map keeps is no longer than the whole
 mapped : {X Y : Type 0} (f : X → Option Y) (xs : List X) → length (filter_map f xs) ≤ length xs
 mapped f [] = omega arith
 mapped f (x ∷ xs) = mapped_on f x xs (f x) refl (mapped f xs)

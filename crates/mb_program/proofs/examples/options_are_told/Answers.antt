@@ -5,9 +5,11 @@ use Rattle.clap.proofs.OnLiterals.{clap_on_literals}
 use Rattle.mb_program.specs.declared.options.Options.{Options}
 use Rattle.mb_program.proofs.examples.options_are_told.Goals as goal
 
+-- the budget of options, or 0 if there are none
 abbrev budget_of : Option Options → ℕ
 budget_of found = option_map_or (λ o. o.budget) found 0
 
+-- the number of items of options, or 0 if there are none
 abbrev items_of : Option Options → ℕ
 items_of found = option_map_or (λ o. o.items) found 0
 

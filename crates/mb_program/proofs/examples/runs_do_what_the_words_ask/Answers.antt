@@ -19,19 +19,23 @@ use Rattle.mb_program.proofs.Nobody.{nobody_answered}
 use Rattle.mb_program.proofs.examples.runs_do_what_the_words_ask.Goals as goal
 
 -- ---- what clap finds in the words
+-- the words of `ratify` name the command `ratify`
 names_ratify : WordsName ratify_words Ratify
 unfolding clap_on_literals
 names_ratify = (refl, refl, tt)
 
+-- a further word after `ratify` is refused, as it is unknown
 one_word_more : fault_of program ratify_now ≡ UnknownArgument ∷ []
 unfolding clap_on_literals
 one_word_more = refl
 
+-- the program's name alone is refused, as no command is named
 no_command : fault_of program (codes "mailbox" ∷ []) ≡ MissingSubcommand ∷ []
 unfolding clap_on_literals
 no_command = refl
 
 -- ---- what the command does
+-- `ratify` reads the script of no process, and writes nothing
 answered : IsCommandIo {X = Unit {0}} ratifying plain plain nobody_script [] [] [] (Ok tt)
 answered = record {
   answered = (nobody_script, [], refl, nobody_answered, refl);
@@ -48,10 +52,12 @@ answered = record {
   bound = (nobody_script, omega arith, refl);
 }
 
+-- the first fault of "x" is its first line
 bad_line : first_fault (codes "x\n") ≡ Some (BadLine 1)
 unfolding script_of three_lines line_words head_of list_of number_of numbers_of
 bad_line = refl
 
+-- `ratify` reads "x" to its end, and refuses its first line
 refused : IsCommandIo {X = Unit {0}} ratifying plain plain (codes "x\n") [] [] [] (Err (BadLine 1))
 refused = record {
   answered = tt;
@@ -80,6 +86,7 @@ unfolding digits
 returns-clause-fault c = ((Ratify, names_ratify, (Err (BadLine 1), refused, refl)), (true, (refl, refl)))
 
 -- ---- a fault of which half a line was written
+-- a device that never fails does not have half of a fault's line
 not_half : (whole : Bool) → IsPrinted plain [] (codes "fault") (fault_line (failed.Ratify (BadLine 1))) whole → ⊥
 unfolding digits
 not_half true printed = let long : 5 ≡ 18 = ap (λ (l : List ℕ). length l) printed.0 in omega (arith, long)
@@ -90,6 +97,7 @@ pub returns-clause-half_a_line : goal.returns-clause-half_a_line
 returns-clause-half_a_line c = λ run. absurd (not_half run.1.0 run.1.1)
 
 -- ---- words that clap refuses
+-- clap's refusal goes to the second writer
 told : IsTold plain plain [] [] [] (codes "usage") MissingSubcommand true
 told = (
   λ help. elim help [ inl is ↦ absurd (cc) | inr is ↦ absurd (cc) ],
@@ -114,6 +122,7 @@ returns-clause-refused_and_done c = λ run.
     let both : ◌≡◌ {A = Kinds} (UnknownArgument ∷ []) [] = sym one_word_more ∙ run.0.1.0 in absurd (cc)
 
 -- ---- help that is asked for
+-- clap's help goes to the first writer
 told_help : IsTold plain plain [] (codes "help") [] [] DisplayHelp true
 told_help = (
   λ _. (refl, (codes "help", (refl, refl))),

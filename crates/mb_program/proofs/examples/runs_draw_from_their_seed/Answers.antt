@@ -17,17 +17,19 @@ use Rattle.mb_program.specs.declared.options.Options.{Options}
 use Rattle.mb_program.proofs.RunReports.{place_of}
 use Rattle.mb_program.proofs.examples.runs_draw_from_their_seed.Goals as goal
 
+-- the law `calls_draw_the_first_words`: calls of a consumer with no part before draw the first words of their source
 abbrev Law : Type 0
 Law = (from end budget : ℕ) (made : List Call) (source left : Stream) (old new : ConsumerView)
     → AreCalls from end budget made source left old new → old.seat.part ≡ []
     → AreDrawn source (map (λ a. a.step.turn.word) new.seat.part) left
 
--- what a consumer left that drew from this source, and what was taken in of it
+-- the random words of these accesses are the first words of the source, and `left` is the rest of it
 record HasDrawn (source : Stream) (done : List ClaimAccess) : Type 0 where
   left : Stream
   drawn : AreDrawn source (map (λ a. a.step.turn.word) done) left
 
 module _ (law : Law) (may_stop may_pass : Who → ℕ → Type 0) where
+  -- the accesses of a consumer that polled with a source have the first words of that source
   drawn_by : (from end budget c : ℕ) (source : Stream) (l : ConsumerLeft)
       → WasPolled may_stop may_pass from end budget c source l → HasDrawn source l.claimed
   drawn_by from end budget c source l was =
@@ -41,6 +43,7 @@ module _ (law : Law) (may_stop may_pass : Who → ℕ → Type 0) where
             was.polled.called.each part);
       }
 
+  -- the accesses taken in of consumer c have the first words of source c, if all consumers polled with their sources
   drawn_at : (from end budget n : ℕ) (ss : List Stream) (ls : List ConsumerLeft) (c : ℕ)
       (source : Stream) → WerePolled may_stop may_pass from end budget n ss ls
       → slice_get ss c ≡ Some source → HasDrawn source (taken_part (map (λ l. Some l.claimed) ls) c)
@@ -53,6 +56,7 @@ module _ (law : Law) (may_stop may_pass : Who → ℕ → Type 0) where
   drawn_at from end budget n (s ∷ ss) (l ∷ ls) (suc c) source were at = drawn_at from end budget
       (suc n) ss ls c source were.1 at
 
+-- in the histories of a run's report the accesses of consumer c have the first words of the source of its seed
 has_drawn : Law → (o : Options) (r : ReportView) (x : IsRunReport o r) (c : ℕ) → c < o.consumers
     → HasDrawn (words_from (source_from o.seed c)) (consumer_part c x.histories.claims)
 has_drawn law o r x c low =

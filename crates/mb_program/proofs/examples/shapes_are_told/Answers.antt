@@ -5,6 +5,7 @@ use Rattle.clap.proofs.OnLiterals.{clap_on_literals}
 use Rattle.mb_program.specs.declared.options.Options.{Options}
 use Rattle.mb_program.proofs.examples.shapes_are_told.Goals as goal
 
+-- whether options ask for a fast path
 abbrev is_fast : Option Options → Bool
 is_fast found = option_map_or (λ o. o.shape.fast) found false
 

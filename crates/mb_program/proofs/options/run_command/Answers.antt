@@ -4,6 +4,8 @@ use Rattle.std.proofs.lemmas.Result.{IfOk-weaker}
 use Rattle.clap.specs.Words.{with_rule}
 use Rattle.mb_program.proofs.options.run_command.Goals as goal
 
+-- Seven options are added one by one. `rules_N` gives the app after N of them. `local_N` says that none of these N is
+-- global
 pub returns : goal.returns
 returns c =
     let one = c.in_ok-arg.ensures in

@@ -1,4 +1,4 @@
--- Proof of `examples::consumers_are_answered`: the steps of a consumer with their answers.
+-- Proof of `examples::consumers_are_answered`: the lines of a consumer's steps, with their answers.
 use Rattle.std.proofs.Common.{refl}
 use Rattle.std.specs.Fmt.{digits}
 use Rattle.mb_script.proofs.examples.consumers_are_answered.Goals as goal

@@ -1,4 +1,4 @@
--- Proof of `examples::producers_are_answered`: the events of a producer with their answers.
+-- Proof of `examples::producers_are_answered`: the lines of a producer's events, with their answers.
 use Rattle.std.proofs.Common.{refl}
 use Rattle.std.specs.Fmt.{digits}
 use Rattle.mb_script.proofs.examples.producers_are_answered.Goals as goal

@@ -1,5 +1,5 @@
--- Proof of `examples::readers_lose_their_front`: a reader loses bytes from its front: just a number of them, or at most
--- that number.
+-- Proof of `examples::readers_lose_their_front`: a reader loses bytes from the beginning of what it has left: just a
+-- number of them, or at most that number.
 use Rattle.std.proofs.Common.{◌≡◌, ◌++◌, ℕ, List, [], ◌∷◌, codes, length, get_or, refl, ap, arith, length-append}
 use Rattle.mb_script.proofs.examples.readers_lose_their_front.Goals as goal
 
@@ -9,7 +9,7 @@ returns-clause-two c = (codes "ab", refl, refl)
 pub returns-clause-up_to_two : goal.returns-clause-up_to_two
 returns-clause-up_to_two c = (codes "ab", omega arith, refl)
 
--- a text keeps its end
+-- "abc" does not end in "b"
 ends_so : (xs : List ℕ) → codes "abc" ≡ xs ++ codes "b" → ⊥
 ends_so [] e = let at : ◌≡◌ {A = ℕ} 97 98 = ap (λ (l : List ℕ). get_or l 0 0) e in omega arith
 ends_so (x ∷ []) e = let at : ◌≡◌ {A = ℕ} 99 0 = ap (λ (l : List ℕ). get_or l 2 0) e in omega arith

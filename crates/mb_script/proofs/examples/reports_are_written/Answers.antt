@@ -1,5 +1,5 @@
--- Proof of `examples::reports_are_written`: a report of two lanes and one consumer, and one with nothing but a claim
--- that is begun.
+-- Proof of `examples::reports_are_written`: the text of a report of two lanes and one consumer, and that of a report
+-- without notes, in which a claim is begun.
 use Rattle.std.proofs.Common.{refl}
 use Rattle.std.specs.Fmt.{digits}
 use Rattle.mb_script.proofs.examples.reports_are_written.Goals as goal

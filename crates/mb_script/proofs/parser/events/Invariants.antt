@@ -9,6 +9,7 @@ use Rattle.mb_script.specs.Scripts.{events_of}
 use Rattle.mb_script.proofs.Lined.{onto}
 use Rattle.mb_script.proofs.parser.events.Given as goal
 
+-- the events read so far, and then those of the lines that are left, are the events of all lines
 abbrev pub invariant-loop-line : goal.invariant-loop-line
 invariant-loop-line g l = record {
   text : shadow (Utf8 l.rest);
@@ -17,5 +18,6 @@ invariant-loop-line g l = record {
       ≡ events_of (plan_in l.fn.setup) 2 (lines_of l.fn.text);
 }
 
+-- each turn leaves less of the text
 abbrev pub decreases-loop-line : goal.decreases-loop-line
 decreases-loop-line g l = length l.rest

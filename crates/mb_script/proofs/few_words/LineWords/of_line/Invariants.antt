@@ -6,6 +6,7 @@ use denote.Shadow.{shadow}
 use Rattle.mb_script.specs.Text.{words_in_line, has_empty}
 use Rattle.mb_script.proofs.few_words.LineWords.of_line.Given as goal
 
+-- the words stored so far, and then those of what is left of the line, are the words of the line
 abbrev pub invariant-loop-word : goal.invariant-loop-word
 invariant-loop-word l = record {
   text : shadow (Utf8 l.rest);
@@ -15,5 +16,6 @@ invariant-loop-word l = record {
   full : has_empty (map (λ w. w.now) (take l.count l.words)) ≡ false;
 }
 
+-- each turn leaves less of the line
 abbrev pub decreases-loop-word : goal.decreases-loop-word
 decreases-loop-word l = length l.rest
