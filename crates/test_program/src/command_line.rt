@@ -11,13 +11,14 @@ use mb_script::Fault;
 use mb_world::SetupFault;
 use std::process::Abort;
 
-// These words are read as this choice.
+// Checks that these words are read as this choice.
 fn chooses<R: Abort + AllocGlobal>(rt: &R, words: &[&str], want: Choice) {
     let is_chosen = matches!(command_of(rt.alloc(), words), Ok(choice) if choice == want);
     same_at(rt, &is_chosen, &true, &words);
 }
 
-// The defaults of `run`: 2 producers, 2 consumers, 8 items each, 4 pairs alone, budget 64 and seed 0.
+// The defaults of `run` are 2 producers, 2 consumers, 8 items for each producer, 4 pairs on each cell and no other
+// objects, budget 64 and seed 0.
 #[test]
 fn run_has_defaults(rt: HostRuntime) {
     let options = Options {

@@ -1,4 +1,4 @@
-//! What a fault means, in words.
+//! The text that explains a failure.
 
 use crate::compare::same;
 use mb_program::{Failed, RatifyFault, RunFault, explanation};

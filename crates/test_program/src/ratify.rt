@@ -28,7 +28,8 @@ fn push_each(text: &mut String, before: &str, after: &str) -> Result<(), AllocEr
     Ok(())
 }
 
-// Ten thousand turns of sixteen processes with one value, which has an empty read quorum.
+// Appends a script of ten thousand turns: sixteen processes take 625 turns each. The only value has an empty read
+// quorum.
 fn push_turns(script: &mut String) -> Result<(), AllocError> {
     script.push_str("ratify unary 1\ninputs 0 0 0 0 0 0 0 0 0 0 0 0 0 0 0 0\nturns")?;
     for _ in 0..625 {
@@ -37,7 +38,7 @@ fn push_turns(script: &mut String) -> Result<(), AllocError> {
     script.push_str("\n")
 }
 
-// What is answered to that.
+// Appends what is written for that script. Each process makes three accesses, and is done in its other turns.
 fn push_answers(want: &mut String) -> Result<(), AllocError> {
     for answer in [" store q0 1\n", " load p 0\n", " store p 1 out 1 0\n"] {
         push_each(want, "", answer)?;
@@ -134,7 +135,7 @@ fn the_first_fault_decides(rt: HostRuntime) {
     }
 }
 
-// Runs the command over these devices. Returns its result, and what was written.
+// Runs the command over a slow reader and a writer of this room. Returns the result, and what was written.
 fn answered(
     rt: &HostRuntime,
     script: &'static str,

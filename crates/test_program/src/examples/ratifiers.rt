@@ -209,6 +209,7 @@ turns
     },
 ];
 
+/// A process comes when another has its output already. Other tests use this example, too.
 pub const LATE_INPUT: Example = Example {
     name: "late_input",
     words: &["mailbox", "ratify"],
