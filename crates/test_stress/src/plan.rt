@@ -10,10 +10,11 @@ use rand_core::Rng;
 /// Who is stopped at the gate.
 #[derive(Clone, Copy, PartialEq, Eq, Debug)]
 pub enum Stops {
+    /// Nobody is stopped.
     Nobody,
-    /// Any worker, at one call in this many.
+    /// Any worker may be stopped, at one call in this many.
     Anybody(u64),
-    /// Every second consumer, at one call in this many.
+    /// Every second consumer may be stopped, at one call in this many.
     HalfOfTheConsumers(u64),
 }
 
@@ -48,7 +49,7 @@ fn drawn<R: Rng>(rng: &mut R, least: u64, amount: u64) -> u64
     least + rng.next_u64() % amount
 }
 
-/// Whether the next word is even.
+/// Whether the next random word is even.
 fn is_even<R: Rng>(rng: &mut R) -> bool {
     rng.next_u64() % 2 == 0
 }
