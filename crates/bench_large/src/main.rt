@@ -51,14 +51,16 @@ enum RandomWords {
 struct Plan {
     producers: u64,
     consumers: u64,
+    /// How many pairs of deciding objects each cell has.
     pairs: u64,
+    /// How many items and cells there are.
     items: u64,
     seed: u64,
     shape: Shape,
     words: RandomWords,
 }
 
-/// The end of a run, and how long its parts took: to make the mailbox, and to work.
+/// What a run came to, and how long it took to make the mailbox, and to work.
 #[derive(Clone, Copy, Debug)]
 struct Outcome {
     made: Duration,
@@ -75,7 +77,7 @@ struct End {
     bytes: usize,
 }
 
-/// Why a run failed.
+/// Why a run failed: at the setup, at the work, without memory, report or clock, or by a flaw of its report.
 #[derive(Clone, Copy, Debug)]
 enum Fault {
     Setup(SetupFault),
@@ -100,7 +102,7 @@ impl From<io::Error> for Fault {
     }
 }
 
-/// The plan in these words. It is none if they are not as the usage says.
+/// The plan in these words. There is none if the words are not as the usage says.
 fn plan_of(words: &[String]) -> Option<Plan> {
     let [_, producers, consumers, pairs, items, seed, more @ ..] = words else {
         return None;
@@ -122,6 +124,7 @@ fn plan_of(words: &[String]) -> Option<Plan> {
     })
 }
 
+/// The shape of this name, if there is one.
 fn shape_of(name: &str) -> Option<Shape> {
     let (fast, last) = match name {
         "plain" => (false, false),
@@ -133,6 +136,7 @@ fn shape_of(name: &str) -> Option<Shape> {
     Some(Shape { fast, last })
 }
 
+/// The source of random words of this name, if there is one.
 fn words_of(name: &str) -> Option<RandomWords> {
     match name {
         "chacha" => Some(RandomWords::Chacha),
@@ -161,7 +165,7 @@ fn lists_of(alloc: Global, plan: &Plan) -> Result<Vec<Vec<u64>>, AllocError> {
     Ok(lists)
 }
 
-/// A source for each consumer, each with a seed of its own.
+/// A source of random words for each consumer, each with a seed of its own.
 fn sources_of<R: SeedableRng + Drop>(alloc: Global, plan: &Plan) -> Result<Vec<R>, AllocError> {
     let mut rngs = Vec::new(alloc);
     for c in 0..plan.consumers {
