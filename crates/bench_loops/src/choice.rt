@@ -3,7 +3,7 @@ use mb_claim::{Layout, MAX_CELLS, Shape};
 use mb_quorum::TableName;
 use std::fmt;
 
-/// How many pairs of objects each cell has.
+/// How many pairs of deciding objects each cell has.
 pub const PAIRS: u64 = 4;
 
 /// What a loop does again and again.

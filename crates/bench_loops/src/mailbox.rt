@@ -144,7 +144,7 @@ fn read_all<A: Allocator + Copy + Drop, R: Rng>(
     Ok(())
 }
 
-/// A consumer polls the lane until nothing more comes, and its answers are counted.
+/// A consumer polls the lane until nothing more comes, and its notes are counted.
 fn read<A: Allocator + Drop, R: Rng>(
     mailbox: &Mailbox<A>,
     consumer: &mut Consumer<A>,

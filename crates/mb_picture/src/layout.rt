@@ -10,10 +10,10 @@ use crate::picture::{Line, Mark, Picture, Who};
 use mb_cells::NoMemory;
 use std::alloc::Allocator;
 
-/// How far rows are apart, in units of the picture. So are all sizes here.
+/// How far rows are apart. All sizes here are in units of the picture.
 pub const ROW: usize = 24;
 
-/// How high the box of a mark is.
+/// The height of a mark.
 pub const PILL: usize = 19;
 
 /// Where the first row begins, from above.
@@ -69,9 +69,9 @@ struct Trunk {
 /// Where everything of a picture stands.
 #[derive(Drop)]
 pub struct Layout<A: Allocator + Drop> {
-    /// The columns, from the left.
+    /// The places of the columns, from the left.
     pub places: Vec<Place, A>,
-    /// The lines.
+    /// The routes of the lines, in the order of the picture's lines.
     pub routes: Vec<Route, A>,
     /// How wide the picture is.
     pub width: usize,

@@ -13,7 +13,9 @@ pub const MAX_ROWS: usize = 200;
 /// What a picture shows.
 #[derive(Clone, Copy)]
 pub enum Kind {
+    /// A replay of a mailbox.
     Replay,
+    /// A run of one ratifier.
     Ratifier,
 }
 
@@ -172,10 +174,12 @@ pub struct Frame {
     pub tone: Tone,
 }
 
-/// What was done, as data to be drawn. Mark `i` is in row `i`.
+/// A picture, as data to be drawn. Mark `i` is in row `i`.
 #[derive(Drop)]
 pub struct Picture<A: Allocator + Drop> {
+    /// What the picture shows.
     pub kind: Kind,
+    /// The line above the picture.
     pub title: String<A>,
     /// Whose the columns are, from the left.
     pub columns: Vec<Who, A>,
@@ -232,7 +236,7 @@ impl Remark {
 }
 
 impl<A: Allocator + Copy> Picture<A> {
-    /// An empty picture.
+    /// A picture of this kind with nothing in it.
     pub fn new(alloc: A, kind: Kind) -> Picture<A> {
         Picture {
             kind,

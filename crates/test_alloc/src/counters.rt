@@ -25,7 +25,7 @@ pub(crate) struct Counters {
 }
 
 impl Counters {
-    /// A book in which nothing is counted yet.
+    /// Counters that have counted nothing yet.
     pub(crate) fn new(refuse: Refuse) -> Counters
         ensures { result.refuse ≡ refuse }
     {

@@ -24,13 +24,17 @@ pub struct Plan {
     pub producers: u64,
     pub consumers: u64,
     pub cells: u64,
+    /// How many pairs of deciding objects each cell has.
     pub pairs: u64,
+    /// The quorum table of the ratifiers.
     pub table: TableName,
     /// How many items each producer is to put.
     pub items: u64,
+    /// The most accesses of one poll, if `whole` is false.
     pub budget: u64,
     /// Whether all random words are 0.
     pub zeros: bool,
+    /// Who is stopped at the gate.
     pub stops: Stops,
     /// The seed of the gate.
     pub gate_seed: u64,
