@@ -74,6 +74,7 @@ fn words_drawn<R: Abort + AllocGlobal + Threads + Wait + Sync>(
     )
 }
 
+// A row has the consumer that is stopped, the report, and how many words the two sources gave.
 #[test]
 fn each_consumer_draws_from_its_own_source(rt: HostRuntime) {
     // The claim of the other consumer meets no other claim. It makes seven accesses, three to the conciliator and four

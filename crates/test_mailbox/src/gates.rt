@@ -138,6 +138,7 @@ fn alternates(rt: &impl Abort, gate: &Record) {
     }
 }
 
+// Each call of a worker enters the gate and leaves it before the next one enters.
 #[test]
 fn asks_and_tells_of_a_gate_alternate(rt: HostRuntime) {
     let mut trial = new_trial(&rt, rt.alloc(), 2, 2, 5);
@@ -148,6 +149,7 @@ fn asks_and_tells_of_a_gate_alternate(rt: HostRuntime) {
     same(&rt, &audited(&rt, rt.alloc(), trial, 2, 2).put, &5);
 }
 
+// A put that finds no cell leaves the gate as any other does. Its worker makes no further put.
 #[test]
 fn a_put_that_finds_no_cell_is_told_of(rt: HostRuntime) {
     let mut trial = new_trial(&rt, rt.alloc(), 1, 1, 1);

@@ -83,6 +83,7 @@ fn polls_once<R: Abort + AllocGlobal + Threads + Wait + Sync>(
     same(rt, &worked, &Ok(one_stopped));
 }
 
+// What is seen while the put leaves the gate, and when the poll leaves it, shows that their accesses were made.
 #[test]
 fn a_call_is_told_of_after_its_accesses(rt: HostRuntime) {
     let gate = PollInALeave {

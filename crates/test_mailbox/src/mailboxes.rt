@@ -67,6 +67,7 @@ diary 1 0
 ",
 );
 
+/// The second producer finds no cell for its items, and ends its lane without one.
 const TWO_PRODUCERS_WANT_THE_ONLY_CELL: Scene = (
     [2, 1, 1],
     "\
@@ -141,6 +142,7 @@ fn one_consumer_is_out<R: Abort + AllocGlobal>(rt: &R, scene: Scene) {
     }
 }
 
+/// The hub gives one producer and one consumer, and no more.
 const ALL_NUMBERS_ARE_GIVEN: Scene = (
     [1, 1, 1],
     "\
@@ -207,6 +209,7 @@ fn all_taken(alloc: Global, items: u64) -> Result<String, AllocError> {
     Ok(report)
 }
 
+// A script has at most 256 cells, and this mailbox has 300.
 #[test]
 fn a_large_mailbox_takes_more_items_than_a_script_has(rt: HostRuntime) {
     let alloc = rt.alloc();

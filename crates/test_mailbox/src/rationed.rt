@@ -165,6 +165,7 @@ diary 1 1
     served
 }
 
+// Each allocation of `work` is refused in turn, and then the call is made again.
 #[test]
 fn a_refused_call_is_made_again(rt: HostRuntime) -> Result<(), Fail> {
     let refused = growths_refused(&rt, |alloc| {

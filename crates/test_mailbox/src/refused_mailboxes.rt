@@ -44,6 +44,7 @@ fn new_is_served<'a>(rt: &impl Abort, alloc: Alloc<'a>, ample: Alloc<'a>) -> boo
     }
 }
 
+// Each allocation of `Mailbox::new` is refused in turn.
 #[test]
 fn each_growth_of_new_refused(rt: HostRuntime) -> Result<(), Fail> {
     let ample = FaultyHeap::new(rt.alloc(), Refuse::Never);
@@ -146,6 +147,7 @@ fn gather_is_served<'a>(
     }
 }
 
+// A row has the sizes of the mailbox, its calls, the text of its report, and the least number of allocations.
 #[test]
 fn each_growth_of_gather_refused(rt: HostRuntime) -> Result<(), Fail> {
     let ample = FaultyHeap::new(rt.alloc(), Refuse::Never);

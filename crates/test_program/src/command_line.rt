@@ -122,6 +122,7 @@ fn refusal(kind: ErrorKind) -> (u8, u8) {
     (status_of_ending(&printed), status_of_ending(&unprinted))
 }
 
+// A row has the words, why clap refuses them, and the statuses of a refusal that is printed and of one that cannot be.
 #[test]
 fn lines_are_refused(rt: HostRuntime) {
     let (help, refused) = ((0, 3), (2, 2));

@@ -77,6 +77,7 @@ fn a_script_is_read(rt: HostRuntime) {
     );
 }
 
+// If a script has several faults, the first in the order of the checks is returned. Nothing is written.
 #[test]
 fn the_first_fault_decides(rt: HostRuntime) {
     for (script, want) in [
@@ -156,6 +157,8 @@ fn answered(
     (result, writer.device.taken)
 }
 
+// A row has the script, whether the reader fails at its end, the room of the writer, whether the writer then fails, the
+// result, and what was written.
 #[test]
 fn devices_fail(rt: HostRuntime) {
     let read_fault = Err(RatifyFault::ReadFault);
@@ -194,6 +197,8 @@ fn devices_fail(rt: HostRuntime) {
     }
 }
 
+// A row has how many letters the reader gives, whether it then fails, and the fault. At most one byte past the limit
+// is read.
 #[test]
 fn reading_stops_past_the_limit(rt: HostRuntime) {
     for (left, fails, want) in [

@@ -32,6 +32,7 @@ fn is_served<F: PartialEq + Debug + Copy>(
     true
 }
 
+// Each allocation of the command `ratify` is refused in turn.
 #[test]
 fn each_growth_of_ratify_text_refused(rt: HostRuntime) -> Result<(), Fail> {
     let refused = growths_refused(&rt, |alloc| {
@@ -53,6 +54,7 @@ fn each_growth_of_ratify_text_refused(rt: HostRuntime) -> Result<(), Fail> {
     Ok(())
 }
 
+// Each allocation of the command `replay` is refused in turn, on two scripts.
 #[test]
 fn each_growth_of_run_refused(rt: HostRuntime) -> Result<(), Fail> {
     // What is allocated: the script's bytes and its events, seven lists of the world, four or five of its report, and
@@ -70,6 +72,7 @@ fn each_growth_of_run_refused(rt: HostRuntime) -> Result<(), Fail> {
     Ok(())
 }
 
+// Each allocation of the command `run` is refused in turn.
 #[test]
 fn each_growth_of_run_threads_refused(rt: HostRuntime) -> Result<(), Fail> {
     let refused = growths_refused(&rt, |alloc| {

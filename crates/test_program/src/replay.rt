@@ -79,6 +79,7 @@ fn many_events_are_replayed(rt: HostRuntime) {
     }
 }
 
+// A line past the last event that is allowed is one too many, whatever it says.
 #[test]
 fn a_script_has_a_limit_of_events(rt: HostRuntime) {
     let (result, text) = replayed(&rt, &pushes(&rt, 20_000, "x\n"));
@@ -102,6 +103,8 @@ fn a_report_has_its_text(rt: HostRuntime) {
     );
 }
 
+// A row has the script, whether the reader fails at its end, the room of the writer, whether the writer then fails, the
+// result, and what was written.
 #[test]
 fn devices_fail(rt: HostRuntime) {
     let read_fault = Err(Fault::ReadFault);
@@ -142,6 +145,8 @@ fn devices_fail(rt: HostRuntime) {
     }
 }
 
+// A row has how many letters the reader gives, whether it then fails, and the fault. At most one byte past the limit
+// is read.
 #[test]
 fn reading_stops_past_the_limit(rt: HostRuntime) {
     for (left, fails, want) in [

@@ -40,6 +40,7 @@ fn reported<R: AllocGlobal + Threads + Wait + Sync>(
     (result, writer.device)
 }
 
+// A row has the options, and what is written: none of these reports depends on the order of the threads.
 #[test]
 fn workers_are_reported(rt: HostRuntime) {
     for (options, want) in [
@@ -112,6 +113,7 @@ fn items_are_put(rt: HostRuntime) {
     );
 }
 
+// A row has the producers, the consumers, the items of each producer, the pairs of each cell, and the fault.
 #[test]
 fn setups_are_refused(rt: HostRuntime) {
     let most = u64::MAX;

@@ -2,6 +2,7 @@
 
 use super::entry::Example;
 
+/// The examples of claims.
 pub const CLAIMS: &[Example] = &[
     ITEM_TAKEN,
     ONE_LOSES,

@@ -2,6 +2,7 @@
 
 use super::entry::Example;
 
+/// The examples of lanes.
 pub const LANES: &[Example] = &[
     Example {
         name: "pool_full",

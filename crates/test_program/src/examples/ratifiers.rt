@@ -2,6 +2,7 @@
 
 use super::entry::Example;
 
+/// The examples of ratifiers.
 pub const RATIFIERS: &[Example] = &[
     LATE_INPUT,
     Example {

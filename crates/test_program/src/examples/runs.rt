@@ -2,6 +2,7 @@
 
 use super::entry::Example;
 
+/// The examples of runs.
 pub const RUNS: &[Example] = &[
     Example {
         name: "too_many_items",

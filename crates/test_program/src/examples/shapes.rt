@@ -2,6 +2,7 @@
 
 use super::entry::Example;
 
+/// The examples of shapes.
 pub const SHAPES: &[Example] = &[
     Example {
         name: "fast_path",

@@ -76,6 +76,7 @@ module _ (Z : Al) {M : Type 1} {𝓤 : Ura M} (𝓛 : Logic 𝓤) (at_mem : Memo
   held = F.clauses Z.row Z.g Z.d Z.drops 𝓛 at_mem run
 
   module _ (κ₁ κ₂ : Lft) (q₁ q₂ : Share) (inn : κ₁ ⊑ κ₂) (r : Bor (row.the_row Z.row).Denot) (n a : ℕ) (τ : Ty) where
+    -- what a call is entered with: lifetimes, shares, arguments and their values
     abbrev bound : Ptr → (walk_of 𝓛 (ended Z) (stayed Z) held).Ghost
     bound x = (
       (
@@ -88,9 +89,11 @@ module _ (Z : Al) {M : Type 1} {𝓤 : Ura M} (𝓛 : Logic 𝓤) (at_mem : Memo
       τ,
     )
 
+    -- the values of the arguments
     abbrev vs : Ptr → List Val
     vs x = vptr r.ref_ptr.0 r.ref_ptr.1 ∷ ptr_val x ∷ vint w64 n ∷ vint w64 a ∷ []
 
+    -- what has to hold of the value that is returned
     abbrev Post : Ptr → Val → SProp 𝓤
     Post x = (walk_of 𝓛 (ended Z) (stayed Z) held).post (bound x)
 
