@@ -15,6 +15,7 @@ use test_support::SeenZeros;
 /// A gate that stops one consumer before its first call, and nobody else.
 #[derive(Drop)]
 struct AllBut {
+    /// The consumer that is stopped.
     consumer: u32,
 }
 

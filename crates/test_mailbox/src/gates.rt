@@ -19,7 +19,9 @@ pub(crate) const TURNS: u64 = 1_000_000_000;
 /// A gate at which each worker waits, at its first call, until `workers` have come. After `TURNS` looks it is stopped.
 #[derive(Drop)]
 struct AllCome {
+    /// How many workers have come.
     come: AtomicU64,
+    /// How many workers are to come.
     workers: u64,
 }
 
@@ -90,6 +92,7 @@ struct Record {
 }
 
 impl Record {
+    /// A record in which nobody has entered yet.
     fn new() -> Record {
         Record {
             times: [0; 4].map(AtomicU64::new),
@@ -171,6 +174,7 @@ fn a_put_that_finds_no_cell_is_told_of(rt: HostRuntime) {
 /// let it in.
 #[derive(Drop)]
 struct ThreeCalls {
+    /// How many puts were made.
     made: AtomicU64,
 }
 

@@ -152,6 +152,7 @@ fn no_numbers_are_left_for_more_workers(rt: HostRuntime) {
 /// A gate that counts the calls that it lets in.
 #[derive(Drop)]
 struct CountingGate {
+    /// How many calls were let in.
     calls: AtomicU64,
 }
 
