@@ -34,6 +34,7 @@ fn run_has_defaults(rt: HostRuntime) {
     chooses(&rt, &["mailbox", "run"], Choice::Run(options));
 }
 
+// A row has the words, and the options that they give. Each other option has its default.
 #[test]
 fn options_are_read(rt: HostRuntime) {
     let most = u64::MAX;
@@ -212,6 +213,7 @@ fn lines_are_refused(rt: HostRuntime) {
     }
 }
 
+// A row has how the program ended, and the exit status.
 #[test]
 fn endings_have_a_status(rt: HostRuntime) {
     for (ending, status) in [

@@ -2,7 +2,7 @@
 
 use super::entry::Example;
 
-/// The examples of claims.
+/// The examples of claims. `examples/README.md` says what each shows, by its name.
 pub const CLAIMS: &[Example] = &[
     ITEM_TAKEN,
     ONE_LOSES,

@@ -2,7 +2,7 @@
 
 use super::entry::Example;
 
-/// The examples of ratifiers.
+/// The examples of ratifiers. `examples/README.md` says what each shows, by its name.
 pub const RATIFIERS: &[Example] = &[
     LATE_INPUT,
     Example {

@@ -2,7 +2,7 @@
 
 use super::entry::Example;
 
-/// The examples of runs.
+/// The examples of runs. `examples/README.md` says what each shows, by its name.
 pub const RUNS: &[Example] = &[
     Example {
         name: "too_many_items",
