@@ -63,8 +63,11 @@ struct Plan {
 /// What a run came to, and how long it took to make the mailbox, and to work.
 #[derive(Clone, Copy, Debug)]
 struct Outcome {
+    /// How long it took to make the mailbox.
     made: Duration,
+    /// How long the workers took.
     worked: Duration,
+    /// What came of the report.
     end: End,
 }
 
@@ -72,8 +75,11 @@ struct Outcome {
 #[derive(Clone, Copy, Debug)]
 struct End {
     tally: Tally,
+    /// How long it took to make the report.
     gathered: Duration,
+    /// How long it took to make the report's text.
     written: Duration,
+    /// How many bytes the text has.
     bytes: usize,
 }
 
