@@ -83,7 +83,7 @@ struct End {
     bytes: usize,
 }
 
-/// Why a run failed: at the setup, at the work, without memory, report or clock, or by a flaw of its report.
+/// Why a run failed: its setup or its work was refused, there was no memory, report or clock, or the report has a flaw.
 #[derive(Clone, Copy, Debug)]
 enum Fault {
     Setup(SetupFault),

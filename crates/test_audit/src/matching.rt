@@ -56,7 +56,8 @@ fn said_of<A: Allocator + Drop>(diary: &Diary<A>, j: usize) -> Meeting {
     }
 }
 
-/// Adds what one consumer's diary says of the item to what the diaries before it said.
+/// What the diaries before this consumer's said of the item, with what this one says. The error is a flaw that the two
+/// show.
 fn with_meeting(
     before: Meetings,
     consumer: u64,
