@@ -51,18 +51,23 @@ enum RandomWords {
 struct Plan {
     producers: u64,
     consumers: u64,
+    /// How many pairs of deciding objects each cell has.
     pairs: u64,
+    /// How many items and cells there are.
     items: u64,
     seed: u64,
     shape: Shape,
     words: RandomWords,
 }
 
-/// The end of a run, and how long its parts took: to make the mailbox, and to work.
+/// What a run came to, and how long it took to make the mailbox, and to work.
 #[derive(Clone, Copy, Debug)]
 struct Outcome {
+    /// How long it took to make the mailbox.
     made: Duration,
+    /// How long the workers took.
     worked: Duration,
+    /// What came of the report.
     end: End,
 }
 
@@ -70,12 +75,15 @@ struct Outcome {
 #[derive(Clone, Copy, Debug)]
 struct End {
     tally: Tally,
+    /// How long it took to make the report.
     gathered: Duration,
+    /// How long it took to make the report's text.
     written: Duration,
+    /// How many bytes the text has.
     bytes: usize,
 }
 
-/// Why a run failed.
+/// Why a run failed: its setup or its work was refused, there was no memory, report or clock, or the report has a flaw.
 #[derive(Clone, Copy, Debug)]
 enum Fault {
     Setup(SetupFault),
@@ -100,7 +108,7 @@ impl From<io::Error> for Fault {
     }
 }
 
-/// The plan in these words. It is none if they are not as the usage says.
+/// The plan in these words. There is none if the words are not as the usage says.
 fn plan_of(words: &[String]) -> Option<Plan> {
     let [_, producers, consumers, pairs, items, seed, more @ ..] = words else {
         return None;
@@ -122,6 +130,7 @@ fn plan_of(words: &[String]) -> Option<Plan> {
     })
 }
 
+/// The shape of this name, if there is one.
 fn shape_of(name: &str) -> Option<Shape> {
     let (fast, last) = match name {
         "plain" => (false, false),
@@ -133,6 +142,7 @@ fn shape_of(name: &str) -> Option<Shape> {
     Some(Shape { fast, last })
 }
 
+/// The source of random words of this name, if there is one.
 fn words_of(name: &str) -> Option<RandomWords> {
     match name {
         "chacha" => Some(RandomWords::Chacha),
@@ -161,7 +171,7 @@ fn lists_of(alloc: Global, plan: &Plan) -> Result<Vec<Vec<u64>>, AllocError> {
     Ok(lists)
 }
 
-/// A source for each consumer, each with a seed of its own.
+/// A source of random words for each consumer, each with a seed of its own.
 fn sources_of<R: SeedableRng + Drop>(alloc: Global, plan: &Plan) -> Result<Vec<R>, AllocError> {
     let mut rngs = Vec::new(alloc);
     for c in 0..plan.consumers {

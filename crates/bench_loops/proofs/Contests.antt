@@ -1,4 +1,4 @@
--- A step of one of the claims on a cell.
+-- A step of one of the claims on a cell keeps the contest of all of them.
 use Rattle.std.proofs.Common.{◌≡◌, ◌≢◌, ◌<◌, ℕ, List, ◌∷◌, ◌∙◌, inl, inr, length, slice_index_or, slice_set, sym, ap, subst}
 use Rattle.std.proofs.lemmas.Bool.{cases_eq}
 use Rattle.std.proofs.lemmas.List.{get_or-set_same, get_or-set_other, length-set}
@@ -8,7 +8,7 @@ use Rattle.mb_claim.specs.declared.layout.Layout.{Layout}
 use Rattle.mb_claim.specs.Vocabulary.{part_on, IsClaimIn, consumer_of}
 use Rattle.bench_loops.specs.UnderWay.{IsContest, IsUnderWay}
 
--- that an access lengthens no part but its own
+-- an access lengthens no part but its own consumer's on its own cell
 abbrev pub OthersStay : Type 0
 OthersStay = (c k : ℕ) (a : ClaimAccess) (h : List ClaimAccess) → (a.consumer ≡ c → a.cell ≡ k → ⊥)
     → part_on c k (a ∷ h) ≡ part_on c k h
@@ -25,12 +25,12 @@ one_of_contest layout cell i claims words h d contest within =
           (sym (contest.whose i d within)) (contest.stands i d within);
     }
 
--- a changed list has the same places
+-- a place of the list with one claim changed is a place of the list before
 within_set : (claims : List Claim) (c : ℕ) (claim : Claim) (i : ℕ)
     → i < length (slice_set claims c claim) → i < length claims
 within_set claims c claim i below = subst (λ n. i < n) (length-set claims c claim) below
 
--- and with its step the contest goes on
+-- after a step of one claim the claims are a contest still
 pub contest_goes_on :
     (layout : Layout) (cell c : ℕ) (claims : List Claim) (words left : List ℕ) (h : List ClaimAccess) (claim : Claim)
     (a : ClaimAccess) → OthersStay → IsContest layout cell claims words h → c < length claims

@@ -8,12 +8,13 @@ use Rattle.mb_claim.specs.Vocabulary.{part_on}
 use Rattle.mb_shared_claims.specs.Vocabulary.{AreSeatSteps, SeatView, access_of}
 use Rattle.bench_loops.proofs.Contests.{OthersStay}
 
--- the seat is of the same table and the same consumer, which has done no more on another cell
+-- the seat `now` is of the table and the consumer of `seat`, and has done no more on another cell
 pub record Keeps (cell : ℕ) (seat now : SeatView) : Type 0 where
   pub table : now.table ≡ seat.table
   pub same : now.consumer ≡ seat.consumer
   pub others : (k : ℕ) → k ≢ cell → part_on seat.consumer k now.part ≡ part_on seat.consumer k seat.part
 
+-- steps of one claim on a cell keep this, however many they are
 pub steps_keep :
     (layout : Layout) (cell : ℕ) (claim : Claim) (seat : SeatView) (s : Stream) → OthersStay
     → (n : ℕ) (follows : Claim) (now : SeatView) (t : Stream)

@@ -1,4 +1,4 @@
--- Claims under way on the words of all cells.
+-- Claims on the words of `MAX_CELLS` cells: under way, before a cell, and many on one cell.
 use Rattle.std.specs.Prelude.{ℕ, ◌≡◌, ◌<◌, ◌≤◌, List, [], length, slice_index_or}
 use Rattle.mb_deciding.specs.declared.access.Act.TheVariants.{Load}
 use Rattle.mb_deciding.specs.declared.access.Reg.TheVariants.{Value}
@@ -20,7 +20,7 @@ looked c k value = record {
 abbrev pub all_claims : Layout → Claims
 all_claims layout = claims_in layout MAX_CELLS
 
--- the history leaves the words, and the claim has made its consumer's part on the cell
+-- the history leaves the words, and the claim stands after its consumer's part on the cell
 pub record IsUnderWay
     (layout : Layout) (cell : ℕ) (claim : Claim) (words : List ℕ) (h : List ClaimAccess) : Type 0 where
   pub memory : IsMemoryOf (all_claims layout) words h
@@ -35,7 +35,8 @@ pub record ClaimIsBefore (layout : Layout) (consumer cell : ℕ) (words : List �
   pub memory : IsMemoryOf (all_claims layout) words h
   pub untouched : (k : ℕ) → cell ≤ k → part_on consumer k h ≡ []
 
--- the history leaves the words, each consumer has its claim on the cell, and these are the claims in their order
+-- the history leaves the words, and these are claims on the cell. The claim at place i is consumer i's, and stands
+-- after its part
 pub record IsContest
     (layout : Layout) (cell : ℕ) (claims : List Claim) (words : List ℕ) (h : List ClaimAccess) : Type 0 where
   pub memory : IsMemoryOf (all_claims layout) words h

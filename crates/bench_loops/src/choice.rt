@@ -1,15 +1,15 @@
-//! The command line.
+//! The command line: which loop runs, over what, and how often.
 use mb_claim::{Layout, MAX_CELLS, Shape};
 use mb_quorum::TableName;
 use std::fmt;
 
-/// How many pairs of objects each cell has.
+/// How many pairs of deciding objects each cell has.
 pub const PAIRS: u64 = 4;
 
-/// What is done again and again.
+/// What a loop does again and again.
 #[derive(Clone, Copy, PartialEq, Eq, Debug)]
 pub enum Loop {
-    /// Makes the words of `MAX_CELLS` cells, and nothing else.
+    /// Makes the claims' words of `MAX_CELLS` cells, and nothing else.
     Words,
     /// Makes one claim on each cell.
     Lone,
@@ -17,23 +17,24 @@ pub enum Loop {
     Contended,
     /// Makes a table that threads can share, with a seat, and nothing else.
     Tables,
-    /// Makes one claim on each cell of such a table.
+    /// Makes one claim on each cell of a table that threads can share.
     Shared,
-    /// Fills a pool of cells. Then each consumer reads it and makes its claims.
+    /// Fills a pool of cells. Then each consumer reads the pool and makes its claims.
     Mail,
     /// Makes a mailbox that threads can share, with a producer, and nothing else.
     Mailboxes,
-    /// Makes the puts of a producer into such a mailbox.
+    /// Makes the puts of a producer into a mailbox that threads can share.
     Puts,
-    /// Fills such a mailbox. Then each consumer polls it to its end.
+    /// Fills a mailbox that threads can share. Then each consumer polls it to its end.
     Mailbox,
-    /// The same with random words of ChaCha8.
+    /// As `Mailbox`, but with random words of ChaCha8.
     Chacha,
-    /// Passes items one by one through such a mailbox, each put and then polled, with random words of ChaCha8.
+    /// Passes items one by one through a mailbox that threads can share, each put and then polled, with random words of
+    /// ChaCha8.
     Relay,
-    /// A play of all consumers on one cell.
+    /// Makes a play of all consumers on one cell.
     Play,
-    /// A run of one ratifier.
+    /// Makes a run of one ratifier.
     Ratify,
     /// Makes worlds of one lane, and nothing else.
     Worlds,
@@ -43,6 +44,7 @@ pub enum Loop {
     Reports,
 }
 
+/// All loops. If no loop is named, they run in this order.
 pub const LOOPS: [Loop; 16] = [
     Loop::Words,
     Loop::Lone,
@@ -93,12 +95,13 @@ pub const SHAPES: [(&str, Shape); 3] = [
 /// A loop with its table, its consumers, the shape of its cells, and how often it runs.
 #[derive(Debug, Drop)]
 pub struct Choice {
+    /// The loop.
     pub what: Loop,
-    /// The table of the ratifiers.
+    /// The quorum table of the ratifiers.
     pub name: TableName,
     /// The consumers and the objects of each cell.
     pub layout: Layout,
-    /// How often it runs.
+    /// How often the loop runs.
     pub times: u64,
     /// How many cells a mailbox or a world has.
     pub cells: u64,
@@ -106,7 +109,8 @@ pub struct Choice {
 
 impl Choice {
     /// The choice in the words after the program's name: a loop, a table, the consumers and the times. Then may come
-    /// the shape of the cells (else plain), and the number of cells (else `MAX_CELLS`).
+    /// the shape of the cells (else plain), and the number of cells (else `MAX_CELLS`). There is none if the words are
+    /// not so.
     pub fn of(words: &[String]) -> Option<Choice> {
         let [what, name, consumers, times, more @ ..] = words else {
             return None;
@@ -187,6 +191,7 @@ impl fmt::Display for Choice {
     }
 }
 
+/// The loop of this name, if there is one.
 fn loop_of(text: &str) -> Option<Loop> {
     match text {
         "words" => Some(Loop::Words),
@@ -209,6 +214,7 @@ fn loop_of(text: &str) -> Option<Loop> {
     }
 }
 
+/// The shape of this name, if there is one.
 fn shape_of(text: &str) -> Option<Shape> {
     if text == "plain" {
         return Some(Shape::PLAIN);
@@ -221,6 +227,7 @@ fn shape_of(text: &str) -> Option<Shape> {
     None
 }
 
+/// The quorum table of this name, if there is one.
 fn name_of(text: &str) -> Option<TableName> {
     match text {
         "unary" => Some(TableName::Unary),

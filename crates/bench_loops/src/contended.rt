@@ -49,7 +49,7 @@ fn contend_each<A: Allocator + Drop>(
     }
 }
 
-/// Steps the claims in turn, until all have ended.
+/// Steps the claims on this cell in turn, until all have ended.
 fn contend<A: Allocator + Drop>(
     layout: &Layout,
     words: &mut ClaimWords<A>,
@@ -71,7 +71,7 @@ fn contend<A: Allocator + Drop>(
     }
 }
 
-/// Steps each claim that is going. Returns whether one of them goes on.
+/// Steps each claim on this cell that goes on, once. Returns whether one of them still goes on.
 #[inline(always)]
 fn turn_each<A: Allocator + Drop>(
     layout: &Layout,

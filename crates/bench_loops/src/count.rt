@@ -12,6 +12,7 @@ pub struct Count {
 }
 
 impl Count {
+    /// A count of nothing.
     pub fn new() -> Count {
         Count {
             accesses: 0,

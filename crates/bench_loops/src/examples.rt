@@ -1,5 +1,5 @@
-//! The definitions by example: what they admit, and what only looks right. The functions compute nothing: their
-//! contracts are the examples. If the prover needs help with one, its proof is in `proofs/examples`.
+//! The definitions of `specs` by example: what they admit, and what only looks right. The functions compute nothing:
+//! their contracts are the examples. If the prover needs help with one, its proof is in `proofs/examples`.
 ghost use Rattle.std.specs.Prelude.{◌≡◌, ◌≤◌, ℕ, List, [], ◌∷◌, length, slice_index};
 ghost use Rattle.mb_claim.specs.declared.access.ClaimAccess.{ClaimAccess};
 ghost use Rattle.mb_claim.specs.declared.claim.Claim.{Claim};
@@ -24,13 +24,13 @@ pub fn consumers_stand_before_cells()
     histories_begin_with_zeros();
 }
 
-/// A claim is under way if a lawful history led to it. So none has loaded what nobody stored.
+/// A claim is under way if a lawful history led to it. So no claim has loaded what nobody stored.
 pub fn claims_follow_histories()
     ensures made_up { (layout : Layout) (claim : Claim) (words : List ℕ)
         → IsUnderWay layout 3 claim words (looked 0 3 1 ∷ []) → ⊥ }
 {}
 
-/// Which parts another history changes.
+/// An access changes the part of its own consumer on its own cell, and no other part.
 pub fn histories_change_parts()
     ensures one { ChangesOnly (λ c k. k ≡ 3) [] (looked 0 3 0 ∷ []) }
     ensures other_cell { ChangesOnly (λ c k. k ≡ 2) [] (looked 0 3 0 ∷ []) → ⊥ }

@@ -27,7 +27,7 @@ pub fn lone<A: Allocator + Copy + Drop>(
     Ok(count)
 }
 
-/// Makes the words alone, `times` times. Returns how many words were made.
+/// Makes the words of the claims alone, `times` times. Returns how many words were made.
 pub fn words_alone<A: Allocator + Copy + Drop>(
     alloc: A,
     layout: &Layout,
@@ -41,6 +41,7 @@ pub fn words_alone<A: Allocator + Copy + Drop>(
     Ok(made)
 }
 
+/// Makes one claim on each cell, the consumers in turn, and counts it.
 fn claim_each<A: Allocator + Drop>(
     layout: &Layout,
     words: &mut ClaimWords<A>,
@@ -90,7 +91,8 @@ fn claim_through<A: Allocator + Drop>(
     (made, claim.stage())
 }
 
-/// The same, by a loop with a bound. LLVM makes faster code of it inside `mail`, and slower code here.
+/// Makes the claim of a consumer as `claim_through` does, but by a loop with a bound. LLVM makes faster code of this
+/// loop inside `mail`, and slower code here.
 #[inline(always)]
 pub fn claim_cell<A: Allocator + Drop>(
     layout: &Layout,

@@ -19,7 +19,7 @@ use std::fmt;
 pub enum Note {
     /// The consumer took the item, and this is it.
     Took(u64),
-    /// It was lost to this consumer.
+    /// The claim was lost to this consumer.
     Lost(u32),
     /// The claim did not end, or ended undecided.
     Undecided,
@@ -32,11 +32,12 @@ pub struct Post {
     pub items: u64,
     /// The notes that consumers made.
     pub notes: u64,
-    /// The sum of the items that they took.
+    /// The sum of the items that consumers took.
     pub taken: u64,
 }
 
 impl Post {
+    /// The counts of no mailbox.
     pub fn new() -> Post {
         Post {
             items: 0,
@@ -98,7 +99,7 @@ fn fill<A: Allocator + Copy + Drop>(
     Ok(items.len() as u64)
 }
 
-/// Each consumer in turn reads the mailbox to its end.
+/// Each consumer in turn reads the mailbox to its end, and its notes are counted.
 fn read_all<A: Allocator + Copy + Drop>(
     alloc: A,
     layout: &Layout,

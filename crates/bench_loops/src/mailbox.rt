@@ -69,7 +69,8 @@ pub fn mailboxes<A: Allocator + Copy + Drop, R: Rng>(
     Ok(post)
 }
 
-/// A producer puts so many items, and ends its lane or not, and goes away. The answer is how many were linked.
+/// Makes a producer, which puts an item for each cell and ends its lane if `ends`. Then it is dropped. Returns how many
+/// items were linked.
 fn fill<A: Allocator + Copy + Drop>(
     alloc: A,
     mailbox: &Mailbox<A>,
@@ -101,7 +102,8 @@ pub fn setup_of(choice: &Choice) -> Option<Setup> {
     Some(setup.shaped(choice.layout.shape()))
 }
 
-/// Puts an item for each cell. Their numbers go on after those of the mailboxes before. Returns how many were linked.
+/// Puts an item for each cell. The items' numbers go on after those of the mailboxes before. Returns how many items
+/// were linked.
 #[inline(always)]
 fn put_all<A: Allocator + Drop>(
     mailbox: &Mailbox<A>,
@@ -142,7 +144,7 @@ fn read_all<A: Allocator + Copy + Drop, R: Rng>(
     Ok(())
 }
 
-/// A consumer polls the lane until nothing more comes, and its answers are counted.
+/// A consumer polls the lane until nothing more comes, and its notes are counted.
 fn read<A: Allocator + Drop, R: Rng>(
     mailbox: &Mailbox<A>,
     consumer: &mut Consumer<A>,

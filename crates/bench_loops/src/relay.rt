@@ -28,7 +28,7 @@ pub fn relay<A: Allocator + Copy + Drop, R: Rng>(
     Ok(post)
 }
 
-/// So many items, from 0 on, from a producer to a consumer, which go away then.
+/// Passes so many items, from 0 on, from a new producer to a new consumer. Then both are dropped.
 fn pass_all<A: Allocator + Copy + Drop, R: Rng>(
     alloc: A,
     mailbox: &Mailbox<A>,
@@ -55,7 +55,7 @@ fn pass_all<A: Allocator + Copy + Drop, R: Rng>(
     passed
 }
 
-/// So many items, from 0 on, from the producer to the consumer.
+/// Passes so many items, from 0 on, from the producer to the consumer: each is put, and polled for once.
 #[inline(always)]
 fn pass<A: Allocator + Drop, R: Rng>(
     mailbox: &Mailbox<A>,

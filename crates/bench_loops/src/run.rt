@@ -19,11 +19,15 @@ use std::{fmt, io};
 /// The result of a run.
 #[derive(Drop)]
 pub enum Outcome {
-    /// How many were made, and of what.
+    /// How many things were made, and what they are.
     Made(u64, &'static str),
+    /// What was counted of claims.
     Claimed(Count),
+    /// What was counted of mailboxes.
     Posted(Post),
+    /// What was counted of schedules.
     Ran(Runs),
+    /// What was counted of events.
     Lived(Deeds),
 }
 
@@ -66,7 +70,7 @@ pub fn run<R: Print + AllocGlobal>(rt: &R, choice: &Choice) -> io::Result<()> {
     println!(rt; "{choice}: {outcome}")
 }
 
-/// The result of the choice. The error is that memory ran out.
+/// Runs the choice, and returns its result. The error is that memory ran out.
 fn done<A: Allocator + Copy + Drop>(alloc: A, choice: &Choice) -> Result<Outcome, AllocError> {
     let layout = &choice.layout;
     let times = choice.times;

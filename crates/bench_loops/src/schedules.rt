@@ -10,18 +10,18 @@ use std::fmt;
 /// How many processes a ratifier has.
 const PROCESSES: u64 = 10_000;
 
-/// How many turns its schedule has.
+/// How many turns the schedule of a ratifier has.
 const TURNS: u64 = 100_000;
 
-/// How many steps of each consumer a play has.
+/// How many steps a play has for each consumer, on average.
 const STEPS: u64 = 20;
 
 /// The counts of runs.
 #[derive(Clone, Copy, Debug)]
 pub struct Runs {
-    /// The entries of all runs.
+    /// The entries of all runs: one for each step or turn.
     pub entries: u64,
-    /// The claims or processes that they have a result for.
+    /// The claims or processes for which the runs have a result.
     pub ends: u64,
 }
 
@@ -40,7 +40,7 @@ impl fmt::Display for Runs {
     }
 }
 
-/// Makes `times` plays of one schedule.
+/// Makes `times` plays of one random schedule, in which all consumers claim one cell.
 pub fn plays<A: Allocator + Copy + Drop>(
     alloc: A,
     layout: &Layout,
@@ -66,7 +66,8 @@ pub fn plays<A: Allocator + Copy + Drop>(
     Ok(runs)
 }
 
-/// Makes `times` runs of one schedule of a ratifier over the named table, with a value for each consumer.
+/// Makes `times` runs of one random schedule of a ratifier over the named table. The table has a value for each
+/// consumer.
 pub fn ratifiers<A: Allocator + Copy + Drop>(
     alloc: A,
     layout: &Layout,

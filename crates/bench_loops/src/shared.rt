@@ -28,7 +28,7 @@ pub fn shared<A: Allocator + Copy + Drop>(
     Ok(count)
 }
 
-/// Makes the table and the seat alone, `times` times. Returns how many were made.
+/// Makes a table and a seat alone, `times` times. Returns how many tables got a seat.
 pub fn tables_alone<A: Allocator + Copy + Drop>(
     alloc: A,
     layout: &Layout,
@@ -44,6 +44,7 @@ pub fn tables_alone<A: Allocator + Copy + Drop>(
     Ok(made)
 }
 
+/// Makes one claim on each cell of the table, all from this seat, and counts it.
 fn claim_each<A: Allocator + Drop>(
     table: &SharedClaims<A>,
     seat: &mut ClaimSeat,

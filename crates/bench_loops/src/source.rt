@@ -20,12 +20,14 @@ impl Model for Source {
 }
 
 impl Source {
+    /// The source, at its first word.
     pub fn new() -> Source {
         Source {
             state: 0x9E37_79B9_7F4A_7C15,
         }
     }
 
+    /// The next random word.
     #[inline(always)]
     pub fn word(&mut self) -> u64 {
         self.next_word()

@@ -9,7 +9,7 @@ ghost use Rattle.bench_loops.specs.UnderWay.{IsUnderWay};
 use mb_claim::{Claim, ClaimWords, Layout, Stage};
 use std::alloc::Allocator;
 
-/// Makes one access of the claim, with its random word. Returns how far the claim has come.
+/// Makes the next access of a claim that goes on, with this random word. Returns the stage of the claim after it.
 #[inline(always)]
 pub fn step<A: Allocator + Drop>(
     claim: &mut Claim,

@@ -8,7 +8,7 @@ use mb_world::{Answer, Event, MAX_PRODUCERS, Setup, World};
 use std::alloc::{AllocError, Allocator};
 use std::fmt;
 
-/// The counts of events.
+/// How many events were made, and how many items were taken by them.
 #[derive(Clone, Copy, Debug)]
 pub struct Deeds {
     pub events: u64,
@@ -87,7 +87,8 @@ fn world<A: Allocator + Copy + Drop>(
     }
 }
 
-/// Makes all events of a world: its cells are put into the lanes in turn, and the lanes are read to their ends.
+/// Makes all events of a world. An item for each cell is put, into the lanes in turn. Then each lane ends, and is read
+/// to its end.
 fn live<A: Allocator + Drop>(
     world: &mut World<A>,
     choice: &Choice,

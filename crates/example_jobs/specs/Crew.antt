@@ -1,4 +1,4 @@
--- The crew of a mailbox.
+-- Whose producers and consumers the members of a crew have.
 use Rattle.mb_mailbox.specs.Consumers.{IsConsumerOf}
 use Rattle.mb_mailbox.specs.Mailboxes.{MailboxView}
 use Rattle.mb_mailbox.specs.Producers.{IsProducerOf}

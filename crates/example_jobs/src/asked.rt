@@ -30,6 +30,7 @@ const DEFAULTS: Asked = Asked {
 };
 
 impl Asked {
+    /// How many lanes there are: one for each producer.
     pub fn lanes(&self) -> usize
         ensures { result ≤ 16 }
     {
@@ -47,7 +48,8 @@ impl Asked {
         (before(producer), before(producer.wrapping_add(1)))
     }
 
-    /// After how many jobs a worker stops. Together they do fewer than there are, so some jobs are left at the end.
+    /// After how many jobs a worker stops. Together the workers run fewer jobs than there are, so some jobs are left at
+    /// the end.
     pub fn shift(&self) -> u64 {
         let share = self.jobs.checked_div(self.workers).unwrap_or(0);
         share.wrapping_mul(5) / 6

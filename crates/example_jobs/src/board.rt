@@ -1,15 +1,19 @@
-//! Which jobs were run, and their results.
+//! Which jobs were run, and the sum of their results.
 
 use std::alloc::{AllocError, Global};
 use std::fmt;
 use std::sync::atomic::{AtomicU64, Ordering};
 
-/// The results of the jobs. Job n adds up the numbers from 1 to n.
+/// How often each job was run, and the sum of the results. The result of job n is the sum of the numbers from 1 to n.
 #[derive(Drop)]
 pub struct Board {
+    /// How often each job was run.
     runs: Vec<AtomicU64>,
+    /// How many runs of jobs there were.
     count: AtomicU64,
+    /// The sum of the results of all runs.
     total: AtomicU64,
+    /// How many workers have not stopped yet.
     at_work: AtomicU64,
 }
 
@@ -33,7 +37,7 @@ impl Board {
         self.runs.len()
     }
 
-    /// How many jobs were run until now.
+    /// How many jobs were run until now. A job that was run again counts again.
     pub fn count(&self) -> u64 {
         self.count.load(Ordering::SeqCst)
     }

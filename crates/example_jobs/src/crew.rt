@@ -1,4 +1,4 @@
-//! The threads' tasks: to put jobs, to run them, and to report progress.
+//! The crew: who puts jobs, who runs them, and who reports progress, each in a thread of its own.
 ghost use Rattle.std.specs.Prelude.{All, IfOk, OnOk};
 ghost use Rattle.mb_mailbox.specs.Consumers.{IsConsumerOf};
 ghost use Rattle.mb_mailbox.specs.Hubs.{IsHubOf};
@@ -121,7 +121,7 @@ fn run_jobs(
     }
 }
 
-/// The next worker of the mailbox, with random words of its own.
+/// Makes the next worker, with a consumer of the mailbox and random words of its own.
 fn new_worker<R: RandomSource + AllocGlobal>(
     rt: &R,
     mailbox: &Mailbox<Global>,

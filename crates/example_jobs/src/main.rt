@@ -53,7 +53,7 @@ fn run<R: RandomSource + AllocGlobal + Clock + Print + Eprint + Threads + Sync>(
     let (mailbox, mut hub) = Mailbox::new(rt.alloc(), setup)?;
     let board = Board::new(rt.alloc(), asked.jobs, asked.workers)?;
 
-    // The crew works, each member in a thread of its own.
+    // The members of the crew work, each in a thread of its own.
     let mut crew = crew::hire(rt, &mailbox, &mut hub, asked, tells)?;
     for_each_mut(
         rt,

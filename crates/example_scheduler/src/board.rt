@@ -4,14 +4,18 @@ use std::alloc::{AllocError, Global};
 use std::fmt;
 use std::sync::atomic::{AtomicU64, Ordering};
 
-/// Which jobs were run. Job n adds n to the total.
+/// Which jobs were run, and their total. Each run of job n adds n to the total.
 #[derive(Drop)]
 pub struct Board {
+    /// How many jobs there are.
     jobs: u64,
-    /// A bit for each job.
+    /// A bit for each job: whether it was run.
     run: Vec<AtomicU64>,
+    /// How many jobs were run.
     once: AtomicU64,
+    /// How often a job was run that had been run before.
     again: AtomicU64,
+    /// The sum that all runs added.
     total: AtomicU64,
 }
 
@@ -50,7 +54,7 @@ impl Board {
         self.total.fetch_add(job, Ordering::SeqCst);
     }
 
-    /// How many jobs were run, and how often a job was run again.
+    /// How many jobs were run, and how often a job was run that had been run before.
     pub fn counts(&self) -> (u64, u64) {
         (
             self.once.load(Ordering::SeqCst),

@@ -18,7 +18,7 @@ pub struct Options {
     pub cells: u64,
     /// The seed of the workers' random words.
     pub seed: u64,
-    /// After how many jobs a line goes to standard error, or 0 for no lines.
+    /// After how many jobs a line goes to standard error. If this is 0, no line does.
     pub progress: u64,
 }
 
@@ -91,7 +91,7 @@ fn command<'a>(alloc: Global) -> Result<Command<'a>, AllocError> {
         .arg(progress)
 }
 
-/// The number of an option. Each has a default, so clap always has one.
+/// The number given for an option. Each option has a default, so clap always has a number.
 fn number_given(given: &ArgMatches, name: &str) -> u64 {
     given.get_one::<u64>(name).unwrap_or(1)
 }

@@ -23,13 +23,14 @@ const THREADS: usize = 64;
 /// How many pairs of deciding objects each job's cell has.
 const PAIRS: u64 = 2;
 
-/// With a last object no claim ends undecided. A job that a round gives to nobody is carried to the next.
+/// The shape of the cells. With a last object no claim ends undecided. A job that a round gives to nobody is carried to
+/// the next.
 const SHAPE: Shape = Shape {
     fast: true,
     last: true,
 };
 
-/// The rounds before the first one, and the workers.
+/// A queue of rounds before its first round, and the workers, who have run nothing.
 fn begin(alloc: Global, options: &Options) -> Result<(Rounds<Global>, Vec<Worker>)> {
     let setup = Setup::large(
         options.producers,
@@ -45,8 +46,8 @@ fn begin(alloc: Global, options: &Options) -> Result<(Rounds<Global>, Vec<Worker
     Ok((Rounds::new(alloc, setup.shaped(SHAPE))?, workers))
 }
 
-/// Hands in the first jobs of further chains, as long as the next round has room. Returns the first job of the first
-/// chain that is not begun.
+/// Hands in the first jobs of further chains, as long as the next round has room. `first` is the first job of the first
+/// chain that is not begun. Returns that job for the chains after these.
 fn begin_chains(rounds: &mut Rounds<Global>, options: &Options, first: u64) -> Result<u64> {
     let mut next = first;
     for _ in rounds.carried().len() as u64..options.cells {
@@ -69,7 +70,7 @@ pub fn run_all<R: AllocGlobal + Threads + Wait + Sync + Eprint>(
     run_rounds(rt, options, board, &mut rounds, &mut workers)
 }
 
-/// Makes rounds until nothing is carried. Returns how many there were.
+/// Makes rounds until all chains were begun and no job is carried. Returns how many rounds there were.
 fn run_rounds<R: AllocGlobal + Threads + Wait + Sync + Eprint>(
     rt: &R,
     options: &Options,
@@ -90,7 +91,7 @@ fn run_rounds<R: AllocGlobal + Threads + Wait + Sync + Eprint>(
     Ok(u64::MAX)
 }
 
-/// Makes the round of this number, and hands in the jobs that its jobs put.
+/// Makes the round of this number, has the workers run its jobs, and hands in the jobs that these put.
 fn run_round<R: AllocGlobal + Threads + Wait + Sync>(
     rt: &R,
     options: &Options,

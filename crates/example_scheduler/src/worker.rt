@@ -21,7 +21,9 @@ fn further(job: u64, jobs: u64) -> Option<u64>
 /// A worker runs jobs, and keeps the further jobs that these put.
 #[derive(Drop)]
 pub struct Worker {
+    /// The further jobs that were put since the last `forget`.
     further: Vec<u64>,
+    /// Whether there was no memory for some further job.
     refused: bool,
 }
 
@@ -34,7 +36,7 @@ impl Worker {
         }
     }
 
-    /// Runs these jobs. `jobs` is the number of all jobs.
+    /// Runs these jobs, and keeps the jobs that they put. `jobs` is the number of all jobs.
     pub fn run(&mut self, board: &Board, taken: &[u64], jobs: u64) {
         for job in taken {
             board.run(*job);

@@ -20,7 +20,7 @@ fn push_byte<A: Allocator>(text: &mut String<A>, byte: u8) -> Result<(), NoMemor
     }
 }
 
-/// Appends the text as XML has it.
+/// Appends a text as XML has it, byte by byte.
 pub fn push_escaped<A: Allocator>(text: &mut String<A>, plain: &str) -> Result<(), NoMemory>
     ensures { OnOk result (string_bytes text.new ≡ string_bytes text.old ++ escaped_text plain.now) }
 {

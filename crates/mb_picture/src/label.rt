@@ -5,6 +5,8 @@ use mb_cells::NoMemory;
 use mb_deciding::Reg;
 use std::alloc::Allocator;
 
+/// Appends the short name of a word of a deciding object: `c` of a conciliator, `p` the proposal and `q` a register of
+/// a ratifier, `l` of a last object.
 fn push_reg<A: Allocator>(text: &mut String<A>, reg: Reg) -> Result<(), NoMemory> {
     match reg {
         Reg::Value => text.push_str("c"),
@@ -14,6 +16,7 @@ fn push_reg<A: Allocator>(text: &mut String<A>, reg: Reg) -> Result<(), NoMemory
     }
 }
 
+/// Appends the name of a word.
 fn push_word<A: Allocator>(text: &mut String<A>, word: Word) -> Result<(), NoMemory> {
     match word {
         Word::Counter => text.push_str("counter"),
@@ -28,6 +31,7 @@ fn push_word<A: Allocator>(text: &mut String<A>, word: Word) -> Result<(), NoMem
     }
 }
 
+/// Appends what a word holds.
 fn push_value<A: Allocator>(text: &mut String<A>, value: Value) -> Result<(), NoMemory> {
     match value {
         Value::Number(number) => write!(text, "{number}"),
@@ -36,7 +40,7 @@ fn push_value<A: Allocator>(text: &mut String<A>, value: Value) -> Result<(), No
     }
 }
 
-/// Appends the word and its value: `=` with what was found there, `:=` with what was stored.
+/// Appends what an event did to a word: the word, and after `=` what was found there, after `:=` what was stored.
 pub fn push_deed<A: Allocator>(text: &mut String<A>, deed: Deed) -> Result<(), NoMemory> {
     match deed {
         Deed::Load(word, value) => {
@@ -106,7 +110,7 @@ pub fn push_where<A: Allocator>(text: &mut String<A>, who: Who) -> Result<(), No
     }
 }
 
-/// Appends how many of these there are, after a comma if this is not the first count.
+/// Appends a count and the name of what is counted, after a comma if this is not the first count.
 pub fn push_count<A: Allocator>(
     text: &mut String<A>,
     count: u64,

@@ -1,4 +1,4 @@
-//! Where everything stands: columns from the left, and between them the tracks of lines.
+//! Where everything stands: columns from the left, and between them gutters, which have the tracks of the lines.
 //!
 //! A line leaves the mark of its store at the side of its load. It goes down a track in the gutter there, and then
 //! straight to the mark of the load: a row has one mark only, so no other is in its way.
@@ -10,59 +10,68 @@ use crate::picture::{Line, Mark, Picture, Who};
 use mb_cells::NoMemory;
 use std::alloc::Allocator;
 
-/// How far rows are apart, and other sizes, in units of the picture.
+/// How far rows are apart. All sizes here are in units of the picture.
 pub const ROW: usize = 24;
 
+/// The height of a mark.
 pub const PILL: usize = 19;
 
+/// Where the first row begins, from above.
 pub const TOP: usize = 76;
 
+/// Where the first gutter begins, from the left.
 pub const LEFT: usize = 28;
 
+/// How wide a gutter without tracks is.
 const GUTTER: usize = 20;
 
+/// How much wider each track makes its gutter.
 const TRACK: usize = 6;
 
+/// The least width of a picture.
 const MIN_WIDTH: usize = 444;
 
 /// Where the marks of a column stand.
 #[derive(Clone, Copy)]
 pub struct Place {
-    /// Their left side.
+    /// Where the left side of the marks is.
     pub left: usize,
-    /// How wide they are.
+    /// How wide the marks are.
     pub width: usize,
 }
 
 /// Where a line goes: from a mark to a track, down, and to another mark.
 #[derive(Clone, Copy)]
 pub struct Route {
-    /// How high the mark of the store is.
+    /// Where the row of the store has its middle, from above.
     pub above: usize,
-    /// How high that of the load is.
+    /// Where the row of the load has its middle, from above.
     pub below: usize,
-    /// Where it leaves the mark of the store.
+    /// Where the line leaves the mark of the store, from the left.
     pub start: usize,
-    /// Where the track is.
+    /// Where the track is, from the left.
     pub track: usize,
-    /// Where it comes to the mark of the load.
+    /// Where the line comes to the mark of the load, from the left.
     pub end: usize,
 }
 
-/// The lines of one store that leave it at one side.
+/// The lines of one store that leave its mark at one side. They share a track.
 #[derive(Clone, Copy)]
 struct Trunk {
+    /// The row of the store.
     from: usize,
+    /// The number of the gutter.
     gutter: usize,
+    /// The number of the track in this gutter.
     track: usize,
 }
 
 /// Where everything of a picture stands.
 #[derive(Drop)]
 pub struct Layout<A: Allocator + Drop> {
-    /// The columns, from the left.
+    /// The places of the columns, from the left.
     pub places: Vec<Place, A>,
-    /// The lines.
+    /// The routes of the lines, in the order of the picture's lines.
     pub routes: Vec<Route, A>,
     /// How wide the picture is.
     pub width: usize,
@@ -97,7 +106,7 @@ fn gutter_of(marks: &[Mark], line: Line) -> usize {
     }
 }
 
-/// The column of the mark in this row.
+/// The number of the column of the mark in this row, or 0 if there is no such mark.
 fn column_at(marks: &[Mark], row: usize) -> usize {
     match marks.get(row) {
         Some(mark) => mark.column,
@@ -105,7 +114,7 @@ fn column_at(marks: &[Mark], row: usize) -> usize {
     }
 }
 
-/// The last row to which a line leads from this row through this gutter.
+/// The last row to which a line leads from this row through this gutter, if there is a line.
 fn last_of(marks: &[Mark], lines: &[Line], from: usize, gutter: usize) -> Option<usize> {
     let mut last = None;
     for line in lines {
@@ -116,7 +125,8 @@ fn last_of(marks: &[Mark], lines: &[Line], from: usize, gutter: usize) -> Option
     last
 }
 
-/// The first track that is free from this row on, and then taken to row `last`.
+/// Takes a track from row `from` to row `last`: the first that is free there. Returns its number. `ends` has the last
+/// row to which each track of the gutter is taken.
 fn take_track<A: Allocator>(
     ends: &mut Vec<usize, A>,
     from: usize,
@@ -133,7 +143,7 @@ fn take_track<A: Allocator>(
     Ok(track)
 }
 
-/// The trunks of one gutter, appended: how many tracks they take.
+/// Appends the trunks of one gutter. Returns how many tracks they take.
 fn push_trunks<A: Allocator + Copy>(
     alloc: A,
     trunks: &mut Vec<Trunk, A>,
@@ -197,7 +207,7 @@ fn width_of<A: Allocator + Copy>(
     Ok(letters(widest).saturating_add(12))
 }
 
-/// The track of a line, as a distance from the left side of its gutter.
+/// How far the track of a line is from the left side of its gutter.
 fn track_of(trunks: &[Trunk], from: usize, gutter: usize) -> usize {
     for trunk in trunks {
         if trunk.from == from && trunk.gutter == gutter {
@@ -240,11 +250,14 @@ fn route_of(
 /// What a layout is made from: the gutters before the columns and after the last one, and the trunks in them.
 #[derive(Drop)]
 struct Tracks<A: Allocator + Drop> {
+    /// Where each gutter begins, from the left.
     gutters: Vec<usize, A>,
+    /// The trunks in all gutters.
     trunks: Vec<Trunk, A>,
 }
 
-/// Puts the columns from the left, with the gutters before them and after the last one: where the last one ends.
+/// Puts the columns from the left, with the gutters before them and after the last one. Returns where the last gutter
+/// ends.
 fn put_columns<A: Allocator + Copy>(
     alloc: A,
     picture: &Picture<A>,
@@ -261,7 +274,7 @@ fn put_columns<A: Allocator + Copy>(
     put_gutter(alloc, picture, tracks, picture.columns.len(), at)
 }
 
-/// Puts the gutter of this number here: where it ends.
+/// Puts the gutter of this number at `at`, with its trunks. Returns where the gutter ends.
 fn put_gutter<A: Allocator + Copy>(
     alloc: A,
     picture: &Picture<A>,

@@ -1,4 +1,4 @@
-//! A picture as data: a column for each process, and a mark in a row of its own for each event.
+//! A picture as data: columns for those who act, and a mark in a row of its own for each event.
 ghost use Rattle.std.specs.Prelude.{◌≡◌, ◌<◌, ◌++◌, ◌∷◌, [], OnOk, length, nat_lt, if◌then◌else◌};
 ghost use Rattle.mb_picture.specs.Led.{AreLinesAfter, IsLastStore, loaded_by, stored_by};
 ghost use Rattle.mb_picture.specs.declared.picture.TheConstants.{MAX_ROWS};
@@ -13,7 +13,9 @@ pub const MAX_ROWS: usize = 200;
 /// What a picture shows.
 #[derive(Clone, Copy)]
 pub enum Kind {
+    /// A replay of a mailbox.
     Replay,
+    /// A run of one ratifier.
     Ratifier,
 }
 
@@ -56,7 +58,7 @@ pub enum Value {
     End,
 }
 
-/// What an event did to a word.
+/// What an event did to a word, in its access.
 #[derive(Clone, Copy)]
 pub enum Deed {
     /// It loaded the word, and found this.
@@ -133,18 +135,18 @@ pub enum Tone {
     Ended,
 }
 
-/// An event.
+/// The mark of an event.
 #[derive(Clone, Copy)]
 pub struct Mark {
     /// The number of its column.
     pub column: usize,
-    /// What it did to a word.
+    /// What the event did to a word.
     pub deed: Deed,
-    /// Its result.
+    /// The result of the event.
     pub remark: Remark,
-    /// Whether a claim begins with it.
+    /// Whether a claim begins with the event.
     pub opens: bool,
-    /// Whether the claim ends with it.
+    /// Whether the claim ends with the event.
     pub ends: bool,
 }
 
@@ -164,18 +166,20 @@ pub struct Frame {
     pub column: usize,
     /// The row in which the claim begins.
     pub first: usize,
-    /// The last row that it has so far.
+    /// The last row that the box has so far.
     pub last: usize,
     /// Whether the claim has ended there.
     pub ended: bool,
-    /// Its result.
+    /// How the result of the claim looks.
     pub tone: Tone,
 }
 
-/// What was done, as data to be drawn. Mark `i` is in row `i`.
+/// A picture, as data to be drawn. Mark `i` is in row `i`.
 #[derive(Drop)]
 pub struct Picture<A: Allocator + Drop> {
+    /// What the picture shows.
     pub kind: Kind,
+    /// The line above the picture.
     pub title: String<A>,
     /// Whose the columns are, from the left.
     pub columns: Vec<Who, A>,
@@ -192,7 +196,7 @@ pub struct Picture<A: Allocator + Drop> {
 }
 
 impl Deed {
-    /// The word that it loaded.
+    /// The word that the event loaded, if it loaded one.
     pub fn loaded(self) -> Option<Word>
         ensures { result ≡ loaded_by self }
     {
@@ -202,7 +206,7 @@ impl Deed {
         }
     }
 
-    /// The word in which it stored.
+    /// The word in which the event stored, if it stored.
     pub fn stored(self) -> Option<Word>
         ensures { result ≡ stored_by self }
     {
@@ -215,7 +219,7 @@ impl Deed {
 }
 
 impl Remark {
-    /// How it looks.
+    /// How a mark with this remark looks.
     pub fn tone(self) -> Tone {
         match self {
             Remark::Plain | Remark::Offer(_) | Remark::Put | Remark::Found => Tone::Plain,
@@ -232,7 +236,7 @@ impl Remark {
 }
 
 impl<A: Allocator + Copy> Picture<A> {
-    /// An empty picture.
+    /// A picture of this kind with nothing in it.
     pub fn new(alloc: A, kind: Kind) -> Picture<A> {
         Picture {
             kind,
@@ -270,7 +274,7 @@ impl<A: Allocator + Copy> Picture<A> {
     }
 }
 
-/// Begins the box of the mark in this row, or goes on with it.
+/// Begins a box if the mark in this row opens one. A box of its column that has not ended goes on to this row.
 fn push_frame<A: Allocator>(
     frames: &mut Vec<Frame, A>,
     row: usize,
@@ -297,7 +301,7 @@ fn push_frame<A: Allocator>(
     Ok(())
 }
 
-/// The row of the last mark that stored in this word.
+/// The row of the last mark that stored in this word, if there is one.
 pub fn last_store(marks: &[Mark], word: Word) -> Option<usize>
     ensures { IsLastStore marks.now word (length marks.now) result }
 {

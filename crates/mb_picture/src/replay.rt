@@ -10,15 +10,15 @@ use mb_script::{Script, report_text};
 use mb_world::{Answer, Event, Report, World};
 use std::alloc::Allocator;
 
-/// Who acts in a column, and what its next marks rest on.
+/// Who acts in a column, and what the next marks of the column rest on.
 #[derive(Clone, Copy)]
 struct Column {
     who: Who,
-    /// The link that it loads or stores next.
+    /// The link or head that this producer or consumer loads or stores next.
     link: Word,
-    /// The item that it offered last.
+    /// The item that this producer offered last.
     item: u64,
-    /// Whether an offer of it found no cell.
+    /// Whether an offer of this producer found no cell. A later one then makes no access.
     full: bool,
 }
 
@@ -72,7 +72,7 @@ fn columns_of<A: Allocator + Copy>(
     Ok(columns)
 }
 
-/// What an offer did and came to. The counter holds how often it was added to.
+/// What an offer did and came to, by its answer. The counter was added to `added` times, and so holds this number.
 fn offered(column: &mut Column, answer: Offer, item: u64, added: u64) -> (Deed, Remark) {
     match answer {
         Offer::Cell(cell) => {
@@ -92,7 +92,7 @@ fn offered(column: &mut Column, answer: Offer, item: u64, added: u64) -> (Deed, 
     }
 }
 
-/// What a push did and came to. The store of a link goes to the column's next link.
+/// What a push did and came to, by its answer. The store of a link goes to the column's next link.
 fn pushed(column: &mut Column, answer: Push) -> (Deed, Remark) {
     match answer {
         Push::Item(cell) => (
@@ -108,7 +108,7 @@ fn pushed(column: &mut Column, answer: Push) -> (Deed, Remark) {
     }
 }
 
-/// What a finish did and came to.
+/// What a finish did and came to, by its answer.
 fn finished(column: &Column, answer: Finish) -> (Deed, Remark) {
     match answer {
         Finish::Ended => (Deed::Store(column.link, Value::End), Remark::Ends),
@@ -117,7 +117,7 @@ fn finished(column: &Column, answer: Finish) -> (Deed, Remark) {
     }
 }
 
-/// What a look did and came to.
+/// What a look did and came to, by its answer.
 fn looked(column: &Column, answer: Look) -> (Deed, Remark) {
     match answer {
         Look::Nothing => (Deed::Load(column.link, Value::Number(0)), Remark::Empty),
@@ -126,7 +126,7 @@ fn looked(column: &Column, answer: Look) -> (Deed, Remark) {
     }
 }
 
-/// An access to a word of the object of this number of this cell.
+/// What an access of a claim did to a word of this object of this cell.
 fn access(cell: u32, object: u32, act: Act) -> Deed {
     match act {
         Act::Load { reg, value } => {
@@ -153,7 +153,7 @@ fn stage_remark(stage: Stage) -> Remark {
     }
 }
 
-/// What the event did and came to, by its answer. It leaves the column as it stands after the event.
+/// What the event did and came to, by its answer. The column is then as it stands after the event.
 fn told(column: &mut Column, event: Event, answer: Answer, added: u64) -> (Deed, Remark) {
     match answer {
         Answer::NoLane | Answer::NoConsumer => (Deed::Nothing, Remark::Refused),
@@ -183,7 +183,7 @@ fn told(column: &mut Column, event: Event, answer: Answer, added: u64) -> (Deed,
     }
 }
 
-/// How often the counter was added to.
+/// How many of these marks added to the counter.
 fn additions(marks: &[Mark]) -> u64 {
     let mut count = 0u64;
     for mark in marks {
@@ -194,7 +194,7 @@ fn additions(marks: &[Mark]) -> u64 {
     count
 }
 
-/// Draws an event with its answer.
+/// Adds the mark of an event to the picture, in the column of its maker.
 fn draw<A: Allocator + Copy>(
     picture: &mut Picture<A>,
     columns: &mut [Column],
@@ -217,7 +217,7 @@ fn draw<A: Allocator + Copy>(
     Ok(())
 }
 
-/// Draws the first events, and makes all of them in the world.
+/// Makes all events of the script in the world, and draws the first [`MAX_ROWS`]. The others are counted.
 fn draw_all<A: Allocator + Copy>(
     alloc: A,
     picture: &mut Picture<A>,
@@ -245,7 +245,7 @@ fn draw_all<A: Allocator + Copy>(
     Ok(())
 }
 
-/// Appends what a replay is a picture of.
+/// Appends the title of a replay: how many events, producers, consumers and cells it has.
 fn push_title<A: Allocator + Copy>(
     text: &mut String<A>,
     script: &Script<A>,
@@ -257,7 +257,7 @@ fn push_title<A: Allocator + Copy>(
     push_count(text, script.setup.cells(), "cell")
 }
 
-/// Appends a report.
+/// Appends the lines of a report that a picture shows.
 fn push_report<A: Allocator + Copy>(
     alloc: A,
     text: &mut String<A>,
@@ -280,7 +280,7 @@ fn draw_and_report<A: Allocator + Copy>(
     push_report(alloc, &mut picture.report, &report)
 }
 
-/// The same in a new world.
+/// Draws the events of a script in a new world, and appends the report of that world.
 fn draw_anew<A: Allocator + Copy>(
     alloc: A,
     picture: &mut Picture<A>,

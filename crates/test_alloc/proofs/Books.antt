@@ -25,6 +25,7 @@ abbrev pub seen_book : Lft → ℕ × ℕ → Counters → Fml
 seen_book κ p b = hidden_shr row.the_row κ b p.0 p.1
 
 module _ {M : Type 1} {𝓤 : Ura M} (𝓛 : Logic 𝓤) (at_mem : Memory → SProp 𝓤) (run : Routine → Fun 𝓤) where
+  -- the contracts of `refuses`, `gives` and `takes_back`
   abbrev pub Refuses : Contract 𝓤
   Refuses = triple_of 𝓛 refusing.signature (refusing.spec 𝓛 at_mem run)
 
@@ -35,6 +36,7 @@ module _ {M : Type 1} {𝓤 : Ura M} (𝓛 : Logic 𝓤) (at_mem : Memory → SP
   TakesBack = triple_of 𝓛 taking.signature (taking.spec 𝓛 at_mem run)
 
   module _ (κ : Lft) (q : Share) (p : ℕ × ℕ) (b : Counters) where
+    -- each contract at a call on this book
     abbrev pub at_refuses : Refuses.Ghost
     at_refuses = (((κ, tt), (q, tt), tt, (record { ref_ptr = p; now = b }, tt), (vptr p.0 p.1 ∷ [], tt)), tt)
 
@@ -46,6 +48,7 @@ module _ {M : Type 1} {𝓤 : Ura M} (𝓛 : Logic 𝓤) (at_mem : Memory → SP
 
     open 𝓛 use {H, A}
 
+    -- who sees the book may call each of the three
     pub Refuses-goes : ent 𝓤 (sep 𝓤 (sem 𝓛 (seen_book κ p b)) (A.lft κ q)) (Refuses.pre at_refuses)
     Refuses-goes =
         qed 𝓛 (‵ (seen_book κ p b) ∷ ‵ (flft κ q) ∷ []) ∵ feq_i ! (List Val) (vptr p.0 p.1 ∷ [])
@@ -67,10 +70,11 @@ module _ {M : Type 1} {𝓤 : Ura M} (𝓛 : Logic 𝓤) (at_mem : Memory → SP
         nothing ! $ move ! (1 ∷ []) $ fjoin ! $ nothing ! $ move ! (2 ∷ []) $ join ! $ join ! $
         nothing ! $ move ! (1 ∷ []) $ done !
 
-    -- the answer is `true` or `false`
+    -- the value is `true` or `false`, and the caller has its lifetime back
     abbrev pub Refused : Val → SProp 𝓤
     Refused v = ex 𝓤 (λ (y : Bool). guard 𝓤 (v ≡ vbool y) (A.lft κ q))
 
+    -- what the caller has after a call of each of the three
     pub Refuses-gives : (v : Val) → ent 𝓤 (Refuses.post at_refuses v) (H.⇛ (Refused v))
     Refuses-gives v =
         qed 𝓛 (raw (Refuses.post at_refuses v) ∷ []) ∵ updating ! $

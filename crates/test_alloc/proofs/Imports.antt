@@ -1,4 +1,4 @@
--- What holds at each number below a bound, and at the bound, holds below the next one.
+-- What holds at each number below n, and at n, holds at each number below n + 1.
 use Rattle.std.proofs.Common.{ℕ, ◌<◌, ◌+◌, arith, inl, inr, subst, sym}
 use Rattle.std.proofs.lemmas.Bool.{cases_eq}
 

@@ -1,4 +1,4 @@
--- What a call that is tried over rations may return.
+-- What a call that is tried over a faulty heap may return.
 use denote.Ref.{Bor}
 use denote.Param.Members.{Shared}
 use Rattle.std.specs.Prelude.{◌≡◌, Bool}
@@ -8,7 +8,8 @@ use Rattle.std.specs.declared.result.Result.TheVariants.{Ok}
 use Rattle.test_alloc.specs.declared.counters.Refuse.{Refuse}
 use Rattle.test_alloc.specs.declared.faulty.FaultyHeap.{FaultyHeap}
 
--- the call's contract allows it to return this over rations that refuse these requests: whether it was served
+-- by its contract the call may return `served` over some faulty heap that refuses these requests. That says whether the
+-- call was served
 abbrev pub MaySay : {F B E : Type 0}
     → Shared F (Bor (FaultyHeap B) × Unit {0}) (Result Bool E) → F → Refuse → Bool → Type 0
 MaySay {F} {B} g call refuse served =

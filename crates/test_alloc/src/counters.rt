@@ -10,6 +10,7 @@ pub enum Refuse {
     From(u64),
     /// The request with this number alone.
     Only(u64),
+    /// No request.
     Never,
 }
 
@@ -17,12 +18,14 @@ pub enum Refuse {
 #[derive(Drop)]
 pub(crate) struct Counters {
     refuse: Refuse,
+    /// How many requests there were.
     asked: AtomicU64,
+    /// How many blocks are out.
     out: AtomicU64,
 }
 
 impl Counters {
-    /// A book in which nothing is counted yet.
+    /// Counters that have counted nothing yet.
     pub(crate) fn new(refuse: Refuse) -> Counters
         ensures { result.refuse ≡ refuse }
     {
@@ -33,10 +36,12 @@ impl Counters {
         }
     }
 
+    /// How many requests there were, refused ones included.
     pub(crate) fn asked(&self) -> u64 {
         self.asked.load(Ordering::SeqCst)
     }
 
+    /// How many blocks are out: granted, and not given back.
     pub(crate) fn out(&self) -> u64 {
         self.out.load(Ordering::SeqCst)
     }

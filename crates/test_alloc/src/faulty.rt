@@ -4,8 +4,8 @@ ghost use Rattle.std.specs.Prelude.{◌≡◌};
 use crate::counters::{Counters, Refuse};
 use std::alloc::{AllocError, Allocator};
 
-/// An allocator over another one. It refuses chosen requests itself. Collections hold a `&` to it, in one thread or in
-/// many.
+/// An allocator over another one. It refuses chosen requests, and hands on the others. Collections hold a `&` to it, in
+/// one thread or in many.
 #[derive(Drop)]
 pub struct FaultyHeap<B: Allocator> {
     inner: B,

@@ -15,7 +15,7 @@ const MANY: u64 = 100;
 /// call is served. Returns how many allocations it makes.
 ///
 /// The call returns whether it was served. It has to be refused exactly if an allocation was, and may keep no memory.
-/// The error is that it does otherwise, that it keeps memory, or that it makes a hundred allocations.
+/// The error is that the call does otherwise, that it keeps memory, or that it makes a hundred allocations.
 pub fn growths_refused<R: AllocGlobal, F: Fn(&FaultyHeap<Global>) -> Result<bool, Fail>>(
     rt: &R,
     call: F,

@@ -7,25 +7,28 @@ use std::alloc::Allocator;
 /// What a diary says of one item.
 #[derive(Clone, Copy)]
 pub(crate) enum Meeting {
-    /// The consumer made no access for it.
+    /// The consumer's claim has made no access.
     Never,
     /// The consumer's claim has made an access, and has no note.
     UnderWay,
-    /// The consumer has this note on it.
+    /// The consumer has this note on the item.
     Noted(Note),
 }
 
 /// What all diaries of a lane say of one of its items.
 #[derive(Clone, Copy)]
 pub(crate) struct Meetings {
-    /// How many consumers competed for it.
+    /// How many consumers competed for the item.
     pub(crate) competitors: u64,
-    /// The consumer that took it.
+    /// The consumer that took the item, if one did.
     pub(crate) taker: Option<u64>,
-    /// The winner that the losers name.
+    /// The winner that the losers name, if there are losers.
     pub(crate) winner: Option<u64>,
+    /// How many consumers lost the item.
     pub(crate) lost: u64,
+    /// How many consumers are undecided on the item.
     pub(crate) undecided: u64,
+    /// How many consumers have a claim under way on the item.
     pub(crate) under_way: u64,
 }
 
@@ -53,7 +56,8 @@ fn said_of<A: Allocator + Drop>(diary: &Diary<A>, j: usize) -> Meeting {
     }
 }
 
-/// Adds what one consumer's diary says of the item to what the diaries before it said.
+/// What the diaries before this consumer's said of the item, with what this one says. The error is a flaw that the two
+/// show.
 fn with_meeting(
     before: Meetings,
     consumer: u64,
@@ -102,10 +106,10 @@ fn may_have_won<A: Allocator + Drop>(
     competed && (met.taker.is_none() || met.taker == Some(winner))
 }
 
-/// What all diaries of a lane say of the item at place `j`, or the first flaw. At most one consumer took it, and it
-/// took what was put. All losers name one winner, which competed and is the taker, if there is one. A consumer that is
-/// undecided is not alone. So if nobody took the item though somebody competed, one of those has not finished: they
-/// cannot all have lost to one of them.
+/// What all diaries of a lane say of the item at place `j`, or the first flaw. There is no flaw if these rules are
+/// kept. At most one consumer took the item, and it took what was put. All losers name one winner, which competed and
+/// is the taker, if there is one. A consumer that is undecided is not alone. So if nobody took the item though somebody
+/// competed, one of those has not finished: they cannot all have lost to one of them.
 pub(crate) fn all_said_of<A: Allocator + Drop>(
     report: &Report<A>,
     consumers: u64,

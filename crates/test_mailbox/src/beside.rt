@@ -16,7 +16,7 @@ use std::thread::{Threads, join};
 use test_audit::audit;
 use test_support::Zeros;
 
-/// The report of a mailbox, where all are taken in.
+/// The report of a mailbox whose producers and consumers were all taken in. If one was not, the test fails.
 pub(crate) fn gathered(
     rt: &impl Abort,
     alloc: Global,
@@ -37,7 +37,7 @@ const ITEMS: u64 = 32;
 /// The most polls of a consumer.
 const POLLS: u64 = 1_000_000_000;
 
-/// Another thread puts an item.
+/// Puts an item in another thread. Returns the producer and the answer of the put.
 fn put_elsewhere<R: Threads + Sync>(
     rt: &R,
     mailbox: &Mailbox<Global>,
@@ -58,6 +58,7 @@ fn put_elsewhere<R: Threads + Sync>(
     put
 }
 
+/// Puts an item in this thread. Returns the producer and the answer of the put.
 fn put_one(
     mailbox: &Mailbox<Global>,
     mut producer: Producer<Global>,
@@ -93,7 +94,7 @@ fn give_both(
     (producer, consumer)
 }
 
-/// An item that another thread puts is taken at once. Then nothing is there.
+/// Checks that an item put by another thread is taken by the next poll, and that the poll after it finds nothing.
 fn is_read_back<R: Threads + Sync + Abort>(
     rt: &R,
     mailbox: &Mailbox<Global>,
@@ -118,7 +119,7 @@ fn is_read_back<R: Threads + Sync + Abort>(
     producer
 }
 
-/// Four items are put and read back, and both are taken in.
+/// Puts four items and reads each back before the next. Then the hub takes the producer and the consumer in.
 fn read_back_four<R: Abort + Threads + Sync>(
     rt: &R,
     alloc: Global,
@@ -149,7 +150,7 @@ fn each_item_is_read_back_at_once(rt: HostRuntime) {
     reads(&rt, rt.alloc(), &report, want);
 }
 
-/// Puts `ITEMS` items, from `first` on, and ends the lane.
+/// Puts the `ITEMS` items from `first` on, in order, and ends the lane.
 fn put_all(
     mailbox: &Mailbox<Global>,
     mut producer: Producer<Global>,
@@ -166,7 +167,7 @@ fn put_all(
     producer
 }
 
-/// Polls both lanes in turn until they have ended.
+/// Polls both lanes in turn until the consumer has met both ends, or `POLLS` times.
 fn poll_all(
     mailbox: &Mailbox<Global>,
     mut consumer: Consumer<Global>,
@@ -256,7 +257,7 @@ fn share_lanes<R: Threads + Sync>(
     )
 }
 
-/// The hub takes a producer and a consumer in.
+/// Returns a producer and a consumer to the hub.
 fn take_both(
     mailbox: &Mailbox<Global>,
     hub: &mut Hub<Global>,
@@ -289,7 +290,7 @@ fn share_all<R: Abort + Threads + Sync>(
     take_both(mailbox, hub, other, second);
 }
 
-/// The report of that.
+/// The report of a mailbox in which two threads put while two others poll.
 fn report_all<R: Abort + Threads + Sync>(rt: &R, alloc: Global) -> Report<Global> {
     let setup = Setup::new(2, 2, 64, 4, TableName::Bits).expect(rt, "no setup");
     let (mailbox, mut hub) = match Mailbox::new(alloc, setup) {

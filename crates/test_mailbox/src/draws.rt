@@ -15,6 +15,7 @@ use test_support::SeenZeros;
 /// A gate that stops one consumer before its first call, and nobody else.
 #[derive(Drop)]
 struct AllBut {
+    /// The consumer that is stopped.
     consumer: u32,
 }
 
@@ -26,7 +27,7 @@ impl Gate for AllBut {
     fn leave(&self, _who: Who, _call: u64) {}
 }
 
-/// Two sources, which count here the words that they gave.
+/// Two sources of zeros. Each counts the words that it gave in its own of these counters.
 fn two_sources<'a>(
     alloc: Global,
     given: &'a [AtomicU64; 2],
@@ -37,7 +38,8 @@ fn two_sources<'a>(
     Ok(sources)
 }
 
-/// One worker puts an item. Two others draw from these sources, and this one of them is stopped.
+/// One worker puts an item. Two consumers draw from two sources, which count in `given`, and consumer `stopped` is
+/// stopped.
 fn one_is_stopped<R: Abort + AllocGlobal + Threads + Wait + Sync>(
     rt: &R,
     trial: &mut Trial<Global>,
@@ -56,8 +58,8 @@ fn one_is_stopped<R: Abort + AllocGlobal + Threads + Wait + Sync>(
     same(rt, &worked, &Ok(one_stopped));
 }
 
-/// How many words each of two consumers draws for one item, if this one of them is stopped. The report then has this
-/// text.
+/// How many words each of two consumers draws for one item, if consumer `stopped` is stopped. Checks that the report
+/// then has this text.
 fn words_drawn<R: Abort + AllocGlobal + Threads + Wait + Sync>(
     rt: &R,
     stopped: u32,
@@ -73,9 +75,11 @@ fn words_drawn<R: Abort + AllocGlobal + Threads + Wait + Sync>(
     )
 }
 
+// A row has the consumer that is stopped, the report, and how many words the two sources gave.
 #[test]
 fn each_consumer_draws_from_its_own_source(rt: HostRuntime) {
-    // A claim alone makes seven accesses, three to the conciliator and four to the ratifier, and draws a word for each.
+    // The claim of the other consumer meets no other claim. It makes seven accesses, three to the conciliator and four
+    // to the ratifier, and draws a word for each.
     for (stopped, report, drawn) in [
         (
             1,

@@ -13,13 +13,15 @@ use std::sync::Wait;
 use std::sync::atomic::{AtomicU64, Ordering};
 use std::thread::Threads;
 
-/// How often a worker looks whether all have come. So it does not wait for ever.
+/// The most looks of a worker that waits at a gate. So no worker waits for ever.
 pub(crate) const TURNS: u64 = 1_000_000_000;
 
-/// A gate at which each worker waits, at its first call, until `workers` have come, but not for ever.
+/// A gate at which each worker waits, at its first call, until `workers` have come. After `TURNS` looks it is stopped.
 #[derive(Drop)]
 struct AllCome {
+    /// How many workers have come.
     come: AtomicU64,
+    /// How many workers are to come.
     workers: u64,
 }
 
@@ -45,7 +47,7 @@ impl Gate for AllCome {
     fn leave(&self, _who: Who, _call: u64) {}
 }
 
-/// `consumers` consumers and one producer come to the gate at one time.
+/// Checks that `consumers` consumers and one producer come to the gate at one time, and that none is stopped.
 fn come_to_the_gate<R: Abort + AllocGlobal + Threads + Wait + Sync>(
     rt: &R,
     trial: &mut Trial<Global>,
@@ -59,14 +61,15 @@ fn come_to_the_gate<R: Abort + AllocGlobal + Threads + Wait + Sync>(
     same_at(rt, &worked, &Ok(ALL_DONE), &consumers);
 }
 
-/// They do, and the items put are audited.
+/// Lets a producer and `consumers` consumers come to the gate at one time. Then it audits the report: all four items
+/// were put, and an only consumer took them all.
 fn come_and_put<R: Abort + AllocGlobal + Threads + Wait + Sync>(rt: &R, consumers: u64) {
     let alloc = rt.alloc();
     let setup = Setup::new(1, consumers, 4, 4, TableName::Bits).expect(rt, "no setup");
     let mut trial = Trial::new(alloc, setup).expect(rt, "no mailbox");
     come_to_the_gate(rt, &mut trial, consumers);
     let tally = audited(rt, alloc, trial, 1, consumers);
-    // Alone a consumer always decides, and takes each item.
+    // The claim of an only consumer always decides, so that it takes each item.
     let are_taken = consumers != 1 || tally.took == 4;
     same_at(rt, &(tally.put, are_taken), &(4, true), &consumers);
 }
@@ -84,11 +87,12 @@ fn all_workers_come_to_the_gate_at_one_time(rt: HostRuntime) {
 struct Record {
     /// How often each of two producers and two consumers entered or left.
     times: [AtomicU64; 4],
-    /// How often one of them did so out of turn.
+    /// How often one of these workers entered or left out of turn.
     flaws: AtomicU64,
 }
 
 impl Record {
+    /// A record in which nobody has entered yet.
     fn new() -> Record {
         Record {
             times: [0; 4].map(AtomicU64::new),
@@ -96,7 +100,7 @@ impl Record {
         }
     }
 
-    /// Counts that this worker enters or leaves. It should have done so `times` times before.
+    /// Counts that this worker enters or leaves. If it has not done so `times` times before, that is a flaw.
     fn note(&self, who: Who, times: u64) {
         let place = match who {
             Who::Producer(lane) => lane as usize,
@@ -123,20 +127,21 @@ impl Gate for Record {
     }
 }
 
-/// Nothing was out of turn. Two producers put two and three items.
+/// Checks that nobody entered or left out of turn, and how often each did. The producers put two and three items.
 fn alternates(rt: &impl Abort, gate: &Record) {
     let flaws = gate.flaws.load(Ordering::SeqCst);
-    // One call for each item.
+    // A producer makes one call for each item, and each call enters and leaves.
     let first = gate.times[0].load(Ordering::SeqCst);
     let second = gate.times[1].load(Ordering::SeqCst);
     same(rt, &(flaws, first, second), &(0, 4, 6));
-    // At least one call for each item and each end, and each has left.
+    // A consumer makes at least one call for each of five items and two ends, and has left after each.
     for consumer in 2..4 {
         let times = gate.times[consumer].load(Ordering::SeqCst);
         assert!(rt; 14 <= times && times % 2 == 0);
     }
 }
 
+// Each call of a worker enters the gate and leaves it before the next one enters.
 #[test]
 fn asks_and_tells_of_a_gate_alternate(rt: HostRuntime) {
     let mut trial = new_trial(&rt, rt.alloc(), 2, 2, 5);
@@ -147,6 +152,7 @@ fn asks_and_tells_of_a_gate_alternate(rt: HostRuntime) {
     same(&rt, &audited(&rt, rt.alloc(), trial, 2, 2).put, &5);
 }
 
+// A put that finds no cell leaves the gate as any other does. Its worker makes no further put.
 #[test]
 fn a_put_that_finds_no_cell_is_told_of(rt: HostRuntime) {
     let mut trial = new_trial(&rt, rt.alloc(), 1, 1, 1);
@@ -157,7 +163,7 @@ fn a_put_that_finds_no_cell_is_told_of(rt: HostRuntime) {
         stopped: 0,
     };
     same(&rt, &worked, &Ok(two_are_over));
-    // Two puts, each of which entered and left, and none after the one that found no cell.
+    // The producer made two puts, which entered and left, and none after the one that found no cell.
     let flaws = gate.flaws.load(Ordering::SeqCst);
     same(&rt, &(flaws, gate.times[0].load(Ordering::SeqCst)), &(0, 4));
     let report = "lane 0 ended put 1\nleft 0\ndiary 0 0 took 1\n";
@@ -168,6 +174,7 @@ fn a_put_that_finds_no_cell_is_told_of(rt: HostRuntime) {
 /// let it in.
 #[derive(Drop)]
 struct ThreeCalls {
+    /// How many puts were made.
     made: AtomicU64,
 }
 
@@ -191,6 +198,7 @@ impl Gate for ThreeCalls {
     }
 }
 
+// The consumer's three calls poll lane 0, lane 1 and lane 0.
 #[test]
 fn lanes_are_polled_in_turn(rt: HostRuntime) {
     let mut trial = new_trial(&rt, rt.alloc(), 2, 1, 4);

@@ -27,7 +27,7 @@ const ITEMS: u64 = 256;
 /// How many mailboxes there are, one after the other.
 const MAILBOXES: u64 = 32;
 
-/// How often a consumer looks whether all have come.
+/// The most looks of a consumer that waits until all have come.
 const TURNS: u64 = 10_000_000;
 
 /// A consumer, its source of random words, and the counts of its answers.
@@ -41,7 +41,7 @@ struct Settler {
     ended: u64,
 }
 
-/// Waits until all consumers have come, but not for ever.
+/// Waits until all consumers have come, for at most `TURNS` looks.
 fn wait_for_all(come: &AtomicU64) {
     come.fetch_add(1, Ordering::SeqCst);
     for _ in 0..TURNS {
@@ -111,7 +111,7 @@ fn put_all(rt: &impl Abort, mailbox: &Mailbox<Global>, producer: &mut Producer<G
     producer.finish(mailbox);
 }
 
-/// Each poll for an item was settled, and the last one found the end. The hub takes all consumers in.
+/// Checks that each poll settled its item, and that one poll found the end. The hub takes all consumers in.
 fn take_in(
     rt: &impl Abort,
     mailbox: &Mailbox<Global>,
@@ -156,7 +156,8 @@ fn settle_all<R: Abort + AllocGlobal + Threads + Sync>(
     take_in(rt, mailbox, hub, settlers);
 }
 
-/// In a mailbox with a fast path and a last object on each cell they settle all, and the report tells that each item was taken.
+/// All consumers settle all items of a mailbox with a fast path and a last object on each cell. Checks that the report
+/// tells that each item was taken.
 fn are_all_taken<R: Abort + AllocGlobal + Threads + Sync>(rt: &R, seed: u64) {
     let shape = Shape {
         fast: true,

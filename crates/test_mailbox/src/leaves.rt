@@ -22,11 +22,11 @@ struct PollInALeave {
     has_polled: AtomicBool,
     /// How many words the consumer has drawn.
     drawn: AtomicU64,
-    /// How many it had drawn when its poll left.
+    /// How many words the consumer had drawn when its poll left the gate.
     told: AtomicU64,
 }
 
-/// Waits until the flag is set, for at most `TURNS` looks. Returns whether it is.
+/// Waits until the flag is set, for at most `TURNS` looks. Returns whether it was set.
 fn comes(flag: &AtomicBool) -> bool {
     for _ in 0..TURNS {
         if flag.load(Ordering::SeqCst) {
@@ -59,14 +59,14 @@ impl Gate for PollInALeave {
     }
 }
 
-/// A source that counts here the words that it gave.
+/// A source of zeros, which counts the words that it gave in this counter.
 fn one_source<'a>(alloc: Global, given: &'a AtomicU64) -> Result<Vec<SeenZeros<'a>>, AllocError> {
     let mut sources = Vec::new(alloc);
     sources.push(SeenZeros { given })?;
     Ok(sources)
 }
 
-/// One worker puts an item. While it leaves the gate, another polls once, and is stopped then.
+/// One worker puts an item. While it leaves the gate, a consumer polls once. The consumer is stopped at its next call.
 fn polls_once<R: Abort + AllocGlobal + Threads + Wait + Sync>(
     rt: &R,
     trial: &mut Trial<Global>,
@@ -83,6 +83,7 @@ fn polls_once<R: Abort + AllocGlobal + Threads + Wait + Sync>(
     same(rt, &worked, &Ok(one_stopped));
 }
 
+// What is seen while the put leaves the gate, and when the poll leaves it, shows that their accesses were made.
 #[test]
 fn a_call_is_told_of_after_its_accesses(rt: HostRuntime) {
     let gate = PollInALeave {
@@ -93,10 +94,10 @@ fn a_call_is_told_of_after_its_accesses(rt: HostRuntime) {
     };
     let mut trial = new_trial(&rt, rt.alloc(), 1, 1, 1);
     polls_once(&rt, &mut trial, &gate);
-    // An only consumer's claim makes five accesses, three to the conciliator and two to the proposal, and draws a word for
-    // each: all were made before the poll was told of.
+    // An only consumer's claim makes five accesses, three to the conciliator and two to the proposal. It draws a word
+    // for each. All were made before the poll left the gate.
     same(&rt, &gate.told.load(Ordering::SeqCst), &5);
-    // And the poll found the item, so that was put before the put left.
+    // The poll found the item, so the item was put before the put left the gate.
     ends(
         &rt,
         rt.alloc(),

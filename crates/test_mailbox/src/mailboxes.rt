@@ -14,6 +14,7 @@ use test_support::Zeros;
 /// How many producers, consumers and cells a mailbox has, the calls with their answers, and the report.
 type Scene = ([u64; 3], &'static str, &'static str);
 
+/// A put, a finish and a poll each come to their end with nobody else there.
 const NOTHING_IS_WAITED_FOR: Scene = (
     [1, 1, 1],
     "\
@@ -54,6 +55,7 @@ diary 0 0
 ",
 );
 
+/// The report names all lanes and consumers of the setup, also those that were not given.
 const NOBODY_IS_GIVEN: Scene = (
     [1, 2, 1],
     "",
@@ -65,6 +67,7 @@ diary 1 0
 ",
 );
 
+/// The second producer finds no cell for its items, and ends its lane without one.
 const TWO_PRODUCERS_WANT_THE_ONLY_CELL: Scene = (
     [2, 1, 1],
     "\
@@ -121,8 +124,8 @@ fn scenes_of_one_thread(rt: HostRuntime) {
     }
 }
 
-/// In such a mailbox the calls of these lines are made. No report is made then, while a consumer is out, and all comes back
-/// as it was. Once all are taken in this is reported.
+/// Makes the calls of the scene, and takes all in but one consumer. Then `gather` is refused, and all comes back as it
+/// was. After the last consumer is taken in, the report has the scene's text.
 fn one_consumer_is_out<R: Abort + AllocGlobal>(rt: &R, scene: Scene) {
     let (sizes, lines, report) = scene;
     let alloc = rt.alloc();
@@ -139,6 +142,7 @@ fn one_consumer_is_out<R: Abort + AllocGlobal>(rt: &R, scene: Scene) {
     }
 }
 
+/// The hub gives one producer and one consumer, and no more.
 const ALL_NUMBERS_ARE_GIVEN: Scene = (
     [1, 1, 1],
     "\
@@ -179,7 +183,7 @@ fn no_report_is_made_while_one_is_out(rt: HostRuntime) {
     one_consumer_is_out(&rt, A_LATER_CONSUMER_LOSES_TO_ONE_THAT_WENT_AWAY);
 }
 
-/// Puts `items` items, and then takes them, in order.
+/// Puts `items` items, and then polls until all are taken, in their order.
 fn put_and_take_all(rt: &impl Abort, trial: &mut Trial<Global>, items: u64) {
     for x in 0..items {
         same(rt, &trial.put(0, x), &Some(Put::Linked));
@@ -190,7 +194,7 @@ fn put_and_take_all(rt: &impl Abort, trial: &mut Trial<Global>, items: u64) {
     }
 }
 
-/// The report of that.
+/// The text of the report after `items` items were put and taken.
 fn all_taken(alloc: Global, items: u64) -> Result<String, AllocError> {
     let mut report = String::new(alloc);
     report.push_str("lane 0 open put")?;
@@ -205,6 +209,7 @@ fn all_taken(alloc: Global, items: u64) -> Result<String, AllocError> {
     Ok(report)
 }
 
+// A script has at most 256 cells, and this mailbox has 300.
 #[test]
 fn a_large_mailbox_takes_more_items_than_a_script_has(rt: HostRuntime) {
     let alloc = rt.alloc();

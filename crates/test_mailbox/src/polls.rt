@@ -9,7 +9,8 @@ use mb_world::Setup;
 
 #[test]
 fn a_budget_cuts_polls_short(rt: HostRuntime) {
-    // With this budget, so many polls are spent, and the next one takes the item. The claim has five accesses.
+    // Of the polls with this budget the first `spent` are spent, and the next one takes the item. The claim makes five
+    // accesses.
     for (budget, spent) in [(1, 6), (6, 1), (7, 0), (100, 0)] {
         let lines = format!(in rt.alloc();
             "producer: given
@@ -32,7 +33,7 @@ drawn: words 5
 
 #[test]
 fn another_consumer_is_given_between_two_polls(rt: HostRuntime) {
-    // Eight polls are spent in all, so many of them before the other consumer is given. The claim has seven accesses.
+    // Eight polls are spent in all, `before` of them before the other consumer is given. The claim has seven accesses.
     for (before, after) in [
         (1, 7),
         (2, 6),

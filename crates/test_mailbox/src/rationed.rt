@@ -1,4 +1,4 @@
-//! `work` and a hub over an allocator that refuses each allocation in turn, and then the call again with memory.
+//! Calls of `work` and of a hub, with each of their allocations refused in turn, and then calls that have memory.
 
 use crate::compare::same;
 use crate::refused_mailboxes::{Alloc, is_given};
@@ -14,14 +14,14 @@ use std::test::Fail;
 use std::thread::Threads;
 use test_alloc::{FaultyHeap, Refuse, growths_refused};
 
-/// Whether a producer's number is left. If so, the producer is given, and taken in without an access.
+/// Whether a producer's number is left. If so, this producer is given, and is taken in without an access.
 fn has_lane<'r>(trial: &mut Trial<Alloc<'r>>, ample: Alloc<'r>) -> bool {
     trial.producer(ample).is_ok() && trial.take_producer(0)
 }
 
-/// The only item of a mailbox of one cell is put and taken, and the lane ends, whether or not the allocator serves its producer.
-/// If not, its number is left, and is given over the second allocator; after it no number is left. The report tells the item
-/// all the same. Whether the allocator serves that producer.
+/// In a mailbox of one cell an item is put and taken, and the lane ends. If the first allocator does not serve the
+/// producer, its number is left, and the producer is given over the second one. After it no number is left. Returns
+/// whether the first allocator serves the producer.
 fn one_item_is_served<'r>(rt: &impl Abort, alloc: Alloc<'r>, ample: Alloc<'r>) -> bool {
     let mut trial = new_trial(rt, ample, 1, 1, 1);
     let served = is_given(rt, trial.producer(alloc));
@@ -54,7 +54,7 @@ fn each_growth_of_a_lone_producer_refused(rt: HostRuntime) -> Result<(), Fail> {
         same(&rt, &ample.out(), &0);
         Ok(served)
     })?;
-    // The list of its items.
+    // What is allocated is at least the list of the producer's items.
     assert!(rt; 1 <= refused);
     Ok(())
 }
@@ -80,8 +80,8 @@ fn is_done<'r, R: Abort + Threads + Wait + Sync>(
     true
 }
 
-/// One worker puts two items and another takes both, in a mailbox of these two. If the allocator does not serve them,
-/// all that was given is taken in, and its lane has ended. Returns whether it serves them.
+/// One worker puts two items and another takes both, in a mailbox of these two. If the first allocator does not serve
+/// them, all that was given is taken in, and a lane that was given has ended. Returns whether it serves them.
 fn two_are_served<'r, R: Abort + Threads + Wait + Sync>(
     rt: &R,
     alloc: Alloc<'r>,
@@ -108,13 +108,14 @@ fn each_growth_of_two_workers_refused(rt: HostRuntime) -> Result<(), Fail> {
         same(&rt, &(again, ample.out()), &(true, 0));
         Ok(served)
     })?;
-    // Three lists for each kind of worker, the producer's items, and the marks and words of the consumer's notes.
+    // What is allocated: three lists for each kind of worker, the producer's items, the marks and words of the
+    // consumer's notes.
     assert!(rt; 9 <= refused);
     Ok(())
 }
 
-/// The same two workers, in a mailbox of two more. If the allocator does not serve them, the call is made again with
-/// memory, and is done. Returns whether it serves them.
+/// One worker puts two items and another polls, in a mailbox with numbers for two more. If the first allocator does not
+/// serve them, the call is made again with memory, and is done. Returns whether the first allocator serves them.
 fn two_are_served_at_last<'r, R: Abort + Threads + Wait + Sync>(
     rt: &R,
     trial: &mut Trial<Alloc<'r>>,
@@ -126,8 +127,9 @@ fn two_are_served_at_last<'r, R: Abort + Threads + Wait + Sync>(
     served
 }
 
-/// The same, and the report has the lane and the notes of the call that was done. They are the second ones if the first
-/// call was refused after it had given both numbers.
+/// Two workers are served, by a second call if need be. Checks that the report has the items and the notes of the call
+/// that was done. They are under the second numbers if the first call was refused after it had given both first ones.
+/// Returns whether the first call was done.
 fn second_call_is_done<'r, R: Abort + Threads + Wait + Sync>(
     rt: &R,
     alloc: Alloc<'r>,
@@ -163,6 +165,7 @@ diary 1 1
     served
 }
 
+// Each allocation of `work` is refused in turn, and then the call is made again.
 #[test]
 fn a_refused_call_is_made_again(rt: HostRuntime) -> Result<(), Fail> {
     let refused = growths_refused(&rt, |alloc| {
@@ -171,18 +174,19 @@ fn a_refused_call_is_made_again(rt: HostRuntime) -> Result<(), Fail> {
         same(&rt, &ample.out(), &0);
         Ok(served)
     })?;
-    // As before: one lane more needs no further list.
+    // As many as in a mailbox of one lane: one lane more needs no further list.
     assert!(rt; 9 <= refused);
     Ok(())
 }
 
-/// Both lanes have their items and have ended, and each consumer was told of each item, whoever took it.
+/// Checks that both lanes have their items and have ended, and that each consumer has a note on each item.
 fn tells_of_four<'r>(rt: &impl Abort, ample: Alloc<'r>, trial: Trial<Alloc<'r>>) {
     let report = gathered(rt, ample, trial);
     tells_all(rt, &report, &[&[1, 2], &[3, 4]], 4, 2);
 }
 
-/// A report of two lanes without items and two consumers without notes, in which so many numbers of producers were left.
+/// The report of two lanes without items and two consumers without notes. `left` says whether one producer's number was
+/// left, and whether two were: their lanes are open.
 fn nothing_is_told<'a>(left: (bool, bool)) -> &'a str {
     match left {
         (true, true) => {
@@ -254,7 +258,7 @@ fn each_growth_of_four_workers_refused(rt: HostRuntime) -> Result<(), Fail> {
         same(&rt, &(again, ample.out()), &(true, 0));
         Ok(served)
     })?;
-    // Three lists for each kind of worker, the items of each producer, and the marks and words of each consumer.
+    // What is allocated: three lists for each kind of worker, each producer's items, each consumer's marks and words.
     assert!(rt; 12 <= refused);
     Ok(())
 }

@@ -15,7 +15,7 @@ use test_alloc::{FaultyHeap, Refuse, growths_refused};
 /// The allocator of all lists of a trial.
 pub(crate) type Alloc<'r> = &'r FaultyHeap<Global>;
 
-/// The only item is put and taken, and the report tells it.
+/// Puts the item 7 and takes it. Checks that the report tells it.
 fn takes_seven<'a>(rt: &impl Abort, ample: Alloc<'a>, mut trial: Trial<Alloc<'a>>) {
     play(
         rt,
@@ -44,16 +44,17 @@ fn new_is_served<'a>(rt: &impl Abort, alloc: Alloc<'a>, ample: Alloc<'a>) -> boo
     }
 }
 
+// Each allocation of `Mailbox::new` is refused in turn.
 #[test]
 fn each_growth_of_new_refused(rt: HostRuntime) -> Result<(), Fail> {
     let ample = FaultyHeap::new(rt.alloc(), Refuse::Never);
     let refused = growths_refused(&rt, |alloc| Ok(new_is_served(&rt, alloc, &ample)))?;
-    // The lists of what is taken in, the words of the cells, and the zeros and the words of the claims.
+    // What is allocated: the lists of what is taken in, the words of the cells, the zeros and the words of the claims.
     same(&rt, &(5 <= refused, ample.out()), &(true, 0));
     Ok(())
 }
 
-/// One is given, or there is no memory for it. Returns whether it is given.
+/// Returns whether a producer or consumer was given. Checks that else there was no memory for it.
 pub(crate) fn is_given(rt: &impl Abort, told: Result<(), HubFault>) -> bool {
     if told.is_ok() {
         return true;
@@ -62,7 +63,8 @@ pub(crate) fn is_given(rt: &impl Abort, told: Result<(), HubFault>) -> bool {
     false
 }
 
-/// Whether the allocator serves the only producer. A refusal uses no number up: it is given then, and after it none.
+/// Whether the first allocator serves the only producer. A refusal uses no number up: the producer is then given over
+/// the second one, and after it none is.
 fn producer_is_served<'a>(rt: &impl Abort, alloc: Alloc<'a>, ample: Alloc<'a>) -> bool {
     let mut trial = new_trial(rt, ample, 1, 1, 1);
     let served = is_given(rt, trial.producer(alloc));
@@ -80,12 +82,13 @@ fn producer_is_served<'a>(rt: &impl Abort, alloc: Alloc<'a>, ample: Alloc<'a>) -
 fn each_growth_of_a_producer_refused(rt: HostRuntime) -> Result<(), Fail> {
     let ample = FaultyHeap::new(rt.alloc(), Refuse::Never);
     let refused = growths_refused(&rt, |alloc| Ok(producer_is_served(&rt, alloc, &ample)))?;
-    // The list of its items.
+    // What is allocated is at least the list of the producer's items.
     same(&rt, &(1 <= refused, ample.out()), &(true, 0));
     Ok(())
 }
 
-/// Whether the allocator serves the only consumer, in the same way.
+/// Whether the first allocator serves the only consumer. A refusal uses no number up: the consumer is then given over
+/// the second one, and after it none is.
 fn consumer_is_served<'a>(rt: &impl Abort, alloc: Alloc<'a>, ample: Alloc<'a>) -> bool {
     let mut trial = new_trial(rt, ample, 1, 1, 1);
     play(rt, &mut trial, ample, "producer: given\n");
@@ -104,12 +107,12 @@ fn consumer_is_served<'a>(rt: &impl Abort, alloc: Alloc<'a>, ample: Alloc<'a>) -
 fn each_growth_of_a_consumer_refused(rt: HostRuntime) -> Result<(), Fail> {
     let ample = FaultyHeap::new(rt.alloc(), Refuse::Never);
     let refused = growths_refused(&rt, |alloc| Ok(consumer_is_served(&rt, alloc, &ample)))?;
-    // The marks and the words of its notes.
+    // What is allocated: the marks and the words of the consumer's notes.
     same(&rt, &(2 <= refused, ample.out()), &(true, 0));
     Ok(())
 }
 
-/// A mailbox of these sizes, in which these calls were made, and all are taken in.
+/// A mailbox of these sizes, in which these calls were made and then all were taken in.
 fn all_taken_in<'a>(
     rt: &impl Abort,
     ample: Alloc<'a>,
@@ -122,8 +125,8 @@ fn all_taken_in<'a>(
     trial
 }
 
-/// Returns whether the allocator serves the report, which has this text. If it refuses, both values come back, and
-/// another serves it.
+/// Returns whether the first allocator serves the report, which has this text. If it refuses, mailbox and hub come
+/// back, and the second allocator serves the report.
 fn gather_is_served<'a>(
     rt: &impl Abort,
     trial: Trial<Alloc<'a>>,
@@ -144,11 +147,12 @@ fn gather_is_served<'a>(
     }
 }
 
+// A row has the sizes of the mailbox, its calls, the text of its report, and the least number of allocations.
 #[test]
 fn each_growth_of_gather_refused(rt: HostRuntime) -> Result<(), Fail> {
     let ample = FaultyHeap::new(rt.alloc(), Refuse::Never);
     for (sizes, lines, want, growths) in [
-        // The lane and the diary; the consumer's lists, and its note.
+        // What is allocated: the list of lanes and that of diaries, the consumer's lists, and its note.
         (
             [1, 1, 1],
             "\
@@ -164,8 +168,9 @@ diary 0 0 took 7
 ",
             4,
         ),
-        // The lanes, the item left, the diaries, the lists of both consumers, and the note of each. Consumer 0 takes the
-        // item of lane 0, and consumer 1 loses it. Consumer 1 begins a claim on the item of lane 1, which has ended.
+        // What is allocated: the lanes, the item left, the diaries, the lists of both consumers, and the note of each.
+        // Consumer 0 takes the item of lane 0, and consumer 1 loses it. Consumer 1 begins a claim on the item of lane
+        // 1, which has ended.
         (
             [2, 2, 2],
             "\

@@ -1,4 +1,4 @@
-//! Scenes: calls of a mailbox in one thread, a line for each, with its answer. No call gets anything to wait with.
+//! Scenes: calls of a mailbox in one thread, a line for each, with its answer. No call gets what it could wait with.
 
 use crate::compare::same_at;
 use crate::trial::Trial;
@@ -13,7 +13,7 @@ use test_support::Zeros;
 /// The answer of a call: a word, and the number after it.
 type Told<'a> = (&'a str, Option<u64>);
 
-/// Makes the calls of these lines. Each has the answer that its line has after the colon.
+/// Makes the calls of these lines. Checks that each has the answer that its line has after the colon.
 ///
 /// | Call | What is called |
 /// |---|---|
@@ -36,7 +36,8 @@ pub(crate) fn play<A: Allocator + Copy + Drop>(
     }
 }
 
-/// In a new mailbox of so many producers, consumers and cells the calls of these lines are made, and then this is reported.
+/// Makes the calls of these lines in a new mailbox of so many producers, consumers and cells. Then the report has this
+/// text.
 pub(crate) fn plays<R: Abort + AllocGlobal>(rt: &R, sizes: [u64; 3], lines: &str, report: &str) {
     let alloc = rt.alloc();
     let mut trial = new_trial(rt, alloc, sizes[0], sizes[1], sizes[2]);
@@ -44,7 +45,7 @@ pub(crate) fn plays<R: Abort + AllocGlobal>(rt: &R, sizes: [u64; 3], lines: &str
     ends(rt, alloc, trial, report);
 }
 
-/// The word and the number after the colon of a line and a space.
+/// The word and the number that stand in a line after its colon and a space.
 fn told_by(text: &str) -> Told<'_> {
     let (_, rest) = split_word(text);
     match rest {
@@ -68,7 +69,7 @@ fn next_number(rest: Option<&str>) -> (u64, Option<&str>) {
     }
 }
 
-/// Makes a call, and returns its answer.
+/// Makes the call that stands in a line before its colon, and returns the answer.
 fn make<'a, A: Allocator + Copy + Drop>(
     trial: &mut Trial<A>,
     alloc: A,
@@ -93,6 +94,7 @@ fn make<'a, A: Allocator + Copy + Drop>(
     }
 }
 
+/// The word for the answer of a hub that was asked for a producer or a consumer. Those below are for other calls.
 fn given<'a>(told: Result<(), HubFault>) -> &'a str {
     match told {
         Ok(()) => "given",

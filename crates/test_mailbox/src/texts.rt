@@ -1,4 +1,4 @@
-//! How the refusals of a mailbox are displayed.
+//! How the faults of a hub, of `gather` and of `work` are displayed.
 
 use mb_mailbox::{GatherFault, HubFault, WorkFault};
 use std::test::Fail;

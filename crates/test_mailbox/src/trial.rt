@@ -90,7 +90,7 @@ impl<A: Allocator + Clone + Drop> Trial<A> {
         }
     }
 
-    /// Ends the lane of the producer at this place, if there is one.
+    /// The answer of a finish by the producer at this place, if there is one.
     pub(crate) fn finish(&mut self, place: usize) -> Option<Finish> {
         match place {
             0 => finish_by(&mut self.first_producer, &self.mailbox),
@@ -203,7 +203,7 @@ impl<A: Allocator + Clone + Drop + Send + Sync> Trial<A> {
     }
 }
 
-/// The answer of a put, if there is a producer.
+/// The answer of a put by this producer, if there is one.
 fn put_by<A: Allocator + Drop>(
     producer: &mut Option<Producer<A>>,
     mailbox: &Mailbox<A>,
@@ -218,7 +218,7 @@ fn put_by<A: Allocator + Drop>(
     }
 }
 
-/// The answer of a finish, if there is a producer.
+/// The answer of a finish by this producer, if there is one.
 fn finish_by<A: Allocator + Drop>(
     producer: &mut Option<Producer<A>>,
     mailbox: &Mailbox<A>,
@@ -232,7 +232,7 @@ fn finish_by<A: Allocator + Drop>(
     }
 }
 
-/// The answer of a poll, if there is a consumer.
+/// The answer of a poll by this consumer, if there is one.
 fn poll_by<A: Allocator + Drop, R: Rng>(
     consumer: &mut Option<Consumer<A>>,
     mailbox: &Mailbox<A>,

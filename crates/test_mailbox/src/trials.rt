@@ -1,4 +1,4 @@
-//! Trials of one pair for each cell, and how they end.
+//! New trials, whose cells have one pair each, and what is checked at the end of any trial.
 
 use crate::compare::same;
 use crate::trial::Trial;
@@ -21,7 +21,7 @@ pub(crate) fn new_trial<A: Allocator + Clone + Drop>(
     Trial::new(alloc, setup).expect(rt, "no mailbox")
 }
 
-/// Takes in all that are out.
+/// Takes in all producers and consumers that are out.
 pub(crate) fn take_all<A: Allocator + Clone + Drop>(trial: &mut Trial<A>) {
     for place in 0..2 {
         trial.take_producer(place);
@@ -29,7 +29,7 @@ pub(crate) fn take_all<A: Allocator + Clone + Drop>(trial: &mut Trial<A>) {
     }
 }
 
-/// The report has this text.
+/// Checks that the report has this text.
 pub(crate) fn reads<A: Allocator + Drop, B: Allocator + Drop>(
     rt: &impl Abort,
     alloc: A,
@@ -40,7 +40,7 @@ pub(crate) fn reads<A: Allocator + Drop, B: Allocator + Drop>(
     same(rt, &text.as_str(), &want);
 }
 
-/// The report, where all are taken in.
+/// The report of a trial whose producers and consumers were all taken in. If one was not, the test fails.
 pub(crate) fn gathered<A: Allocator + Clone + Drop>(
     rt: &impl Abort,
     alloc: A,
@@ -52,7 +52,7 @@ pub(crate) fn gathered<A: Allocator + Clone + Drop>(
     }
 }
 
-/// What an audit counts in the report, which has no flaw.
+/// What an audit counts in the report of a trial. If the report has a flaw, the test fails.
 pub(crate) fn audited<A: Allocator + Clone + Drop>(
     rt: &impl Abort,
     alloc: A,
@@ -64,7 +64,8 @@ pub(crate) fn audited<A: Allocator + Clone + Drop>(
     audit(&report, producers, consumers).expect(rt, "a flaw")
 }
 
-/// Each lane has these items and has ended, and each of so many diaries has so many notes, and no claim that is under way.
+/// Checks that each lane has these items and has ended, and that there are `diaries` diaries, each with `notes` notes
+/// and no claim under way.
 pub(crate) fn tells_all<A: Allocator + Drop>(
     rt: &impl Abort,
     report: &Report<A>,
@@ -82,7 +83,7 @@ pub(crate) fn tells_all<A: Allocator + Drop>(
     }
 }
 
-/// Takes in all that are out. Then the report has this text.
+/// Takes in all that are out. Then checks that the report has this text.
 pub(crate) fn ends<A: Allocator + Copy + Drop>(
     rt: &impl Abort,
     alloc: A,

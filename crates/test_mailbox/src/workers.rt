@@ -1,4 +1,4 @@
-//! Workers: the results of `work`, and the report then.
+//! Workers: what `work` returns, and the report after it.
 
 use crate::compare::same;
 use crate::scenes::play;
@@ -15,7 +15,7 @@ use std::thread::Threads;
 use test_audit::audit;
 use test_support::Zeros;
 
-/// Each item was put, and nobody was stopped.
+/// The result of `work` if each item was put and nobody was stopped.
 pub(crate) const ALL_DONE: Worked = Worked {
     full: 0,
     stopped: 0,
@@ -35,7 +35,7 @@ pub(crate) fn lists<A: Allocator + Copy + Drop>(
     lists
 }
 
-/// So many sources of words 0.
+/// So many sources of zeros.
 pub(crate) fn sources<A: Allocator + Drop>(
     rt: &impl Abort,
     alloc: A,
@@ -48,7 +48,7 @@ pub(crate) fn sources<A: Allocator + Drop>(
     sources
 }
 
-/// One worker puts each of these lists, and so many others poll with this budget.
+/// For each of these lists a worker puts its items, and `consumers` others poll with this budget.
 pub(crate) fn works<R: Abort + AllocGlobal + Threads + Wait + Sync, G: Gate>(
     rt: &R,
     trial: &mut Trial<Global>,
@@ -75,8 +75,8 @@ impl Gate for ClosedGate {
     fn leave(&self, _who: Who, _call: u64) {}
 }
 
-/// In a new mailbox of two cells one worker puts each of these lists, and another polls. `work` has this result, and
-/// the report has this text.
+/// In a new mailbox of two cells a worker puts the items of each of these lists, and another polls. Checks that `work`
+/// has this result, and the report this text.
 fn work_once<R: Abort + AllocGlobal + Threads + Wait + Sync, G: Gate>(
     rt: &R,
     items: &[&[u64]],
@@ -90,13 +90,13 @@ fn work_once<R: Abort + AllocGlobal + Threads + Wait + Sync, G: Gate>(
     ends(rt, rt.alloc(), trial, report);
 }
 
-/// Two items are put and taken, and the lane has ended.
+/// The report after two items were put and taken, and the lane has ended.
 const TWO_TAKEN: &str = "lane 0 ended put 1 2\nleft 0\ndiary 0 0 took 1 took 2\n";
 
 #[test]
 fn a_worker_puts_and_another_takes(rt: HostRuntime) {
     work_once(&rt, &[&[1, 2]], &OpenGate, ALL_DONE, TWO_TAKEN);
-    // One item more than there are cells.
+    // The producer has one item more than there are cells.
     let one_full = Worked {
         full: 1,
         stopped: 0,
@@ -152,6 +152,7 @@ fn no_numbers_are_left_for_more_workers(rt: HostRuntime) {
 /// A gate that counts the calls that it lets in.
 #[derive(Drop)]
 struct CountingGate {
+    /// How many calls were let in.
     calls: AtomicU64,
 }
 

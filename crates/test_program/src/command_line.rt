@@ -11,13 +11,14 @@ use mb_script::Fault;
 use mb_world::SetupFault;
 use std::process::Abort;
 
-// These words are read as this choice.
+// Checks that these words are read as this choice.
 fn chooses<R: Abort + AllocGlobal>(rt: &R, words: &[&str], want: Choice) {
     let is_chosen = matches!(command_of(rt.alloc(), words), Ok(choice) if choice == want);
     same_at(rt, &is_chosen, &true, &words);
 }
 
-// The defaults of `run`: 2 producers, 2 consumers, 8 items each, 4 pairs alone, budget 64 and seed 0.
+// The defaults of `run` are 2 producers, 2 consumers, 8 items for each producer, 4 pairs on each cell and no other
+// objects, budget 64 and seed 0.
 #[test]
 fn run_has_defaults(rt: HostRuntime) {
     let options = Options {
@@ -33,6 +34,7 @@ fn run_has_defaults(rt: HostRuntime) {
     chooses(&rt, &["mailbox", "run"], Choice::Run(options));
 }
 
+// A row has the words, and the options that they give. Each other option has its default.
 #[test]
 fn options_are_read(rt: HostRuntime) {
     let most = u64::MAX;
@@ -121,6 +123,7 @@ fn refusal(kind: ErrorKind) -> (u8, u8) {
     (status_of_ending(&printed), status_of_ending(&unprinted))
 }
 
+// A row has the words, why clap refuses them, and the statuses of a refusal that is printed and of one that cannot be.
 #[test]
 fn lines_are_refused(rt: HostRuntime) {
     let (help, refused) = ((0, 3), (2, 2));
@@ -210,6 +213,7 @@ fn lines_are_refused(rt: HostRuntime) {
     }
 }
 
+// A row has how the program ended, and the exit status.
 #[test]
 fn endings_have_a_status(rt: HostRuntime) {
     for (ending, status) in [

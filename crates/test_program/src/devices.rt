@@ -5,7 +5,9 @@ use std::io::{Read, Write};
 /// Gives the script one byte at a time, and then fails or ends.
 #[derive(Drop)]
 pub struct SlowReader {
+    /// The bytes that are still to be given.
     pub script: &'static [u8],
+    /// Whether the reader fails after the last byte.
     pub fails: bool,
 }
 
@@ -22,8 +24,11 @@ impl Read for SlowReader {
 /// Takes `room` bytes, one at a time, and then fails or takes none.
 #[derive(Drop)]
 pub struct NarrowWriter {
+    /// The bytes that were taken.
     pub taken: Vec<u8>,
+    /// How many further bytes there is room for.
     pub room: usize,
+    /// Whether the writer fails if there is no room.
     pub fails: bool,
 }
 
@@ -46,7 +51,9 @@ impl Write for NarrowWriter {
 /// Gives `left` letters, and then fails or ends.
 #[derive(Drop)]
 pub struct Letters {
+    /// How many letters are still to be given.
     pub left: usize,
+    /// Whether the reader fails after the last letter.
     pub fails: bool,
 }
 

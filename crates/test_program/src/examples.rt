@@ -24,7 +24,8 @@ use std::sync::Wait;
 use std::thread::Threads;
 use texts::TEXTS;
 
-/// What both streams got, and the status.
+/// Runs the program with these words and this standard input. Returns what standard output and standard error got, and
+/// the status.
 pub(crate) fn ended<R: AllocGlobal + Threads + Wait + Sync>(
     rt: &R,
     words: &[&str],

@@ -1,10 +1,11 @@
-//! What a fault means, in words.
+//! The text that explains a failure.
 
 use crate::compare::same;
 use mb_program::{Failed, RatifyFault, RunFault, explanation};
 use mb_script::Fault;
 use mb_world::SetupFault;
 
+// A row has the failure, and the text that explains it.
 #[test]
 fn faults_are_told_in_words(rt: HostRuntime) {
     for (failed, words) in [

@@ -5,6 +5,7 @@ use mb_program::{Failed, RatifyFault, RunFault, fault_text, status_of};
 use mb_script::Fault;
 use mb_world::SetupFault;
 
+// A row has the failure, the line that tells it, and the exit status.
 #[test]
 fn faults_have_a_line_and_a_status(rt: HostRuntime) {
     for (failed, line, status) in [

@@ -28,7 +28,8 @@ fn push_each(text: &mut String, before: &str, after: &str) -> Result<(), AllocEr
     Ok(())
 }
 
-// Ten thousand turns of sixteen processes with one value, which has an empty read quorum.
+// Appends a script of ten thousand turns: sixteen processes take 625 turns each. The only value has an empty read
+// quorum.
 fn push_turns(script: &mut String) -> Result<(), AllocError> {
     script.push_str("ratify unary 1\ninputs 0 0 0 0 0 0 0 0 0 0 0 0 0 0 0 0\nturns")?;
     for _ in 0..625 {
@@ -37,7 +38,7 @@ fn push_turns(script: &mut String) -> Result<(), AllocError> {
     script.push_str("\n")
 }
 
-// What is answered to that.
+// Appends what is written for that script. Each process makes three accesses, and is done in its other turns.
 fn push_answers(want: &mut String) -> Result<(), AllocError> {
     for answer in [" store q0 1\n", " load p 0\n", " store p 1 out 1 0\n"] {
         push_each(want, "", answer)?;
@@ -76,6 +77,7 @@ fn a_script_is_read(rt: HostRuntime) {
     );
 }
 
+// If a script has several faults, the first in the order of the checks is returned. Nothing is written.
 #[test]
 fn the_first_fault_decides(rt: HostRuntime) {
     for (script, want) in [
@@ -134,7 +136,7 @@ fn the_first_fault_decides(rt: HostRuntime) {
     }
 }
 
-// Runs the command over these devices. Returns its result, and what was written.
+// Runs the command over a slow reader and a writer of this room. Returns the result, and what was written.
 fn answered(
     rt: &HostRuntime,
     script: &'static str,
@@ -155,6 +157,8 @@ fn answered(
     (result, writer.device.taken)
 }
 
+// A row has the script, whether the reader fails at its end, the room of the writer, whether the writer then fails, the
+// result, and what was written.
 #[test]
 fn devices_fail(rt: HostRuntime) {
     let read_fault = Err(RatifyFault::ReadFault);
@@ -193,6 +197,8 @@ fn devices_fail(rt: HostRuntime) {
     }
 }
 
+// A row has how many letters the reader gives, whether it then fails, and the fault. At most one byte past the limit
+// is read.
 #[test]
 fn reading_stops_past_the_limit(rt: HostRuntime) {
     for (left, fails, want) in [

@@ -1,5 +1,5 @@
-//! Each allocation of a call is refused in turn. The call runs out of memory, keeps none and writes nothing. At last it
-//! is served.
+//! Each allocation of a call is refused in turn. The call then runs out of memory, keeps none and writes nothing. If
+//! none is refused, the call is served.
 
 use crate::compare::same;
 use crate::examples::claims::{ITEM_TAKEN, ONE_LOSES};
@@ -15,7 +15,8 @@ use std::test::Fail;
 use test_alloc::growths_refused;
 use test_support::made_up;
 
-/// A call that ran out of memory wrote nothing, and any other is done and wrote this. Returns whether it was served.
+/// Checks that a call that ran out of memory wrote nothing, and that any other is done and wrote `want`. Returns
+/// whether the call was served.
 fn is_served<F: PartialEq + Debug + Copy>(
     rt: &impl Abort,
     ending: Result<(), F>,
@@ -31,6 +32,7 @@ fn is_served<F: PartialEq + Debug + Copy>(
     true
 }
 
+// Each allocation of the command `ratify` is refused in turn.
 #[test]
 fn each_growth_of_ratify_text_refused(rt: HostRuntime) -> Result<(), Fail> {
     let refused = growths_refused(&rt, |alloc| {
@@ -46,15 +48,17 @@ fn each_growth_of_ratify_text_refused(rt: HostRuntime) -> Result<(), Fail> {
             LATE_INPUT.output,
         ))
     })?;
-    // The script's bytes, the inputs, the turns, the ratifier's processes, entries and outputs, and the text.
+    // What is allocated: the script's bytes, the inputs, the turns, the ratifier's processes, entries and outputs, and
+    // the text.
     assert!(rt; 7 <= refused);
     Ok(())
 }
 
+// Each allocation of the command `replay` is refused in turn, on two scripts.
 #[test]
 fn each_growth_of_run_refused(rt: HostRuntime) -> Result<(), Fail> {
-    // The script's bytes and its events, seven lists of the world, four or five of its report, and the text. The cells
-    // of the lane come once for the lane and once for each diary.
+    // What is allocated: the script's bytes and its events, seven lists of the world, four or five of its report, and
+    // the text. The cells of the lane are listed once for the lane and once for each diary.
     for (example, growths) in [(ITEM_TAKEN, 16), (ONE_LOSES, 18)] {
         let refused = growths_refused(&rt, |alloc| {
             let mut reader = CountingIo::new(example.input.as_bytes());
@@ -68,6 +72,7 @@ fn each_growth_of_run_refused(rt: HostRuntime) -> Result<(), Fail> {
     Ok(())
 }
 
+// Each allocation of the command `run` is refused in turn.
 #[test]
 fn each_growth_of_run_threads_refused(rt: HostRuntime) -> Result<(), Fail> {
     let refused = growths_refused(&rt, |alloc| {
@@ -76,8 +81,8 @@ fn each_growth_of_run_threads_refused(rt: HostRuntime) -> Result<(), Fail> {
         let written = writer.device.as_slice();
         Ok(is_served(&rt, result, RunFault::NoMemory, written, TWO_ITEMS.output))
     })?;
-    // The items and their list, the sources, two lists of the hub and two of each table's words, nine allocations of
-    // `work`, four lists of the report, and the text.
+    // What is allocated: the items and their list, the sources, two lists of the hub and two of each table's words,
+    // nine allocations of `work`, four lists of the report, and the text.
     assert!(rt; 23 <= refused);
     Ok(())
 }

@@ -17,8 +17,8 @@ fn replayed(rt: &HostRuntime, script: &str) -> (Result<(), Fault>, Vec<u8>) {
     (result, writer.device)
 }
 
-// The tests of reading say which fault a script has. Here good lines come before and after the fault, and nothing is
-// written.
+// Which fault a script has is tested where scripts are read. Here nothing is written, even if a script begins with good
+// lines.
 #[test]
 fn a_fault_leaves_nothing_written(rt: HostRuntime) {
     for (script, want) in [
@@ -43,7 +43,7 @@ fn a_fault_leaves_nothing_written(rt: HostRuntime) {
     }
 }
 
-// This text, so often the next one, and the last.
+// The text `first`, then `count` times the text `line`, then the text `last`.
 fn repeated(
     alloc: Global,
     first: &str,
@@ -59,12 +59,12 @@ fn repeated(
     Ok(text)
 }
 
-// A script of so many pushes on a lane where nothing was offered, which ends so.
+// A script of `count` pushes on a lane where nothing was offered, and then the text `last`.
 fn pushes<R: Abort + AllocGlobal>(rt: &R, count: usize, last: &str) -> String {
     repeated(rt.alloc(), "setup 1 1 1 1 bits\n", "push 0\n", count, last).expect(rt, "no script")
 }
 
-// The answer to so many pushes.
+// What is written for a script of `count` such pushes: their results, and the report.
 fn answers<R: Abort + AllocGlobal>(rt: &R, count: usize) -> String {
     let report = "lane 0 open put\nleft 0\ndiary 0 0\n";
     repeated(rt.alloc(), "", "push 0 idle\n", count, report).expect(rt, "no answer")
@@ -79,13 +79,14 @@ fn many_events_are_replayed(rt: HostRuntime) {
     }
 }
 
+// A line past the last event that is allowed is one too many, whatever it says.
 #[test]
 fn a_script_has_a_limit_of_events(rt: HostRuntime) {
     let (result, text) = replayed(&rt, &pushes(&rt, 20_000, "x\n"));
     same(&rt, &(result, text.len()), &(Err(Fault::TooManyEvents), 0));
 }
 
-// A report of one item, which a consumer took.
+// The report is of one item, which a consumer took.
 #[test]
 fn a_report_has_its_text(rt: HostRuntime) {
     let report = made_up(
@@ -102,6 +103,8 @@ fn a_report_has_its_text(rt: HostRuntime) {
     );
 }
 
+// A row has the script, whether the reader fails at its end, the room of the writer, whether the writer then fails, the
+// result, and what was written.
 #[test]
 fn devices_fail(rt: HostRuntime) {
     let read_fault = Err(Fault::ReadFault);
@@ -142,6 +145,8 @@ fn devices_fail(rt: HostRuntime) {
     }
 }
 
+// A row has how many letters the reader gives, whether it then fails, and the fault. At most one byte past the limit
+// is read.
 #[test]
 fn reading_stops_past_the_limit(rt: HostRuntime) {
     for (left, fails, want) in [

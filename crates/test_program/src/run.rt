@@ -13,7 +13,7 @@ use rand_core::Rng;
 use std::sync::Wait;
 use std::thread::Threads;
 
-// What the example with two items asks for.
+// The options of the example with two items.
 pub const ALONE: Options = Options {
     producers: 1,
     consumers: 1,
@@ -24,13 +24,13 @@ pub const ALONE: Options = Options {
     shape: Shape::PLAIN,
 };
 
-// The result of the call, and what was written.
+// Runs the workers of these options. Returns the result, and what was written.
 fn reported<R: AllocGlobal + Threads + Wait + Sync>(
     rt: &R,
     options: Options,
 ) -> (Result<(), RunFault>, Vec<u8>) {
-    // The call needs a budget of 1 or more. Each budget here is, but in a loop over options the prover does not know
-    // it.
+    // The call needs a budget of 1 or more. Each budget here is so large, but in a loop over options the prover does
+    // not know it.
     let options = Options {
         budget: options.budget.max(1),
         ..options
@@ -40,6 +40,7 @@ fn reported<R: AllocGlobal + Threads + Wait + Sync>(
     (result, writer.device)
 }
 
+// A row has the options, and what is written: none of these reports depends on the order of the threads.
 #[test]
 fn workers_are_reported(rt: HostRuntime) {
     for (options, want) in [
@@ -87,7 +88,7 @@ fn workers_are_reported(rt: HostRuntime) {
     }
 }
 
-// Whoever takes them, all items are put and all lanes have ended.
+// All items are put and all lanes have ended, whoever takes the items.
 #[test]
 fn items_are_put(rt: HostRuntime) {
     let options = Options {
@@ -112,6 +113,7 @@ fn items_are_put(rt: HostRuntime) {
     );
 }
 
+// A row has the producers, the consumers, the items of each producer, the pairs of each cell, and the fault.
 #[test]
 fn setups_are_refused(rt: HostRuntime) {
     let most = u64::MAX;
@@ -142,7 +144,7 @@ fn setups_are_refused(rt: HostRuntime) {
     }
 }
 
-// A writer that takes 10 bytes and then fails or takes none, and one that takes none at all.
+// One writer takes all bytes, one takes 10 and then fails, one takes 10 and then none, and one takes none at all.
 #[test]
 fn writers_fail(rt: HostRuntime) {
     for (room, fails, want, written) in [
@@ -176,7 +178,7 @@ fn sources_have_known_words(rt: HostRuntime) {
     }
 }
 
-// A report does not show the seed or the budget. What the workers are given does.
+// A report does not show the seed or the budget. So the budget and the sources that the workers are given are compared.
 #[test]
 fn workers_are_handed_what_is_asked(rt: HostRuntime) {
     for (seed, budget, want) in [
@@ -215,7 +217,7 @@ fn lines_and_notes(text: &str) -> (u64, u64) {
     (lines, notes)
 }
 
-// By default, and with sixteen producers and sixteen consumers: all items are put, all lanes end, and each consumer has
+// By default, and with sixteen producers and sixteen consumers, all items are put and all lanes end. Each consumer has
 // a note on each item.
 #[test]
 fn words_are_run(rt: HostRuntime) {

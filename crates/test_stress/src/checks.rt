@@ -51,6 +51,7 @@ fn comes_to<R: Abort + AllocGlobal>(
     Ok(())
 }
 
+// A row has the plan, the lane, the diary, how many items found no cell, how many workers were stopped, and the fault.
 #[test]
 fn each_fault_of_a_report_is_found(rt: HostRuntime) -> Result<(), Fail> {
     let open = plan_of(1, 1, 4, Stops::Nobody);
@@ -102,6 +103,7 @@ fn each_fault_of_a_report_is_found(rt: HostRuntime) -> Result<(), Fail> {
     Ok(())
 }
 
+// A report lacks lanes or diaries of the plan, and so has a flaw.
 #[test]
 fn there_is_what_was_asked_for(rt: HostRuntime) -> Result<(), Fail> {
     let plan = plan_of(16, 15, 256, Stops::Anybody(2));
@@ -143,6 +145,8 @@ fn each_fault_after_a_refusal_is_found(rt: HostRuntime) -> Result<(), Fail> {
     Ok(())
 }
 
+// A row has the shape, whether each poll had a budget for a whole item, two diaries, and the fault. Each row is tried
+// on both lanes.
 #[test]
 fn each_fault_of_an_item_that_is_not_settled_is_found(rt: HostRuntime) -> Result<(), Fail> {
     let last = Shape {

@@ -7,12 +7,17 @@ use test_audit::Flaw;
 /// Why a run failed.
 #[derive(Clone, Copy, PartialEq, Eq, Debug)]
 pub enum Fault {
+    /// The plan's setup was refused.
     Setup,
     /// `work` was refused with this fault. All that it had given was taken in, with its lanes ended.
     Work(WorkFault),
+    /// Memory ran out.
     NoMemory,
+    /// The mailbox gave no report.
     NoReport,
+    /// The report has this flaw.
     Report(Flaw),
+    /// A lane that was given has not ended, or one that was not given has.
     NotEnded,
     /// A lane's items are not the first ones of its list.
     OtherItems,
@@ -20,9 +25,9 @@ pub enum Fault {
     OtherFull,
     /// An item found no cell, but there are cells without an item.
     FullTooEarly,
-    /// A worker was stopped at an open gate.
+    /// A worker was stopped, though the plan's gate stops nobody.
     Stopped,
-    /// A consumer that was not stopped has no note on some item.
+    /// Nobody was stopped, but a consumer has no note on some item, or a claim under way.
     NotMet,
     /// A claim is under way, though each poll had a budget for a whole item.
     Spent,

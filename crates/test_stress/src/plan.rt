@@ -10,10 +10,11 @@ use rand_core::Rng;
 /// Who is stopped at the gate.
 #[derive(Clone, Copy, PartialEq, Eq, Debug)]
 pub enum Stops {
+    /// Nobody is stopped.
     Nobody,
-    /// Any worker, at one call in this many.
+    /// Any worker may be stopped, at one call in this many.
     Anybody(u64),
-    /// Every second consumer, at one call in this many.
+    /// Every second consumer may be stopped, at one call in this many.
     HalfOfTheConsumers(u64),
 }
 
@@ -23,13 +24,17 @@ pub struct Plan {
     pub producers: u64,
     pub consumers: u64,
     pub cells: u64,
+    /// How many pairs of deciding objects each cell has.
     pub pairs: u64,
+    /// The quorum table of the ratifiers.
     pub table: TableName,
     /// How many items each producer is to put.
     pub items: u64,
+    /// The most accesses of one poll, if `whole` is false.
     pub budget: u64,
     /// Whether all random words are 0.
     pub zeros: bool,
+    /// Who is stopped at the gate.
     pub stops: Stops,
     /// The seed of the gate.
     pub gate_seed: u64,
@@ -48,7 +53,7 @@ fn drawn<R: Rng>(rng: &mut R, least: u64, amount: u64) -> u64
     least + rng.next_u64() % amount
 }
 
-/// Whether the next word is even.
+/// Whether the next random word is even.
 fn is_even<R: Rng>(rng: &mut R) -> bool {
     rng.next_u64() % 2 == 0
 }

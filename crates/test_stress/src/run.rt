@@ -97,7 +97,8 @@ pub fn check(plan: &Plan, report: &Report<Global>, worked: &Worked) -> Result<To
     })
 }
 
-/// Runs workers with these sources on a new mailbox, and checks the report.
+/// Runs workers with these sources of random words on a new mailbox, and checks the report. If `work` is refused,
+/// checks what the mailbox is left with.
 fn run_with<W: Threads + Wait + Sync, R: Rng + Send + Drop>(
     rt: &W,
     alloc: Global,
@@ -139,7 +140,7 @@ fn run_with<W: Threads + Wait + Sync, R: Rng + Send + Drop>(
     Ok(totals)
 }
 
-/// Makes the run with this number, of this seed.
+/// Makes the run with this number and this seed, by its plan.
 pub fn run<W: Threads + Wait + Sync>(
     rt: &W,
     alloc: Global,

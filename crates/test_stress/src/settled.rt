@@ -5,8 +5,9 @@ use mb_claim::Shape;
 use mb_world::{Note, Report};
 use std::alloc::Global;
 
-/// If each poll had a budget for a whole item, none was spent. So no claim is under way, not even of a worker that was
-/// stopped. If each cell has a last object, no consumer is undecided, and each item is settled.
+/// Checks a report against these rules. If each poll had a budget for a whole item, none was spent. So no claim is
+/// under way, not even of a worker that was stopped. If each cell has a last object, no consumer is undecided, and each
+/// item is settled.
 pub fn check_settled(shape: Shape, is_whole: bool, report: &Report<Global>) -> Result<(), Fault> {
     for diary in &report.diaries {
         if is_whole && diary.begun {

@@ -1,4 +1,4 @@
-//! The source of random words of a run.
+//! The sources of random words of a run.
 
 use rand_chacha::ChaCha8Rng;
 use rand_core::SeedableRng;

@@ -3,7 +3,7 @@
 use std::fmt;
 use test_audit::Tally;
 
-/// The counts of all runs together.
+/// The counts of one run, or of several runs together.
 #[derive(Clone, Copy, Debug)]
 pub struct Totals {
     pub runs: u64,
@@ -15,6 +15,7 @@ pub struct Totals {
 }
 
 impl Totals {
+    /// The counts of no run.
     pub fn none() -> Totals {
         Totals {
             runs: 0,

@@ -10,12 +10,12 @@ use Rattle.test_support.specs.Telling.{DiaryDiffers, FirstDiffer, IsFirstDiffere
 use Rattle.test_support.specs.declared.reports.Difference.{Difference}
 use Rattle.test_support.specs.declared.reports.Difference.TheVariants.{Lanes, Put, Ended, Left, Diaries, Owner, Notes, Begun}
 
--- an error that is handed on is the same one
+-- what holds of an error holds of a result whose error is that one, handed on
 pub handed_on : {T E : Type 0} (P : E → Type 0) (r : Result T E) (d : E) → P d → IsErrAnd r (λ e. e ≡ d) → IfErr r P
 handed_on P (Err e) d p h = subst P (sym h) p
 handed_on P (Ok x) d p h = elim h [ ]
 
--- the lists are the same up to the place, and there they differ
+-- two lists that are the same before a place, and differ there, first differ there
 first : {X Y : Type 0} (Differ : X → X → ℕ → Difference → Type 0) (f : Y → X) (xs : List X)
     (ys : List Y) (place : ℕ) (x : X) (y : Y) (d : Difference)
     → length xs ≡ length ys → take place xs ≡ map f (take place ys) → place < length xs → x ≡ get_or xs place x
@@ -32,7 +32,7 @@ first Differ f xs ys place x y d same before inside shown differs = record {
 
 module _ (r : ReportView) (lanes : List (Bor (List ℕ) × Bool × Bor (List ℕ)))
     (diaries : List (ℕ × ℕ × Bor (List Note) × Bool)) where
-  -- it is in a lane
+  -- the report first differs in a lane, if the lanes before it are as expected
   pub in_lane : (place : ℕ) (l : LaneView) (t : Bor (List ℕ) × Bool × Bor (List ℕ)) (d : Difference)
       → length r.lanes ≡ length lanes → take place r.lanes ≡ map lane_told (take place lanes)
       → place < length r.lanes → l ≡ get_or r.lanes place l
@@ -62,7 +62,7 @@ module _ (r : ReportView) (lanes : List (Bor (List ℕ) × Bool × Bor (List ℕ
   in_lane place l t (Notes p) same before inside shown differs = elim differs [ ]
   in_lane place l t (Begun p) same before inside shown differs = elim differs [ ]
 
-  -- it is in a diary
+  -- the report first differs in a diary, if all lanes and the diaries before it are as expected
   pub in_diary : (place : ℕ) (e : DiaryView) (t : ℕ × ℕ × Bor (List Note) × Bool) (d : Difference)
       → r.lanes ≡ map lane_told lanes
       → length r.diaries ≡ length diaries → take place r.diaries

@@ -6,15 +6,16 @@ use Rattle.mb_world.specs.declared.report.Note.{Note}
 use Rattle.test_support.specs.declared.reports.Difference.{Difference}
 use Rattle.test_support.specs.declared.reports.Difference.TheVariants.{Lanes, Put, Ended, Left, Diaries, Owner, Notes, Begun}
 
--- what is expected of a lane, and of a consumer on a lane, as a report has it
+-- what is expected of a lane, as a report has it
 abbrev pub lane_told : Bor (List ℕ) × Bool × Bor (List ℕ) → LaneView
 lane_told (put, ended, left) = record { put = put.now; ended = ended; left = left.now }
 
+-- what is expected of a diary, as a report has it
 abbrev pub diary_told : ℕ × ℕ × Bor (List Note) × Bool → DiaryView
 diary_told (consumer, lane, notes, begun) =
     record { consumer = consumer; lane = lane; notes = notes.now; begun = begun }
 
--- how a lane differs from what is expected: the first part that does
+-- the lane at this place differs from the expected one, and this is the first part that does
 abbrev pub LaneDiffers : LaneView → LaneView → ℕ → Difference → Type 0
 LaneDiffers lane told place (Put p) = (p ≡ place) × (lane.put ≢ told.put)
 LaneDiffers lane told place (Ended p) = (p ≡ place) × (lane.put ≡ told.put) × (lane.ended ≢ told.ended)
@@ -22,7 +23,7 @@ LaneDiffers lane told place (Left p) =
     (p ≡ place) × (lane.put ≡ told.put) × (lane.ended ≡ told.ended) × (lane.left ≢ told.left)
 LaneDiffers lane told place difference = ⊥
 
--- how a diary differs from what is expected: the first part that does
+-- the diary at this place differs from the expected one, and this is the first part that does
 abbrev pub DiaryDiffers : DiaryView → DiaryView → ℕ → Difference → Type 0
 DiaryDiffers diary told place (Owner p) = (p ≡ place)
     × ((diary.consumer ≡ told.consumer) × (diary.lane ≡ told.lane) → ⊥)
@@ -33,7 +34,7 @@ DiaryDiffers diary told place (Begun p) =
     × (diary.begun ≢ told.begun)
 DiaryDiffers diary told place difference = ⊥
 
--- the lists agree before a place, and have this difference there
+-- a list agrees with the expected one before a place, and has this difference there
 pub record FirstDiffer {X : Type 0} (Differ : X → X → ℕ → Difference → Type 0) (xs told : List X)
     (difference : Difference) : Type 0 where
   pub place : ℕ
@@ -44,8 +45,8 @@ pub record FirstDiffer {X : Type 0} (Differ : X → X → ℕ → Difference →
   pub check_report : slice_get told place ≡ Some told_there
   pub differ : Differ shown told_there place difference
 
--- where a report first differs from these lanes and diaries: in the number of lanes, in a lane, in the number of
--- diaries, or in a diary
+-- this is where a report first differs from these lanes and diaries: in the number of lanes, in a lane, in the number
+-- of diaries, or in a diary
 abbrev pub IsFirstDifference : ReportView → List LaneView → List DiaryView → Difference → Type 0
 IsFirstDifference report lanes diaries Lanes = length report.lanes ≢ length lanes
 IsFirstDifference report lanes diaries Diaries = (report.lanes ≡ lanes) × (length report.diaries ≢ length diaries)

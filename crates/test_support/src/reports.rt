@@ -14,13 +14,13 @@ use std::alloc::{AllocError, Allocator};
 /// What is expected of a lane: the items put, whether it has ended, and the items left.
 pub type LaneTold<'a> = (&'a [u64], bool, &'a [u64]);
 
-/// What is expected of a diary: the consumer, the lane, the notes, and whether a claim has begun.
+/// What is expected of a diary: the consumer, the lane, the notes, and whether the consumer has a claim under way.
 pub type DiaryTold<'a> = (u32, u32, &'a [Note], bool);
 
-/// Where a report differs, with the place of the lane or of the diary, from 0 on.
+/// What differs in a report from what is expected, with the place of the lane or of the diary, from 0 on.
 #[derive(Clone, Copy, PartialEq, Eq, Debug)]
 pub enum Difference {
-    /// How many lanes there are.
+    /// The number of lanes.
     Lanes,
     /// The items put.
     Put(usize),
@@ -28,13 +28,13 @@ pub enum Difference {
     Ended(usize),
     /// The items left.
     Left(usize),
-    /// How many diaries there are.
+    /// The number of diaries.
     Diaries,
     /// Whose diary it is, and of which lane.
     Owner(usize),
     /// The notes.
     Notes(usize),
-    /// Whether a claim has begun.
+    /// Whether the consumer has a claim under way.
     Begun(usize),
 }
 

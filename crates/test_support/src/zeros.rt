@@ -6,7 +6,7 @@ use std::sync::atomic::{AtomicU64, Ordering};
 /// A source of words that are all 0. It counts the words of 64 bits that it gave, modulo 2^64.
 #[derive(Default, Drop)]
 pub struct Zeros {
-    /// How many it gave.
+    /// How many words of 64 bits this source gave, modulo 2^64.
     pub given: u64,
 }
 
@@ -32,7 +32,7 @@ impl Rng for Zeros {
 /// A source of words that are all 0. It counts the words of 64 bits that it gave in a counter that others can see.
 #[derive(Drop)]
 pub struct SeenZeros<'a> {
-    /// The counter.
+    /// The counter of the words of 64 bits.
     pub given: &'a AtomicU64,
 }
 

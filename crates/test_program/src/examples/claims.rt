@@ -2,6 +2,7 @@
 
 use super::entry::Example;
 
+/// The examples of claims. `examples/README.md` says what each shows, by its name.
 pub const CLAIMS: &[Example] = &[
     ITEM_TAKEN,
     ONE_LOSES,
@@ -256,6 +257,7 @@ diary 63 0 took 9
     },
 ];
 
+/// The only consumer takes the only item. Other tests use this example, too.
 pub const ITEM_TAKEN: Example = Example {
     name: "item_taken",
     words: &["mailbox", "replay"],
@@ -291,6 +293,7 @@ diary 0 0 took 7
     status: 0,
 };
 
+/// Two consumers compete for one item, and one loses it. Other tests use this example, too.
 pub const ONE_LOSES: Example = Example {
     name: "one_loses",
     words: &["mailbox", "replay"],

@@ -2,6 +2,7 @@
 
 use super::entry::Example;
 
+/// The examples of lanes. `examples/README.md` says what each shows, by its name.
 pub const LANES: &[Example] = &[
     Example {
         name: "pool_full",

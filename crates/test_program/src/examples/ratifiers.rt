@@ -2,6 +2,7 @@
 
 use super::entry::Example;
 
+/// The examples of ratifiers. `examples/README.md` says what each shows, by its name.
 pub const RATIFIERS: &[Example] = &[
     LATE_INPUT,
     Example {
@@ -209,6 +210,7 @@ turns
     },
 ];
 
+/// A process comes when another has its output already. Other tests use this example, too.
 pub const LATE_INPUT: Example = Example {
     name: "late_input",
     words: &["mailbox", "ratify"],

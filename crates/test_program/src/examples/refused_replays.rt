@@ -2,6 +2,7 @@
 
 use super::entry::Example;
 
+/// The examples of scripts that `replay` refuses. `examples/README.md` says what each shows, by its name.
 pub const REFUSED_REPLAYS: &[Example] = &[
     Example {
         name: "not_ascii",

@@ -1,7 +1,8 @@
-//! Runs of threads with a report that does not depend on their order.
+//! Runs of threads that are refused, or whose report does not depend on the order of the threads.
 
 use super::entry::Example;
 
+/// The examples of runs. `examples/README.md` says what each shows, by its name.
 pub const RUNS: &[Example] = &[
     Example {
         name: "too_many_items",
@@ -90,6 +91,7 @@ diary 0 0 took 0 took 1
     },
 ];
 
+/// One producer puts two items, and an only consumer takes both. Other tests use this example, too.
 pub const TWO_ITEMS: Example = Example {
     name: "two_items",
     words: &[

@@ -2,6 +2,7 @@
 
 use super::entry::Example;
 
+/// The examples of shapes. `examples/README.md` says what each shows, by its name.
 pub const SHAPES: &[Example] = &[
     Example {
         name: "fast_path",

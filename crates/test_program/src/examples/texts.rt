@@ -2,6 +2,7 @@
 
 use super::entry::Example;
 
+/// The examples of help and of refused command lines. `examples/README.md` says what each shows, by its name.
 pub const TEXTS: &[Example] = &[
     Example {
         name: "help",

@@ -1,6 +1,7 @@
 use Rattle.std.proofs.Common.{◌∙◌}
 use Rattle.bench_loops.proofs.contended.contend.Goals as goal
 
+-- a round of steps, one of each claim that goes on, keeps the contest
 pub loop-preserved : goal.loop-preserved
 loop-preserved g c h start =
     let past = c.loop.invariant h start in

@@ -3,6 +3,7 @@ use Rattle.mb_claim.specs.declared.access.ClaimAccess.{ClaimAccess}
 use Rattle.bench_loops.specs.UnderWay.{ChangesOnly, IsContest}
 use Rattle.bench_loops.proofs.contended.contend.Given as goal
 
+-- the claims are a contest after a longer history, which changed parts on this cell alone
 abbrev pub invariant-loop : goal.invariant-loop
 invariant-loop g l = (h : List ClaimAccess) → IsContest l.layout l.cell l.initial.claims l.initial.words h
     → (later : List ClaimAccess) × IsContest l.layout l.cell l.claims l.words later

@@ -7,6 +7,7 @@ use Rattle.bench_loops.proofs.Contests.{contest_goes_on, one_of_contest}
 use Rattle.bench_loops.proofs.contended.turn_each.Goals as goal
 use Rattle.bench_loops.proofs.contended.turn_each.Goals.{in-Going, in_default}
 
+-- the claim at this place takes a step, which keeps the contest, or has ended and stays as it is
 pub loop-consumer-preserved : goal.loop-consumer-preserved
 loop-consumer-preserved g c h start =
     let layout = c.args.layout.now in

@@ -1,6 +1,7 @@
 use Rattle.std.proofs.Common.{rules, ◌∷◌, ◌∙◌, sym}
 use Rattle.bench_loops.proofs.lone.claim_cell.Goals as goal
 
+-- each step lengthens the history by an access of this consumer to this cell
 pub returns-in_default : goal.returns-in_default
 returns-in_default g c = record {
   kept = λ h memory fresh.

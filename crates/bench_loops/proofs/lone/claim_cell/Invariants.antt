@@ -5,6 +5,8 @@ use Rattle.mb_claim.specs.Vocabulary.{part_on, claim_stage, consumer_of, IsMemor
 use Rattle.bench_loops.specs.UnderWay.{all_claims, ChangesOnly, IsUnderWay}
 use Rattle.bench_loops.proofs.lone.claim_cell.Given as goal
 
+-- the claim goes on and is this consumer's. A longer history led to it, which changed this consumer's part on this cell
+-- alone
 abbrev pub invariant-loop-made : goal.invariant-loop-made
 invariant-loop-made g l = record {
   going : claim_stage l.claim ≡ Going;

@@ -2,6 +2,7 @@ use Rattle.std.proofs.Common.{◌∙◌, arith}
 use Rattle.bench_loops.proofs.lone.claim_each.Goals as goal
 use Rattle.bench_loops.proofs.lone.claim_each.Goals.{then-consumer-consumers, else-consumer-consumers}
 
+-- a claim changes a part on its own cell alone, so nobody has touched the cells after it
 pub claim_through-accesses-requires-clause-fresh : goal.claim_through-accesses-requires-clause-fresh
 claim_through-accesses-requires-clause-fresh g c =
     let past = c.loop-cell.invariant.untouched in

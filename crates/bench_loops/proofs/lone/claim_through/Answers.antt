@@ -1,6 +1,7 @@
 use Rattle.std.proofs.Common.{◌∷◌, ◌∙◌, sym}
 use Rattle.bench_loops.proofs.lone.claim_through.Goals as goal
 
+-- each step lengthens the history by an access of this consumer to this cell
 pub steps-preserved : goal.steps-preserved
 steps-preserved g c = record {
   whose = c.step.ensures.consumer ∙ c.steps.invariant.whose;

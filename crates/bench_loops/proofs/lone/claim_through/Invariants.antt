@@ -4,9 +4,11 @@ use Rattle.mb_claim.specs.Vocabulary.{part_on, consumer_of, steps_left, IsMemory
 use Rattle.bench_loops.specs.UnderWay.{all_claims, ChangesOnly, IsUnderWay}
 use Rattle.bench_loops.proofs.lone.claim_through.Given as goal
 
+-- each step leaves fewer steps to go
 abbrev pub decreases-steps : goal.decreases-steps
 decreases-steps g l = steps_left l.layout l.claim
 
+-- the claim is this consumer's. A longer history led to it, which changed this consumer's part on this cell alone
 abbrev pub invariant-steps : goal.invariant-steps
 invariant-steps g l = record {
   whose : consumer_of l.claim ≡ l.consumer;

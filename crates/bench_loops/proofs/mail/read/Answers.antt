@@ -1,6 +1,7 @@
 use Rattle.std.proofs.Common.{rules, ◌≡◌, ◌∙◌, arith}
 use Rattle.bench_loops.proofs.mail.read.Goals as goal
 
+-- the consumer's claim changed its part on this cell alone
 pub loop-next-preserved : goal.loop-next-preserved
 loop-next-preserved g c = record {
   within = search rules;

@@ -4,6 +4,8 @@ use Rattle.mb_claim.specs.declared.access.ClaimAccess.{ClaimAccess}
 use Rattle.bench_loops.specs.UnderWay.{ChangesOnly, ClaimIsBefore}
 use Rattle.bench_loops.proofs.mail.read.Given as goal
 
+-- the cursor is within the pool. A longer history leaves the words, and it changed parts of this consumer alone. The
+-- consumer has not touched this cell, or one after it
 abbrev pub invariant-loop-next : goal.invariant-loop-next
 invariant-loop-next g l = record {
   within : IsWithin l.cursor l.pool;

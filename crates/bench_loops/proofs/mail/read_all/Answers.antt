@@ -1,6 +1,7 @@
 use Rattle.std.proofs.Common.{◌∙◌, arith}
 use Rattle.bench_loops.proofs.mail.read_all.Goals as goal
 
+-- a consumer that read the pool changed its own parts alone, so the consumers after it have touched no cell
 pub loop-consumer-preserved : goal.loop-consumer-preserved
 loop-consumer-preserved g c =
     let past = c.loop-consumer.invariant in

@@ -3,6 +3,7 @@ use Rattle.mb_claim.specs.Vocabulary.{part_on}
 use Rattle.bench_loops.proofs.Seats.{steps_keep}
 use Rattle.bench_loops.proofs.shared.claim_cell.Goals as goal
 
+-- each clause is a part of what steps of a claim keep
 pub returns-clause-table : goal.returns-clause-table
 returns-clause-table g c =
     let p = steps_keep c.args.table.now.layout c.args.cell c.new-claim.result c.args.seat.now _

@@ -3,6 +3,7 @@ use Rattle.mb_claim.specs.declared.layout.TheConstants.{MAX_CELLS}
 use Rattle.mb_claim.specs.Vocabulary.{claim_access}
 use Rattle.bench_loops.proofs.step.step.Goals as goal
 
+-- the words and the claim are as a history leaves them before the step, and so after it
 pub step-requires-clause-held : goal.step-requires-clause-held
 step-requires-clause-held g c =
     let under = c.requires.stands.1 in

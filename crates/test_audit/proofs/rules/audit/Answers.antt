@@ -1,4 +1,4 @@
--- Proof of `audit`: audits a report of `producers` producers and `consumers` consumers.
+-- The loop over the lanes of a report keeps its invariant, since the tally of a lane counts its items.
 use Rattle.std.proofs.Common.{ap, arith, rules, ◌∙◌, ◌≡◌, ◌<◌, ◌≤◌, length, slice_index_or, subst}
 use Rattle.std.proofs.lemmas.Grind.{common_steps}
 use Rattle.std.proofs.lemmas.List.Elements.{All-more}

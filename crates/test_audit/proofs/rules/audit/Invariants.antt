@@ -1,9 +1,11 @@
--- Loop invariants of `audit`: audits a report of `producers` producers and `consumers` consumers.
+-- What the loop over the lanes of a report keeps.
 use Rattle.std.specs.Prelude.{◌≡◌, ◌+◌, ◌%◌, ◌^◌, ◌≤◌, length, take}
 use Rattle.std.specs.List.{All, sum_by}
 use Rattle.mb_world.specs.Report.{LaneView}
 use Rattle.test_audit.proofs.rules.audit.Given as goal
 
+-- the tally counts the items put and left on the lanes before this one, modulo 2^64. None of these has more items left
+-- than put
 abbrev pub invariant-loop-number : goal.invariant-loop-number
 invariant-loop-number g l =
     (l.tally.put ≡ sum_by (λ (x : LaneView). length x.put) (take l.number l.report.lanes) % 2 ^ 64)

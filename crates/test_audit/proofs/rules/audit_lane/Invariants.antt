@@ -1,6 +1,7 @@
--- Loop invariants of `audit_lane`: audits one lane and all its diaries.
+-- What the loop over the items of a lane keeps.
 use Rattle.std.specs.Prelude.{◌≡◌, ◌+◌}
 use Rattle.test_audit.proofs.rules.audit_lane.Given as goal
 
+-- the tally counts the items before place j, of which each is taken or left
 abbrev pub invariant-loop-j : goal.invariant-loop-j
 invariant-loop-j g l = (l.tally.put ≡ l.j) × (l.tally.left ≡ l.left) × (l.tally.took + l.tally.left ≡ l.j)

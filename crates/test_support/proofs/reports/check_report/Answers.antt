@@ -3,6 +3,7 @@ use Rattle.mb_world.specs.Report.{ReportView}
 use Rattle.test_support.proofs.FirstDifferences.{handed_on, in_diary, in_lane}
 use Rattle.test_support.proofs.reports.check_report.Goals as goal
 
+-- a lane's difference is the report's first one, since the lanes before it are as expected. So is a diary's
 pub returns-in_err-tells_lane-clause-differs : goal.returns-in_err-tells_lane-clause-differs
 returns-in_err-tells_lane-clause-differs g c =
     let items : c.deref-lane-items.result.now ≡ c.args.report.now.lanes =

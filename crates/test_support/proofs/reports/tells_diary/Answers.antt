@@ -2,6 +2,7 @@ use Rattle.std.proofs.Common.{arith, refl}
 use Rattle.test_support.proofs.Notes.{other_notes, same_diary, same_flag, same_notes, same_owner}
 use Rattle.test_support.proofs.reports.tells_diary.Goals as goal
 
+-- the parts of a diary are compared in their order. So those before the first difference are as expected
 pub returns-then-ne-2-clause-differs : goal.returns-then-ne-2-clause-differs
 returns-then-ne-2-clause-differs g c =
     let owner = same_owner _ _ _ _ c.if-ne.ensures in

@@ -1,4 +1,4 @@
--- Where any thread may give a block back to the inner allocator, any thread may give it back here.
+-- If any thread may give a block back to the inner allocator, any thread may give one back to the faulty heap.
 use mir.Syntax.{Dict}
 use denote.Param.Send.{Frees}
 use denote.RattleType.{RattleType}

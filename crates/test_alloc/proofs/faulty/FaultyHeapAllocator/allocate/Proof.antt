@@ -1,4 +1,5 @@
--- It answers `Err` where the book refuses, and else what the inner allocator answers, of which a block is counted. Assumes `Logic`.
+-- `allocate` of a faulty heap returns `Err` if the book refuses. Else it returns what the inner allocator returns, and
+-- counts a block if there is one. Assumes `Logic`.
 use Rattle.std.proofs.Common.{◌≡◌, ℕ, ◌+◌, ◌^◌, ◌<◌, Bool, true, false, List, [], ◌∷◌, Ok, Err, refl, sym, subst, w64, Bor}
 use seplogic.Ra.Ura.{Ura}
 use mir.Syntax.{Ty, Args, Fn, a_type, ty_unit, dnil, dcons}
@@ -51,6 +52,7 @@ use Rattle.test_alloc.specs.contracts.faulty.FaultyHeapAllocator.allocate.Key as
 use Rattle.test_alloc.proofs.faulty.FaultyHeapAllocator.allocate.Statement as stated
 use Rattle.test_alloc.proofs.faulty.FaultyHeapAllocator.allocate.Code as code
 
+-- the function at this inner allocator, and its parameters
 module _ (Z : Al) where
   abbrev args : Args
   args = bounded (a_type ∷ []) (Z.row, tt) (dcons Z.d (dcons Z.drops dnil))
@@ -81,6 +83,7 @@ module _ (Z : Al) {M : Type 1} {𝓤 : Ura M} (𝓛 : Logic 𝓤) (at_mem : Memo
   held = F.clauses Z.row Z.g Z.d Z.drops 𝓛 at_mem run
 
   module _ (κ₁ κ₂ : Lft) (q₁ q₂ : Share) (inn : κ₁ ⊑ κ₂) (r : Bor (row.the_row Z.row).Denot) (n a : ℕ) (τ : Ty) where
+    -- what a call is entered with: lifetimes, shares, arguments and their values
     abbrev bound : (walk_of 𝓛 (ended Z) (stayed Z) held).Ghost
     bound = (
       (
@@ -93,12 +96,15 @@ module _ (Z : Al) {M : Type 1} {𝓤 : Ura M} (𝓛 : Logic 𝓤) (at_mem : Memo
       τ,
     )
 
+    -- what has to hold of the value that is returned
     abbrev Post : Val → SProp 𝓤
     Post = (walk_of 𝓛 (ended Z) (stayed Z) held).post bound
 
+    -- the values of the arguments
     abbrev vs : List Val
     vs = vptr r.ref_ptr.0 r.ref_ptr.1 ∷ vint w64 n ∷ vint w64 a ∷ []
 
+    -- the answer `Err` keeps the contract
     answers_err : ent 𝓤 (sep 𝓤 (A.lft κ₁ q₁) (sep 𝓤 (A.lft κ₂ q₂) (sem 𝓛 ftrue))) (Post (answer_val false 0 0))
     answers_err =
         qed 𝓛 (‵ (flft κ₁ q₁) ∷ (‵ (flft κ₂ q₂) ⊛ ‵ ftrue) ∷ []) ∵ nothing ! $
@@ -108,6 +114,7 @@ module _ (Z : Al) {M : Type 1} {𝓤 : Ura M} (𝓛 : Logic 𝓤) (at_mem : Memo
         nothing ! $ nothing ! $ fjoin ! $ nothing ! $ fjoin ! $ nothing ! $ fjoin ! $ join ! $
         move ! (2 ∷ 3 ∷ []) $ join ! $ join ! $ done !
 
+    -- the walk through the body, from entry to end: the book refuses, or the inner allocator returns a block or `Err`
     walk : n < 2 ^ 64 → a < 2 ^ 64 → ent 𝓤 ((walk_of 𝓛 (ended Z) (stayed Z) held).pre bound)
         (WpFn 𝓤 H 𝓣.C 𝓣.Λ (here Z) vs Post)
     walk fn fa =
@@ -176,6 +183,7 @@ module _ (Z : Al) {M : Type 1} {𝓤 : Ura M} (𝓛 : Logic 𝓤) (at_mem : Memo
         refl (Answer-typed false 0 0) $
         returns ! (look_at ! 0 refl) $ free_all ! refl $ keep ! (0 ∷ 2 ∷ []) $ by ! answers_err)))))))))
 
+-- the body keeps the contract of `allocate`
 pub allocate_spec : {M : Type 1} → stated.statement M
 unfolding tables_of
 allocate_spec 𝓤 𝓛 𝓜 𝓡 wired Y L g d d' met _ =

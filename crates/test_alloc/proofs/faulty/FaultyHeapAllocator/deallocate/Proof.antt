@@ -1,4 +1,4 @@
--- It gives the block back to the inner allocator. Assumes `Logic`.
+-- `deallocate` of a faulty heap counts a block as given back, and gives it to the inner allocator. Assumes `Logic`.
 use Rattle.std.proofs.Common.{◌≡◌, ℕ, ◌+◌, ◌^◌, ◌<◌, List, [], ◌∷◌, refl, w64, Bor}
 use seplogic.Ra.Ura.{Ura}
 use mir.Syntax.{Ty, Args, Fn, a_type, dnil, dcons}
@@ -43,6 +43,7 @@ use Rattle.test_alloc.specs.contracts.faulty.FaultyHeapAllocator.deallocate.Key 
 use Rattle.test_alloc.proofs.faulty.FaultyHeapAllocator.deallocate.Statement as stated
 use Rattle.test_alloc.proofs.faulty.FaultyHeapAllocator.deallocate.Code as code
 
+-- the function at this inner allocator, and its parameters
 module _ (Z : Al) where
   abbrev args : Args
   args = bounded (a_type ∷ []) (Z.row, tt) (dcons Z.d (dcons Z.drops dnil))
@@ -75,6 +76,7 @@ module _ (Z : Al) {M : Type 1} {𝓤 : Ura M} (𝓛 : Logic 𝓤) (at_mem : Memo
   held = F.clauses Z.row Z.g Z.d Z.drops 𝓛 at_mem run
 
   module _ (κ₁ κ₂ : Lft) (q₁ q₂ : Share) (inn : κ₁ ⊑ κ₂) (r : Bor (row.the_row Z.row).Denot) (n a : ℕ) (τ : Ty) where
+    -- what a call is entered with: lifetimes, shares, arguments and their values
     abbrev bound : Ptr → (walk_of 𝓛 (ended Z) (stayed Z) held).Ghost
     bound x = (
       (
@@ -87,9 +89,11 @@ module _ (Z : Al) {M : Type 1} {𝓤 : Ura M} (𝓛 : Logic 𝓤) (at_mem : Memo
       τ,
     )
 
+    -- the values of the arguments
     abbrev vs : Ptr → List Val
     vs x = vptr r.ref_ptr.0 r.ref_ptr.1 ∷ ptr_val x ∷ vint w64 n ∷ vint w64 a ∷ []
 
+    -- what has to hold of the value that is returned
     abbrev Post : Ptr → Val → SProp 𝓤
     Post x = (walk_of 𝓛 (ended Z) (stayed Z) held).post (bound x)
 
@@ -100,6 +104,7 @@ module _ (Z : Al) {M : Type 1} {𝓤 : Ura M} (𝓛 : Logic 𝓤) (at_mem : Memo
     abbrev Said : Type 0
     Said = (capped (size τ) ≡ n) × (capped (align τ) ≡ a)
 
+    -- the walk through the body, from entry to end: no block is at the null pointer, and any other goes back
     walk : n < 2 ^ 64 → a < 2 ^ 64 → (x : Ptr)
         → ent 𝓤 ((walk_of 𝓛 (ended Z) (stayed Z) held).pre (bound x))
         (WpFn 𝓤 H 𝓣.C 𝓣.Λ (here Z) (vs x) (Post x))
@@ -146,6 +151,7 @@ module _ (Z : Al) {M : Type 1} {𝓤 : Ura M} (𝓛 : Logic 𝓤) (at_mem : Memo
         fjoin ! $ nothing ! $ fjoin ! $ nothing ! $ fjoin ! $ nothing ! $ fjoin ! $ join ! $
         move ! (2 ∷ 3 ∷ []) $ join ! $ join ! $ done !)))))))
 
+-- the body keeps the contract of `deallocate`
 pub deallocate_spec : {M : Type 1} → stated.statement M
 unfolding tables_of
 deallocate_spec 𝓤 𝓛 𝓜 𝓡 wired Y L g d d' met _ =
