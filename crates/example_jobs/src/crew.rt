@@ -141,8 +141,8 @@ fn new_worker<R: RandomSource + AllocGlobal>(
     Ok(Member::Worker(consumer, source))
 }
 
-/// Hires all producers and workers of the mailbox. The producers come first: if no thread can be started, one member
-/// works after the other, and the producers have to be done before the workers.
+/// Hires all producers and workers of the mailbox, and a teller if `tells` holds. The producers come first: if no
+/// thread can be started, one member works after the other, and the producers have to be done before the workers.
 pub fn hire<R: RandomSource + AllocGlobal>(
     rt: &R,
     mailbox: &Mailbox<Global>,

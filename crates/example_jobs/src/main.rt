@@ -37,7 +37,7 @@ fn main(rt: HostRuntime) -> Result<ExitCode> {
     Ok(ExitCode::SUCCESS)
 }
 
-/// Runs all jobs, and prints the board.
+/// Runs all jobs, and prints the board. If `tells` holds, a teller also prints once a second how many jobs were run.
 fn run<R: RandomSource + AllocGlobal + Clock + Print + Eprint + Threads + Sync>(
     rt: &R,
     asked: &Asked,

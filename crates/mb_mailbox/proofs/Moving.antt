@@ -12,7 +12,7 @@ use Rattle.mb_world.specs.declared.place.Place.{Place}
 use Rattle.mb_world.specs.declared.place.Place.TheVariants.{At, Before}
 use Rattle.mb_mailbox.specs.Laws.{Laws}
 use Rattle.mb_mailbox.proofs.KnownLoads.{Known, fresh, known, past_apart}
-use Rattle.mb_mailbox.proofs.Lists.{get_some, get_within}
+use Rattle.mb_mailbox.proofs.Lists.{get_some}
 use Rattle.mb_mailbox.proofs.Standings.{Leaves, end_kept, ends_more, moves}
 
 -- what is known of the consumer's loads

@@ -94,7 +94,7 @@ fn column_of(columns: &[Who], process: usize) -> Option<usize> {
     None
 }
 
-/// A line for each of the first processes: its output.
+/// Writes a line for each of the first processes, with its output. Then it says how many further processes there are.
 fn push_outputs<A: Allocator + Copy>(
     picture: &mut Picture<A>,
     outputs: &[Option<Out>],

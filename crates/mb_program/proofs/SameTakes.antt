@@ -31,7 +31,7 @@ all_swapped s p q same [] = refl
 all_swapped s p q same (a ∷ c) = ap₂ (λ x y. x && y) (same a) (all_swapped s p q same c)
 
 -- Each lemma from here on says of a test of clap that it passes over the other parsers if it passes over those before
--- the change, and only then. The lemma is named after that test, with `same` for `pass` or `passes`.
+-- the change, and only then. Most lemmas are named after that test, with `same` for `pass` or `passes`.
 module _ (s : Swap) (same : ReadsSame s) where
   -- an argument with its parser changed
   abbrev f : Rule → Rule

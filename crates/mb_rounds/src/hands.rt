@@ -27,7 +27,7 @@ pub(crate) fn deal<A: Allocator + Clone + Drop>(
     let mut lists = Vec::with_capacity(alloc.clone()?, count)?;
     let mut rest = items;
     for number in 0..count {
-        // The last list has all that is left.
+        // The last list has all of the rest.
         let (list, behind) = rest.split_at(rest.len() / (count - number));
         lists.push(copy_of(alloc, list)?)?;
         rest = behind;
