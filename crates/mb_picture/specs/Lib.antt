@@ -1,3 +1,4 @@
 pub mod Escaped
 pub mod Led
+pub mod LedExamples
 pub mod Diaries
