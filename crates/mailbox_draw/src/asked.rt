@@ -1,4 +1,6 @@
 //! The command line: one word.
+ghost use Rattle.std.specs.Prelude.{map};
+ghost use Rattle.mailbox_draw.specs.Asking.{IsAsked};
 
 use std::convert::AsStr;
 
@@ -30,7 +32,9 @@ pub enum Asked {
 }
 
 /// What the words ask for. The first word is the program's name.
-pub fn asked_of<S: AsStr>(words: &[S]) -> Asked {
+pub fn asked_of<S: AsStr>(words: &[S]) -> Asked
+    ensures { IsAsked (map S.text words.now) result }
+{
     let [_, word] = words else {
         return Asked::Unknown;
     };

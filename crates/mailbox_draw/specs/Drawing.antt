@@ -1,0 +1,72 @@
+-- What the program does with its words, its reader and its two writers.
+use Rattle.std.specs.Prelude.{◌≡◌, ℕ, List, length, Bool, Option, None, Result, Ok, if◌then◌else◌}
+use Rattle.mb_deciding.specs.declared.object.Out.{Out}
+use Rattle.mb_deciding.specs.declared.trace.Entry.{Entry}
+use Rattle.mb_script.specs.declared.fault.Fault.{Fault}
+use Rattle.mb_script.specs.Vocabulary as replay
+use Rattle.mb_script.specs.Vocabulary.{Command, IoModel, IsCommandIo, replaying}
+use Rattle.mb_program.specs.declared.fault.Failed.TheVariants as failed
+use Rattle.mb_program.specs.declared.fault.RatifyFault.{RatifyFault}
+use Rattle.mb_program.specs.declared.outcome.ProgramExit.{ProgramExit}
+use Rattle.mb_program.specs.declared.outcome.ProgramExit.TheVariants as ending
+use Rattle.mb_program.specs.Answer.{IsTraceOf, ratifying, refused_as}
+use Rattle.mb_program.specs.Outcome.{end_status, fault_line}
+use Rattle.mb_program.specs.Program.{IsPrinted, ended_by}
+use Rattle.mb_program.specs.RatifyScript as ratify
+use Rattle.mb_picture.specs.Svg.{IsSvgOf, ratifier_title, replay_title}
+use Rattle.mailbox_draw.specs.declared.asked.Asked.{Asked}
+use Rattle.mailbox_draw.specs.declared.asked.Asked.TheVariants.{Replay, Ratify, Help, Unknown}
+use Rattle.mailbox_draw.specs.declared.asked.TheConstants.{USAGE}
+
+-- the bytes are a replay script without fault, and the text is a picture of its title
+pub record IsReplayPicture (bytes text : List ℕ) : Type 0 where
+  pub script : replay.Script
+  pub read : replay.script_of bytes ≡ Ok script
+  pub drawn : IsSvgOf (replay_title script) text
+
+-- The bytes are a ratifier script without fault, and the text is a picture whose title counts the turns of its trace,
+-- its processes and its values.
+pub record IsRatifierPicture (bytes text : List ℕ) : Type 0 where
+  pub script : ratify.Script
+  pub read : ratify.script_of bytes ≡ Ok script
+  pub accepted : refused_as script ≡ None
+  pub entries : List Entry
+  pub outputs : List (Option Out)
+  pub made : IsTraceOf script entries outputs
+  pub drawn : IsSvgOf (ratifier_title (length entries) (length script.inputs) script.values) text
+
+-- `mailbox_draw replay`: its answers are pictures, its faults those of `mailbox replay`
+abbrev pub drawing_replay : Command Fault
+drawing_replay = record replaying { IsAnswer = IsReplayPicture }
+
+-- `mailbox_draw ratify`: its answers are pictures, its faults those of `mailbox ratify`
+abbrev pub drawing_ratifier : Command RatifyFault
+drawing_ratifier = record ratifying { IsAnswer = IsRatifierPicture }
+
+-- After this end of a command the status is its own. The line of a fault was written, whole or not, and nothing else.
+abbrev pub IsEnded : {E : Type 0} → IoModel E → E → E → ProgramExit → ℕ → Type 0
+IsEnded errs errors errors' (ending.Failed fault) status =
+    (status ≡ end_status (ending.Failed fault))
+    × ((whole : Bool) × IsPrinted errs errors errors' (fault_line fault) whole)
+IsEnded errs errors errors' end status = (status ≡ end_status end) × (errors' ≡ errors)
+
+-- the help was written whole and the status is 0, or a prefix of it and the status is 3
+abbrev pub IsUsageTold : {D : Type 0} → IoModel D → D → D → ℕ → Type 0
+IsUsageTold sink old new status =
+    (whole : Bool) × (status ≡ (if whole then 0 else 3)) × IsPrinted sink old new USAGE.now whole
+
+-- the program did what it was asked for, and its status is this
+abbrev pub WasDone : {R W E : Type 0} → Asked → IoModel R → IoModel W → IoModel E → R → R → W → W → E → E → ℕ → Type 0
+WasDone Replay source sink errs reader reader' writer writer' errors errors' status =
+    (r : Result (Unit {0}) Fault) × IsCommandIo drawing_replay source sink reader reader' writer writer' r
+    × IsEnded errs errors errors' (ended_by failed.Replay r) status
+WasDone Ratify source sink errs reader reader' writer writer' errors errors' status =
+    (r : Result (Unit {0}) RatifyFault) × IsCommandIo drawing_ratifier source sink reader reader' writer writer' r
+    × IsEnded errs errors errors' (ended_by failed.Ratify r) status
+-- help goes to the first writer alone
+WasDone Help source sink errs reader reader' writer writer' errors errors' status =
+    (reader' ≡ reader) × (errors' ≡ errors) × IsUsageTold sink writer writer' status
+-- anything else gets the help too, but as an error
+WasDone Unknown source sink errs reader reader' writer writer' errors errors' status =
+    (reader' ≡ reader) × (writer' ≡ writer) × (status ≡ 2)
+    × ((whole : Bool) × IsPrinted errs errors errors' USAGE.now whole)
