@@ -1,31 +1,32 @@
 -- What the program does with its words, its reader and its two writers.
-use Rattle.std.specs.Prelude.{◌≡◌, ℕ, List, length, Bool, Option, None, Result, Ok, if◌then◌else◌}
+use Rattle.std.specs.Prelude.{◌≡◌, ℕ, List, length, Bool, Option, None, Result, Ok, Err, if◌then◌else◌}
 use Rattle.mb_deciding.specs.declared.object.Out.{Out}
 use Rattle.mb_deciding.specs.declared.trace.Entry.{Entry}
 use Rattle.mb_script.specs.declared.fault.Fault.{Fault}
 use Rattle.mb_script.specs.Vocabulary as replay
 use Rattle.mb_script.specs.Vocabulary.{Command, IoModel, IsCommandIo, replaying}
+use Rattle.mb_program.specs.declared.fault.Failed.{Failed}
 use Rattle.mb_program.specs.declared.fault.Failed.TheVariants as failed
 use Rattle.mb_program.specs.declared.fault.RatifyFault.{RatifyFault}
-use Rattle.mb_program.specs.declared.outcome.ProgramExit.{ProgramExit}
-use Rattle.mb_program.specs.declared.outcome.ProgramExit.TheVariants as ending
 use Rattle.mb_program.specs.Answer.{IsTraceOf, ratifying, refused_as}
-use Rattle.mb_program.specs.Outcome.{end_status, fault_line}
-use Rattle.mb_program.specs.Program.{IsPrinted, ended_by}
+use Rattle.mb_program.specs.Outcome.{fault_line, fault_status}
+use Rattle.mb_program.specs.Program.{IsPrinted}
 use Rattle.mb_program.specs.RatifyScript as ratify
 use Rattle.mb_picture.specs.Svg.{IsSvgOf, ratifier_title, replay_title}
 use Rattle.mailbox_draw.specs.declared.asked.Asked.{Asked}
 use Rattle.mailbox_draw.specs.declared.asked.Asked.TheVariants.{Replay, Ratify, Help, Unknown}
 use Rattle.mailbox_draw.specs.declared.asked.TheConstants.{USAGE}
 
--- the bytes are a replay script without fault, and the text is a picture of its title
+-- the bytes are a replay script without fault, and the text is a picture with its title
 pub record IsReplayPicture (bytes text : List ℕ) : Type 0 where
   pub script : replay.Script
   pub read : replay.script_of bytes ≡ Ok script
-  pub drawn : IsSvgOf (replay_title script) text
+  pub title : List ℕ
+  pub titled : title ≡ replay_title script
+  pub drawn : IsSvgOf title text
 
--- The bytes are a ratifier script without fault, and the text is a picture whose title counts the turns of its trace,
--- its processes and its values.
+-- The bytes are a ratifier script without fault, and the text is a picture whose title counts the turns of its trace, its
+-- processes and its values.
 pub record IsRatifierPicture (bytes text : List ℕ) : Type 0 where
   pub script : ratify.Script
   pub read : ratify.script_of bytes ≡ Ok script
@@ -33,7 +34,9 @@ pub record IsRatifierPicture (bytes text : List ℕ) : Type 0 where
   pub entries : List Entry
   pub outputs : List (Option Out)
   pub made : IsTraceOf script entries outputs
-  pub drawn : IsSvgOf (ratifier_title (length entries) (length script.inputs) script.values) text
+  pub title : List ℕ
+  pub titled : title ≡ ratifier_title (length entries) (length script.inputs) script.values
+  pub drawn : IsSvgOf title text
 
 -- `mailbox_draw replay`: its answers are pictures, its faults those of `mailbox replay`
 abbrev pub drawing_replay : Command Fault
@@ -43,12 +46,13 @@ drawing_replay = record replaying { IsAnswer = IsReplayPicture }
 abbrev pub drawing_ratifier : Command RatifyFault
 drawing_ratifier = record ratifying { IsAnswer = IsRatifierPicture }
 
--- After this end of a command the status is its own. The line of a fault was written, whole or not, and nothing else.
-abbrev pub IsEnded : {E : Type 0} → IoModel E → E → E → ProgramExit → ℕ → Type 0
-IsEnded errs errors errors' (ending.Failed fault) status =
-    (status ≡ end_status (ending.Failed fault))
-    × ((whole : Bool) × IsPrinted errs errors errors' (fault_line fault) whole)
-IsEnded errs errors errors' end status = (status ≡ end_status end) × (errors' ≡ errors)
+-- After this result the status is 0, or that of the fault. Then the fault's line was written, whole or not, and nothing
+-- else.
+abbrev pub IsEnded : {X F E : Type 0} → (F → Failed) → IoModel E → E → E → Result X F → ℕ → Type 0
+IsEnded name errs errors errors' (Ok done) status = (status ≡ 0) × (errors' ≡ errors)
+IsEnded name errs errors errors' (Err fault) status =
+    (status ≡ fault_status (name fault))
+    × ((whole : Bool) × IsPrinted errs errors errors' (fault_line (name fault)) whole)
 
 -- the help was written whole and the status is 0, or a prefix of it and the status is 3
 abbrev pub IsUsageTold : {D : Type 0} → IoModel D → D → D → ℕ → Type 0
@@ -59,14 +63,14 @@ IsUsageTold sink old new status =
 abbrev pub WasDone : {R W E : Type 0} → Asked → IoModel R → IoModel W → IoModel E → R → R → W → W → E → E → ℕ → Type 0
 WasDone Replay source sink errs reader reader' writer writer' errors errors' status =
     (r : Result (Unit {0}) Fault) × IsCommandIo drawing_replay source sink reader reader' writer writer' r
-    × IsEnded errs errors errors' (ended_by failed.Replay r) status
+    × IsEnded failed.Replay errs errors errors' r status
 WasDone Ratify source sink errs reader reader' writer writer' errors errors' status =
     (r : Result (Unit {0}) RatifyFault) × IsCommandIo drawing_ratifier source sink reader reader' writer writer' r
-    × IsEnded errs errors errors' (ended_by failed.Ratify r) status
--- help goes to the first writer alone
+    × IsEnded failed.Ratify errs errors errors' r status
+-- help that was asked for goes to the first writer alone
 WasDone Help source sink errs reader reader' writer writer' errors errors' status =
     (reader' ≡ reader) × (errors' ≡ errors) × IsUsageTold sink writer writer' status
--- anything else gets the help too, but as an error
+-- if the program does not know what is asked for, the help goes to the second alone, whole or not
 WasDone Unknown source sink errs reader reader' writer writer' errors errors' status =
     (reader' ≡ reader) × (writer' ≡ writer) × (status ≡ 2)
     × ((whole : Bool) × IsPrinted errs errors errors' USAGE.now whole)

@@ -1,6 +1,6 @@
 //! The command line: one word.
-ghost use Rattle.std.specs.Prelude.{map};
-ghost use Rattle.mailbox_draw.specs.Asking.{IsAsked};
+ghost use Rattle.std.specs.Prelude.{◌≡◌, map};
+ghost use Rattle.mailbox_draw.specs.Asking.{asked_by};
 
 use std::convert::AsStr;
 
@@ -32,8 +32,9 @@ pub enum Asked {
 }
 
 /// What the words ask for. The first word is the program's name.
+#[tactic(auto, unfolding(crate::specs::Asking::asked_by))]
 pub fn asked_of<S: AsStr>(words: &[S]) -> Asked
-    ensures { IsAsked (map S.text words.now) result }
+    ensures { result ≡ asked_by (map S.text words.now) }
 {
     let [_, word] = words else {
         return Asked::Unknown;
