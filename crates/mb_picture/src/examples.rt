@@ -1,5 +1,5 @@
 //! The definitions by example. The functions compute nothing: their contracts are the examples.
-ghost use Rattle.std.specs.Prelude.{◌≡◌, [], ◌∷◌, codes, Some, None};
+ghost use Rattle.std.specs.Prelude.{◌≡◌, [], ◌∷◌, ◌++◌, codes, Some, None};
 ghost use Rattle.mb_picture.specs.declared.picture.Deed.TheVariants.{Load, Store, Exchange};
 ghost use Rattle.mb_picture.specs.declared.picture.Value.TheVariants.{Number};
 ghost use Rattle.mb_picture.specs.declared.picture.Word.TheVariants.{Counter, Item};
@@ -7,6 +7,7 @@ ghost use Rattle.mb_picture.specs.Diaries.{IsEmptyDiary};
 ghost use Rattle.mb_picture.specs.Escaped.{escaped, escaped_text, text_element};
 ghost use Rattle.mb_picture.specs.Led.{AreLinesAfter, IsLastStore, loaded_by, stored_by};
 ghost use Rattle.mb_picture.specs.LedExamples.{counter_load, mark_of, three_stores};
+ghost use Rattle.mb_picture.specs.Svg.{IsSvgOf, ratifier_title};
 
 /// What XML would read as its own is written as a reference. No control byte is written.
 pub fn texts_are_escaped()
@@ -51,6 +52,14 @@ pub fn lines_lead_to_loads()
         (record { from = 2; to = 3 } ∷ []) → ⊥ }
     ensures lost { AreLinesAfter three_stores (mark_of (Store Counter (Number 1)))
         (record { from = 0; to = 1 } ∷ []) [] → ⊥ }
+{}
+
+/// A title counts what it is of. The text of a picture begins and ends as SVG.
+pub fn pictures_have_titles()
+    ensures title { ratifier_title 1 2 4 ≡ codes "Ratifier: 1 turn, 2 processes, 4 values" }
+    ensures svg { IsSvgOf (codes "1<2") (codes "<svg xmlns='http://www.w3.org/2000/svg' >"
+        ++ codes "<title id='title'>1&lt;2</title>\n</svg>\n") }
+    ensures nothing { IsSvgOf (codes "1<2") [] → ⊥ }
 {}
 
 /// A diary with a note is not empty, and a lane is no diary.
