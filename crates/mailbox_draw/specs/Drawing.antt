@@ -1,10 +1,11 @@
 -- What the program does with its words, its reader and its two writers.
-use Rattle.std.specs.Prelude.{◌≡◌, ℕ, List, length, Bool, Option, None, Result, Ok, Err, if◌then◌else◌}
+use Rattle.std.specs.Prelude.{◌≡◌, ◌⊎◌, ℕ, List, length, Bool, Option, None, Result, Ok, Err}
+use Rattle.std.specs.Io.KnownBytes.{Appends}
 use Rattle.mb_deciding.specs.declared.object.Out.{Out}
 use Rattle.mb_deciding.specs.declared.trace.Entry.{Entry}
 use Rattle.mb_script.specs.declared.fault.Fault.{Fault}
 use Rattle.mb_script.specs.Vocabulary as replay
-use Rattle.mb_script.specs.Vocabulary.{Command, IoModel, IsCommandIo, replaying}
+use Rattle.mb_script.specs.Vocabulary.{AppendsFront, Command, IoModel, IsCommandIo, one_more, replaying}
 use Rattle.mb_program.specs.declared.fault.Failed.{Failed}
 use Rattle.mb_program.specs.declared.fault.Failed.TheVariants as failed
 use Rattle.mb_program.specs.declared.fault.RatifyFault.{RatifyFault}
@@ -25,8 +26,8 @@ pub record IsReplayPicture (bytes text : List ℕ) : Type 0 where
   pub titled : title ≡ replay_title script
   pub drawn : IsSvgOf title text
 
--- The bytes are a ratifier script without fault, and the text is a picture whose title counts the turns of its trace, its
--- processes and its values.
+-- The bytes are a ratifier script without fault, and the text is a picture whose title counts the turns of its trace,
+-- its processes and its values.
 pub record IsRatifierPicture (bytes text : List ℕ) : Type 0 where
   pub script : ratify.Script
   pub read : ratify.script_of bytes ≡ Ok script
@@ -54,13 +55,16 @@ IsEnded name errs errors errors' (Err fault) status =
     (status ≡ fault_status (name fault))
     × ((whole : Bool) × IsPrinted errs errors errors' (fault_line (name fault)) whole)
 
--- the help was written whole and the status is 0, or a prefix of it and the status is 3
+-- the help was written whole and the status is 0, or a prefix of it, the writer failed once, and the status is 3
 abbrev pub IsUsageTold : {D : Type 0} → IoModel D → D → D → ℕ → Type 0
 IsUsageTold sink old new status =
-    (whole : Bool) × (status ≡ (if whole then 0 else 3)) × IsPrinted sink old new USAGE.now whole
+    ((status ≡ 0) × Appends (sink.bytes old) (sink.bytes new) USAGE.now × (sink.failures new ≡ sink.failures old))
+    ⊎ ((status ≡ 3) × AppendsFront (sink.bytes old) (sink.bytes new) USAGE.now
+    × (sink.failures new ≡ one_more (sink.failures old)))
 
 -- the program did what it was asked for, and its status is this
-abbrev pub WasDone : {R W E : Type 0} → Asked → IoModel R → IoModel W → IoModel E → R → R → W → W → E → E → ℕ → Type 0
+abbrev pub WasDone : {R W E : Type 0} → Asked → IoModel R → IoModel W → IoModel E → R → R → W → W → E → E → ℕ
+    → Type 0
 WasDone Replay source sink errs reader reader' writer writer' errors errors' status =
     (r : Result (Unit {0}) Fault) × IsCommandIo drawing_replay source sink reader reader' writer writer' r
     × IsEnded failed.Replay errs errors errors' r status
@@ -70,7 +74,7 @@ WasDone Ratify source sink errs reader reader' writer writer' errors errors' sta
 -- help that was asked for goes to the first writer alone
 WasDone Help source sink errs reader reader' writer writer' errors errors' status =
     (reader' ≡ reader) × (errors' ≡ errors) × IsUsageTold sink writer writer' status
--- if the program does not know what is asked for, the help goes to the second alone, whole or not
+-- if the program does not know what is asked for, the help goes to the second alone
 WasDone Unknown source sink errs reader reader' writer writer' errors errors' status =
     (reader' ≡ reader) × (writer' ≡ writer) × (status ≡ 2)
-    × ((whole : Bool) × IsPrinted errs errors errors' USAGE.now whole)
+    × ((told : ℕ) × IsUsageTold errs errors errors' told)

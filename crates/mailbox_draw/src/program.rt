@@ -59,7 +59,7 @@ fn carry_out<A: Allocator + Copy, R: CountedRead, W: CountedWrite, E: CountedWri
         },
         Asked::Help => tell_usage(writer),
         Asked::Unknown => {
-            let _whole = print(errors, USAGE.as_bytes());
+            let _status = tell_usage(errors);
             REFUSED
         }
     }
@@ -93,10 +93,9 @@ fn tell_fault<A: Allocator + Copy, E: CountedWrite>(alloc: A, failed: &Failed, e
 fn tell_usage<W: CountedWrite>(writer: &mut W) -> u8
     ensures { IsUsageTold (meter W.held W.failures) writer.old writer.new result }
 {
-    if print(writer, USAGE.as_bytes()) {
-        DONE
-    } else {
-        FAILED
+    match write_all(writer, USAGE.as_bytes()) {
+        Ok(()) => DONE,
+        Err(_) => FAILED,
     }
 }
 
