@@ -1,5 +1,6 @@
 use Rattle.std.proofs.Common.{◌≡◌, ◌≢◌, ℕ, zero, suc, ◌<◌, ◌≤◌, Bool, true, false, List, [], ◌∷◌, ◌++◌, refl, sym, ◌∙◌, subst, inl, arith}
 use Rattle.std.specs.Prelude.{Some, reverse, slice_get}
+use Rattle.std.proofs.lemmas.Option.{slice_get_within}
 use Rattle.mb_claim.specs.Rows.{fast_row, last_row, pairs_of, row_of}
 use Rattle.mb_claim.specs.Vocabulary.{pair_count, shape_of}
 use Rattle.mb_claim.specs.declared.shape.Shape.{Shape}
@@ -18,7 +19,7 @@ use Rattle.mb_mailbox.specs.Imports.{Claim, Fits, Has, IsClaimIn, IsClaimPrefix,
 use Rattle.mb_mailbox.specs.Hubs.{HubView}
 use Rattle.mb_mailbox.specs.Mailboxes.{MailboxView, plan_at}
 use Rattle.mb_mailbox.proofs.Counted.{at_start, counted, is_noted}
-use Rattle.mb_mailbox.proofs.Lists.{get_within, some_same}
+use Rattle.mb_mailbox.proofs.Lists.{some_same}
 use Rattle.mb_mailbox.proofs.Reported.{diary_told, report_is}
 use Rattle.mb_mailbox.proofs.TakenIn.{Keeps, all_in, histories_in, keeps, tells}
 use Rattle.mb_mailbox.proofs.gather.sound.gathering_is_sound.Goals as goal
@@ -121,4 +122,4 @@ returns-clause-undecided c m h r g d p j e =
     let known = (g.sound.claims_lawful.parts other.0 k other.2).0 in
     let competes = c.competitors_have_accesses.ensures plan hs r other.0 p j k g.sound g.report
     (some_kinds plan.claims.kinds second) known at.lane on in
-    (inl (get_within (notes d p r) j Undecided e), (other.0, other.1, competes.1 other.2))
+    (inl (slice_get_within (notes d p r) j Undecided e), (other.0, other.1, competes.1 other.2))
