@@ -1,6 +1,7 @@
 -- A consumer that stands before a link moves on by a load of that link.
 use Rattle.std.proofs.Common.{◌≡◌, ◌≢◌, ◌⊎◌, ℕ, ◌+◌, ◌<◌, List, [], ◌∷◌, reverse, refl, sym, ap, ◌∙◌, subst, inl, ⊎_elim}
 use Rattle.std.specs.Prelude.{Some, None, slice_get}
+use Rattle.std.proofs.lemmas.Option.{slice_get_within}
 use Rattle.mb_world.proofs.Tracks.{past_item, past_link, read-cases, read-more}
 use Rattle.mb_claim.specs.declared.access.Stage.TheVariants as stage
 use Rattle.mb_mailbox.specs.Imports.{Claim, Claims, Cursor, END, EndsAs, Fits, Gave, Has, IsAccessAfter, IsClaimIn, IsDoneWith, IsOnceEach, Item, Layout}
@@ -23,7 +24,7 @@ loads_known laws s h = known laws s.reader.table.size s.reader.reader h.0 s.read
 list_there : (s : ConsumerView) (p : ℕ) (place : Place) → (i : IsConsumer s) → slice_get s.places p ≡ Some place
     → (ns : List Note) × (slice_get s.notes p ≡ Some ns)
 list_there s p place i e =
-    get_some s.notes p (subst (λ n. p < n) (i.places_count ∙ sym i.notes_count) (get_within s.places p place e))
+    get_some s.notes p (subst (λ n. p < n) (i.places_count ∙ sym i.notes_count) (slice_get_within s.places p place e))
 
 -- what a place before a link says of the consumer's parts, and by `holds` what a place with a claim says
 pub before : (s : ConsumerView) (p : ℕ) (at : Cursor) (i : IsConsumer s) → slice_get s.places p ≡ Some (Before at)
@@ -44,7 +45,8 @@ pub may_look : Laws → (s : ConsumerView) (p : ℕ) (at : Cursor) → IsConsume
     → MayRead s.reader.table.size.lanes (word_of at) s.reader.part
 may_look laws s p at i h e =
     let b = before s p at i e in
-    let low : p < s.reader.table.size.lanes = subst (λ n. p < n) i.places_count (get_within s.places p (Before at) e) in
+    let low : p < s.reader.table.size.lanes =
+    subst (λ n. p < n) i.places_count (slice_get_within s.places p (Before at) e) in
     subst (λ w. MayRead s.reader.table.size.lanes w s.reader.part) (sym b.2.word)
     (by (cells_met p s.reader.part) low (λ k has. (loads_known laws s h).given p k has))
   where
