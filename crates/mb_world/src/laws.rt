@@ -1,6 +1,6 @@
 //! Laws of mailboxes and their reports. The functions compute nothing: their contracts are the laws. Their bodies name
-//! the laws that they use, or what several of these give together. Their proofs are in `proofs/laws/`, one folder for
-//! each. They use the lemmas of `proofs/`.
+//! the laws of claims and of cells that they use. Their proofs are in `proofs/laws/`, one folder for each. They use the
+//! lemmas of `proofs/`.
 ghost use Rattle.std.specs.Prelude.{ℕ, ◌+◌, ◌^◌, ◌≡◌, ◌≢◌, ◌↔◌, ◌<◌, List, [], ◌∷◌, ◌++◌, Option, Some, true, false, reverse, slice_get};
 ghost use Rattle.mb_world.specs.Report.{ReportView, note};
 ghost use Rattle.mb_world.specs.Assignment.{Assignment};
