@@ -1,5 +1,3 @@
 pub mod Escaped
 pub mod Led
-pub mod LedExamples
 pub mod Diaries
-pub mod Svg
