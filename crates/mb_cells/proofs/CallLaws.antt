@@ -11,7 +11,7 @@ use Rattle.mb_cells.specs.{offer_by_found, place_past, put_list, put_list_by, si
 use Rattle.mb_cells.specs.{stage_push_answer, value_in, word_in, word_of}
 use Rattle.mb_cells.proofs.CallHistories.{Tells, told_finish, told_nothing, told_offer, told_push}
 use Rattle.mb_cells.proofs.EndMarks.{end_word}
-use Rattle.mb_cells.proofs.Items.{LeadThrough, cell_within, item_left, lead_through, once_each, one_lane, same_map}
+use Rattle.mb_cells.proofs.Items.{LeadThrough, cell_within, item_held, lead_through, once_each, one_lane, same_map}
 use Rattle.mb_cells.proofs.LaneReading.{cursor_past, end_look, reads_back}
 
 -- the words of a state lead through a lane as its history's words do
@@ -42,7 +42,7 @@ state_reads h s p after lt =
     → k < cell_count s = λ k has. (cell_within (size_of s) h p k l has).1 in
     reads_back (λ w. word_in w s.words) (λ k. item_of k h) p (linked_cells p h) [] (lane_end p h)
     (λ k has. let b : k < cell_count s = low k has in
-    (λ e. absurd (omega (arith, l.sized)), after.words (Item k) b ∙ item_left (size_of s) h p k l has))
+    (λ e. absurd (omega (arith, l.sized)), after.words (Item k) b ∙ item_held (size_of s) h p k l has))
     (lead_words h s p (linked_cells p h) after lt low (lead_through (size_of s) h p l))
     (ap look_of (last_word h s p (linked_cells p h) after lt low ∙ end_word (size_of s) h p l)
     ∙ end_look (has_ended p h))

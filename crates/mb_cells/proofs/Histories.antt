@@ -362,10 +362,10 @@ link_load size h r v w l link has =
     ]
 
 -- a word that one producer alone stores to is as that producer's part leaves it
-pub left_alone : (h : History) (p : ℕ) (w : Word)
+pub held_alone : (h : History) (p : ℕ) (w : Word)
     → ((a : PoolAccess) (v : ℕ) → Has h a → a.word ≡ w → stored_by a.act ≡ Some v → a.process ≡ Producer p)
     → value_in w h ≡ value_in w (part (Producer p) h)
-left_alone h p w only =
+held_alone h p w only =
     value_in-part (Producer p) w h
     (λ a v has at is. own_process (Producer p) a (only a v has at is))
 

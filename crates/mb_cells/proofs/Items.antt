@@ -303,9 +303,9 @@ lead_through size h p l =
     (leads (λ w. value_in w h) p place.entries (chained size p h place.entries place.phase l place.at))
 
 -- the item of a linked cell is the one offered
-pub item_left : (size : PoolSize) (h : History) (p k : ℕ) → IsPoolLawful size h → Has (linked_cells p h) k
+pub item_held : (size : PoolSize) (h : History) (p k : ℕ) → IsPoolLawful size h → Has (linked_cells p h) k
     → value_in (Item k) h ≡ item_of k h
-item_left size h p k l has =
+item_held size h p k l has =
     let x = is_put_at size h p k l has in
     x.holds ∙ sym (item_of-fetch h p x.entry (lawful-counted size h l) x.fetched) ∙ ap (λ k. item_of k h) x.cell
 

@@ -9,7 +9,7 @@ use Rattle.mb_cells.specs.{AllCellsBelow, Cursor, END, Entry, Has, HasLoaded, Hi
 use Rattle.mb_cells.specs.{has_ended, item_of, lane_end, linked_cells, look_after, look_of, place_past, put_list, value_in, word_of}
 use Rattle.mb_cells.proofs.EndMarks.{end_word}
 use Rattle.mb_cells.proofs.Histories.{cells_at, cells_of, link-place, link_load, place_of}
-use Rattle.mb_cells.proofs.Items.{LeadThrough, item_left, lead_through, lower}
+use Rattle.mb_cells.proofs.Items.{LeadThrough, item_held, lead_through, lower}
 
 -- the cursor past these cells, the last first
 abbrev pub cursor_past : ℕ → List ℕ → Cursor
@@ -61,7 +61,7 @@ lane_reads size h p l =
     reads_back (λ w. value_in w h) (λ k. item_of k h) p (linked_cells p h) [] (lane_end p h)
     (λ k has. (
       below_end size.cells k place.entries l.sized place.at.below (subst (λ x. Has x k) is has),
-      item_left size h p k l has,
+      item_held size h p k l has,
     ))
     (lead_through size h p l)
     (ap (λ w. look_of (value_in w h)) (word_past p (linked_cells p h)) ∙ ap look_of (end_word size h p l)

@@ -10,7 +10,7 @@ use Rattle.mb_claim.specs.{past_the_pair, through_three}
 use Rattle.mb_claim.proofs.Lists.{not_empty}
 use Rattle.mb_claim.proofs.ObjectHistories.{turns_at}
 use Rattle.mb_claim.proofs.LawfulExamples.{AreAll, known, zero_word, one_word, two_word, one_put, two_put}
-use Rattle.mb_claim.proofs.PassedRatifiers.{left_behind}
+use Rattle.mb_claim.proofs.PassedRatifiers.{came_undecided}
 
 -- ---- the part of consumer 0
 -- the row of the five objects
@@ -286,13 +286,13 @@ past_refused bad =
     let xs : List ObjectTurn = part_on 0 0 past_the_pair in
     let mine = bad.parts 0 0 (λ none. not_empty _ _ none) in
     let first =
-    left_behind (unary_table 2) 0 Ratifier (Ratifier ∷ Conciliator 2 ∷ Ratifier ∷ LastObject ∷ []) 0 0 4 xs
+    came_undecided (unary_table 2) 0 Ratifier (Ratifier ∷ Conciliator 2 ∷ Ratifier ∷ LastObject ∷ []) 0 0 4 xs
     mine.2.0 (omega arith) mine.2.1 (λ none. not_empty _ _ none) in
     let second =
-    left_behind (unary_table 2) 0 Ratifier (Conciliator 2 ∷ Ratifier ∷ LastObject ∷ []) 1 first.value 4 first.later
+    came_undecided (unary_table 2) 0 Ratifier (Conciliator 2 ∷ Ratifier ∷ LastObject ∷ []) 1 first.value 4 first.later
     mine.2.0 (omega arith) first.prefix (λ none. not_empty _ _ (first.ahead 4 (omega arith) ∙ none)) in
     let third =
-    left_behind (unary_table 2) 0 (Conciliator 2) (Ratifier ∷ LastObject ∷ []) 2 second.value 4 second.later
+    came_undecided (unary_table 2) 0 (Conciliator 2) (Ratifier ∷ LastObject ∷ []) 2 second.value 4 second.later
     mine.2.0 (omega arith) second.prefix
     (λ none. not_empty _ _ (first.ahead 4 (omega arith) ∙ second.ahead 4 (omega arith) ∙ none)) in
     (subst (λ ts. IsPath (unary_table 2) (Conciliator 2) second.value ts (answer false third.value))

@@ -103,14 +103,14 @@ module _ (t : QuorumTable) (kinds : List Kind) (c object : ℕ) (pc : Pc) (xs : 
 
 -- ---- a claim with an access: it goes on, or has ended
 -- the turns of each consumer that stands at a place are a prefix of its path, and it is going
-abbrev pub PartsOf : QuorumTable → List Kind → Type 0
-PartsOf t kinds = (c object : ℕ) (pc : Pc) (xs : List ObjectTurn) → StandsAt t kinds c object pc xs
+abbrev pub PlacesMakeParts : QuorumTable → List Kind → Type 0
+PlacesMakeParts t kinds = (c object : ℕ) (pc : Pc) (xs : List ObjectTurn) → StandsAt t kinds c object pc xs
     → IsClaimPrefixFrom t c kinds 0 c xs Going
 
 -- a claim with an access that is going is the claim of these turns, if its consumer stands at its place
 pub claim_going :
     (t : QuorumTable) (kinds : List Kind) (claim : Claim) (x : ObjectTurn) (xs : List ObjectTurn)
-    → PartsOf t kinds → claim.consumer < t.values → claim.stage ≡ Going → claim.begun ≡ true
+    → PlacesMakeParts t kinds → claim.consumer < t.values → claim.stage ≡ Going → claim.begun ≡ true
     → StandsAt t kinds claim.consumer claim.object claim.place (x ∷ xs) → IsClaimOf t kinds claim (x ∷ xs)
 claim_going t kinds claim x xs parts known going begun stands =
     record {
@@ -170,7 +170,7 @@ stands_first t kinds kind c pc first below at =
 pub claim_passed :
     (t : QuorumTable) (kinds : List Kind) (claim : Claim) (c object : ℕ) (pc : Pc) (xs : List ObjectTurn)
     (p : StandsAt t kinds c object pc xs) (x : Turn) (u : ℕ)
-    → PartsOf t kinds → claim.consumer ≡ c → c < t.values → claim.begun ≡ true → u < t.values
+    → PlacesMakeParts t kinds → claim.consumer ≡ c → c < t.values → claim.begun ≡ true → u < t.values
     → IsPath t p.kind p.input (x ∷ p.turns) (answer false u)
     → (next : Option Kind) → slice_get kinds (object + 1) ≡ next
     → MatchOption next (claim.stage ≡ Undecided)

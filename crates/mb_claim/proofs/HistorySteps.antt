@@ -31,13 +31,13 @@ other_part c k a h ne =
     (λ p q. ne (eqb-true a.consumer c p) (eqb-true a.cell k q))
 
 -- what is left in a word changes as the access says, by whether it is on the word's object
-left_by :
+held_by :
     (q r : Bool) (x : Access) (reg : Reg) (xs : List Access)
     → value_in reg (cons_option (cond q (cond r (Some x) None) None) xs) ≡ cond q
     (cond r (value_after reg x.turn.act (value_in reg xs)) (value_in reg xs)) (value_in reg xs)
-left_by true true x reg xs = refl
-left_by true false x reg xs = refl
-left_by false r x reg xs = refl
+held_by true true x reg xs = refl
+held_by true false x reg xs = refl
+held_by false r x reg xs = refl
 
 module _ (cs : Claims) (h : List ClaimAccess) (a : ClaimAccess)
     (law : IsClaimLawful cs h) (may : MayFollow cs a h) where
@@ -69,6 +69,6 @@ module _ (cs : Claims) (h : List ClaimAccess) (a : ClaimAccess)
         };
         own = own_part a h;
         others = λ c k ne. other_part c k a h ne;
-        words = λ k o reg. left_by (eqb a.cell k) (eqb a.step.object o)
+        words = λ k o reg. held_by (eqb a.cell k) (eqb a.step.object o)
             (record { process = a.consumer; turn = a.step.turn }) reg (object_history k o h);
       }

@@ -9,7 +9,7 @@ use Rattle.mb_quorum.specs.Vocabulary.{QuorumTable, IsQuorumTable}
 use Rattle.mb_quorum.specs.TablesLaw.{chosen_lawful, chosen_within}
 use Rattle.mb_quorum.specs.Width.{width_of}
 use Rattle.mb_quorum.specs.WidthLaw.{width_is_least}
-use Rattle.mb_deciding.specs.Run.{IsFitKind}
+use Rattle.mb_deciding.specs.Course.{IsFitKind}
 use Rattle.mb_deciding.specs.Vocabulary.{spread}
 use Rattle.mb_claim.specs.{Conciliator, Ratifier, LastObject, Kind, Layout, Shape, pairs_of, fast_row, last_row, row_of, most_on_objects, quorums_of, kinds_of}
 use Rattle.mb_claim.specs.{consumer_count, cell_words}

@@ -41,8 +41,8 @@ pub mod FastPath
 pub mod PassedRatifiers
 pub mod LastObjects
 -- Runs
-pub mod RunSteps
-pub mod OneRun
+pub mod PlaySteps
+pub mod OnePlay
 -- Examples
 pub mod LawfulExamples
 pub mod ShapedExamples

@@ -8,14 +8,14 @@ use Rattle.mb_deciding.specs.ManySteps.{AreSteps, DrawsAndMakes}
 use Rattle.mb_claim.specs.{Kind, Turn, Out, Pc, Claim, ClaimOp, Going, Layout, ObjectTurn, claim_stage, consumer_of, quorums_of, kinds_of}
 use Rattle.mb_claim.specs.{IsClaimStep, IsClaimIn, step_of}
 use Rattle.mb_claim.specs.ManyClaimSteps.{stood_at, AreClaimSteps, DrawsAndMakesNext}
-use Rattle.mb_claim.proofs.ClaimSteps.{PartsOf, same_object, claim_going}
+use Rattle.mb_claim.proofs.ClaimSteps.{PlacesMakeParts, same_object, claim_going}
 
 -- the claim after n accesses on its object, which led to this place
 abbrev pub stood_after : ℕ → Pc → Claim → Claim
 stood_after zero pc claim = claim
 stood_after (suc n) pc claim = stood_at pc true claim
 
-module _ {M : Type 0} (layout : Layout) (parts : PartsOf (quorums_of layout) (kinds_of layout))
+module _ {M : Type 0} (layout : Layout) (parts : PlacesMakeParts (quorums_of layout) (kinds_of layout))
     (draws : M → ℕ → M → Type 0) (makes : M → ℕ → Op → ℕ → M → Type 0) where
   -- an access of a claim's place that leads to a place is a step of the claim to that place
   goes_on :

@@ -8,7 +8,8 @@ use Rattle.mb_claim.proofs.Lists.{append_nil_right}
 use Rattle.mb_claim.proofs.Parts.{passed_turns, turns_at-append, turns_at-turns_on_other}
 
 -- the consumer was left undecided by object o, with the value u, and later turns follow
-pub record Left (t : QuorumTable) (c : ℕ) (kind : Kind) (ks : List Kind) (o v : ℕ) (xs : List ObjectTurn) (s : Stage)
+pub record CameUndecided (t : QuorumTable) (c : ℕ) (kind : Kind) (ks : List Kind) (o v : ℕ) (xs : List ObjectTurn)
+    (s : Stage)
     : Type 0 where
   pub value : ℕ
   pub later : List ObjectTurn
@@ -17,14 +18,14 @@ pub record Left (t : QuorumTable) (c : ℕ) (kind : Kind) (ks : List Kind) (o v 
   pub ahead : (n : ℕ) → o < n → turns_at n xs ≡ turns_at n later
 
 -- a consumer whose part has a turn on a later object was left undecided by object o
-pub left_behind :
+pub came_undecided :
     (t : QuorumTable) (c : ℕ) (kind : Kind) (ks : List Kind) (o v n : ℕ) (xs : List ObjectTurn) (s : Stage) → o < n
-    → IsClaimPrefixFrom t c (kind ∷ ks) o v xs s → turns_at n xs ≢ [] → Left t c kind ks o v xs s
-left_behind t c kind ks o v n xs s below (inl x) some =
+    → IsClaimPrefixFrom t c (kind ∷ ks) o v xs s → turns_at n xs ≢ [] → CameUndecided t c kind ks o v xs s
+came_undecided t c kind ks o v n xs s below (inl x) some =
     absurd (some (ap (turns_at n) x.all ∙ turns_at-turns_on_other o n x.turns (λ e. omega (arith, e, below))))
-left_behind t c kind ks o v n xs s below (inr (inl x)) some =
+came_undecided t c kind ks o v n xs s below (inr (inl x)) some =
     absurd (some (ap (turns_at n) x.all ∙ turns_at-turns_on_other o n x.turns (λ e. omega (arith, e, below))))
-left_behind t c kind ks o v n xs s below (inr (inr (u, later, x, p))) some =
+came_undecided t c kind ks o v n xs s below (inr (inr (u, later, x, p))) some =
     record {
       value = u;
       later = later;
@@ -36,15 +37,15 @@ left_behind t c kind ks o v n xs s below (inr (inr (u, later, x, p))) some =
     }
 
 -- a consumer with a turn after two ratifiers was left undecided by both
-pub left_by_both :
+pub both_came_undecided :
     (t : QuorumTable) (c : ℕ) (ks : List Kind) (v n : ℕ) (xs : List ObjectTurn) (s : Stage) → 2 ≤ n
     → IsClaimPrefixFrom t c (Ratifier ∷ Ratifier ∷ ks) 0 v xs s → turns_at n xs ≢ []
     → (u w : ℕ) × IsPath t Ratifier v (turns_at 0 xs) (answer false u)
     × IsPath t Ratifier u (turns_at 1 xs) (answer false w)
-left_by_both t c ks v n xs s below p some =
-    let first = left_behind t c Ratifier (Ratifier ∷ ks) 0 v n xs s (omega (arith, below)) p some in
+both_came_undecided t c ks v n xs s below p some =
+    let first = came_undecided t c Ratifier (Ratifier ∷ ks) 0 v n xs s (omega (arith, below)) p some in
     let second =
-    left_behind t c Ratifier ks 1 first.value n first.later s (omega (arith, below)) first.prefix
+    came_undecided t c Ratifier ks 1 first.value n first.later s (omega (arith, below)) first.prefix
     (λ none. some (first.ahead n (omega (arith, below)) ∙ none)) in (
       first.value,
       second.value,

@@ -2,7 +2,7 @@
 use Rattle.std.proofs.Common.{◌≡◌, ◌≢◌, ◌<◌, ℕ, zero, suc, true, false, List, [], ◌∷◌, ◌++◌, get_or, refl, inl, inr}
 use Rattle.std.proofs.Common.{⊎_elim, arith}
 use Rattle.mb_quorum.specs.Unary.{unary_table}
-use Rattle.mb_deciding.specs.Examples.{impatient_run}
+use Rattle.mb_deciding.specs.Examples.{impatient_turns}
 use Rattle.mb_deciding.specs.Vocabulary.{answer, IsPath, IsPrefix}
 use Rattle.mb_claim.specs.declared.run.ClaimEntry.TheVariants as entry
 use Rattle.mb_claim.specs.{Value, Proposal, Quorum, Act, Load, Store, Turn, Conciliator, Ratifier}
@@ -167,11 +167,11 @@ few_refused bad = let same : 1 ≡ 2 = bad.consumers in absurd (omega (arith, sa
 
 -- no run has a store that the step's random word does not allow
 pub impatient_refused :
-    (IsPrefix (unary_table 2) (Conciliator 2) 0 impatient_run → ⊥)
+    (IsPrefix (unary_table 2) (Conciliator 2) 0 impatient_turns → ⊥)
     → IsPlayedByTwo ((0, 3) ∷ (0, 3) ∷ []) (entry.Access 0 0 (Load Value 0) ∷ entry.Access 0 0 (Store Value 1) ∷ [])
     (Going ∷ Going ∷ []) → ⊥
 impatient_refused no_part bad =
-    let xs : List ObjectTurn = turns_on 0 impatient_run in
+    let xs : List ObjectTurn = turns_on 0 impatient_turns in
     let mine = bad.lawful.parts 0 0 (λ none. not_empty _ _ none) in
     let here = (forward (unary_table 2) 0 (Conciliator 2) (Ratifier ∷ []) 0 0 xs mine.2.0 (inr mine.2.1)).here in
     ⊎_elim (λ none. not_empty _ _ none) no_part here

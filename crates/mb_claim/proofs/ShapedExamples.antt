@@ -9,7 +9,7 @@ use Rattle.mb_claim.specs.{IsClaimPart, IsClaimLawful, both_undecided, two_consu
 use Rattle.mb_claim.specs.{past_both_ratifiers, past_one_ratifier, last_decides, last_found_empty_twice, last_comes_first}
 use Rattle.mb_claim.proofs.Lists.{not_empty}
 use Rattle.mb_claim.proofs.ObjectHistories.{turns_at}
-use Rattle.mb_claim.proofs.PassedRatifiers.{left_behind, left_by_both}
+use Rattle.mb_claim.proofs.PassedRatifiers.{came_undecided, both_came_undecided}
 use Rattle.mb_claim.proofs.LawfulExamples.{known, undecided_lawful}
 use Rattle.mb_claim.proofs.LawfulExamples.{zero_word, one_word, one_put}
 
@@ -34,8 +34,8 @@ fast_won =
     }))
 
 -- consumer 1 prefers 0 in the first ratifier and meets its own announcement, so it is undecided there
-left_there : IsPath (unary_table 2) Ratifier 1 (turns_at 0 (part_on 1 0 lost_at_second)) (answer false 0)
-left_there = (
+undecided_there : IsPath (unary_table 2) Ratifier 1 (turns_at 0 (part_on 1 0 lost_at_second)) (answer false 0)
+undecided_there = (
   1,
   refl,
   refl,
@@ -50,7 +50,7 @@ fast_lost =
     inr (inr (
       0,
       turns_on 1 (turns_at 1 xs),
-      record { turns = turns_at 0 xs; all = refl; path = left_there },
+      record { turns = turns_at 0 xs; all = refl; path = undecided_there },
       inr (inl (record {
         turns = turns_at 1 xs;
         value = 0;
@@ -125,7 +125,7 @@ pub both_refused : IsClaimLawful (two_with true false) past_both_ratifiers → �
 both_refused bad =
     let xs : List ObjectTurn = part_on 0 0 past_both_ratifiers in
     let mine = bad.parts 0 0 (λ none. not_empty _ _ none) in
-    (left_by_both (unary_table 2) 0 (Conciliator 2 ∷ Ratifier ∷ []) 0 2 xs mine.2.0 (omega arith) mine.2.1
+    (both_came_undecided (unary_table 2) 0 (Conciliator 2 ∷ Ratifier ∷ []) 0 2 xs mine.2.0 (omega arith) mine.2.1
     (λ none. not_empty _ _ none)).2
 
 -- `past_one_ratifier` is not lawful: who comes to the conciliator has passed the second ratifier
@@ -133,7 +133,7 @@ pub one_refused : IsClaimLawful (two_with true false) past_one_ratifier → ⊥
 one_refused bad =
     let xs : List ObjectTurn = part_on 1 0 past_one_ratifier in
     let mine = bad.parts 1 0 (λ none. not_empty _ _ none) in
-    (left_by_both (unary_table 2) 1 (Conciliator 2 ∷ Ratifier ∷ []) 1 2 xs mine.2.0 (omega arith) mine.2.1
+    (both_came_undecided (unary_table 2) 1 (Conciliator 2 ∷ Ratifier ∷ []) 1 2 xs mine.2.0 (omega arith) mine.2.1
     (λ none. not_empty _ _ none)).3
 
 -- ---- a last object
@@ -340,7 +340,7 @@ pub first_refused : IsClaimLawful (two_with false true) last_comes_first → ⊥
 first_refused bad =
     let xs : List ObjectTurn = part_on 0 0 last_comes_first in
     let mine = bad.parts 0 0 (λ none. not_empty _ _ none) in
-    (left_behind (unary_table 2) 0 (Conciliator 2) (Ratifier ∷ LastObject ∷ []) 0 0 2 xs mine.2.0 (omega arith)
+    (came_undecided (unary_table 2) 0 (Conciliator 2) (Ratifier ∷ LastObject ∷ []) 0 0 2 xs mine.2.0 (omega arith)
     mine.2.1 (λ none. not_empty _ _ none)).path.1
 
 -- without a last object `last_decides` is not lawful: the row has no third object
@@ -349,9 +349,9 @@ absent_refused bad =
     let xs : List ObjectTurn = part_on 0 0 last_decides in
     let mine = bad.parts 0 0 (λ none. not_empty _ _ none) in
     let first =
-    left_behind (unary_table 2) 0 (Conciliator 2) (Ratifier ∷ []) 0 0 2 xs mine.2.0 (omega arith) mine.2.1
+    came_undecided (unary_table 2) 0 (Conciliator 2) (Ratifier ∷ []) 0 0 2 xs mine.2.0 (omega arith) mine.2.1
     (λ none. not_empty _ _ none) in
     let second =
-    left_behind (unary_table 2) 0 Ratifier [] 1 first.value 2 first.later mine.2.0 (omega arith) first.prefix
+    came_undecided (unary_table 2) 0 Ratifier [] 1 first.value 2 first.later mine.2.0 (omega arith) first.prefix
     (λ none. not_empty _ _ (first.ahead 2 (omega arith) ∙ none)) in
     not_empty _ _ (first.ahead 2 (omega arith) ∙ second.ahead 2 (omega arith) ∙ ap (turns_at 2) second.prefix.0)

@@ -4,7 +4,7 @@ use Rattle.std.proofs.Common.{◌≡◌, ◌<◌, ◌≤◌, ◌⊎◌, ℕ, Lis
 use Rattle.std.proofs.Common.{inr, slice_index, slice_set, set, get_or-set_other, get_or-set_same, length-set, arith}
 use Rattle.std.proofs.lemmas.Bool.{cases_eq}
 use Rattle.mb_deciding.specs.Vocabulary.{IsInWords, CanFind, IsOpAt, reg_of}
-use Rattle.mb_claim.specs.{Reg, Op, Pc, ClaimAccess, Claims, MayFollow, Adds, object_history, left_at, words_in}
+use Rattle.mb_claim.specs.{Reg, Op, Pc, ClaimAccess, Claims, MayFollow, Adds, object_history, held_at, words_in}
 use Rattle.mb_claim.specs.{address_in, IsWordIn, HasPlace, access_after, IsMemoryOf, after_op, found_in}
 use Rattle.mb_claim.specs.{access_in, words_after}
 use Rattle.mb_claim.proofs.KindLaws.{AreDeciding}
@@ -35,7 +35,7 @@ module _
       let b = memory.room in omega arith
 
   -- the value found is the one that the history leaves in the word
-  seen : found ≡ left_at k object (reg_of op) h
+  seen : found ≡ held_at k object (reg_of op) h
   seen = memory.left k object (reg_of op) cell place
 
   -- the access made on the words is the one that the op makes after the history
@@ -54,25 +54,25 @@ module _
 
   module _ (added : Adds cs access h) where
     -- after the access each word has what the longer history leaves in it, by whether it is the word of the access
-    left_by :
+    held_by :
         (j o : ℕ) (q : Reg) → IsWordIn cs o q → j < cs.cells
         → (address ≡ address_in cs j o q) ⊎ (address ≡ address_in cs j o q → ⊥)
-        → slice_index (words_after cs k object op words) (address_in cs j o q) ≡ left_at j o q (access ∷ h)
-    left_by j o q p l (inl e) =
+        → slice_index (words_after cs k object op words) (address_in cs j o q) ≡ held_at j o q (access ∷ h)
+    held_by j o q p l (inl e) =
         let d = distinct cs.table.registers cs.kinds k j object o (reg_of op) q place p e in
         let P : ℕ → ℕ → Reg → Type 0 =
-        λ j o q. slice_index (words_after cs k object op words) (address_in cs j o q) ≡ left_at j o q (access ∷ h) in
+        λ j o q. slice_index (words_after cs k object op words) (address_in cs j o q) ≡ held_at j o q (access ∷ h) in
         subst (λ x. P j o x) d.2 (subst₂ (λ x y. P x y (reg_of op)) d.0 d.1
         (get_or-set_same words address (after_op op found) 0 below
         ∙ ap (after_op op) seen
         ∙ sym (added.words k object (reg_of op)
-        ∙ own_place k object found (left_at k object (reg_of op) h) op seen)))
-    left_by j o q p l (inr ne) =
+        ∙ own_place k object found (held_at k object (reg_of op) h) op seen)))
+    held_by j o q p l (inr ne) =
         get_or-set_other words address (address_in cs j o q) (after_op op found) 0 (λ e. ne (sym e))
         ∙ memory.left j o q l p
         ∙ sym
         (added.words j o q
-        ∙ other_place k object found (left_at j o q h) op j o q
+        ∙ other_place k object found (held_at j o q h) op j o q
         (λ a b e. ne (ap₂ (λ x y. address_in cs x y (reg_of op)) a b ∙ ap (address_in cs j o) e)))
 
     -- after the access the words are those that the longer history leaves
@@ -84,7 +84,7 @@ module _
               let a = memory.room in
               let b : length (set words address (after_op op found)) ≡ length words =
               length-set words address (after_op op found) in omega arith;
-          left = λ j o q l p. left_by j o q p l (cases_eq address (address_in cs j o q));
+          left = λ j o q l p. held_by j o q p l (cases_eq address (address_in cs j o q));
         }
 
   module _

@@ -4,7 +4,7 @@ use Rattle.mb_deciding.specs.Vocabulary.{value_after, ReadsLast, IsInWords}
 use Rattle.mb_claim.specs.AllClaims.{Claims}
 use Rattle.mb_claim.specs.ObjectTypes.{Reg}
 use Rattle.mb_claim.specs.Types.{ClaimAccess, ObjectTurn, Stage}
-use Rattle.mb_claim.specs.History.{part_on, object_history, left_at, IsMemoryTrue, AreInWords}
+use Rattle.mb_claim.specs.History.{part_on, object_history, held_at, IsMemoryTrue, AreInWords}
 use Rattle.mb_claim.specs.Paths.{IsClaimPrefix}
 
 -- these steps of consumer c on cell k belong to a claim: c is a consumer and k a cell of the claims, and the steps are
@@ -43,8 +43,8 @@ pub record MayFollow (cs : Claims) (a : ClaimAccess) (h : List ClaimAccess) : Ty
   pub prefix : (s : Stage) × IsClaimPrefix cs a.consumer (a.step ∷ part_on a.consumer a.cell h) s
 
 -- what a word of object o of cell k holds after an access, if it held n before
-abbrev pub left_after : ℕ → ℕ → Reg → ClaimAccess → ℕ → ℕ
-left_after k o reg a n =
+abbrev pub held_after : ℕ → ℕ → Reg → ClaimAccess → ℕ → ℕ
+held_after k o reg a n =
     if a.cell == k then (if a.step.object == o then value_after reg a.step.turn.act n else n) else n
 
 -- the access adds one step to one part of the history, and changes at most one word
@@ -56,5 +56,5 @@ pub record Adds (cs : Claims) (a : ClaimAccess) (h : List ClaimAccess) : Type 0 
   -- all other parts stay
   pub others : (c k : ℕ) → (a.consumer ≡ c → a.cell ≡ k → ⊥) → part_on c k (a ∷ h) ≡ part_on c k h
   -- each word has what the access leaves in it
-  pub words : (k o : ℕ) (reg : Reg) → left_at k o reg (a ∷ h) ≡ left_after k o reg a
-      (left_at k o reg h)
+  pub words : (k o : ℕ) (reg : Reg) → held_at k o reg (a ∷ h) ≡ held_after k o reg a
+      (held_at k o reg h)

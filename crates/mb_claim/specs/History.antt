@@ -39,8 +39,8 @@ abbrev pub part_at : ℕ → ℕ → ℕ → List ClaimAccess → List Turn
 part_at c k o h = object_part c (object_history k o h)
 
 -- what a history leaves in a word of object o of cell k
-abbrev pub left_at : ℕ → ℕ → Reg → List ClaimAccess → ℕ
-left_at k o reg h = value_in reg (object_history k o h)
+abbrev pub held_at : ℕ → ℕ → Reg → List ClaimAccess → ℕ
+held_at k o reg h = value_in reg (object_history k o h)
 
 -- each access that loads has what the older accesses left in its word
 abbrev pub IsMemoryTrue : List ClaimAccess → Type 0

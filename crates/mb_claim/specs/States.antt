@@ -5,7 +5,7 @@ use Rattle.mb_deciding.specs.Vocabulary.{stored_by, act_of, reg_of}
 use Rattle.mb_claim.specs.ObjectTypes.{Reg, Op}
 use Rattle.mb_claim.specs.Types.{ObjectTurn, ClaimAccess}
 use Rattle.mb_claim.specs.AllClaims.{Claims}
-use Rattle.mb_claim.specs.History.{left_at}
+use Rattle.mb_claim.specs.History.{held_at}
 use Rattle.mb_claim.specs.Claiming.{IsClaimLawful}
 use Rattle.mb_claim.specs.Layouts.{words_in, address_in, IsWordIn}
 
@@ -18,7 +18,7 @@ pub record IsMemoryOf (cs : Claims) (words : List ℕ) (h : List ClaimAccess) : 
   -- each word of an object has what the history leaves in it
   pub left :
       (k o : ℕ) (reg : Reg) → k < cs.cells → IsWordIn cs o reg
-      → slice_index words (address_in cs k o reg) ≡ left_at k o reg h
+      → slice_index words (address_in cs k o reg) ≡ held_at k o reg h
 
 -- what an op that finds n leaves in its word: what its act stores, if it stores, and else n
 abbrev pub after_op : Op → ℕ → ℕ

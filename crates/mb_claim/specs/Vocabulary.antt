@@ -1,10 +1,10 @@
 -- The definitions that the crates above use in clauses and proofs.
 pub use Rattle.mb_claim.specs.AllClaims.{claims_of, ClaimsAreSound, Claims}
-pub use Rattle.mb_claim.specs.History.{step_by, part_on, access_by, part, access_on, object_history, part_at, left_at}
+pub use Rattle.mb_claim.specs.History.{step_by, part_on, access_by, part, access_on, object_history, part_at, held_at}
 pub use Rattle.mb_claim.specs.History.{IsMemoryTrue, AreInWords, on_cell}
 pub use Rattle.mb_claim.specs.Paths.{turns_on, stage_for, stage_of, IsClaimPath, IsClaimPrefixFrom, Enters}
 pub use Rattle.mb_claim.specs.Paths.{IsWholeClaim, IsClaimPrefix, GoesOnIn, DecidesIn, Passes}
-pub use Rattle.mb_claim.specs.Claiming.{IsClaimPart, HasStage, left_after, IsClaimLawful, MayFollow, Adds}
+pub use Rattle.mb_claim.specs.Claiming.{IsClaimPart, HasStage, held_after, IsClaimLawful, MayFollow, Adds}
 pub use Rattle.mb_claim.specs.Winner.{StageNames, IsClaimAnnounced, IsClaimContested, HasOneWinner}
 pub use Rattle.mb_claim.specs.Standing.{PassesAll, HasPlace, access_after, StandsAt, IsClaimOf}
 pub use Rattle.mb_claim.specs.Layouts.{pairs_of, fast_row, last_row, row_of, plain, shape_of, fast_steps, last_steps, shaped_steps}

@@ -95,7 +95,7 @@ pub fn both_ends_may_be_there()
 {}
 
 /// A run, and entries and stages that do not make a run.
-pub fn runs_are_told_from_others()
+pub fn plays_are_told_from_others()
     // Consumer 0 wins in seven steps. Its eighth step makes no access.
     ensures won { IsPlayedByTwo eight_steps (won_and (entry.Done 0)) (Won ∷ Going ∷ []) }
 

@@ -12,7 +12,7 @@ ghost use Rattle.mb_claim.specs.{Reg, Value, Kind, Conciliator, Ratifier, LastOb
 ghost use Rattle.mb_claim.specs.{ClaimAccess, ObjectTurn, Shape, plain, row_of, shaped_steps, shape_of};
 ghost use Rattle.mb_claim.specs.{Stage, Going, Undecided, kinds_of, MAX_CELLS, MAX_LARGE_CELLS, MAX_PAIRS};
 ghost use Rattle.mb_claim.specs.{IsClaimLawful, HasStage, HasOneWinner, IsWholeClaim};
-ghost use Rattle.mb_claim.specs.{IsClaimPrefix, stage_of, part_on, part_at, left_at, on_cell, most_on_objects};
+ghost use Rattle.mb_claim.specs.{IsClaimPrefix, stage_of, part_on, part_at, held_at, on_cell, most_on_objects};
 ghost use Rattle.mb_claim.specs.{max_steps, pairs_of, Layout, quorums_of, pair_count, consumer_count, claims_in, Claim};
 ghost use Rattle.mb_claim.specs.{ClaimOp, consumer_of, claim_stage, is_begun, IsClaimIn, IsNextOp, CanClaimFind};
 ghost use Rattle.mb_claim.specs.{FitsLayout, most_accesses, steps_left, ClaimEntry, IsPlayed};
@@ -106,7 +106,7 @@ pub fn claims_have_steps_left()
 }
 
 /// Steps have one run at most: the entries and the stages are determined by the claims and the steps.
-pub fn steps_have_one_run()
+pub fn steps_have_one_play()
     ensures { (cs : Claims) (steps : List (ℕ × ℕ)) (es fs : List ClaimEntry) (ss rs : List Stage)
         → ClaimsAreSound cs
         → IsPlayed cs steps es ss → IsPlayed cs steps fs rs → (es ≡ fs) × (ss ≡ rs) }
@@ -187,7 +187,7 @@ pub fn cells_stand_alone()
     ensures same { (c k : ℕ) (h : List ClaimAccess) → part_on c k (on_cell k h) ≡ part_on c k h }
     ensures others { (c j k : ℕ) (h : List ClaimAccess) → j ≢ k → part_on c j (on_cell k h) ≡ [] }
     ensures words { (k o : ℕ) (reg : Reg) (h : List ClaimAccess)
-        → left_at k o reg (on_cell k h) ≡ left_at k o reg h }
+        → held_at k o reg (on_cell k h) ≡ held_at k o reg h }
 {}
 
 /// A layout has a quorum table with 1 to `MAX_VALUES` values, and 1 to `MAX_PAIRS` pairs.

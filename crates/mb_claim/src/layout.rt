@@ -71,7 +71,7 @@ impl Layout {
     ghost use Rattle.std.specs.Prelude.{◌≡◌, ◌<◌, ◌≤◌, ◌+◌, ◌*◌, ◌^◌, ℕ, length, slice_get, Some};
     ghost use Rattle.std.specs.Prelude.{IsOk, IfOk, IfSome, Err, MatchOption};
     ghost use Rattle.mb_quorum.specs.Tables.{table_of};
-    ghost use Rattle.mb_deciding.specs.Run.{IsFitKind};
+    ghost use Rattle.mb_deciding.specs.Course.{IsFitKind};
     ghost use Rattle.mb_deciding.specs.Vocabulary.{spread};
     ghost use Rattle.mb_claim.specs.{Reg, width, quorums_of, kinds_of, pairs_of, row_of, plain, pair_count, shape_of, offset};
     ghost use Rattle.mb_claim.specs.{consumer_count, cell_words, word_address, IsWordInLayout, most_accesses, layout_refusal};

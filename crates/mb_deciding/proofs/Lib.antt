@@ -32,8 +32,8 @@ pub mod TurnsLeft
 pub mod MostLeft
 -- Runs and traces
 pub mod Refused
-pub mod RunsTables
-pub mod Runs
+pub mod CourseTables
+pub mod Courses
 pub mod SameOp
 pub mod RatifierNext
 pub mod ConciliatorNext

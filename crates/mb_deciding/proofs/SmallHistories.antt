@@ -5,8 +5,8 @@ use Rattle.std.specs.List.{cons_option}
 use Rattle.std.proofs.lemmas.Bool.{cases_eq, ne_eqb}
 use Rattle.mb_deciding.specs.{Value, Proposal, Quorum, Load, Store, Turn, Kind, Conciliator, Ratifier, object_of}
 use Rattle.mb_deciding.specs.{IsMemoryTrue, AreInWords, part, IsMissing, IsDrawn, IsConciliatorPath, answer, IsPath}
-use Rattle.mb_deciding.specs.{IsPrefix, IsObjectLawful, HasOutput, zero_inputs, turn, history_of_one, clear_run}
-use Rattle.mb_deciding.specs.{hasty_run, invented_run, patient_run, impatient_run}
+use Rattle.mb_deciding.specs.{IsPrefix, IsObjectLawful, HasOutput, zero_inputs, turn, history_of_one, clear_turns}
+use Rattle.mb_deciding.specs.{hasty_turns, invented_turns, patient_turns, impatient_turns}
 use Rattle.mb_quorum.specs.Quorum.{QuorumTable}
 use Rattle.mb_quorum.specs.Unary.{unary_table}
 use Rattle.mb_deciding.proofs.Histories.{not_empty}
@@ -53,14 +53,14 @@ part_alone t kind turns some l =
     subst (IsPrefix t kind 0) (own_turns turns) (l.parts 0 (λ e. some (sym (own_turns turns) ∙ e))).1
 
 -- ---- histories of a ratifier
--- `clear_run`, which met no 1, is a whole path that decides its input
-pub clear_path : IsPath (unary_table 2) Ratifier 0 clear_run (answer true 0)
+-- `clear_turns`, which met no 1, is a whole path that decides its input
+pub clear_path : IsPath (unary_table 2) Ratifier 0 clear_turns (answer true 0)
 clear_path = (Store Proposal 1 ∷ Load Proposal 0 ∷ Store (Quorum 0) 1 ∷ [], inl (refl, refl), refl)
 
--- the history of `clear_run` is lawful
-pub clear_lawful : IsObjectLawful (object_of (unary_table 2) Ratifier zero_inputs) (history_of_one clear_run)
+-- the history of `clear_turns` is lawful
+pub clear_lawful : IsObjectLawful (object_of (unary_table 2) Ratifier zero_inputs) (history_of_one clear_turns)
 clear_lawful =
-    lawful_alone (unary_table 2) Ratifier clear_run (refl, (tt, (refl, (tt, tt)))) (
+    lawful_alone (unary_table 2) Ratifier clear_turns (refl, (tt, (refl, (tt, tt)))) (
       (omega arith, omega arith),
       (
         (omega arith, omega arith),
@@ -70,23 +70,24 @@ clear_lawful =
     (omega arith)
     ([], answer true 0, clear_path)
 
--- in the history of `clear_run` process 0 has the output that decides its input
-pub clear_output : HasOutput (object_of (unary_table 2) Ratifier zero_inputs) 0 true 0 (history_of_one clear_run)
+-- in the history of `clear_turns` process 0 has the output that decides its input
+pub clear_output : HasOutput (object_of (unary_table 2) Ratifier zero_inputs) 0 true 0 (history_of_one clear_turns)
 clear_output = clear_path
 
--- the history of `hasty_run` is not lawful: who loads the proposal has set its write quorum before
-pub hasty_refused : IsObjectLawful (object_of (unary_table 2) Ratifier zero_inputs) (history_of_one hasty_run) → ⊥
+-- the history of `hasty_turns` is not lawful: who loads the proposal has set its write quorum before
+pub hasty_refused : IsObjectLawful (object_of (unary_table 2) Ratifier zero_inputs) (history_of_one hasty_turns) → ⊥
 hasty_refused l =
-    let prefix = part_alone (unary_table 2) Ratifier hasty_run (not_empty (turn 0 (Load Proposal 0)) []) l in
-    (part_behind (unary_table 2) 0 hasty_run prefix).0 0 (omega arith) refl
+    let prefix = part_alone (unary_table 2) Ratifier hasty_turns (not_empty (turn 0 (Load Proposal 0)) []) l in
+    (part_behind (unary_table 2) 0 hasty_turns prefix).0 0 (omega arith) refl
 
--- the history of `invented_run` is not lawful: a load finds the value that was stored last
-pub invented_refused : IsObjectLawful (object_of (unary_table 2) Ratifier zero_inputs) (history_of_one invented_run) → ⊥
+-- the history of `invented_turns` is not lawful: a load finds the value that was stored last
+pub invented_refused : IsObjectLawful (object_of (unary_table 2) Ratifier zero_inputs) (history_of_one invented_turns)
+    → ⊥
 invented_refused l = let none : ◌≡◌ {A = ℕ} 1 0 = l.memory.0 in absurd (omega arith)
 
 -- ---- histories of a conciliator
--- `patient_run`, which stores on attempt 2, is a whole path with its input as output
-pub patient_path : IsPath (unary_table 2) (Conciliator 2) 0 patient_run (answer false 0)
+-- `patient_turns`, which stores on attempt 2, is a whole path with its input as output
+pub patient_path : IsPath (unary_table 2) (Conciliator 2) 0 patient_turns (answer false 0)
 patient_path = (
   refl,
   (
@@ -114,10 +115,11 @@ patient_path = (
     later : 3 % 2 ^ 2 < 2 ^ 0 → ⊥
     later stores = omega arith
 
--- the history of `patient_run` is lawful
-pub patient_lawful : IsObjectLawful (object_of (unary_table 2) (Conciliator 2) zero_inputs) (history_of_one patient_run)
+-- the history of `patient_turns` is lawful
+pub patient_lawful : IsObjectLawful (object_of (unary_table 2) (Conciliator 2) zero_inputs)
+    (history_of_one patient_turns)
 patient_lawful =
-    lawful_alone (unary_table 2) (Conciliator 2) patient_run (refl, (tt, (refl, (refl, (refl, tt))))) (
+    lawful_alone (unary_table 2) (Conciliator 2) patient_turns (refl, (tt, (refl, (refl, (refl, tt))))) (
       (omega arith, omega arith),
       (
         (omega arith, omega arith),
@@ -127,9 +129,9 @@ patient_lawful =
     (omega arith)
     ([], answer false 0, patient_path)
 
--- in the history of `patient_run` process 0 has its input as output
+-- in the history of `patient_turns` process 0 has its input as output
 pub patient_output : HasOutput (object_of (unary_table 2) (Conciliator 2) zero_inputs) 0 false 0
-    (history_of_one patient_run)
+    (history_of_one patient_turns)
 patient_output = patient_path
 
 -- among the turns of attempts that did not store there is no store
@@ -145,8 +147,8 @@ found_late : (k : ℕ) → IsDrawn 2 k (turn 3 (Load Value 0) ∷ []) → ⊥
 found_late zero h = let stores : 3 % 2 ^ 2 < 2 ^ 0 = h.1 in omega arith
 found_late (suc k) h = h.2
 
--- no whole path begins with `impatient_run`
-impatient_no_path : (later : List Turn) (u : ℕ) → IsConciliatorPath 2 0 (later ++ impatient_run) u → ⊥
+-- no whole path begins with `impatient_turns`
+impatient_no_path : (later : List Turn) (u : ℕ) → IsConciliatorPath 2 0 (later ++ impatient_turns) u → ⊥
 impatient_no_path [] u h = let same : Store Value 1 ≡ Load Value (u + 1) = h.0 in cc
 impatient_no_path (x ∷ []) u h =
     elim h.1.2 [
@@ -166,13 +168,13 @@ impatient_no_path (x ∷ y ∷ z ∷ later) u h =
       | inr put ↦ missing_no_store 2 h.1.0 0 later (turn 3 (Load Value 0) ∷ []) (turn 3 (Store Value 1)) refl put.1.2
     ]
 
--- `impatient_run` is no prefix of a path
-pub impatient_no_part : IsPrefix (unary_table 2) (Conciliator 2) 0 impatient_run → ⊥
+-- `impatient_turns` is no prefix of a path
+pub impatient_no_part : IsPrefix (unary_table 2) (Conciliator 2) 0 impatient_turns → ⊥
 impatient_no_part prefix = impatient_no_path prefix.0 prefix.1.value prefix.2.1
 
--- the history of `impatient_run` is not lawful
+-- the history of `impatient_turns` is not lawful
 pub impatient_refused : IsObjectLawful (object_of (unary_table 2) (Conciliator 2) zero_inputs)
-    (history_of_one impatient_run) → ⊥
+    (history_of_one impatient_turns) → ⊥
 impatient_refused l =
-    impatient_no_part (part_alone (unary_table 2) (Conciliator 2) impatient_run
+    impatient_no_part (part_alone (unary_table 2) (Conciliator 2) impatient_turns
     (not_empty (turn 3 (Store Value 1)) (turn 3 (Load Value 0) ∷ [])) l)

@@ -4,7 +4,7 @@ use Rattle.std.proofs.Common.{length, slice_index, sym, refl, subst, arith}
 use Rattle.std.specs.List.{slice_index_or}
 use Rattle.mb_deciding.specs.{Access, Turn, Load, Store, Value, Proposal, Quorum, Out, Kind, Conciliator, Ratifier}
 use Rattle.mb_deciding.specs.{object_of, setup_of, part, answer, IsPath, IsPrefix, IsObjectLawful, IsOutputOf, IsTrace}
-use Rattle.mb_deciding.specs.{zero_inputs, turn, history_of_one, clear_run, patient_run, turns_of_one, IsTraceOfOne}
+use Rattle.mb_deciding.specs.{zero_inputs, turn, history_of_one, clear_turns, patient_turns, turns_of_one, IsTraceOfOne}
 use Rattle.mb_deciding.specs.{entry_of_one, clear_entries, patient_entries, impatient_entries}
 use Rattle.mb_quorum.specs.Unary.{unary_table}
 use Rattle.mb_deciding.specs.declared.trace.Entry.TheVariants as entry
@@ -56,19 +56,19 @@ unfinished kind turns later x out whole (d, u, path) =
     (one_end (unary_table 2) kind 0 turns (x ∷ later) (answer d u) out path whole).0
 
 -- ---- traces of a ratifier
--- the first turn of `clear_run`
+-- the first turn of `clear_turns`
 abbrev first_turn : Turn
 first_turn = turn 0 (Store (Quorum 0) 1)
 
--- the second turn of `clear_run`
+-- the second turn of `clear_turns`
 abbrev second_turn : Turn
 second_turn = turn 0 (Load Proposal 0)
 
--- the third turn of `clear_run`
+-- the third turn of `clear_turns`
 abbrev third_turn : Turn
 third_turn = turn 0 (Store Proposal 1)
 
--- the last turn of `clear_run`
+-- the last turn of `clear_turns`
 abbrev last_turn : Turn
 last_turn = turn 0 (Load (Quorum 1) 0)
 
@@ -80,27 +80,27 @@ HasNone turns = (d : Bool) × (u : ℕ) × IsPath (unary_table 2) Ratifier 0 tur
 none_at_first : HasNone []
 none_at_first = unfinished Ratifier [] (third_turn ∷ second_turn ∷ first_turn ∷ []) last_turn (answer true 0) clear_path
 
--- after one turn of `clear_run` process 0 has no output
+-- after one turn of `clear_turns` process 0 has no output
 none_after_one : HasNone (first_turn ∷ [])
 none_after_one =
     unfinished Ratifier (first_turn ∷ []) (third_turn ∷ second_turn ∷ []) last_turn (answer true 0) clear_path
 
--- after two turns of `clear_run` process 0 has no output
+-- after two turns of `clear_turns` process 0 has no output
 none_after_two : HasNone (second_turn ∷ first_turn ∷ [])
 none_after_two =
     unfinished Ratifier (second_turn ∷ first_turn ∷ []) (third_turn ∷ []) last_turn (answer true 0) clear_path
 
--- after three turns of `clear_run` process 0 has no output
+-- after three turns of `clear_turns` process 0 has no output
 none_after_three : HasNone (third_turn ∷ second_turn ∷ first_turn ∷ [])
 none_after_three =
     unfinished Ratifier (third_turn ∷ second_turn ∷ first_turn ∷ []) [] last_turn (answer true 0) clear_path
 
--- five turns of process 0 make the four accesses of `clear_run`, with its output, and then none
+-- five turns of process 0 make the four accesses of `clear_turns`, with its output, and then none
 pub clear_traced : IsTraceOfOne Ratifier 5 0 (clear_entries ++ entry.Done 0 ∷ []) (Some (answer true 0))
 clear_traced =
     record {
       known = known_of_one 5 0;
-      lawful = lawful_listed Ratifier (history_of_one clear_run) clear_lawful;
+      lawful = lawful_listed Ratifier (history_of_one clear_turns) clear_lawful;
       entries = (
         refl,
         (none_at_first, none_after_one),
@@ -119,7 +119,7 @@ clear_traced =
         ),
       );
       processes = refl;
-      outputs = one_output Ratifier (history_of_one clear_run) (Some (answer true 0)) clear_path;
+      outputs = one_output Ratifier (history_of_one clear_turns) (Some (answer true 0)) clear_path;
     }
 
 -- no trace has a turn without an entry
@@ -165,15 +165,15 @@ pub withheld_refused : IsTraceOfOne Ratifier 4 0 clear_entries None → ⊥
 withheld_refused bad = bad.outputs 0 None (omega arith) (true, 0, clear_path)
 
 -- ---- traces of a conciliator
--- each of the first three turns of `patient_run`
+-- each of the first three turns of `patient_turns`
 abbrev missed_turn : Turn
 missed_turn = turn 3 (Load Value 0)
 
--- the turn of `patient_run` that stores
+-- the turn of `patient_turns` that stores
 abbrev put_turn : Turn
 put_turn = turn 3 (Store Value 1)
 
--- the last turn of `patient_run`
+-- the last turn of `patient_turns`
 abbrev met_turn : Turn
 met_turn = turn 3 (Load Value 1)
 
@@ -187,33 +187,33 @@ missed_none =
     unfinished (Conciliator 2) [] (put_turn ∷ missed_turn ∷ missed_turn ∷ missed_turn ∷ []) met_turn
     (answer false 0) patient_path
 
--- after one turn of `patient_run` process 0 has no output
+-- after one turn of `patient_turns` process 0 has no output
 missed_one : MeetsNone (missed_turn ∷ [])
 missed_one =
     unfinished (Conciliator 2) (missed_turn ∷ []) (put_turn ∷ missed_turn ∷ missed_turn ∷ []) met_turn
     (answer false 0) patient_path
 
--- after two turns of `patient_run` process 0 has no output
+-- after two turns of `patient_turns` process 0 has no output
 missed_two : MeetsNone (missed_turn ∷ missed_turn ∷ [])
 missed_two = unfinished (Conciliator 2) (missed_turn ∷ missed_turn ∷ []) (put_turn ∷ missed_turn ∷ []) met_turn
     (answer false 0) patient_path
 
--- after three turns of `patient_run` process 0 has no output
+-- after three turns of `patient_turns` process 0 has no output
 missed_three : MeetsNone (missed_turn ∷ missed_turn ∷ missed_turn ∷ [])
 missed_three = unfinished (Conciliator 2) (missed_turn ∷ missed_turn ∷ missed_turn ∷ []) (put_turn ∷ []) met_turn
     (answer false 0) patient_path
 
--- after the store of `patient_run` process 0 has no output
+-- after the store of `patient_turns` process 0 has no output
 missed_put : MeetsNone (put_turn ∷ missed_turn ∷ missed_turn ∷ missed_turn ∷ [])
 missed_put = unfinished (Conciliator 2) (put_turn ∷ missed_turn ∷ missed_turn ∷ missed_turn ∷ []) [] met_turn
     (answer false 0) patient_path
 
--- five turns of process 0 with the random word 3 make the accesses of `patient_run`, with its output
+-- five turns of process 0 with the random word 3 make the accesses of `patient_turns`, with its output
 pub patient_traced : IsTraceOfOne (Conciliator 2) 5 3 patient_entries (Some (answer false 0))
 patient_traced =
     record {
       known = known_of_one 5 3;
-      lawful = lawful_listed (Conciliator 2) (history_of_one patient_run) patient_lawful;
+      lawful = lawful_listed (Conciliator 2) (history_of_one patient_turns) patient_lawful;
       entries = (
         refl,
         (missed_none, missed_one),
@@ -232,7 +232,7 @@ patient_traced =
         ),
       );
       processes = refl;
-      outputs = one_output (Conciliator 2) (history_of_one patient_run) (Some (answer false 0)) patient_path;
+      outputs = one_output (Conciliator 2) (history_of_one patient_turns) (Some (answer false 0)) patient_path;
     }
 
 -- no trace has a store that the schedule's random word does not allow

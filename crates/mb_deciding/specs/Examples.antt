@@ -30,30 +30,30 @@ abbrev pub history_of_one : List Turn → List Access
 history_of_one turns = map (λ x. record { process = 0; turn = x }) turns
 
 -- on the ratifier process 0 sets register 0, finds the proposal empty and stores 1 there, and finds register 1 clear
-abbrev pub clear_run : List Turn
-clear_run =
+abbrev pub clear_turns : List Turn
+clear_turns =
     turn 0 (Load (Quorum 1) 0) ∷ turn 0 (Store Proposal 1) ∷ turn 0 (Load Proposal 0) ∷ turn 0
     (Store (Quorum 0) 1) ∷ []
 
 -- on the ratifier process 0 loads the proposal before it sets its write quorum
-abbrev pub hasty_run : List Turn
-hasty_run = turn 0 (Load Proposal 0) ∷ []
+abbrev pub hasty_turns : List Turn
+hasty_turns = turn 0 (Load Proposal 0) ∷ []
 
 -- on the ratifier the load of register 1 finds 1, which no process stored
-abbrev pub invented_run : List Turn
-invented_run =
+abbrev pub invented_turns : List Turn
+invented_turns =
     turn 0 (Load (Quorum 1) 1) ∷ turn 0 (Store Proposal 1) ∷ turn 0 (Load Proposal 0) ∷ turn 0
     (Store (Quorum 0) 1) ∷ []
 
 -- on the conciliator, with s = 2, process 0 has the random word 3, and stores on attempt 2 and on no earlier one
-abbrev pub patient_run : List Turn
-patient_run =
+abbrev pub patient_turns : List Turn
+patient_turns =
     turn 3 (Load Value 1) ∷ turn 3 (Store Value 1) ∷ turn 3 (Load Value 0) ∷ turn 3
     (Load Value 0) ∷ turn 3 (Load Value 0) ∷ []
 
 -- on the conciliator process 0 has the random word 3, and stores on attempt 0, which it may not
-abbrev pub impatient_run : List Turn
-impatient_run = turn 3 (Store Value 1) ∷ turn 3 (Load Value 0) ∷ []
+abbrev pub impatient_turns : List Turn
+impatient_turns = turn 3 (Store Value 1) ∷ turn 3 (Load Value 0) ∷ []
 
 -- ---- a last object
 -- each process has its own number as its input
@@ -100,27 +100,27 @@ IsTraceOfOne kind n word entries out =
 abbrev pub entry_of_one : Act → Entry
 entry_of_one act = entry.Access 0 act None
 
--- the entries of `clear_run`, with its output
+-- the entries of `clear_turns`, with its output
 abbrev pub clear_entries : List Entry
 clear_entries =
     entry_of_one (Store (Quorum 0) 1) ∷ entry_of_one (Load Proposal 0) ∷ entry_of_one
     (Store Proposal 1)
     ∷ entry.Access 0 (Load (Quorum 1) 0) (Some (answer true 0)) ∷ []
 
--- the entries of `clear_run`, with the output left out
+-- the entries of `clear_turns`, with the output left out
 abbrev pub hidden_entries : List Entry
 hidden_entries =
     entry_of_one (Store (Quorum 0) 1) ∷ entry_of_one (Load Proposal 0) ∷ entry_of_one
     (Store Proposal 1)
     ∷ entry_of_one (Load (Quorum 1) 0) ∷ []
 
--- the entries of `patient_run`, with its output
+-- the entries of `patient_turns`, with its output
 abbrev pub patient_entries : List Entry
 patient_entries =
     entry_of_one (Load Value 0) ∷ entry_of_one (Load Value 0) ∷ entry_of_one
     (Load Value 0) ∷ entry_of_one (Store Value 1)
     ∷ entry.Access 0 (Load Value 1) (Some (answer false 0)) ∷ []
 
--- the entries of `impatient_run`
+-- the entries of `impatient_turns`
 abbrev pub impatient_entries : List Entry
 impatient_entries = entry_of_one (Load Value 0) ∷ entry_of_one (Store Value 1) ∷ []

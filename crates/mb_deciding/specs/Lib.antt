@@ -15,7 +15,7 @@ pub mod Spread
 pub mod Refusals
 pub mod Examples
 pub mod Memory
-pub mod Run
+pub mod Course
 pub mod Vocabulary
 -- clauses name these definitions after `Rattle.mb_deciding.specs`
 pub use Types.*
@@ -35,4 +35,4 @@ pub use Spread.*
 pub use Refusals.*
 pub use Examples.*
 pub use Memory.*
-pub use Run.*
+pub use Course.*

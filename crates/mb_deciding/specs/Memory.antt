@@ -12,15 +12,15 @@ IsReg (Quorum r) = r < 64
 IsReg Last = Unit {0}
 
 -- what the memory holds in the word of this name
-abbrev pub word_of : ObjectMemory → Reg → ℕ
-word_of words Value = words.value
-word_of words Proposal = words.proposal
-word_of words (Quorum r) = slice_index words.quorum r
-word_of words Last = words.last
+abbrev pub held_in : ObjectMemory → Reg → ℕ
+held_in words Value = words.value
+held_in words Proposal = words.proposal
+held_in words (Quorum r) = slice_index words.quorum r
+held_in words Last = words.last
 
 -- each word holds what the history leaves in it
 abbrev pub IsMemory : ObjectMemory → List Access → Type 0
-IsMemory words h = (reg : Reg) → IsReg reg → word_of words reg ≡ value_in reg h
+IsMemory words h = (reg : Reg) → IsReg reg → held_in words reg ≡ value_in reg h
 
 -- The access was made to the words and found this value. If the words fit a history before, they fit that history with
 -- the access afterwards, and the value is the one that the history leaves. What is loaded and stored is below 2 ^ 64

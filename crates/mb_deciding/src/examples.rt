@@ -9,31 +9,31 @@ ghost use Rattle.mb_deciding.specs.declared.place.pc.Next.TheVariants as leads;
 ghost use Rattle.mb_deciding.specs.{ObjectMemory, Conciliator, Ratifier, LastObject, Proposal, Quorum, Last, Load, Store};
 ghost use Rattle.mb_deciding.specs.{Exchange, setup_of, value_in, IsPath, small_last, first_decides, turn};
 ghost use Rattle.mb_deciding.specs.{found_empty_twice, stored_over, loaded_then_stored};
-ghost use Rattle.mb_deciding.specs.{IsObjectLawful, HasOutput, IsPrefix, IsTrace, IsMemory, word_of, answer};
-ghost use Rattle.mb_deciding.specs.{small_ratifier, small_conciliator, history_of_one, clear_run, hasty_run};
-ghost use Rattle.mb_deciding.specs.{invented_run, patient_run, impatient_run, IsTraceOfOne, entry_of_one};
+ghost use Rattle.mb_deciding.specs.{IsObjectLawful, HasOutput, IsPrefix, IsTrace, IsMemory, held_in, answer};
+ghost use Rattle.mb_deciding.specs.{small_ratifier, small_conciliator, history_of_one, clear_turns, hasty_turns};
+ghost use Rattle.mb_deciding.specs.{invented_turns, patient_turns, impatient_turns, IsTraceOfOne, entry_of_one};
 ghost use Rattle.mb_deciding.specs.{clear_entries, hidden_entries, patient_entries, impatient_entries};
 ghost use Rattle.mb_deciding.specs.declared.trace.Entry.TheVariants as entry;
 
 /// Small histories of one process with the input 0. Those with `→ ⊥` are not lawful.
 pub fn small_histories()
     // Process 0 announces its input, finds the proposal empty, proposes it, and checks it.
-    ensures clear { IsObjectLawful small_ratifier (history_of_one clear_run) }
-    ensures clear_output { HasOutput small_ratifier 0 true 0 (history_of_one clear_run) }
+    ensures clear { IsObjectLawful small_ratifier (history_of_one clear_turns) }
+    ensures clear_output { HasOutput small_ratifier 0 true 0 (history_of_one clear_turns) }
 
     // The proposal is loaded before the write quorum is set.
-    ensures hasty { IsObjectLawful small_ratifier (history_of_one hasty_run) → ⊥ }
+    ensures hasty { IsObjectLawful small_ratifier (history_of_one hasty_turns) → ⊥ }
 
     // A load finds a value that no process stored.
-    ensures invented { IsObjectLawful small_ratifier (history_of_one invented_run) → ⊥ }
+    ensures invented { IsObjectLawful small_ratifier (history_of_one invented_turns) → ⊥ }
 
     // With the random word 3 process 0 stores on attempt 2, the last.
-    ensures patient { IsObjectLawful small_conciliator (history_of_one patient_run) }
-    ensures patient_output { HasOutput small_conciliator 0 false 0 (history_of_one patient_run) }
+    ensures patient { IsObjectLawful small_conciliator (history_of_one patient_turns) }
+    ensures patient_output { HasOutput small_conciliator 0 false 0 (history_of_one patient_turns) }
 
     // Process 0 stores on attempt 0, although the random word 3 does not store there.
-    ensures impatient { IsObjectLawful small_conciliator (history_of_one impatient_run) → ⊥ }
-    ensures impatient_part { IsPrefix (unary_table 2) (Conciliator 2) 0 impatient_run → ⊥ }
+    ensures impatient { IsObjectLawful small_conciliator (history_of_one impatient_turns) → ⊥ }
+    ensures impatient_part { IsPrefix (unary_table 2) (Conciliator 2) 0 impatient_turns → ⊥ }
 {}
 
 /// Small histories of a last object. Those with `→ ⊥` are not lawful. Each process has its own number as its input.
@@ -102,10 +102,10 @@ pub fn small_traces()
     // The entries store on attempt 0, although the schedule's random word 3 does not store there.
     ensures impatient { IsTraceOfOne (Conciliator 2) 2 3 impatient_entries None → ⊥ }
 
-    // After the four accesses of `clear_run` the proposal and register 0 hold 1, and register 1 holds 0.
-    ensures words { (words : ObjectMemory) → IsMemory words (history_of_one clear_run)
-        → (word_of words Proposal ≡ 1) × (word_of words (Quorum 0) ≡ 1) ×
-        (word_of words (Quorum 1) ≡ 0) }
+    // After the four accesses of `clear_turns` the proposal and register 0 hold 1, and register 1 holds 0.
+    ensures words { (words : ObjectMemory) → IsMemory words (history_of_one clear_turns)
+        → (held_in words Proposal ≡ 1) × (held_in words (Quorum 0) ≡ 1) ×
+        (held_in words (Quorum 1) ≡ 0) }
 {}
 
 /// Accesses of one process, one after the other, in a memory that counts them.

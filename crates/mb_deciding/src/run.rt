@@ -15,16 +15,16 @@ mod words;
 
 /// One object with its processes, and what they have done so far.
 #[derive(Drop)]
-pub struct Run<A: Allocator + Drop> {
+pub struct Course<A: Allocator + Drop> {
     words: ObjectMemory,
     places: Vec<Next, A>,
     entries: Vec<Entry, A>,
 }
 
-impl<A: Allocator + Drop> Model for Run<A> {
-    ghost use Rattle.mb_deciding.specs.{RunState};
+impl<A: Allocator + Drop> Model for Course<A> {
+    ghost use Rattle.mb_deciding.specs.{CourseState};
 
-    ghost Value = { RunState };
+    ghost Value = { CourseState };
 
     ghost view = { λ run. record {
       words = run.words;
@@ -33,10 +33,10 @@ impl<A: Allocator + Drop> Model for Run<A> {
     } };
 }
 
-impl<A: Allocator + Copy + Drop> Run<A> {
+impl<A: Allocator + Copy + Drop> Course<A> {
     ghost use Rattle.std.specs.Prelude.{◌≡◌, ◌<◌, ◌^◌, ◌++◌, ◌∷◌, [], ℕ, List, All, OnOk, IfOk, length, map};
     ghost use Rattle.mb_quorum.specs.Quorum.{QuorumTable};
-    ghost use Rattle.mb_deciding.specs.{setup_of, IsSameFor, IsRun, out_of};
+    ghost use Rattle.mb_deciding.specs.{setup_of, IsSameFor, IsCourse, out_of};
 
     /// A run before its first turn, with room for `turns` entries.
     pub fn begin<M: Machine>(
@@ -44,19 +44,19 @@ impl<A: Allocator + Copy + Drop> Run<A> {
         machine: &M,
         inputs: &[u64],
         turns: usize,
-    ) -> Result<Run<A>, AllocError>
+    ) -> Result<Course<A>, AllocError>
         requires inputs { All (λ v. v < (M.table machine.now).values) inputs.now }
         requires small { All (λ v. v < 2 ^ 32) inputs.now }
         ensures { IfOk result (λ run. (t : QuorumTable)
             → IsSameFor (M.kind machine.now) t (M.table machine.now)
-            → IsRun (setup_of t (M.kind machine.now) inputs.now) [] run) }
+            → IsCourse (setup_of t (M.kind machine.now) inputs.now) [] run) }
     {
         let mut places = Vec::with_capacity(alloc, inputs.len())?;
         for input in inputs {
             places.push(Next::Go(machine.first(*input as u32)))?;
         }
         let entries = Vec::with_capacity(alloc, turns)?;
-        Ok(Run {
+        Ok(Course {
             words: ObjectMemory::new(),
             places,
             entries,
@@ -71,12 +71,12 @@ impl<A: Allocator + Copy + Drop> Run<A> {
         word: u64,
     ) -> Result<(), AllocError>
         requires run { (inputs : List ℕ) × (schedule : List (ℕ × ℕ))
-            × IsRun (setup_of (M.table machine.now) (M.kind machine.now) inputs) schedule self.old }
+            × IsCourse (setup_of (M.table machine.now) (M.kind machine.now) inputs) schedule self.old }
         requires process { process < length self.old.places }
         ensures run { OnOk result ((t : QuorumTable) (inputs : List ℕ) (schedule : List (ℕ × ℕ))
             → IsSameFor (M.kind machine.now) t (M.table machine.now)
-            → IsRun (setup_of t (M.kind machine.now) inputs) schedule self.old
-            → IsRun (setup_of t (M.kind machine.now) inputs)
+            → IsCourse (setup_of t (M.kind machine.now) inputs) schedule self.old
+            → IsCourse (setup_of t (M.kind machine.now) inputs)
             (schedule ++ (process, word) ∷ []) self.new) }
     {
         let next = &mut self.places[process];
@@ -112,7 +112,7 @@ impl<A: Allocator + Copy + Drop> Run<A> {
         for next in &self.places {
             outputs.push(next.out())?;
         }
-        let Run {
+        let Course {
             words: _,
             places: _,
             entries,

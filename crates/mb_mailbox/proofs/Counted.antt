@@ -6,7 +6,7 @@ use Rattle.std.proofs.lemmas.Bool.{cases_lt, ltb-true}
 use Rattle.std.proofs.lemmas.List.{length-map, reverse-append}
 use Rattle.std.proofs.Math.Nat.{mul-le-mul_right}
 use Rattle.std.proofs.lemmas.Option.{slice_get_within}
-use Rattle.mb_world.proofs.Positions.{get-left}
+use Rattle.mb_world.proofs.Positions.{get-front}
 use Rattle.mb_cells.specs.Vocabulary.{Entry, IsStart, items_put, put_list}
 use Rattle.mb_world.specs.Plan.{Histories, Plan, consumers_of}
 use Rattle.mb_world.specs.Report.{DiaryView, LaneView, ReportView, diary, note}
@@ -82,4 +82,4 @@ pub at_start : (ks ls : List ℕ) (j k : ℕ) → IsStart ks ls → slice_get (r
     → slice_get (reverse ls) j ≡ Some k
 at_start ks ls j k s e =
     ap (λ l. slice_get (reverse l) j) (sym s.1) ∙ ap (λ l. slice_get l j) (reverse-append s.0 ks)
-    ∙ get-left (reverse ks) (reverse s.0) j k e
+    ∙ get-front (reverse ks) (reverse s.0) j k e

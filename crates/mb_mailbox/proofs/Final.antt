@@ -23,7 +23,7 @@ use Rattle.mb_mailbox.specs.Producers.{IsProducerOf, ProducerView}
 use Rattle.mb_mailbox.specs.Rooms.{HasRoom}
 use Rattle.mb_mailbox.specs.Runs.{AreEndsAt, AreEndsOf, AreOf, count_stopped, with_taken}
 use Rattle.mb_mailbox.specs.Steps.{notes_on}
-use Rattle.mb_mailbox.specs.Worked.{AreCutByCells, AreStoppedPuts, ConsumerLeft, HaveMetEnds, IsRunOf, IsWorked, LaneLeft, WereTakenIn, WereTakenInEarly, lists_in}
+use Rattle.mb_mailbox.specs.Worked.{AreCutByCells, AreStoppedPuts, ConsumerEnd, HaveMetEnds, IsRunOf, IsWorked, ProducerEnd, WereTakenIn, WereTakenInEarly, lists_in}
 use Rattle.mb_mailbox.specs.declared.gate.Who.{Who}
 use Rattle.mb_mailbox.specs.declared.crew.Worked.{Worked}
 use Rattle.mb_mailbox.specs.declared.crew.jobs.PollDone.{PollDone}
@@ -34,7 +34,8 @@ use Rattle.mb_mailbox.specs.declared.crew.room.WorkerResults.{WorkerResults}
 use Rattle.mb_mailbox.specs.declared.crew.room.WorkerInputs.{WorkerInputs}
 use Rattle.mb_mailbox.specs.declared.crew.room.WorkerBuffers.{WorkerBuffers}
 use Rattle.mb_mailbox.proofs.Noted.{all_noted}
-use Rattle.mb_mailbox.proofs.Runs.{lane_left, lanes_of, left_by, left_of, nums, run_beyond, run_cut, run_ends, run_met, run_of, run_only, run_passes, run_poll_stops, run_polled, run_stops, run_unread}
+use Rattle.mb_mailbox.proofs.Runs.{producer_end, lanes_of, consumer_end, consumer_ends, nums, run_beyond, run_cut, run_ends}
+use Rattle.mb_mailbox.proofs.Runs.{run_met, run_of, run_only, run_passes, run_poll_stops, run_polled, run_stops, run_unread}
 use Rattle.mb_mailbox.proofs.Zips.{zip_length}
 
 -- anything holds of all elements of the empty list
@@ -196,11 +197,11 @@ module _ {R Z : Type 0} (m : MailboxView) (may_stop may_pass : Who → ℕ → T
   its : (vs : List (Vec ℕ Z)) → ArePutJobs m (length h.puts) vs jobs.puts.items
       → IsRunOf (lists_in vs) (length jobs.polls.items)
       (lanes_of m may_stop may_pass ends.puts.items)
-      (left_of m may_stop may_pass ends.polls.items) h now
+      (consumer_ends m may_stop may_pass ends.polls.items) h now
   its vs are =
       subst (λ (n : HubView). IsRunOf (lists_in vs) (length jobs.polls.items)
       (lanes_of m may_stop may_pass ends.puts.items)
-      (left_of m may_stop may_pass ends.polls.items) h n)
+      (consumer_ends m may_stop may_pass ends.polls.items) h n)
       (sym (is ∙ ap (with_taken ends) given.hub))
       (run_of m may_stop may_pass stream h from end budget vs jobs.puts.items ends.puts.items
       jobs.polls.items ends.polls.items hub are given.polls came.puts came.polls)
@@ -215,7 +216,7 @@ module _ {R Z : Type 0} (m : MailboxView) (may_stop may_pass : Who → ℕ → T
     few = subst (λ (n : ℕ). n ≤ sources) jobs.polls.ok.0 given.few;
     taken = record {
       lanes = lanes_of m may_stop may_pass ends.puts.items;
-      consumers = left_of m may_stop may_pass ends.polls.items;
+      consumers = consumer_ends m may_stop may_pass ends.polls.items;
       run = its given.puts.front given.puts.are;
     };
   }
@@ -227,17 +228,17 @@ module _ {R Z : Type 0} (m : MailboxView) (may_stop may_pass : Who → ℕ → T
 
     -- if the hub gave all numbers, the run is one for all lists and all sources
     run : IsRunOf (lists_in items) sources (lanes_of m may_stop may_pass ends.puts.items)
-        (left_of m may_stop may_pass ends.polls.items) h now
+        (consumer_ends m may_stop may_pass ends.polls.items) h now
     run = subst (λ (n : ℕ). IsRunOf (lists_in items) n
         (lanes_of m may_stop may_pass ends.puts.items)
-        (left_of m may_stop may_pass ends.polls.items) h now)
+        (consumer_ends m may_stop may_pass ends.polls.items) h now)
         polls_count (its items all.puts)
 
     -- then all that was given was taken in
     pub taken : WereTakenIn (lists_in items) sources h now
     taken = record {
       lanes = lanes_of m may_stop may_pass ends.puts.items;
-      consumers = left_of m may_stop may_pass ends.polls.items;
+      consumers = consumer_ends m may_stop may_pass ends.polls.items;
       run = run;
     }
 
@@ -249,8 +250,8 @@ module _ {R Z : Type 0} (m : MailboxView) (may_stop may_pass : Who → ℕ → T
     -- if a worker has come to an end, there was a list or a source
     pub some_worker : 0 < length ends.puts.items + length ends.polls.items → 0 < length items + sources
     some_worker some =
-        let puts = length-map ends.puts.items (λ (d : PutDone Z). lane_left d.producer d.stopped) in
-        let polls = length-map ends.polls.items (λ (d : PollDone Z). left_by d.consumer d.stopped) in
+        let puts = length-map ends.puts.items (λ (d : PutDone Z). producer_end d.producer d.stopped) in
+        let polls = length-map ends.polls.items (λ (d : PollDone Z). consumer_end d.consumer d.stopped) in
         let count = run.count in
         let lanes = few in
         omega (arith, some, puts, polls, lanes, count)
@@ -268,15 +269,17 @@ module _ {R Z : Type 0} (m : MailboxView) (may_stop may_pass : Who → ℕ → T
         → HasReadToEnd p s → length (notes_on p s.notes) ≡ length (values_put p done)) where
       -- `stopped` is the number of workers that were stopped. It is below 2^64, since there are no more workers than
       -- lists and sources
-      total : w.stopped ≡ sum_by (λ (l : LaneLeft). from_bool l.stopped) (lanes_of m may_stop may_pass ends.puts.items)
-          + sum_by (λ (c : ConsumerLeft). from_bool c.stopped) (left_of m may_stop may_pass ends.polls.items)
+      total : w.stopped ≡ sum_by (λ (l : ProducerEnd). from_bool l.stopped)
+          (lanes_of m may_stop may_pass ends.puts.items)
+          + sum_by (λ (c : ConsumerEnd). from_bool c.stopped) (consumer_ends m may_stop may_pass ends.polls.items)
       total =
-          let puts = sum_same (λ (d : PutDone Z). from_bool d.stopped) (λ (l : LaneLeft). from_bool l.stopped)
-          (λ (d : PutDone Z). lane_left d.producer d.stopped) (λ d. refl) ends.puts.items in
-          let polls = sum_same (λ (d : PollDone Z). from_bool d.stopped) (λ (c : ConsumerLeft). from_bool c.stopped)
-          (λ (d : PollDone Z). left_by d.consumer d.stopped) (λ d. refl) ends.polls.items in
-          let most = at_most_each (λ (l : LaneLeft). l.stopped) (lanes_of m may_stop may_pass ends.puts.items) in
-          let others = at_most_each (λ (c : ConsumerLeft). c.stopped) (left_of m may_stop may_pass ends.polls.items) in
+          let puts = sum_same (λ (d : PutDone Z). from_bool d.stopped) (λ (l : ProducerEnd). from_bool l.stopped)
+          (λ (d : PutDone Z). producer_end d.producer d.stopped) (λ d. refl) ends.puts.items in
+          let polls = sum_same (λ (d : PollDone Z). from_bool d.stopped) (λ (c : ConsumerEnd). from_bool c.stopped)
+          (λ (d : PollDone Z). consumer_end d.consumer d.stopped) (λ d. refl) ends.polls.items in
+          let most = at_most_each (λ (l : ProducerEnd). l.stopped) (lanes_of m may_stop may_pass ends.puts.items) in
+          let others = at_most_each (λ (c : ConsumerEnd). c.stopped)
+          (consumer_ends m may_stop may_pass ends.polls.items) in
           let count = run.count in
           let lanes = few in
           omega (arith, stopped, puts, polls, most, others, lanes, count, small)
@@ -292,7 +295,7 @@ module _ {R Z : Type 0} (m : MailboxView) (may_stop may_pass : Who → ℕ → T
       pub worked : IsWorked may_stop budget (lists_in items) sources w h now
       worked = record {
         lanes = lanes_of m may_stop may_pass ends.puts.items;
-        consumers = left_of m may_stop may_pass ends.polls.items;
+        consumers = consumer_ends m may_stop may_pass ends.polls.items;
         run = run;
         stopped = total;
         stopped_puts = subst (λ (n : ℕ). AreStoppedPuts may_stop n (length h.puts) (lists_in items)
@@ -304,26 +307,26 @@ module _ {R Z : Type 0} (m : MailboxView) (may_stop may_pass : Who → ℕ → T
             run_poll_stops m may_stop may_pass stream h from end budget items jobs.puts.items
             ends.puts.items jobs.polls.items ends.polls.items hub all.puts given.polls came.puts
             came.polls polls_on;
-        ends = subst (λ (n : ℕ). All (λ (x : ConsumerLeft). x.stopped ≡ false → ends_met x.reads
-            ≡ n) (left_of m may_stop may_pass ends.polls.items))
+        ends = subst (λ (n : ℕ). All (λ (x : ConsumerEnd). x.stopped ≡ false → ends_met x.reads
+            ≡ n) (consumer_ends m may_stop may_pass ends.polls.items))
             (omega (arith, first, far))
             (run_ends m may_stop may_pass stream h from end budget items jobs.puts.items
             ends.puts.items jobs.polls.items ends.polls.items hub all.puts given.polls came.puts
             came.polls);
         met = subst (λ (z : ℕ × ℕ). HaveMetEnds z.0 z.1 (length h.ledgers)
-            (left_of m may_stop may_pass ends.polls.items))
+            (consumer_ends m may_stop may_pass ends.polls.items))
             (λ i. (first i, far i))
             (run_met m may_stop may_pass stream h from end budget items jobs.puts.items
             ends.puts.items jobs.polls.items ends.polls.items hub all.puts given.polls came.puts
             came.polls);
-        unread = subst (λ (n : ℕ). All (λ (x : ConsumerLeft). x.stopped ≡ true
-            → ends_met x.reads < n) (left_of m may_stop may_pass ends.polls.items))
+        unread = subst (λ (n : ℕ). All (λ (x : ConsumerEnd). x.stopped ≡ true
+            → ends_met x.reads < n) (consumer_ends m may_stop may_pass ends.polls.items))
             (omega (arith, first, far))
             (run_unread m may_stop may_pass stream h from end budget items jobs.puts.items
             ends.puts.items jobs.polls.items ends.polls.items hub all.puts given.polls came.puts
             came.polls polls_on);
-        only = subst (λ (z : ℕ × ℕ). All (λ (x : ConsumerLeft). IsOnLanes z.0 z.1 x.reads)
-            (left_of m may_stop may_pass ends.polls.items))
+        only = subst (λ (z : ℕ × ℕ). All (λ (x : ConsumerEnd). IsOnLanes z.0 z.1 x.reads)
+            (consumer_ends m may_stop may_pass ends.polls.items))
             (λ i. (first i, far i))
             (run_only m may_stop may_pass stream h from end budget items jobs.puts.items
             ends.puts.items jobs.polls.items ends.polls.items hub all.puts given.polls came.puts
@@ -357,16 +360,16 @@ module _ {R Z : Type 0} (m : MailboxView) (may_stop may_pass : Who → ℕ → T
       pub called : IsCalled may_stop may_pass budget (lists_in items) (map stream rngs) w h now
       called = record {
         lanes = lanes_of m may_stop may_pass ends.puts.items;
-        consumers = left_of m may_stop may_pass ends.polls.items;
+        consumers = consumer_ends m may_stop may_pass ends.polls.items;
         run = subst (λ (n : ℕ). IsRunOf (lists_in items) n
             (lanes_of m may_stop may_pass ends.puts.items)
-            (left_of m may_stop may_pass ends.polls.items) h now) (sym many) run;
+            (consumer_ends m may_stop may_pass ends.polls.items) h now) (sym many) run;
         stopped = total;
         puts = run_passes m may_stop may_pass stream h from end budget items jobs.puts.items
             ends.puts.items jobs.polls.items ends.polls.items hub all.puts given.polls came.puts
             came.polls puts_on;
         polls = subst (λ (z : (ℕ × ℕ) × List Stream). WerePolled may_stop may_pass z.0.0 z.0.1
-            budget (length h.ledgers) z.1 (left_of m may_stop may_pass ends.polls.items))
+            budget (length h.ledgers) z.1 (consumer_ends m may_stop may_pass ends.polls.items))
             (λ i. ((first i, far i), streams i))
             (run_polled m may_stop may_pass stream h from end budget items jobs.puts.items
             ends.puts.items jobs.polls.items ends.polls.items hub all.puts given.polls came.puts

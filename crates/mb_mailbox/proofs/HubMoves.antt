@@ -3,7 +3,7 @@ use Rattle.std.proofs.Common.{◌≡◌, ◌≢◌, ◌⊎◌, ℕ, ◌<◌, ◌
 use Rattle.std.specs.Prelude.{Option, Some, None, slice_get, slice_set}
 use Rattle.std.proofs.lemmas.List.{length-append, length-set}
 use Rattle.std.proofs.lemmas.Option.{slice_get_within}
-use Rattle.mb_world.proofs.Positions.{get-left, get-snoc}
+use Rattle.mb_world.proofs.Positions.{get-front, get-snoc}
 use Rattle.mb_cells.specs.Vocabulary.{Entry, fetch}
 use Rattle.mb_shared_cells.specs.Vocabulary.{CellHubView, empty_roll}
 use Rattle.mb_shared_cells.specs.declared.views.Roll.{Roll}
@@ -64,7 +64,7 @@ gave_producer h i low = record {
   few_consumers = i.few_consumers;
   put = λ p l e. ⊎_elim
       (λ (old : slice_get h.puts p ≡ Some (Some l)).
-      let t = i.put p l old in (t.0, get-left h.cells.roll.lanes (None ∷ []) p (Some t.0) t.1, t.2))
+      let t = i.put p l old in (t.0, get-front h.cells.roll.lanes (None ∷ []) p (Some t.0) t.1, t.2))
       (λ (new : None ≡ Some l). absurd (cc))
       (get_older h.puts None p (Some l) e);
   taken = i.taken;
@@ -133,8 +133,8 @@ gave_consumer h i low = record {
       (λ (old : slice_get h.ledgers c ≡ Some (Some ledger)).
       let t = i.taken c ledger old in (
         t.0,
-        get-left h.cells.roll.readers (None ∷ []) c (Some t.0) t.1,
-        (t.2.0, get-left h.claims.roll (None ∷ []) c (Some t.2.0) t.2.1, t.2.2),
+        get-front h.cells.roll.readers (None ∷ []) c (Some t.0) t.1,
+        (t.2.0, get-front h.claims.roll (None ∷ []) c (Some t.2.0) t.2.1, t.2.2),
       ))
       (λ (new : None ≡ Some ledger). absurd (cc))
       (get_older h.ledgers None c (Some ledger) e);

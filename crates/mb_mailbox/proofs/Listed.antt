@@ -4,7 +4,7 @@ use Rattle.std.specs.Prelude.{Option, Some, None, if◌then◌else◌}
 use Rattle.std.proofs.lemmas.Bool.{cases_lt}
 use Rattle.std.proofs.lemmas.List.{length-append, length-take-le, take_more}
 use Rattle.std.proofs.Math.Nat.{mul-le-mul_right}
-use Rattle.mb_world.proofs.Positions.{get-left}
+use Rattle.mb_world.proofs.Positions.{get-front}
 use Rattle.mb_world.specs.Assignment.{items_where}
 use Rattle.mb_world.specs.Report.{DiaryView}
 use Rattle.mb_mailbox.specs.Gathering.{AreDiariesOutlined, count_missing, diary_outline}
@@ -87,7 +87,7 @@ pub diaries_more : (w : ℕ) (h : HubView) (c p : ℕ) (d : DiaryView) (ds : Lis
 diaries_more w h c p d ds ps told here = record {
   count = omega (arith, length-append ds (d ∷ []), told.count);
   each = λ e q qs less. elim (cases_lt (e * w + q) (c * w + p)) [
-    | inl old ↦ get-left ds (d ∷ []) (e * w + q) (diary_outline e q h) (told.each e q qs old)
+    | inl old ↦ get-front ds (d ∷ []) (e * w + q) (diary_outline e q h) (told.each e q qs old)
     | inr new ↦
         let same : e * w + q ≡ c * w + p = omega (arith, less, new) in
         let row : e ≡ c = row_is w c e p q ps qs same in

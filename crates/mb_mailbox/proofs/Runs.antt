@@ -16,7 +16,7 @@ use Rattle.mb_mailbox.specs.Hubs.{HubView, IsHub, new_producer, put_list_of}
 use Rattle.mb_mailbox.specs.Jobs.{HasReadEnds, HasReadToEnd, IsFront, IsOnLanes, IsPollEnd, IsPutEnd, IsStopBefore, IsStoppedPoll, accesses_made, ends_met}
 use Rattle.mb_mailbox.specs.Mailboxes.{MailboxView}
 use Rattle.mb_mailbox.specs.Producers.{FoundNoCell, ProducerView, is_over}
-use Rattle.mb_mailbox.specs.Worked.{AreCutByCells, AreStoppedPolls, AreStoppedPuts, ConsumerLeft, HasMetEnd, HasMetEnds, HaveMetEnds, IsRunOf, IsStoppedPut, LaneLeft, ended_list, items_behind, items_beyond, lists_in}
+use Rattle.mb_mailbox.specs.Worked.{AreCutByCells, AreStoppedPolls, AreStoppedPuts, ConsumerEnd, HasMetEnd, HasMetEnds, HaveMetEnds, IsRunOf, IsStoppedPut, ProducerEnd, ended_list, items_behind, items_beyond, lists_in}
 use Rattle.mb_mailbox.specs.declared.gate.Who.{Who}
 use Rattle.mb_mailbox.specs.declared.gate.Who.TheVariants as who
 use Rattle.mb_mailbox.specs.declared.crew.jobs.PollDone.{PollDone}
@@ -26,12 +26,12 @@ use Rattle.mb_mailbox.specs.declared.crew.jobs.PutJob.{PutJob}
 use Rattle.mb_mailbox.proofs.HubRuns.{CountFrom, after, run_claimed, run_ledgers, run_parts, run_puts, run_readers}
 use Rattle.mb_mailbox.proofs.Zips.{zip_length}
 
--- what a producer came to, and by `left_by` what a consumer came to
-abbrev pub lane_left : ProducerView → Bool → LaneLeft
-lane_left s stopped = record { put = s.items; part = s.seat.part; stopped = stopped }
+-- what a producer came to, and by `consumer_end` what a consumer came to
+abbrev pub producer_end : ProducerView → Bool → ProducerEnd
+producer_end s stopped = record { put = s.items; part = s.seat.part; stopped = stopped }
 
-abbrev pub left_by : ConsumerView → Bool → ConsumerLeft
-left_by s stopped = record { ledger = record { places = s.places; notes = s.notes }; reads = s.reader.part; claimed = s.seat.part; stopped = stopped }
+abbrev pub consumer_end : ConsumerView → Bool → ConsumerEnd
+consumer_end s stopped = record { ledger = record { places = s.places; notes = s.notes }; reads = s.reader.part; claimed = s.seat.part; stopped = stopped }
 
 -- a consumer that has read lanes to their end marks has met these end marks, under its number c
 met_at : (from end c : ℕ) (s : ConsumerView) → s.reader.reader ≡ c → HasReadEnds from end s
@@ -58,8 +58,8 @@ module _ {Z : Type 0} (m : MailboxView) (may_stop may_pass : Who → ℕ → Typ
   abbrev pub producers : List (PutDone Z) → List ProducerView
   producers ds = map (λ d. d.producer) ds
 
-  abbrev pub lanes_of : List (PutDone Z) → List LaneLeft
-  lanes_of ds = map (λ d. lane_left d.producer d.stopped) ds
+  abbrev pub lanes_of : List (PutDone Z) → List ProducerEnd
+  lanes_of ds = map (λ d. producer_end d.producer d.stopped) ds
 
   -- the end of the job of lane p
   pub record IsPutEndAt (p : ℕ) (v : Vec ℕ Z) (d : PutDone Z) : Type 0 where
@@ -71,8 +71,8 @@ module _ {Z : Type 0} (m : MailboxView) (may_stop may_pass : Who → ℕ → Typ
     pub found : d.stopped ≡ false → d.full ≢ 0 → HasFoundNone m.cells.size.cells p d.producer.seat.part
     pub none : d.stopped ≡ true → d.full ≡ 0
     pub stop : d.stopped ≡ true → d.aborted ≡ false
-        → IsStoppedPut may_stop m.cells.size.cells p v.items (lane_left d.producer d.stopped)
-    pub passed : d.aborted ≡ false → WasPassed may_pass p v.items (lane_left d.producer d.stopped)
+        → IsStoppedPut may_stop m.cells.size.cells p v.items (producer_end d.producer d.stopped)
+    pub passed : d.aborted ≡ false → WasPassed may_pass p v.items (producer_end d.producer d.stopped)
 
   -- these are the ends of the jobs of these lists, on the lanes from p on
   abbrev pub AreAt : ℕ → List (Vec ℕ Z) → List (PutDone Z) → Type 0
@@ -139,7 +139,7 @@ module _ {Z : Type 0} (m : MailboxView) (may_stop may_pass : Who → ℕ → Typ
 
   -- what the hub keeps of each of these producers says that its lane has ended
   ended_of : (p : ℕ) (vs : List (Vec ℕ Z)) (ds : List (PutDone Z)) → AreAt p vs ds
-      → map (λ (s : ProducerView). Some (put_list_of s)) (producers ds) ≡ map (λ (l : LaneLeft). Some (ended_list l)) (lanes_of ds)
+      → map (λ (s : ProducerView). Some (put_list_of s)) (producers ds) ≡ map (λ (l : ProducerEnd). Some (ended_list l)) (lanes_of ds)
   ended_of p [] [] a = refl
   ended_of p [] (d ∷ ds) a = absurd a
   ended_of p (v ∷ vs) [] a = absurd a
@@ -148,7 +148,8 @@ module _ {Z : Type 0} (m : MailboxView) (may_stop may_pass : Who → ℕ → Typ
 
   -- what these producers came to has their parts
   parts_of_lanes : (ds : List (PutDone Z))
-      → map (λ (s : ProducerView). Some s.seat.part) (producers ds) ≡ map (λ (l : LaneLeft). Some l.part) (lanes_of ds)
+      → map (λ (s : ProducerView). Some s.seat.part) (producers ds) ≡ map (λ (l : ProducerEnd). Some l.part)
+      (lanes_of ds)
   parts_of_lanes [] = refl
   parts_of_lanes (d ∷ ds) = ap (λ l. Some d.producer.seat.part ∷ l) (parts_of_lanes ds)
 
@@ -193,7 +194,7 @@ module _ {Z : Type 0} (m : MailboxView) (may_stop may_pass : Who → ℕ → Typ
       (a.0.passed (All-head F d ds on), passes_of (suc p) vs ds a.1 (All-tail F d ds on))
 
   -- ---- consumers
-  -- the consumers of these ends, and by `left_of` below what they came to
+  -- the consumers of these ends, and by `consumer_ends` below what they came to
   abbrev pub consumers : List (PollDone Z) → List ConsumerView
   consumers ds = map (λ d. d.consumer) ds
 
@@ -244,13 +245,13 @@ module _ {Z : Type 0} (m : MailboxView) (may_stop may_pass : Who → ℕ → Typ
   count_readers from end budget c [] a = tt
   count_readers from end budget c (d ∷ ds) a = (a.0.reader, count_readers from end budget (suc c) ds a.1)
 
-  abbrev pub left_of : List (PollDone Z) → List ConsumerLeft
-  left_of ds = map (λ d. left_by d.consumer d.stopped) ds
+  abbrev pub consumer_ends : List (PollDone Z) → List ConsumerEnd
+  consumer_ends ds = map (λ d. consumer_end d.consumer d.stopped) ds
 
   -- which consumers were stopped, if the run is not aborted
   poll_stops_of : (from end budget c : ℕ) (ds : List (PollDone Z)) → AreNumbered from end budget c ds
       → All (λ (d : PollDone Z). d.aborted ≡ false) ds
-      → AreStoppedPolls may_stop budget c (left_of ds)
+      → AreStoppedPolls may_stop budget c (consumer_ends ds)
   poll_stops_of from end budget c [] a on = tt
   poll_stops_of from end budget c (d ∷ ds) a on =
       let F = λ (d : PollDone Z). d.aborted ≡ false in
@@ -264,7 +265,7 @@ module _ {Z : Type 0} (m : MailboxView) (may_stop may_pass : Who → ℕ → Typ
   polled_of : {R : Type 0} (stream : R → Stream) (from end budget c : ℕ) (js : List (PollJob R Z)) (ds : List (PollDone Z)) → ArePollJobs m c js
       → AllZip (λ (j : PollJob R Z) (d : PollDone Z). IsPollEnd may_stop may_pass from end budget (stream j.rng) j.consumer d) js ds
       → All (λ (d : PollDone Z). d.aborted ≡ false) ds
-      → WerePolled may_stop may_pass from end budget c (sources_of stream js) (left_of ds)
+      → WerePolled may_stop may_pass from end budget c (sources_of stream js) (consumer_ends ds)
   polled_of stream from end budget c [] [] a z on = tt
   polled_of stream from end budget c [] (d ∷ ds) a z on = absurd z
   polled_of stream from end budget c (j ∷ js) [] a z on = absurd z
@@ -287,35 +288,35 @@ module _ {Z : Type 0} (m : MailboxView) (may_stop may_pass : Who → ℕ → Typ
   -- if the run is not aborted, each consumer has looked at the heads of these lanes alone
   only_of : (from end budget c : ℕ) (ds : List (PollDone Z)) → AreNumbered from end budget c ds
       → All (λ (d : PollDone Z). d.aborted ≡ false) ds
-      → All (λ (x : ConsumerLeft). IsOnLanes from end x.reads) (left_of ds)
+      → All (λ (x : ConsumerEnd). IsOnLanes from end x.reads) (consumer_ends ds)
   only_of from end budget c [] a on = λ k d low. absurd (omega (arith, low))
   only_of from end budget c (d ∷ ds) a on =
       let F = λ (d : PollDone Z). d.aborted ≡ false in
-      All-cons (λ (x : ConsumerLeft). IsOnLanes from end x.reads) (left_by d.consumer d.stopped) (left_of ds) (a.0.only (All-head F d ds on))
+      All-cons (λ (x : ConsumerEnd). IsOnLanes from end x.reads) (consumer_end d.consumer d.stopped) (consumer_ends ds) (a.0.only (All-head F d ds on))
       (only_of from end budget (suc c) ds a.1 (All-tail F d ds on))
 
   -- a consumer that was not stopped has loaded as many end marks as there are lanes
   ends_of : (from end budget c : ℕ) (ds : List (PollDone Z)) → AreNumbered from end budget c ds
-      → All (λ (x : ConsumerLeft). x.stopped ≡ false → ends_met x.reads ≡ end - from) (left_of ds)
+      → All (λ (x : ConsumerEnd). x.stopped ≡ false → ends_met x.reads ≡ end - from) (consumer_ends ds)
   ends_of from end budget c [] a = λ k d low. absurd (omega (arith, low))
   ends_of from end budget c (d ∷ ds) a =
-      All-cons (λ (x : ConsumerLeft). x.stopped ≡ false → ends_met x.reads ≡ end - from) (left_by d.consumer d.stopped) (left_of ds)
+      All-cons (λ (x : ConsumerEnd). x.stopped ≡ false → ends_met x.reads ≡ end - from) (consumer_end d.consumer d.stopped) (consumer_ends ds)
       a.0.ends (ends_of from end budget (suc c) ds a.1)
 
   -- each consumer has met the end marks of the lanes that it has read to their ends
   mets_of : (from end budget c : ℕ) (ds : List (PollDone Z)) → AreNumbered from end budget c ds
-      → HaveMetEnds from end c (left_of ds)
+      → HaveMetEnds from end c (consumer_ends ds)
   mets_of from end budget c [] a = tt
   mets_of from end budget c (d ∷ ds) a = (met_at from end c d.consumer a.0.reader a.0.marked, mets_of from end budget (suc c) ds a.1)
 
   -- if the run is not aborted, a consumer that was stopped has loaded fewer end marks than there are lanes
   unread_of : (from end budget c : ℕ) (ds : List (PollDone Z)) → AreNumbered from end budget c ds
       → All (λ (d : PollDone Z). d.aborted ≡ false) ds
-      → All (λ (x : ConsumerLeft). x.stopped ≡ true → ends_met x.reads < end - from) (left_of ds)
+      → All (λ (x : ConsumerEnd). x.stopped ≡ true → ends_met x.reads < end - from) (consumer_ends ds)
   unread_of from end budget c [] a on = λ k d low. absurd (omega (arith, low))
   unread_of from end budget c (d ∷ ds) a on =
       let F = λ (d : PollDone Z). d.aborted ≡ false in
-      All-cons (λ (x : ConsumerLeft). x.stopped ≡ true → ends_met x.reads < end - from) (left_by d.consumer d.stopped) (left_of ds)
+      All-cons (λ (x : ConsumerEnd). x.stopped ≡ true → ends_met x.reads < end - from) (consumer_end d.consumer d.stopped) (consumer_ends ds)
       (λ t. a.0.unread t (All-head F d ds on)) (unread_of from end budget (suc c) ds a.1 (All-tail F d ds on))
 
   -- ---- a whole run: each lemma `run_X` below is the lemma `X_of` above, over all ends of the run
@@ -340,7 +341,7 @@ module _ {Z : Type 0} (m : MailboxView) (may_stop may_pass : Who → ℕ → Typ
         ∙ sym (length-map es (λ (d : PollDone Z). d.consumer))
 
     -- the run is one for these lists and as many sources as consumers' jobs
-    pub run_of : IsRunOf (lists_in vs) (length ks) (lanes_of ds) (left_of es) h now
+    pub run_of : IsRunOf (lists_in vs) (length ks) (lanes_of ds) (consumer_ends es) h now
     run_of = record {
       puts = run_puts js ks (producers ds) (consumers es) h puts_count (count_lanes (length h.puts) vs ds ats)
           ∙ ap (λ l. h.puts ++ l) (ended_of (length h.puts) vs ds ats);
@@ -348,17 +349,17 @@ module _ {Z : Type 0} (m : MailboxView) (may_stop may_pass : Who → ℕ → Typ
           ∙ ap (λ l. h.cells.roll.lanes ++ l) (parts_of_lanes ds);
       fronts = fronts_of (length h.puts) vs ds ats;
       ledgers = run_ledgers js ks (producers ds) (consumers es) h polls_count (count_seats from end budget (length h.ledgers) es nums)
-          ∙ ap (λ l. h.ledgers ++ l) (turned (λ (s : ConsumerView). Some (left_by s true).ledger) (λ (x : ConsumerLeft). Some x.ledger) (λ s b. refl) es);
+          ∙ ap (λ l. h.ledgers ++ l) (turned (λ (s : ConsumerView). Some (consumer_end s true).ledger) (λ (x : ConsumerEnd). Some x.ledger) (λ s b. refl) es);
       reads = run_readers js ks (producers ds) (consumers es) h polls_count i.readers (count_readers from end budget (length h.ledgers) es nums)
-          ∙ ap (λ l. h.cells.roll.readers ++ l) (turned (λ (s : ConsumerView). Some s.reader.part) (λ (x : ConsumerLeft). Some x.reads) (λ s b. refl) es);
+          ∙ ap (λ l. h.cells.roll.readers ++ l) (turned (λ (s : ConsumerView). Some s.reader.part) (λ (x : ConsumerEnd). Some x.reads) (λ s b. refl) es);
       claimed = run_claimed js ks (producers ds) (consumers es) h polls_count i.seats (count_seats from end budget (length h.ledgers) es nums)
-          ∙ ap (λ l. h.claims.roll ++ l) (turned (λ (s : ConsumerView). Some s.seat.part) (λ (x : ConsumerLeft). Some x.claimed) (λ s b. refl) es);
-      count = length-map es (λ (d : PollDone Z). left_by d.consumer d.stopped) ∙ sym (length-map es (λ (d : PollDone Z). d.consumer)) ∙ sym polls_count;
+          ∙ ap (λ l. h.claims.roll ++ l) (turned (λ (s : ConsumerView). Some s.seat.part) (λ (x : ConsumerEnd). Some x.claimed) (λ s b. refl) es);
+      count = length-map es (λ (d : PollDone Z). consumer_end d.consumer d.stopped) ∙ sym (length-map es (λ (d : PollDone Z). d.consumer)) ∙ sym polls_count;
     }
       where
-        turned : {Y : Type 0} (f : ConsumerView → Y) (r : ConsumerLeft → Y)
-            → ((s : ConsumerView) (b : Bool) → f s ≡ r (left_by s b)) → (es : List (PollDone Z))
-            → map f (consumers es) ≡ map r (left_of es)
+        turned : {Y : Type 0} (f : ConsumerView → Y) (r : ConsumerEnd → Y)
+            → ((s : ConsumerView) (b : Bool) → f s ≡ r (consumer_end s b)) → (es : List (PollDone Z))
+            → map f (consumers es) ≡ map r (consumer_ends es)
         turned f r same [] = refl
         turned f r same (d ∷ ds) = λ i. same d.consumer d.stopped i ∷ turned f r same ds i
 
@@ -377,23 +378,23 @@ module _ {Z : Type 0} (m : MailboxView) (may_stop may_pass : Who → ℕ → Typ
     run_passes on = passes_of (length h.puts) vs ds ats on
 
     pub run_polled : All (λ (d : PollDone Z). d.aborted ≡ false) es
-        → WerePolled may_stop may_pass from end budget (length h.ledgers) (sources_of stream ks) (left_of es)
+        → WerePolled may_stop may_pass from end budget (length h.ledgers) (sources_of stream ks) (consumer_ends es)
     run_polled on = polled_of stream from end budget (length h.ledgers) ks es polling polled on
 
     pub run_poll_stops : All (λ (d : PollDone Z). d.aborted ≡ false) es
-        → AreStoppedPolls may_stop budget (length h.ledgers) (left_of es)
+        → AreStoppedPolls may_stop budget (length h.ledgers) (consumer_ends es)
     run_poll_stops on = poll_stops_of from end budget (length h.ledgers) es nums on
 
     pub run_only : All (λ (d : PollDone Z). d.aborted ≡ false) es
-        → All (λ (x : ConsumerLeft). IsOnLanes from end x.reads) (left_of es)
+        → All (λ (x : ConsumerEnd). IsOnLanes from end x.reads) (consumer_ends es)
     run_only on = only_of from end budget (length h.ledgers) es nums on
 
-    pub run_ends : All (λ (x : ConsumerLeft). x.stopped ≡ false → ends_met x.reads ≡ end - from) (left_of es)
+    pub run_ends : All (λ (x : ConsumerEnd). x.stopped ≡ false → ends_met x.reads ≡ end - from) (consumer_ends es)
     run_ends = ends_of from end budget (length h.ledgers) es nums
 
-    pub run_met : HaveMetEnds from end (length h.ledgers) (left_of es)
+    pub run_met : HaveMetEnds from end (length h.ledgers) (consumer_ends es)
     run_met = mets_of from end budget (length h.ledgers) es nums
 
     pub run_unread : All (λ (d : PollDone Z). d.aborted ≡ false) es
-        → All (λ (x : ConsumerLeft). x.stopped ≡ true → ends_met x.reads < end - from) (left_of es)
+        → All (λ (x : ConsumerEnd). x.stopped ≡ true → ends_met x.reads < end - from) (consumer_ends es)
     run_unread on = unread_of from end budget (length h.ledgers) es nums on

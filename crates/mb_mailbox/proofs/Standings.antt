@@ -5,7 +5,7 @@ use Rattle.std.specs.Option.{option_map_or}
 use Rattle.std.proofs.lemmas.Option.{slice_get_within}
 use Rattle.std.proofs.lemmas.List.{length-set}
 use Rattle.mb_claim.specs.declared.access.Stage.TheVariants as stage
-use Rattle.mb_mailbox.specs.Imports.{ClaimAccess, Claims, EndsAs, Fits, HasNotLeft, HasRead, HasStageIn, Has, History, IsClaimIn, IsClaimPrefix, Item}
+use Rattle.mb_mailbox.specs.Imports.{ClaimAccess, Claims, EndsAs, Fits, HasNotPassed, HasRead, HasStageIn, Has, History, IsClaimIn, IsClaimPrefix, Item}
 use Rattle.mb_mailbox.specs.Imports.{Layout, Lost, Note, Parts, Stage, Took, Undecided, cells_met, claims_in, note_of, part_on, place_past}
 use Rattle.mb_mailbox.specs.Consumers.{AreEnds, ConsumerView, IsConsumer, StandsOn, parts_of}
 use Rattle.mb_mailbox.specs.Moves.{moved_to}
@@ -54,7 +54,7 @@ pub record Leaves (q : ℕ) (x y : Parts) : Type 0 where
   pub met : cells_met q y.reads ≡ cells_met q x.reads
   pub claims : (k : ℕ) → Has (cells_met q x.reads) k → x.claimed k ≡ y.claimed k
   pub more : (k v : ℕ) → HasRead (Item k) v x.reads → HasRead (Item k) v y.reads
-  pub left : (k : ℕ) → Has (cells_met q x.reads) k → HasNotLeft k x → HasNotLeft k y
+  pub left : (k : ℕ) → Has (cells_met q x.reads) k → HasNotPassed k x → HasNotPassed k y
 
 -- on such a lane the consumer stands as before
 pub stands_still : (layout : Layout) (cs : Claims) (c q : ℕ) (x y : Parts) (notes : List Note)

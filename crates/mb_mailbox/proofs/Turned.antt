@@ -3,7 +3,7 @@ use Rattle.std.proofs.Common.{◌≡◌, ◌⊎◌, ℕ, ◌<◌, List, [], ◌�
 use Rattle.std.proofs.lemmas.List.{length-reverse}
 use Rattle.std.specs.Prelude.{Some, reverse, slice_get}
 use mathlib.Core.List.{reverse-cons}
-use Rattle.mb_world.proofs.Positions.{get-last, get-left, get-snoc}
+use Rattle.mb_world.proofs.Positions.{get-last, get-front, get-snoc}
 
 -- an element at the end stands at each number that is equal to the list's length
 pub get_end : {X : Type 0} (xs : List X) (y : X) (i : ℕ) → i ≡ length xs → slice_get (xs ++ y ∷ []) i ≡ Some y
@@ -28,7 +28,7 @@ at_end {X} (y ∷ ys) j x (inl h) =
     (get_end (reverse ys) y j (h.0 ∙ sym (length-reverse ys)) ∙ ap Some h.1)
 at_end {X} (y ∷ ys) j x (inr h) =
     subst (λ (zs : List X). slice_get zs j ≡ Some x) (sym (reverse-cons y ys))
-    (get-left (reverse ys) (y ∷ []) j x (at_end ys j x h))
+    (get-front (reverse ys) (y ∷ []) j x (at_end ys j x h))
 
 -- a place from the end is within the list
 pub end_within : {X : Type 0} (xs : List X) (j : ℕ) (x : X) → FromEnd xs j x → j < length xs

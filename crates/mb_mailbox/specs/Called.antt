@@ -7,25 +7,25 @@ use Rattle.mb_mailbox.specs.Calls.{ArePassed}
 use Rattle.mb_mailbox.specs.Consumers.{ConsumerView}
 use Rattle.mb_mailbox.specs.Hubs.{HubView}
 use Rattle.mb_mailbox.specs.Jobs.{HasPolled, accesses_made}
-use Rattle.mb_mailbox.specs.Worked.{ConsumerLeft, IsRunOf, LaneLeft}
+use Rattle.mb_mailbox.specs.Worked.{ConsumerEnd, IsRunOf, ProducerEnd}
 use Rattle.mb_mailbox.specs.declared.gate.Who.{Who}
 use Rattle.mb_mailbox.specs.declared.gate.Who.TheVariants as who
 use Rattle.mb_mailbox.specs.declared.crew.Worked.{Worked}
 
 -- the gate let the producer of lane p through before each of its calls. There is one for each item that it put. There
 -- is one more for the item that found no cell, if there is one
-pub record WasPassed (may_pass : Who → ℕ → Type 0) (p : ℕ) (list : List ℕ) (l : LaneLeft) : Type 0 where
+pub record WasPassed (may_pass : Who → ℕ → Type 0) (p : ℕ) (list : List ℕ) (l : ProducerEnd) : Type 0 where
   pub put : ArePassed may_pass (who.Producer p) (length l.put)
   pub full : l.stopped ≡ false → length l.put < length list → may_pass (who.Producer p) (suc (length l.put))
 
 -- the gate let each producer of these lanes, from p on, through before each of its calls
-abbrev pub WerePassed : (Who → ℕ → Type 0) → ℕ → List (List ℕ) → List LaneLeft → Type 0
+abbrev pub WerePassed : (Who → ℕ → Type 0) → ℕ → List (List ℕ) → List ProducerEnd → Type 0
 WerePassed may_pass p [] [] = Unit {0}
 WerePassed may_pass p (list ∷ lists) (l ∷ ls) = WasPassed may_pass p list l × WerePassed may_pass (suc p) lists ls
 WerePassed may_pass p _ _ = ⊥
 
 -- consumer c, which had made no access before, made its calls with the words of this source. `l` is what it came to
-pub record WasPolled (may_stop may_pass : Who → ℕ → Type 0) (from end budget c : ℕ) (source : Stream) (l : ConsumerLeft)
+pub record WasPolled (may_stop may_pass : Who → ℕ → Type 0) (from end budget c : ℕ) (source : Stream) (l : ConsumerEnd)
     : Type 0 where
   pub first : ConsumerView
   pub last : ConsumerView
@@ -40,7 +40,7 @@ pub record WasPolled (may_stop may_pass : Who → ℕ → Type 0) (from end budg
 -- each of these consumers, with the numbers from c on, made its calls with the words of its own source. There is one
 -- consumer for each of these sources, in their order
 abbrev pub WerePolled : (Who → ℕ → Type 0) → (Who → ℕ → Type 0) → ℕ → ℕ → ℕ → ℕ → List Stream
-    → List ConsumerLeft → Type 0
+    → List ConsumerEnd → Type 0
 WerePolled may_stop may_pass from end budget c [] [] = Unit {0}
 WerePolled may_stop may_pass from end budget c (source ∷ sources) (l ∷ ls) =
     WasPolled may_stop may_pass from end budget c source l
@@ -53,8 +53,8 @@ WerePolled may_stop may_pass from end budget c _ _ = ⊥
 -- were stopped
 pub record IsCalled (may_stop may_pass : Who → ℕ → Type 0) (budget : ℕ) (lists : List (List ℕ)) (sources : List Stream)
     (w : Worked) (old new : HubView) : Type 0 where
-  pub lanes : List LaneLeft
-  pub consumers : List ConsumerLeft
+  pub lanes : List ProducerEnd
+  pub consumers : List ConsumerEnd
   pub run : IsRunOf lists (length sources) lanes consumers old new
   pub stopped : w.stopped ≡ sum_by (λ l. from_bool l.stopped) lanes + sum_by (λ c. from_bool c.stopped) consumers
   pub puts : WerePassed may_pass (length old.puts) lists lanes

@@ -2,7 +2,7 @@
 use Rattle.std.specs.Prelude.{ℕ, ◌≡◌, List, ◌∷◌, Option, Some, None}
 use Rattle.mb_claim.specs.declared.access.Stage.TheVariants as stage
 use Rattle.mb_cells.specs.declared.answer.Look.TheVariants as look
-use Rattle.mb_mailbox.specs.Imports.{Claims, HasNotLeft, HasStageIn, IsClaimPrefix, Look, MayLookPast, ObjectTurn}
+use Rattle.mb_mailbox.specs.Imports.{Claims, HasNotPassed, HasStageIn, IsClaimPrefix, Look, MayLookPast, ObjectTurn}
 use Rattle.mb_mailbox.specs.Imports.{Parts, Stage, WorldAccess, cells_met, claim_step, item_load, link_load, look_of}
 use Rattle.mb_mailbox.specs.declared.consumer.Poll.{Poll}
 use Rattle.mb_mailbox.specs.declared.consumer.Poll.TheVariants as poll
@@ -26,7 +26,7 @@ stage_answer stage.Undecided = Some poll.Undecided
 pub record IsLastMet (p k : ℕ) (x : Parts) : Type 0 where
   pub cells : List ℕ
   pub met : cells_met p x.reads ≡ k ∷ cells
-  pub left : HasNotLeft k x
+  pub left : HasNotPassed k x
 
 -- The access is the next one of consumer c on lane p, by its parts x. It comes to this answer, or to none yet. Each
 -- rule is one kind of access.

@@ -1,6 +1,6 @@
 -- A consumer of a mailbox: what its two seats did, and where it stands on each lane.
 use Rattle.std.specs.Prelude.{ℕ, ◌≡◌, List, [], ◌∷◌, Some, None, length, reverse, slice_get}
-use Rattle.mb_mailbox.specs.Imports.{Claim, Claims, Cursor, EndsAs, Fits, HasNotLeft, IsClaimIn, Layout, Note}
+use Rattle.mb_mailbox.specs.Imports.{Claim, Claims, Cursor, EndsAs, Fits, HasNotPassed, IsClaimIn, Layout, Note}
 use Rattle.mb_mailbox.specs.Imports.{Parts, ReaderSeatView, SeatView, TableSize, cells_met, claim_stage}
 use Rattle.mb_mailbox.specs.Imports.{claims_in, consumer_of, name_of, note_of, part_on, place_past, word_of}
 use Rattle.mb_mailbox.specs.Mailboxes.{MailboxView}
@@ -44,7 +44,7 @@ pub record ConsumerIsAt (layout : Layout) (cs : Claims) (c p : ℕ) (x : Parts) 
   pub own : consumer_of claim ≡ c
   pub path : IsClaimIn layout claim (x.claimed k)
   pub unnoted : note_of (claim_stage claim) ≡ None
-  pub left : HasNotLeft k x
+  pub left : HasNotPassed k x
 
 -- consumer c stands at this place on lane p, by its parts and its notes there
 abbrev pub StandsOn : Layout → Claims → ℕ → ℕ → Parts → List Note → Place → Type 0

@@ -27,7 +27,7 @@ pub use Rattle.mb_world.specs.declared.report.Note.{Note}
 pub use Rattle.mb_world.specs.declared.report.Note.TheVariants.{Took, Lost, Undecided}
 pub use Rattle.mb_world.specs.Plan.{Plan}
 pub use Rattle.mb_world.specs.Fitting.{EndsAs, Fits, FollowsLinks, HasRead, HasStageIn, Parts, cells_met}
-pub use Rattle.mb_world.specs.PartSteps.{HasNotLeft, IsDoneWith, MayLookPast, with_load, with_step}
+pub use Rattle.mb_world.specs.PartSteps.{HasNotPassed, IsDoneWith, MayLookPast, with_load, with_step}
 pub use Rattle.mb_world.specs.ConsumerPath.{note_of}
 pub use Rattle.mb_world.specs.ConsumerPath.{claim_step, item_load, link_load}
 pub use Rattle.mb_shared_claims.specs.Vocabulary.{IsLawfulPart}

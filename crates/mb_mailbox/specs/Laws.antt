@@ -7,7 +7,7 @@ use Rattle.mb_claim.specs.declared.access.Stage.TheVariants as stage
 use Rattle.mb_cells.specs.Vocabulary.{HasLoaded, IsStart, items_put}
 use Rattle.mb_cells.specs.declared.access.Process.{Process}
 use Rattle.mb_world.specs.Reporting.{HasMetAll}
-use Rattle.mb_mailbox.specs.Imports.{ClaimAccess, Claims, END, Fits, FollowsLinks, Gave, Has, HasMet, HasNotLeft}
+use Rattle.mb_mailbox.specs.Imports.{ClaimAccess, Claims, END, Fits, FollowsLinks, Gave, Has, HasMet, HasNotPassed}
 use Rattle.mb_mailbox.specs.Imports.{HasStageIn, History, IsClaimPrefix, IsOnceEach, IsPoolLawful, Item, Layout}
 use Rattle.mb_mailbox.specs.Imports.{Link, MayLookPast, ObjectTurn, Parts, PoolAccess, PoolSize, Reader, Stage}
 use Rattle.mb_mailbox.specs.Imports.{cells_met, linked_cells, load, part, part_on, place_past, with_load, with_step}
@@ -68,6 +68,6 @@ pub record Laws : Type 0 where
       → MayLookPast cs c (cells_met p x.reads) x
       → Fits cs c (with_load (load q (place_past p (cells_met p x.reads)) v) x)
   pub claims : (cs : Claims) (c k : ℕ) (t : ObjectTurn) (x : Parts) → Fits cs c x → Gave k x.reads
-      → HasNotLeft k x → Fits cs c (with_step k t x)
+      → HasNotPassed k x → Fits cs c (with_step k t x)
   pub takes : (cs : Claims) (c q k v : ℕ) (x : Parts) → Fits cs c x → HasStageIn cs c k stage.Won x
       → Fits cs c (with_load (load q (Item k) v) x)

@@ -7,7 +7,7 @@ use Rattle.mb_mailbox.specs.Imports.{CellsName, Head, History, Item, Note}
 use Rattle.mb_mailbox.specs.Consumers.{ConsumerView}
 use Rattle.mb_mailbox.specs.Hubs.{ConsumerRecordView}
 use Rattle.mb_mailbox.specs.Producers.{ProducerView}
-use Rattle.mb_mailbox.specs.Worked.{ConsumerLeft, LaneLeft}
+use Rattle.mb_mailbox.specs.Worked.{ConsumerEnd, ProducerEnd}
 use Rattle.mb_mailbox.specs.declared.gate.Who.{Who}
 
 -- the producer of lane 0 at this place, with this part and these items. Its pool has one lane and one cell
@@ -38,11 +38,11 @@ abbrev pub linked_early : History
 linked_early = store 0 (Item 0) 7 ∷ store 0 (Head 0) 1 ∷ fetched 0 7
 
 -- what a producer that was not stopped came to: these items, and this part
-abbrev pub lane_left : List ℕ → History → LaneLeft
-lane_left items done = record { put = items; part = done; stopped = false }
+abbrev pub producer_end : List ℕ → History → ProducerEnd
+producer_end items done = record { put = items; part = done; stopped = false }
 
 -- what a producer that was stopped came to: these items, and this part
-abbrev pub stopped_lane : List ℕ → History → LaneLeft
+abbrev pub stopped_lane : List ℕ → History → ProducerEnd
 stopped_lane items done = record { put = items; part = done; stopped = true }
 
 -- the record of a consumer with these notes on lane 0
@@ -50,11 +50,11 @@ abbrev pub ledger_with : List Note → ConsumerRecordView
 ledger_with notes = record { places = []; notes = notes ∷ [] }
 
 -- what a stopped consumer came to, if it has loaded this from the cells
-abbrev pub reader_left : History → ConsumerLeft
-reader_left reads = record { ledger = ledger_with []; reads = reads; claimed = []; stopped = true }
+abbrev pub reader_end : History → ConsumerEnd
+reader_end reads = record { ledger = ledger_with []; reads = reads; claimed = []; stopped = true }
 
 -- what this consumer came to, if it was stopped
-abbrev pub stopped_as : ConsumerView → ConsumerLeft
+abbrev pub stopped_as : ConsumerView → ConsumerEnd
 stopped_as s = record {
   ledger = record { places = s.places; notes = s.notes };
   reads = s.reader.part;

@@ -18,20 +18,20 @@ AsksTooMany m lists sources h =
     (m.cells.size.lanes - length h.puts < lists) ⊎ (consumer_count m.claims.layout - length h.ledgers < sources)
 
 -- what a producer of a run came to: the items that it put, its part, and whether it was stopped
-pub record LaneLeft : Type 0 where
+pub record ProducerEnd : Type 0 where
   pub put : List ℕ
   pub part : History
   pub stopped : Bool
 
 -- what a consumer of a run came to: what the hub keeps of it, its two parts, and whether it was stopped
-pub record ConsumerLeft : Type 0 where
+pub record ConsumerEnd : Type 0 where
   pub ledger : ConsumerRecordView
   pub reads : History
   pub claimed : List ClaimAccess
   pub stopped : Bool
 
 -- what the hub keeps of a producer that has ended its lane
-abbrev pub ended_list : LaneLeft → PutListView
+abbrev pub ended_list : ProducerEnd → PutListView
 ended_list l = record { items = l.put; ended = true }
 
 -- the elements of each of these vectors
@@ -40,7 +40,7 @@ lists_in vs = map (λ v. v.items) vs
 
 -- the hub gave the next numbers, one for each list and one for each source, and took all of them in. Each of these
 -- lanes has ended, with a beginning of its list. The hub still has what it had taken in before
-pub record IsRunOf (lists : List (List ℕ)) (sources : ℕ) (lanes : List LaneLeft) (consumers : List ConsumerLeft)
+pub record IsRunOf (lists : List (List ℕ)) (sources : ℕ) (lanes : List ProducerEnd) (consumers : List ConsumerEnd)
     (old new : HubView) : Type 0 where
   pub puts : new.puts ≡ old.puts ++ map (λ l. Some (ended_list l)) lanes
   pub parts : new.cells.roll.lanes ≡ old.cells.roll.lanes ++ map (λ l. Some l.part) lanes
@@ -52,8 +52,8 @@ pub record IsRunOf (lists : List (List ℕ)) (sources : ℕ) (lanes : List LaneL
 
 -- a producer was given for each list and a consumer for each source, and all of them were taken in
 pub record WereTakenIn (lists : List (List ℕ)) (sources : ℕ) (old new : HubView) : Type 0 where
-  pub lanes : List LaneLeft
-  pub consumers : List ConsumerLeft
+  pub lanes : List ProducerEnd
+  pub consumers : List ConsumerEnd
   pub run : IsRunOf lists sources lanes consumers old new
 
 -- numbers were given only for a beginning of these lists, and for at most this many sources. All that was given was
@@ -73,14 +73,14 @@ items_behind true list put = 0
 items_behind false list put = length list - length put
 
 -- how many items of all lists the producers that were not stopped did not put
-abbrev pub items_beyond : List (List ℕ) → List LaneLeft → ℕ
+abbrev pub items_beyond : List (List ℕ) → List ProducerEnd → ℕ
 items_beyond [] _ = 0
 items_beyond _ [] = 0
 items_beyond (list ∷ lists) (l ∷ ls) = items_behind l.stopped list l.put + items_beyond lists ls
 
 -- if the producer of a lane from p on was not stopped and put less than its list, a fetch-add of its own found no
 -- cell
-abbrev pub AreCutByCells : ℕ → ℕ → List (List ℕ) → List LaneLeft → Type 0
+abbrev pub AreCutByCells : ℕ → ℕ → List (List ℕ) → List ProducerEnd → Type 0
 AreCutByCells cells p [] [] = Unit {0}
 AreCutByCells cells p (list ∷ lists) (l ∷ ls) =
     (l.stopped ≡ false → length l.put < length list → HasFoundNone cells p l.part)
@@ -89,7 +89,7 @@ AreCutByCells cells p _ _ = ⊥
 
 -- ---- notes
 -- on each of these lanes, from p on, the consumer has as many notes as there are items: one at each
-abbrev pub HasNoteAtEach : ℕ → List LaneLeft → ConsumerRecordView → Type 0
+abbrev pub HasNoteAtEach : ℕ → List ProducerEnd → ConsumerRecordView → Type 0
 HasNoteAtEach p [] ledger = Unit {0}
 HasNoteAtEach p (l ∷ ls) ledger = (length (notes_on p ledger.notes) ≡ length l.put) × HasNoteAtEach (suc p) ls ledger
 
@@ -112,21 +112,21 @@ pub record HasMetEnds (from end c : ℕ) (reads : History) : Type 0 where
 
 -- each of these consumers, with the numbers from c on, has loaded the end marks of some lanes from `from` on and
 -- below `end`: each once, and no other end mark
-abbrev pub HaveMetEnds : ℕ → ℕ → ℕ → List ConsumerLeft → Type 0
+abbrev pub HaveMetEnds : ℕ → ℕ → ℕ → List ConsumerEnd → Type 0
 HaveMetEnds from end c [] = Unit {0}
 HaveMetEnds from end c (l ∷ ls) = HasMetEnds from end c l.reads × HaveMetEnds from end (suc c) ls
 
 -- ---- who was stopped
 -- the producer of lane p was stopped before the call that was to put the next item of its list. Each of its
 -- fetch-adds found a cell
-pub record IsStoppedPut (may_stop : Who → ℕ → Type 0) (cells p : ℕ) (list : List ℕ) (l : LaneLeft) : Type 0 where
+pub record IsStoppedPut (may_stop : Who → ℕ → Type 0) (cells p : ℕ) (list : List ℕ) (l : ProducerEnd) : Type 0 where
   pub short : length l.put < length list
   pub had_cells : HasFoundNone cells p l.part → ⊥
   pub stop : IsStopBefore may_stop (who.Producer p) (suc (length l.put))
 
 -- each producer of a lane from p on that was stopped was so before the put of its list's next item. Each of its
 -- fetch-adds found a cell
-abbrev pub AreStoppedPuts : (Who → ℕ → Type 0) → ℕ → ℕ → List (List ℕ) → List LaneLeft → Type 0
+abbrev pub AreStoppedPuts : (Who → ℕ → Type 0) → ℕ → ℕ → List (List ℕ) → List ProducerEnd → Type 0
 AreStoppedPuts may_stop cells p [] [] = Unit {0}
 AreStoppedPuts may_stop cells p (list ∷ lists) (l ∷ ls) =
     (l.stopped ≡ true → IsStoppedPut may_stop cells p list l) × AreStoppedPuts may_stop cells (suc p) lists ls
@@ -134,7 +134,7 @@ AreStoppedPuts may_stop cells p _ _ = ⊥
 
 -- each consumer from number c on that was stopped was stopped before a call. It has made at least as many accesses as
 -- it had calls before that one, and at most the budget times as many
-abbrev pub AreStoppedPolls : (Who → ℕ → Type 0) → ℕ → ℕ → List ConsumerLeft → Type 0
+abbrev pub AreStoppedPolls : (Who → ℕ → Type 0) → ℕ → ℕ → List ConsumerEnd → Type 0
 AreStoppedPolls may_stop budget c [] = Unit {0}
 AreStoppedPolls may_stop budget c (l ∷ ls) =
     (l.stopped ≡ true → IsStoppedPoll may_stop budget c (length l.reads + length l.claimed))
@@ -146,8 +146,8 @@ AreStoppedPolls may_stop budget c (l ∷ ls) =
 pub record IsWorked (may_stop : Who → ℕ → Type 0) (budget : ℕ) (lists : List (List ℕ)) (sources : ℕ)
     (w : Worked) (old new : HubView)
     : Type 0 where
-  pub lanes : List LaneLeft
-  pub consumers : List ConsumerLeft
+  pub lanes : List ProducerEnd
+  pub consumers : List ConsumerEnd
   pub run : IsRunOf lists sources lanes consumers old new
   -- `stopped` counts the workers that were stopped. Each was stopped before a call at which the gate may stop it, or
   -- before call 2^64 - 1

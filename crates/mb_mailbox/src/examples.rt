@@ -24,9 +24,9 @@ ghost use Rattle.mb_mailbox.specs.LaneNotes.{AreMarked, all_told, by_lane, noted
 ghost use Rattle.mb_mailbox.specs.Producers.{HasNoCellFor, IsEndOfLane, IsFirstPastCells, IsPutInto, IsSameLane, ProducerView, is_over};
 ghost use Rattle.mb_mailbox.specs.Runs.{AreOn};
 ghost use Rattle.mb_mailbox.specs.Steps.{IsPollOf, LeadTo};
-ghost use Rattle.mb_mailbox.specs.WorkExamples.{any_call, fetched, has_linked, idle_producer, lane_left, ledger_with, linked_early};
-ghost use Rattle.mb_mailbox.specs.WorkExamples.{producer_of_one, reader_left, seven_put, stopped_as, stopped_lane};
-ghost use Rattle.mb_mailbox.specs.Worked.{AreCutByCells, ConsumerLeft, HasMetEnd, HasMetEnds, HasNoteAtEach, HaveMetEnds, IsStoppedPut, items_beyond};
+ghost use Rattle.mb_mailbox.specs.WorkExamples.{any_call, fetched, has_linked, idle_producer, producer_end, ledger_with, linked_early};
+ghost use Rattle.mb_mailbox.specs.WorkExamples.{producer_of_one, reader_end, seven_put, stopped_as, stopped_lane};
+ghost use Rattle.mb_mailbox.specs.Worked.{AreCutByCells, ConsumerEnd, HasMetEnd, HasMetEnds, HasNoteAtEach, HaveMetEnds, IsStoppedPut, items_beyond};
 
 use crate::laws::calls_draw_the_first_words;
 use mb_claim::laws::prefixes_have_one_stage;
@@ -124,12 +124,12 @@ pub fn puts_are_full_for_a_reason()
 
 /// What the workers of a run came to: items that were not put, a lane that is cut short, and notes.
 pub fn workers_are_counted()
-    ensures beyond { items_beyond ((1 ∷ 2 ∷ 3 ∷ []) ∷ []) (lane_left (1 ∷ []) [] ∷ []) ≡ 2 }
+    ensures beyond { items_beyond ((1 ∷ 2 ∷ 3 ∷ []) ∷ []) (producer_end (1 ∷ []) [] ∷ []) ≡ 2 }
     ensures stopped { items_beyond ((1 ∷ 2 ∷ 3 ∷ []) ∷ []) (stopped_lane (1 ∷ []) [] ∷ []) ≡ 0 }
-    ensures cut { AreCutByCells 1 0 ((7 ∷ 8 ∷ []) ∷ []) (lane_left (7 ∷ []) (fetched 1 8) ∷ []) }
-    ensures cut_short { AreCutByCells 1 0 ((7 ∷ 8 ∷ []) ∷ []) (lane_left (7 ∷ []) [] ∷ []) → ⊥ }
-    ensures noted { HasNoteAtEach 0 (lane_left (7 ∷ []) [] ∷ []) (ledger_with (Took 7 ∷ [])) }
-    ensures not_noted { HasNoteAtEach 0 (lane_left (7 ∷ []) [] ∷ []) (ledger_with []) → ⊥ }
+    ensures cut { AreCutByCells 1 0 ((7 ∷ 8 ∷ []) ∷ []) (producer_end (7 ∷ []) (fetched 1 8) ∷ []) }
+    ensures cut_short { AreCutByCells 1 0 ((7 ∷ 8 ∷ []) ∷ []) (producer_end (7 ∷ []) [] ∷ []) → ⊥ }
+    ensures noted { HasNoteAtEach 0 (producer_end (7 ∷ []) [] ∷ []) (ledger_with (Took 7 ∷ [])) }
+    ensures not_noted { HasNoteAtEach 0 (producer_end (7 ∷ []) [] ∷ []) (ledger_with []) → ⊥ }
 {}
 
 /// Which lanes a consumer has looked at, and how many end marks it has loaded. Only loads of heads and links count.
@@ -152,16 +152,16 @@ pub fn consumers_read_to_the_end()
     ensures other_lane { HasMetEnd 0 2 (load 0 (Link 4) END ∷ load 0 (Head 1) 5 ∷ []) → ⊥ }
     ensures other_reader { HasMetEnd 1 1 (load 0 (Link 4) END ∷ load 0 (Head 1) 5 ∷ []) → ⊥ }
     ensures both { HaveMetEnds 0 2 0
-        (reader_left (load 0 (Head 1) END ∷ load 0 (Head 0) END ∷ []) ∷ []) }
+        (reader_end (load 0 (Head 1) END ∷ load 0 (Head 0) END ∷ []) ∷ []) }
     ensures one_of_two { HasMetEnds 0 2 0 (load 0 (Head 1) END ∷ []) }
     ensures below { HasMetEnds 1 2 0 (load 0 (Head 0) END ∷ []) → ⊥ }
     ensures nothing { HasMetEnds 0 0 0 [] }
     ensures numbers { HaveMetEnds 0 1 3
-        (reader_left (load 3 (Head 0) END ∷ []) ∷ reader_left (load 4 (Head 0) END ∷ []) ∷ []) }
+        (reader_end (load 3 (Head 0) END ∷ []) ∷ reader_end (load 4 (Head 0) END ∷ []) ∷ []) }
     ensures same_number { HaveMetEnds 0 1 3
-        (reader_left (load 3 (Head 0) END ∷ []) ∷ reader_left (load 3 (Head 0) END ∷ []) ∷ []) → ⊥ }
+        (reader_end (load 3 (Head 0) END ∷ []) ∷ reader_end (load 3 (Head 0) END ∷ []) ∷ []) → ⊥ }
     ensures one_twice { HaveMetEnds 0 2 0
-        (reader_left (load 0 (Head 0) END ∷ load 0 (Head 0) END ∷ []) ∷ []) → ⊥ }
+        (reader_end (load 0 (Head 0) END ∷ load 0 (Head 0) END ∷ []) ∷ []) → ⊥ }
     ensures again { HasMetEnds 0 1 0 (load 0 (Head 0) END ∷ load 0 (Head 0) END ∷ []) → ⊥ }
 {}
 
@@ -249,12 +249,12 @@ pub fn consumers_have_sources_of_their_own()
     ensures idle { (s : ConsumerView) (source : Stream) → s.reader.reader ≡ 3 → s.seat.consumer ≡ 3
         → accesses_made s ≡ 0 → WerePolled any_call any_call 0 1 5 3 (source ∷ [])
         (stopped_as s ∷ []) }
-    ensures no_source { (l : ConsumerLeft) → WerePolled any_call any_call 0 1 5 0 [] (l ∷ []) → ⊥ }
+    ensures no_source { (l : ConsumerEnd) → WerePolled any_call any_call 0 1 5 0 [] (l ∷ []) → ⊥ }
     ensures no_consumer { (s : Stream) → WerePolled any_call any_call 0 1 5 0 (s ∷ []) [] → ⊥ }
-    ensures other_word { (s : Stream) (l : ConsumerLeft) (a : ClaimAccess) → l.claimed ≡ a ∷ []
+    ensures other_word { (s : Stream) (l : ConsumerEnd) (a : ClaimAccess) → l.claimed ≡ a ∷ []
         → a.step.turn.word ≢ (next_u64 s).0 → WerePolled any_call any_call 0 1 5 0 (s ∷ []) (l ∷ [])
         → ⊥ }
-    ensures places_changed { (s t : Stream) (k l : ConsumerLeft) (a : ClaimAccess) → l.claimed ≡ a
+    ensures places_changed { (s t : Stream) (k l : ConsumerEnd) (a : ClaimAccess) → l.claimed ≡ a
         ∷ []
         → a.step.turn.word ≡ (next_u64 s).0 → (next_u64 s).0 ≢ (next_u64 t).0
         → WerePolled any_call any_call 0 1 5 0 (s ∷ t ∷ []) (k ∷ l ∷ []) → ⊥ }

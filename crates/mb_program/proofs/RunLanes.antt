@@ -9,13 +9,13 @@ use Rattle.std.proofs.lemmas.Option.{slice_get-get_or}
 use Rattle.std.proofs.lemmas.List.Sums.{sum_by-cons, sum_by-le}
 use Rattle.mb_mailbox.specs.Imports.{HasFoundNone}
 use Rattle.mb_mailbox.specs.Jobs.{IsFront}
-use Rattle.mb_mailbox.specs.Worked.{AreCutByCells, AreStoppedPuts, IsStoppedPut, LaneLeft}
+use Rattle.mb_mailbox.specs.Worked.{AreCutByCells, AreStoppedPuts, IsStoppedPut, ProducerEnd}
 use Rattle.mb_mailbox.specs.declared.gate.Who.{Who}
 
 -- ---- what is told of all the lanes is told of each
 -- what is told of all producers that were stopped holds of producer p
 stopped_at : (may_stop : Who → ℕ → Type 0) (cells from : ℕ) (lists : List (List ℕ))
-    (lanes : List LaneLeft) (p : ℕ) (list : List ℕ) (l : LaneLeft)
+    (lanes : List ProducerEnd) (p : ℕ) (list : List ℕ) (l : ProducerEnd)
     → AreStoppedPuts may_stop cells from lists lanes → slice_get lists p ≡ Some list → slice_get lanes p ≡ Some l
     → l.stopped ≡ true → IsStoppedPut may_stop cells (from + p) list l
 stopped_at may_stop cells from [] lanes p list l all at there = absurd (cc)
@@ -26,14 +26,14 @@ stopped_at may_stop cells from (x ∷ xs) (y ∷ ys) zero list l all at there =
     let here : from ≡ from + 0 = omega arith in
     subst (λ (k : ℕ). l.stopped ≡ true → IsStoppedPut may_stop cells k list l) here
     (subst (λ (z : List ℕ). l.stopped ≡ true → IsStoppedPut may_stop cells from z l) e
-    (subst (λ (z : LaneLeft). z.stopped ≡ true → IsStoppedPut may_stop cells from x z) f all.0))
+    (subst (λ (z : ProducerEnd). z.stopped ≡ true → IsStoppedPut may_stop cells from x z) f all.0))
 stopped_at may_stop cells from (x ∷ xs) (y ∷ ys) (suc p) list l all at there =
     let next : suc from + p ≡ from + suc p = omega arith in
     subst (λ (k : ℕ). l.stopped ≡ true → IsStoppedPut may_stop cells k list l) next
     (stopped_at may_stop cells (suc from) xs ys p list l all.1 at there)
 
 -- what is told of all producers that found no cell holds of producer p
-cut_at : (cells from : ℕ) (lists : List (List ℕ)) (lanes : List LaneLeft) (p : ℕ) (list : List ℕ) (l : LaneLeft)
+cut_at : (cells from : ℕ) (lists : List (List ℕ)) (lanes : List ProducerEnd) (p : ℕ) (list : List ℕ) (l : ProducerEnd)
     → AreCutByCells cells from lists lanes → slice_get lists p ≡ Some list → slice_get lanes p ≡ Some l
     → l.stopped ≡ false → length l.put < length list → HasFoundNone cells (from + p) l.part
 cut_at cells from [] lanes p list l all at there = absurd (cc)
@@ -44,7 +44,7 @@ cut_at cells from (x ∷ xs) (y ∷ ys) zero list l all at there =
     let here : from ≡ from + 0 = omega arith in
     subst (λ (k : ℕ). l.stopped ≡ false → length l.put < length list → HasFoundNone cells k l.part) here
     (subst (λ (z : List ℕ). l.stopped ≡ false → length l.put < length z → HasFoundNone cells from l.part) e
-    (subst (λ (z : LaneLeft). z.stopped ≡ false → length z.put < length x → HasFoundNone cells from z.part) f all.0))
+    (subst (λ (z : ProducerEnd). z.stopped ≡ false → length z.put < length x → HasFoundNone cells from z.part) f all.0))
 cut_at cells from (x ∷ xs) (y ∷ ys) (suc p) list l all at there =
     let next : suc from + p ≡ from + suc p = omega arith in
     subst (λ (k : ℕ). l.stopped ≡ false → length l.put < length list → HasFoundNone cells k l.part) next
@@ -52,7 +52,7 @@ cut_at cells from (x ∷ xs) (y ∷ ys) (suc p) list l all at there =
 
 -- if the gate stops nobody, the producer of a short list is not stopped
 not_stopped : (may_stop : Who → ℕ → Type 0) → ((w : Who) (n : ℕ) → may_stop w n → ⊥)
-    → (cells p : ℕ) (list : List ℕ) (l : LaneLeft) → length list ≤ 256
+    → (cells p : ℕ) (list : List ℕ) (l : ProducerEnd) → length list ≤ 256
     → (l.stopped ≡ true → IsStoppedPut may_stop cells p list l) → l.stopped ≡ false
 not_stopped may_stop never cells p list l few is = go l.stopped refl
   where
@@ -68,9 +68,9 @@ not_stopped may_stop never cells p list l few is = go l.stopped refl
 
 -- if the gate stops nobody and a producer put less than its list, a fetch-add of that producer found no cell
 pub found_none : (may_stop : Who → ℕ → Type 0) → ((w : Who) (n : ℕ) → may_stop w n → ⊥)
-    → (cells : ℕ) (lists : List (List ℕ)) (lanes : List LaneLeft)
+    → (cells : ℕ) (lists : List (List ℕ)) (lanes : List ProducerEnd)
     → AreStoppedPuts may_stop cells 0 lists lanes → AreCutByCells cells 0 lists lanes
-    → (p : ℕ) (list : List ℕ) (l : LaneLeft)
+    → (p : ℕ) (list : List ℕ) (l : ProducerEnd)
     → slice_get lists p ≡ Some list → slice_get lanes p ≡ Some l → length list ≤ 256
     → length l.put < length list → HasFoundNone cells p l.part
 found_none may_stop never cells lists lanes stopped cut p list l at there few short =

@@ -10,7 +10,7 @@ use Rattle.mb_mailbox.specs.Hubs.{HubView, ConsumerRecordView}
 use Rattle.mb_mailbox.specs.Jobs.{IsStoppedPoll}
 use Rattle.mb_mailbox.specs.Mailboxes.{MailboxView}
 use Rattle.mb_mailbox.specs.Steps.{notes_on}
-use Rattle.mb_mailbox.specs.Worked.{AreStoppedPolls, ConsumerLeft, HasNoteAtEach, LaneLeft}
+use Rattle.mb_mailbox.specs.Worked.{AreStoppedPolls, ConsumerEnd, HasNoteAtEach, ProducerEnd}
 use Rattle.mb_mailbox.specs.declared.gate.Who.{Who}
 use Rattle.mb_program.specs.Running.{HasNotedAll, accesses_by}
 
@@ -20,15 +20,15 @@ same_some e = cc
 
 -- ---- what is told of all is told of each
 -- the part of a consumer that was taken in is the one that this consumer left
-taken_at : (cs : List ConsumerLeft) (c : ℕ) (one : ConsumerLeft) → slice_get cs c ≡ Some one
+taken_at : (cs : List ConsumerEnd) (c : ℕ) (one : ConsumerEnd) → slice_get cs c ≡ Some one
     → taken_part (map (λ x. Some x.claimed) cs) c ≡ one.claimed
 taken_at [] c one at = absurd (cc)
-taken_at (x ∷ xs) zero one at = ap (λ (y : ConsumerLeft). y.claimed) (same_some at)
+taken_at (x ∷ xs) zero one at = ap (λ (y : ConsumerEnd). y.claimed) (same_some at)
 taken_at (x ∷ xs) (suc c) one at = taken_at xs c one at
 
 -- what is told of all consumers that were stopped holds of consumer c
-stopped_at : (may_stop : Who → ℕ → Type 0) (budget from : ℕ) (cs : List ConsumerLeft) (c : ℕ)
-    (one : ConsumerLeft) → AreStoppedPolls may_stop budget from cs
+stopped_at : (may_stop : Who → ℕ → Type 0) (budget from : ℕ) (cs : List ConsumerEnd) (c : ℕ)
+    (one : ConsumerEnd) → AreStoppedPolls may_stop budget from cs
     → slice_get cs c ≡ Some one → one.stopped ≡ true
     → IsStoppedPoll may_stop budget (from + c) (length one.reads + length one.claimed)
 stopped_at may_stop budget from [] c one all at = absurd (cc)
@@ -36,7 +36,7 @@ stopped_at may_stop budget from (x ∷ xs) zero one all at =
     let e : x ≡ one = same_some at in
     let here : from ≡ from + 0 = omega arith in
     subst (λ (k : ℕ). one.stopped ≡ true → IsStoppedPoll may_stop budget k (length one.reads + length one.claimed)) here
-    (subst (λ (y : ConsumerLeft). y.stopped ≡ true
+    (subst (λ (y : ConsumerEnd). y.stopped ≡ true
     → IsStoppedPoll may_stop budget from (length y.reads + length y.claimed)) e all.0)
 stopped_at may_stop budget from (x ∷ xs) (suc c) one all at =
     let next : suc from + c ≡ from + suc c = omega arith in
@@ -44,13 +44,14 @@ stopped_at may_stop budget from (x ∷ xs) (suc c) one all at =
     (stopped_at may_stop budget (suc from) xs c one all.1 at)
 
 -- a consumer with a note at each item has as many notes on lane p as items were put on that lane
-noted_at : (from : ℕ) (lanes : List LaneLeft) (p : ℕ) (l : LaneLeft) (ledger : ConsumerRecordView)
+noted_at : (from : ℕ) (lanes : List ProducerEnd) (p : ℕ) (l : ProducerEnd) (ledger : ConsumerRecordView)
     → HasNoteAtEach from lanes ledger → slice_get lanes p ≡ Some l
     → length (notes_on (from + p) ledger.notes) ≡ length l.put
 noted_at from [] p l ledger has at = absurd (cc)
 noted_at from (x ∷ xs) zero l ledger has at =
     let here : from + 0 ≡ from = omega arith in
-    ap (λ (k : ℕ). length (notes_on k ledger.notes)) here ∙ has.0 ∙ ap (λ (y : LaneLeft). length y.put) (same_some at)
+    ap (λ (k : ℕ). length (notes_on k ledger.notes)) here ∙ has.0 ∙ ap (λ (y : ProducerEnd). length y.put)
+    (same_some at)
 noted_at from (x ∷ xs) (suc p) l ledger has at =
     let next : from + suc p ≡ suc from + p = omega arith in
     ap (λ (k : ℕ). length (notes_on k ledger.notes)) next ∙ noted_at (suc from) xs p l ledger has.1 at
@@ -84,13 +85,13 @@ come_to_last may_stop never budget c made was =
 -- each consumer has a note at each item, or has made at least 2^64 - 2 accesses
 pub notes_told : (may_stop : Who → ℕ → Type 0) (budget : ℕ) → ((w : Who) (n : ℕ) → may_stop w n → ⊥)
     → (count : ℕ) (m : MailboxView) (h : HubView) (r : ReportView)
-    (left : List LaneLeft) (cs : List ConsumerLeft) (g : IsGathered m h r)
+    (left : List ProducerEnd) (cs : List ConsumerEnd) (g : IsGathered m h r)
     → IsReportIn m.cells.size.lanes (consumer_count m.claims.layout) h r
     → h.ledgers ≡ map (λ x. Some x.ledger) cs → h.cells.roll.readers ≡ map (λ x. Some x.reads) cs
     → h.claims.roll ≡ map (λ x. Some x.claimed) cs
     → length cs ≡ consumer_count m.claims.layout → AreStoppedPolls may_stop budget 0 cs
     → All (λ x. x.stopped ≡ false → HasNoteAtEach 0 left x.ledger) cs
-    → ((p : ℕ) → p < m.cells.size.lanes → (l : LaneLeft) × (slice_get left p ≡ Some l) × (length l.put ≡ count))
+    → ((p : ℕ) → p < m.cells.size.lanes → (l : ProducerEnd) × (slice_get left p ≡ Some l) × (length l.put ≡ count))
     → (c p : ℕ) → c < consumer_count m.claims.layout → p < m.cells.size.lanes
     → HasNotedAll count budget c p g.histories r
 notes_told may_stop budget never count m h r left cs g told ledgers readers claims many stopped
@@ -100,10 +101,10 @@ notes_told may_stop budget never count m h r left cs g told ledgers readers clai
     there : c < length cs
     there = omega (arith, low_c, many)
 
-    found : (x : ConsumerLeft) × (slice_get cs c ≡ Some x)
+    found : (x : ConsumerEnd) × (slice_get cs c ≡ Some x)
     found = one_at cs c there
 
-    one : ConsumerLeft
+    one : ConsumerEnd
     one = found.0
 
     at : slice_get cs c ≡ Some one
@@ -111,7 +112,7 @@ notes_told may_stop budget never count m h r left cs g told ledgers readers clai
 
     -- the hub kept the ledger of consumer c
     kept : kept_at h.ledgers c ≡ Some one.ledger
-    kept = ap (λ xs. kept_at xs c) ledgers ∙ rw (slice_get-map (λ (x : ConsumerLeft). Some x.ledger) cs c, at) refl
+    kept = ap (λ xs. kept_at xs c) ledgers ∙ rw (slice_get-map (λ (x : ConsumerEnd). Some x.ledger) cs c, at) refl
 
     -- the notes in the report are those of the hub, and these are those of the ledger
     in_report : notes c p r ≡ notes_in c p h
@@ -124,7 +125,7 @@ notes_told may_stop budget never count m h r left cs g told ledgers readers clai
     reads : part (Reader (g.histories.reader_of c)) g.histories.pool ≡ one.reads
     reads = ap (λ (k : ℕ). part (Reader k) g.histories.pool) (g.reader c)
         ∙ g.pool.parts (Reader c) one.reads (ap (λ xs. slice_get xs c) readers
-        ∙ rw (slice_get-map (λ (x : ConsumerLeft). Some x.reads) cs c, at) refl)
+        ∙ rw (slice_get-map (λ (x : ConsumerEnd). Some x.reads) cs c, at) refl)
 
     claimed : consumer_part c g.histories.claims ≡ one.claimed
     claimed = g.claims c ∙ ap (λ xs. taken_part xs c) claims ∙ taken_at cs c one at

@@ -21,7 +21,7 @@ use Rattle.mb_mailbox.specs.Hubs.{HubView, IsHubOf, hub_empty}
 use Rattle.mb_mailbox.specs.Mailboxes.{MailboxView, plan_at}
 use Rattle.mb_mailbox.specs.Jobs.{IsFront}
 use Rattle.mb_mailbox.specs.ReportedRuns.{IsReportedRun}
-use Rattle.mb_mailbox.specs.Worked.{AreCutByCells, AreStoppedPolls, AreStoppedPuts, AsksTooMany, HasNoteAtEach, IsWorked, LaneLeft, ended_list}
+use Rattle.mb_mailbox.specs.Worked.{AreCutByCells, AreStoppedPolls, AreStoppedPuts, AsksTooMany, HasNoteAtEach, IsWorked, ProducerEnd, ended_list}
 use Rattle.mb_program.specs.Running.{AreFew, HasNotedAll, IsLaneOf, IsRunReport, item_lists, items_of, plan_asked, terms_asked}
 use Rattle.mb_program.specs.declared.options.Options.{Options}
 use Rattle.mb_program.proofs.RunLanes.{found_none, front_whole, front_within, sum_short}
@@ -65,9 +65,10 @@ beside {X} {Y} R xs ys p x zip at = go (slice_get ys p) refl
 
 -- ---- the lanes of the report
 -- lane p of the report tells what the producer of that lane left
-record IsTold (count lanes consumers : ℕ) (h : HubView) (left : List LaneLeft) (r : ReportView) (p : ℕ) : Type 0 where
+record IsTold (count lanes consumers : ℕ) (h : HubView) (left : List ProducerEnd) (r : ReportView)
+    (p : ℕ) : Type 0 where
   -- what producer p left, and that this stands at place p of what all producers left
-  one : LaneLeft
+  one : ProducerEnd
   there : slice_get left p ≡ Some one
   -- the items that were put are a beginning of those of producer p
   front : IsFront one.put (items_of p count)
@@ -76,7 +77,7 @@ record IsTold (count lanes consumers : ℕ) (h : HubView) (left : List LaneLeft)
   kept : kept_at h.puts p ≡ Some (ended_list one)
 
 -- each lane of the report is as its producer left it
-is_told : (producers count lanes consumers : ℕ) (h : HubView) (left : List LaneLeft) (r : ReportView)
+is_told : (producers count lanes consumers : ℕ) (h : HubView) (left : List ProducerEnd) (r : ReportView)
     → producers ≡ lanes → IsReportIn lanes consumers h r → h.puts ≡ map (λ l. Some (ended_list l)) left
     → AllZip (λ list l. IsFront l.put list) (item_lists producers count) left
     → (p : ℕ) → p < producers → IsTold count lanes consumers h left r p
@@ -92,15 +93,15 @@ is_told producers count lanes consumers h left r same told puts fronts p low =
     }
   where
     -- what the hub kept at place p is what stands at place p of what producers left
-    kept_of : (left : List LaneLeft) (p : ℕ) (l : LaneLeft) → slice_get left p ≡ Some l
+    kept_of : (left : List ProducerEnd) (p : ℕ) (l : ProducerEnd) → slice_get left p ≡ Some l
         → kept_at (map (λ l. Some (ended_list l)) left) p ≡ Some (ended_list l)
     kept_of left p l at = rw (slice_get-map (λ l. Some (ended_list l)) left p, at) refl
 
 -- each lane of the report has ended and has its whole list, if a lane that has less tells that all the cells are put
-pub lanes_told : (producers count lanes consumers : ℕ) (h : HubView) (left : List LaneLeft) (r : ReportView)
+pub lanes_told : (producers count lanes consumers : ℕ) (h : HubView) (left : List ProducerEnd) (r : ReportView)
     → producers ≡ lanes → IsReportIn lanes consumers h r → h.puts ≡ map (λ l. Some (ended_list l)) left
     → AllZip (λ list l. IsFront l.put list) (item_lists producers count) left
-    → ((p : ℕ) (l : LaneLeft) → p < producers → slice_get left p ≡ Some l
+    → ((p : ℕ) (l : ProducerEnd) → p < producers → slice_get left p ≡ Some l
     → length l.put < length (items_of p count) → put_count r ≡ producers * count)
     → (p : ℕ) → p < producers → (l : LaneView) × (slice_get r.lanes p ≡ Some l) × IsLaneOf p count l
 lanes_told producers count lanes consumers h left r same told puts fronts full p low =
@@ -201,12 +202,12 @@ run_report {budget} may_stop never o m old h r lists n w few asked plan size emp
         worked.lanes) are worked.cut))
 
     -- the part of lane p is the part that its producer left
-    part_at : (left : List LaneLeft) (p : ℕ) (l : LaneLeft) → slice_get left p ≡ Some l
+    part_at : (left : List ProducerEnd) (p : ℕ) (l : ProducerEnd) → slice_get left p ≡ Some l
         → slice_get (map (λ l. Some l.part) left) p ≡ Some (Some l.part)
     part_at left p l at = rw (slice_get-map (λ l. Some l.part) left p, at) refl
 
     -- if a producer put less than its list, as many items were put as there are cells
-    all_put : (p : ℕ) (l : LaneLeft) → p < o.producers → slice_get worked.lanes p ≡ Some l
+    all_put : (p : ℕ) (l : ProducerEnd) → p < o.producers → slice_get worked.lanes p ≡ Some l
         → length l.put < length (items_of p o.items)
         → put_count r ≡ o.producers * o.items
     all_put p l low there short =
@@ -250,7 +251,7 @@ run_report {budget} may_stop never o m old h r lists n w few asked plan size emp
         worked.consumers) empty worked.noted
 
     -- each producer has left as many items as are asked for
-    whole : (p : ℕ) → p < m.cells.size.lanes → (l : LaneLeft) × (slice_get worked.lanes p ≡ Some l)
+    whole : (p : ℕ) → p < m.cells.size.lanes → (l : ProducerEnd) × (slice_get worked.lanes p ≡ Some l)
         × (length l.put ≡ o.items)
     whole p low =
         let fronts = subst (λ ls. AllZip (λ list l. IsFront l.put list) ls worked.lanes) are worked.run.fronts in

@@ -65,26 +65,26 @@ IsTold sink errs writer writer' errors errors' kind printed =
 -- ---- a run of the program
 -- one run of the program over these words ends as the last argument says, with its reader and its two writers before
 -- it and after it
-abbrev pub IsProgramRun : {R W E : Type 0} → List Text → IoModel R → IoModel W → IoModel E → R → R → W → W
+abbrev pub IsProgramEnd : {R W E : Type 0} → List Text → IoModel R → IoModel W → IoModel E → R → R → W → W
     → E → E → ProgramExit → Type 0
 -- the command that the words name was carried out
-IsProgramRun words source sink errs reader reader' writer writer' errors errors' ending.Done =
+IsProgramEnd words source sink errs reader reader' writer writer' errors errors' ending.Done =
     ((choice : Choice) × WordsName words choice
     × WasCarriedOut choice source sink reader reader' writer writer' ending.Done)
     × (errors' ≡ errors)
 -- The command that the words name failed. The line of its fault was written to the second writer: whole, or a prefix
 -- if that writer failed, or nothing at all. If nothing was written, memory ran out, but no clause can say that.
-IsProgramRun words source sink errs reader reader' writer writer' errors errors' (ending.Failed fault) =
+IsProgramEnd words source sink errs reader reader' writer writer' errors errors' (ending.Failed fault) =
     ((choice : Choice) × WordsName words choice
     × WasCarriedOut choice source sink reader reader' writer writer' (ending.Failed fault))
     × ((whole : Bool) × IsPrinted errs errors errors' (fault_line fault) whole)
 -- Clap refused the words, for a reason that they give, so nothing was read. Help goes to the first writer alone, a
 -- refusal to the second alone. Words that clap takes and that name a command are refused only if memory ran out.
-IsProgramRun words source sink errs reader reader' writer writer' errors errors' (ending.Refused kind printed) =
+IsProgramEnd words source sink errs reader reader' writer writer' errors errors' (ending.Refused kind printed) =
     (reader' ≡ reader) × IsRefusalOf words kind
     × IsTold sink errs writer writer' errors errors' kind printed
     × ((choice : Choice) → takes program words ≡ true → command_in words ≡ Some (choice_name choice)
     → kind ≡ OutOfMemory)
 -- These two ends come only if the words of the command line could not be had. Here the words are given.
-IsProgramRun words source sink errs reader reader' writer writer' errors errors' ending.NonUtf8Args = ⊥
-IsProgramRun words source sink errs reader reader' writer writer' errors errors' ending.ArgsUnavailable = ⊥
+IsProgramEnd words source sink errs reader reader' writer writer' errors errors' ending.NonUtf8Args = ⊥
+IsProgramEnd words source sink errs reader reader' writer writer' errors errors' ending.ArgsUnavailable = ⊥

@@ -5,7 +5,7 @@ use Rattle.mb_world.specs.Plan.{Histories}
 use Rattle.mb_world.specs.Report.{ReportView}
 use Rattle.mb_world.specs.declared.report.Note.{Note}
 use Rattle.mb_script.specs.Vocabulary.{IoModel, meter}
-use Rattle.mb_program.specs.Program.{IsProgramRun}
+use Rattle.mb_program.specs.Program.{IsProgramEnd}
 use Rattle.mb_program.specs.declared.options.Options.{Options}
 use Rattle.mb_program.specs.declared.outcome.ProgramExit.{ProgramExit}
 
@@ -48,8 +48,8 @@ abbrev pub plain : IoModel (List ℕ)
 plain = meter (λ bytes. Some bytes) (λ _. 0)
 
 -- a run whose reader had the bytes `found` before it and `left` after it, and whose two writers were empty before it
-abbrev pub IsRunOver : List Text → List ℕ → List ℕ → List ℕ → List ℕ → ProgramExit → Type 0
-IsRunOver words found left output errors end = IsProgramRun words plain plain plain found left [] output [] errors end
+abbrev pub IsEndOver : List Text → List ℕ → List ℕ → List ℕ → List ℕ → ProgramExit → Type 0
+IsEndOver words found left output errors end = IsProgramEnd words plain plain plain found left [] output [] errors end
 
 -- the command line of `ratify`
 abbrev pub ratify_words : List Text

@@ -21,7 +21,7 @@ ghost use Rattle.mb_program.specs.declared.options.TheConstants.{MAX_BUDGET};
 ghost use Rattle.mb_program.specs.RunOptions.{HasBudget, HasToldOptions};
 ghost use Rattle.mb_program.specs.Running.{AreOwnReaders, HasNotedAll, IsLaneOf, IsRunReport, accesses_by};
 ghost use Rattle.mb_program.specs.Running.{items_of, plan_asked, setup_refused};
-ghost use Rattle.mb_program.specs.RunExamples.{IsRunOver, nobody_script, nothing_done, one_item};
+ghost use Rattle.mb_program.specs.RunExamples.{IsEndOver, nobody_script, nothing_done, one_item};
 ghost use Rattle.mb_program.specs.RunExamples.{asked, help_words, ratify_now, ratify_words};
 ghost use Rattle.mb_program.specs.RunExamples.{report_with, run_words};
 ghost use Rattle.mb_program.specs.declared.fault.Failed.TheVariants as failed;
@@ -197,28 +197,28 @@ pub fn runs_draw_from_their_seed()
 }
 
 /// What the program does with its words: a script of no process, one with a fault, words that clap refuses, and help.
-pub fn runs_do_what_the_words_ask()
+pub fn programs_do_what_the_words_ask()
     // `ratify` and a script of no process: nothing is written to either writer.
-    ensures done { IsRunOver ratify_words nobody_script [] [] [] ending.Done }
-    ensures done_and_told { IsRunOver ratify_words nobody_script [] [] (codes "x") ending.Done → ⊥ }
+    ensures done { IsEndOver ratify_words nobody_script [] [] [] ending.Done }
+    ensures done_and_told { IsEndOver ratify_words nobody_script [] [] (codes "x") ending.Done → ⊥ }
     // `ratify` and a script with a fault: the whole line of the fault goes to the second writer.
-    ensures fault { IsRunOver ratify_words (codes "x\n") [] [] (codes "fault 3 BadLine 1\n")
+    ensures fault { IsEndOver ratify_words (codes "x\n") [] [] (codes "fault 3 BadLine 1\n")
         (ending.Failed (failed.Ratify (BadLine 1))) }
-    ensures half_a_line { IsRunOver ratify_words (codes "x\n") [] [] (codes "fault")
+    ensures half_a_line { IsEndOver ratify_words (codes "x\n") [] [] (codes "fault")
         (ending.Failed (failed.Ratify (BadLine 1))) → ⊥ }
     // Words that clap refuses: nothing is read, and clap's text goes to the second writer.
-    ensures refused { IsRunOver (codes "mailbox" ∷ []) (codes "a") (codes "a") [] (codes "usage")
+    ensures refused { IsEndOver (codes "mailbox" ∷ []) (codes "a") (codes "a") [] (codes "usage")
         (ending.Refused MissingSubcommand true) }
-    ensures refused_and_read { IsRunOver (codes "mailbox" ∷ []) (codes "a") [] [] (codes "usage")
+    ensures refused_and_read { IsEndOver (codes "mailbox" ∷ []) (codes "a") [] [] (codes "usage")
         (ending.Refused MissingSubcommand true) → ⊥ }
-    ensures refused_on_the_output { IsRunOver (codes "mailbox" ∷ []) [] [] (codes "usage") []
+    ensures refused_on_the_output { IsEndOver (codes "mailbox" ∷ []) [] [] (codes "usage") []
         (ending.Refused MissingSubcommand true) → ⊥ }
-    ensures refused_and_done { IsRunOver ratify_now nobody_script [] [] [] ending.Done → ⊥ }
+    ensures refused_and_done { IsEndOver ratify_now nobody_script [] [] [] ending.Done → ⊥ }
     // Help comes only if the words ask for it, and goes to the first writer.
-    ensures help { IsRunOver help_words (codes "a") (codes "a") (codes "help") []
+    ensures help { IsEndOver help_words (codes "a") (codes "a") (codes "help") []
         (ending.Refused DisplayHelp true) }
-    ensures help_on_the_errors { IsRunOver help_words [] [] [] (codes "help")
+    ensures help_on_the_errors { IsEndOver help_words [] [] [] (codes "help")
         (ending.Refused DisplayHelp true) → ⊥ }
-    ensures help_not_asked { IsRunOver ratify_now [] [] (codes "help") []
+    ensures help_not_asked { IsEndOver ratify_now [] [] (codes "help") []
         (ending.Refused DisplayHelp true) → ⊥ }
 {}

@@ -5,7 +5,7 @@ ghost use Rattle.clap.specs.declared.error.ErrorKind.TheVariants.{DisplayHelp, D
 ghost use Rattle.mb_script.specs.declared.transfer.TheConstants.{MAX_SCRIPT_LEN};
 ghost use Rattle.mb_script.specs.Vocabulary.{CountGrowsUpTo, meter};
 ghost use Rattle.mb_program.specs.Outcome.{fault_line};
-ghost use Rattle.mb_program.specs.Program.{IsPrinted, IsProgramRun, IsTold, WasCarriedOut, ended_by};
+ghost use Rattle.mb_program.specs.Program.{IsPrinted, IsProgramEnd, IsTold, WasCarriedOut, ended_by};
 ghost use Rattle.mb_program.specs.RunOptions.{HasBudget};
 ghost use Rattle.mb_program.specs.declared.outcome.ProgramExit.TheVariants as ending;
 
@@ -31,7 +31,7 @@ pub fn run<
     O: CountedWrite,
     E: CountedWrite,
 >(rt: &R, words: &[S], reader: &mut I, writer: &mut O, errors: &mut E) -> ProgramExit
-    ensures done { IsProgramRun (map S.text words.now) (meter I.left I.failures)
+    ensures done { IsProgramEnd (map S.text words.now) (meter I.left I.failures)
         (meter O.held O.failures) (meter E.held E.failures)
         reader.old reader.new writer.old writer.new errors.old errors.new result }
 

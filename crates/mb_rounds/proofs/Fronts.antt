@@ -6,7 +6,7 @@ use Rattle.std.specs.List.{AllZip}
 use Rattle.mb_mailbox.specs.Gathering.{IsReportIn, lane_in}
 use Rattle.mb_mailbox.specs.Hubs.{HubView, PutListView}
 use Rattle.mb_mailbox.specs.Jobs.{IsFront}
-use Rattle.mb_mailbox.specs.Worked.{LaneLeft, ended_list}
+use Rattle.mb_mailbox.specs.Worked.{ProducerEnd, ended_list}
 use Rattle.mb_world.specs.Report.{LaneView, ReportView}
 use Rattle.mb_rounds.specs.Round.{IsPutOf}
 
@@ -39,10 +39,11 @@ get_below (y ∷ xs) zero x e = omega arith
 get_below (y ∷ xs) (suc i) x e = let t = get_below xs i x e in omega (arith, t)
 
 -- position by position, the lanes of the report have what the workers put
-zip_put : (lists : List (List ℕ)) (ls : List LaneLeft) (vs : List LaneView)
+zip_put : (lists : List (List ℕ)) (ls : List ProducerEnd) (vs : List LaneView)
     → AllZip (λ list l. IsFront l.put list) lists ls
     → length vs ≡ length ls
-    → ((p : ℕ) (l : LaneLeft) → slice_get ls p ≡ Some l → (v : LaneView) × (slice_get vs p ≡ Some v) × (v.put ≡ l.put))
+    → ((p : ℕ) (l : ProducerEnd) → slice_get ls p ≡ Some l → (v : LaneView) × (slice_get vs p ≡ Some v) ×
+    (v.put ≡ l.put))
     → AllZip IsPutOf lists vs
 zip_put [] [] [] z count each = tt
 zip_put [] [] (v ∷ vs) z count each = absurd (omega arith)
@@ -56,7 +57,7 @@ zip_put (list ∷ lists) (l ∷ ls) (v ∷ vs) z count each =
     (subst (λ items. IsFront items list) put z.0, zip_put lists ls vs z.1 (omega arith) (λ p k e. each (suc p) k e))
 
 -- what the report has of each lane is a beginning of the list dealt to its producer
-pub fronts_told : (lanes consumers : ℕ) (lists : List (List ℕ)) (ls : List LaneLeft) (h : HubView) (r : ReportView)
+pub fronts_told : (lanes consumers : ℕ) (lists : List (List ℕ)) (ls : List ProducerEnd) (h : HubView) (r : ReportView)
     → lanes ≡ length lists → IsReportIn lanes consumers h r
     → h.puts ≡ map (λ l. Some (ended_list l)) ls
     → AllZip (λ list l. IsFront l.put list) lists ls → AllZip IsPutOf lists r.lanes
@@ -68,5 +69,5 @@ fronts_told lanes consumers lists ls h r all is puts fronts =
       is.lane p (let t = get_below ls p l e in omega (arith, t, count, all)),
       ap (λ (o : Option (Option PutListView)). option_map_or (λ (k : PutListView). k.items)
           (option_map_or (λ k. k) o None) [])
-          (ap (λ k. slice_get k p) puts ∙ get_map (λ (k : LaneLeft). Some (ended_list k)) ls p l e),
+          (ap (λ k. slice_get k p) puts ∙ get_map (λ (k : ProducerEnd). Some (ended_list k)) ls p l e),
     ))

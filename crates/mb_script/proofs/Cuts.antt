@@ -8,39 +8,39 @@ use Rattle.std.specs.List.{position_or_len, before_first, after_first, onto_firs
 use Rattle.mb_script.specs.Text.{words_in_line, has_empty, number_of, numbers_of}
 
 -- whether a byte parts words: it is a space
-abbrev pub parts : ℕ → Bool
-parts b = nat_eq b 32
+abbrev pub is_space : ℕ → Bool
+is_space b = nat_eq b 32
 
 -- one byte more in front of a line with a space: the byte ends the first word, or belongs to it
-cut_step : (b : ℕ) (bs : List ℕ) (t : Bool) → cond (not t) (1 + position_or_len parts bs) 0 < suc (length bs)
-    → (position_or_len parts bs < length bs → words_in_line bs ≡ before_first parts bs
-    ∷ words_in_line (after_first parts bs))
+cut_step : (b : ℕ) (bs : List ℕ) (t : Bool) → cond (not t) (1 + position_or_len is_space bs) 0 < suc (length bs)
+    → (position_or_len is_space bs < length bs → words_in_line bs ≡ before_first is_space bs
+    ∷ words_in_line (after_first is_space bs))
     → cond t ([] ∷ words_in_line bs) (onto_first b (words_in_line bs))
-    ≡ take (cond (not t) (1 + position_or_len parts bs) 0) (b ∷ bs)
-    ∷ words_in_line (drop (cond (not t) (1 + position_or_len parts bs) 0 + 1) (b ∷ bs))
+    ≡ take (cond (not t) (1 + position_or_len is_space bs) 0) (b ∷ bs)
+    ∷ words_in_line (drop (cond (not t) (1 + position_or_len is_space bs) 0 + 1) (b ∷ bs))
 cut_step b bs true within rest = refl
 cut_step b bs false within rest =
-    let n = position_or_len parts bs in
+    let n = position_or_len is_space bs in
     let one : 1 + n ≡ suc n = omega arith in
     let two : 1 + n + 1 ≡ suc (n + 1) = omega arith in
     let cut = rest (omega arith) in
     rw (cut, two, one) refl
 
 -- if there is a space, the first word stands before it
-pub words_cut : (bs : List ℕ) → position_or_len parts bs < length bs
-    → words_in_line bs ≡ before_first parts bs ∷ words_in_line (after_first parts bs)
+pub words_cut : (bs : List ℕ) → position_or_len is_space bs < length bs
+    → words_in_line bs ≡ before_first is_space bs ∷ words_in_line (after_first is_space bs)
 words_cut [] within = absurd (omega arith)
 words_cut (b ∷ bs) within = cut_step b bs (nat_eq b 32) within (words_cut bs)
 
 -- one byte more, which is no space, in front of a line with no space
-last_step : (b : ℕ) (bs : List ℕ) (t : Bool) → cond (not t) (1 + position_or_len parts bs) 0 ≡ suc (length bs)
-    → (position_or_len parts bs ≡ length bs → words_in_line bs ≡ bs ∷ [])
+last_step : (b : ℕ) (bs : List ℕ) (t : Bool) → cond (not t) (1 + position_or_len is_space bs) 0 ≡ suc (length bs)
+    → (position_or_len is_space bs ≡ length bs → words_in_line bs ≡ bs ∷ [])
     → cond t ([] ∷ words_in_line bs) (onto_first b (words_in_line bs)) ≡ (b ∷ bs) ∷ []
 last_step b bs true none rest = absurd (omega arith)
 last_step b bs false none rest = ap (onto_first b) (rest (omega arith))
 
 -- if there is no space, the line is its only word
-pub words_last : (bs : List ℕ) → position_or_len parts bs ≡ length bs → words_in_line bs ≡ bs ∷ []
+pub words_last : (bs : List ℕ) → position_or_len is_space bs ≡ length bs → words_in_line bs ≡ bs ∷ []
 words_last [] none = refl
 words_last (b ∷ bs) none = last_step b bs (nat_eq b 32) none (words_last bs)
 

@@ -20,8 +20,8 @@ Consumes-twice (Some u) (Some v) None xs ys p q = absurd q
 Consumes-twice (Some u) (Some v) (Some w) xs ys p q = p ∙ ap (λ l. xs ++ l) q ∙ sym (append_assoc xs ys w)
 
 -- of what a text has from place i on, the first `length t - i` bytes are all
-pub part-rest : (i : ℕ) (t : List ℕ) → take (length t - i) (drop i t) ≡ drop i t
-part-rest i t = ap (λ n. take n (drop i t)) (sym (length-drop i t)) ∙ take-length (drop i t)
+pub take-rest : (i : ℕ) (t : List ℕ) → take (length t - i) (drop i t) ≡ drop i t
+take-rest i t = ap (λ n. take n (drop i t)) (sym (length-drop i t)) ∙ take-length (drop i t)
 
 -- bytes that grow by the first i of a text, and then by its next n, grow by the first i + n
 pub Appends-more : (a b c : Option (List ℕ)) (i n : ℕ) (t : List ℕ) → Appends a b (take i t)

@@ -151,15 +151,15 @@ has_cell_has (j ∷ js) k e = elim (eqb_tells j k) [
 ]
 
 -- what a history leaves in a word of a lane is what the lane's part leaves there
-left_there : KnownLaws → (size : PoolSize) (h : History) (p : ℕ) (w : Word) → IsPoolLawful size h
+held_there : KnownLaws → (size : PoolSize) (h : History) (p : ℕ) (w : Word) → IsPoolLawful size h
     → is_of_lane p (linked_cells p (part (Producer p) h)) w ≡ true
     → value_in w h ≡ value_in w (part (Producer p) h)
-left_there laws size h p Counter l own = absurd (cc)
-left_there laws size h p (Head q) l own =
+held_there laws size h p Counter l own = absurd (cc)
+held_there laws size h p (Head q) l own =
     subst (λ z. value_in (Head z) h ≡ value_in (Head z) (part (Producer p) h)) (eqb-true p q own) (laws.head size h p l)
-left_there laws size h p (Link k) l own =
+held_there laws size h p (Link k) l own =
     laws.link size h p k l (has_cell_has _ k (subst (λ ks. has_cell ks k ≡ true) (sym (laws.linked h p)) own))
-left_there laws size h p (Item k) l own =
+held_there laws size h p (Item k) l own =
     laws.item size h p k l (has_cell_has _ k (subst (λ ks. has_cell ks k ≡ true) (sym (laws.linked h p)) own))
 
 -- a load on a lane that is known finds what that lane's part left there
@@ -173,5 +173,5 @@ known_tells laws size r known done w v after p theirs at own =
     let is : part (Producer p) h ≡ theirs = after.lanes p theirs at in
     let lawful = laws.older size (a ∷ []) h after.lawful in
     after.lawful.memory.0
-    ∙ left_there laws size h p w lawful (subst (λ l. is_of_lane p (linked_cells p l) w ≡ true) (sym is) own)
+    ∙ held_there laws size h p w lawful (subst (λ l. is_of_lane p (linked_cells p l) w ≡ true) (sym is) own)
     ∙ ap (λ l. value_in w l) is

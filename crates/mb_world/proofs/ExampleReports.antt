@@ -9,7 +9,7 @@ use Rattle.mb_world.specs.Fitting.{EndsAs, HasRead, parts_of}
 use Rattle.mb_world.specs.Report.{DiaryView, LaneView}
 use Rattle.mb_world.specs.Reporting.{IsDiaryOf, IsReportOf, lane_view}
 use Rattle.mb_world.specs.PathExamples.{first_step, two_cells}
-use Rattle.mb_world.specs.WorldExamples.{IsNoDiary, IsNoReport, all_histories, all_reported, claim_left_out, diary_with, item_left_out, loss_left_out}
+use Rattle.mb_world.specs.WorldExamples.{IsNoDiary, IsNoReport, all_histories, all_reported, claim_missing, diary_with, item_missing, loss_unnoted}
 use Rattle.mb_world.specs.WorldExamples.{loss_taken, lost_steps, nothing_told, report_with, two_by_two, unwon_taken}
 use Rattle.mb_world.proofs.Positions.{has_at, reverse_at}
 
@@ -83,7 +83,7 @@ pub no_other : IsNoDiary 1 0 (diary_with 0 0 (Lost 0 ∷ []))
 no_other d = let e : 0 ≡ 1 = d.consumer in omega (arith, e)
 
 -- the claim of consumer 1 on cell 0 is lost, so its diary on lane 0 has a note
-pub no_silence : IsClaimPrefix two_cells 1 lost_steps (stage.Lost 0) → IsNoDiary 1 0 loss_left_out
+pub no_silence : IsClaimPrefix two_cells 1 lost_steps (stage.Lost 0) → IsNoDiary 1 0 loss_unnoted
 no_silence lost d =
     let at = has_at d.cells 0 (d.met.all 0 given_first (inl refl)) in
     let within : at.0 < 0 = d.all at.0 0 (Lost 0) (reverse_at d.cells at.0 0 at.1) lost in
@@ -101,7 +101,7 @@ no_end one_stage goes Undecided end = let e = one_stage (first_step ∷ []) stag
 -- that claim has an access and no end, so the diary of consumer 1 on lane 1 says that it is begun
 pub no_rest : (one_stage : (xs : List ObjectTurn) (s r : Stage) → IsClaimPrefix two_cells 1 xs s
     → IsClaimPrefix two_cells 1 xs r → s ≡ r)
-    → IsClaimPrefix two_cells 1 (first_step ∷ []) stage.Going → IsNoDiary 1 1 claim_left_out
+    → IsClaimPrefix two_cells 1 (first_step ∷ []) stage.Going → IsNoDiary 1 1 claim_missing
 no_rest one_stage goes d =
     let e : false ≡ true =
     d.begun.1 (1, d.met.all 1 given_second (inl refl), (λ none. cc), λ n end. no_end one_stage goes n end) in
@@ -118,8 +118,8 @@ not_empty : (x : ℕ) (xs : List ℕ) → [] ≡ x ∷ xs → ⊥
 not_empty x xs e = cc
 
 -- the item left on lane 1 may not be left out
-pub no_item_left_out : IsNoReport item_left_out
-no_item_left_out r = not_empty 6 [] (ap left_of (r.lane 1 (omega arith)))
+pub no_item_missing : IsNoReport item_missing
+no_item_missing r = not_empty 6 [] (ap left_of (r.lane 1 (omega arith)))
 
 -- the diary that was found at a position, or else the other one
 abbrev diary_or : DiaryView → Option DiaryView → DiaryView
@@ -128,10 +128,10 @@ diary_or other (Some d) = d
 
 -- the note of consumer 1 on the item that it lost may not be left out
 pub no_note_skipped : IsClaimPrefix two_cells 1 lost_steps (stage.Lost 0)
-    → IsNoReport (report_with (6 ∷ []) loss_left_out)
+    → IsNoReport (report_with (6 ∷ []) loss_unnoted)
 no_note_skipped lost r =
     let there = r.diary 1 0 (omega arith) (omega arith) in
-    let same : loss_left_out ≡ there.0 = ap (diary_or loss_left_out) there.1 in
+    let same : loss_unnoted ≡ there.0 = ap (diary_or loss_unnoted) there.1 in
     no_silence lost (subst (λ (d : DiaryView). IsDiaryOf two_by_two 1 0 all_histories d) (sym same) there.2)
 
 -- the report has two lanes, so it is not empty

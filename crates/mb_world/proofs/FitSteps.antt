@@ -4,7 +4,7 @@ use Rattle.std.proofs.lemmas.Bool.{cases_eq, ne_eqb}
 use Rattle.mb_claim.specs.declared.access.Stage.TheVariants as stage
 use Rattle.mb_world.specs.Imports.{Claims, Gave, IsClaimPrefix, Item, Link, ObjectTurn, PoolAccess, Stage, load, place_past}
 use Rattle.mb_world.specs.Fitting.{Fits, HasRead, HasStageIn, Parts, cells_met}
-use Rattle.mb_world.specs.PartSteps.{HasNotLeft, IsDoneWith, MayLookPast, no_parts, with_load, with_step}
+use Rattle.mb_world.specs.PartSteps.{HasNotPassed, IsDoneWith, MayLookPast, no_parts, with_load, with_step}
 use Rattle.mb_world.proofs.Tracks.{past_item, read-cases, read-more}
 
 -- the parts of a consumer that has done nothing fit
@@ -19,8 +19,8 @@ fits_empty cs c = record {
 
 module _ (cs : Claims) (c : ℕ) (x : Parts) (f : Fits cs c x) where
   -- a cell on which the claim goes on was not left
-  pub not_left : (k : ℕ) → ((s : Stage) → HasStageIn cs c k s x → s ≡ stage.Going) → HasNotLeft k x
-  not_left k goes = (
+  pub not_passed : (k : ℕ) → ((s : Stage) → HasStageIn cs c k s x → s ≡ stage.Going) → HasNotPassed k x
+  not_passed k goes = (
     λ v r. let e = goes stage.Won (f.won k v r) in cc,
     λ v r. let e = f.ended k v r in e.2 (goes e.0 e.1),
   )
@@ -89,7 +89,7 @@ module _ (cs : Claims) (c : ℕ) (x : Parts) (f : Fits cs c x) where
     }
 
   -- ---- the parts fit after a step of a claim
-  module _ (k : ℕ) (t : ObjectTurn) (gave : Gave k x.reads) (here : HasNotLeft k x) where
+  module _ (k : ℕ) (t : ObjectTurn) (gave : Gave k x.reads) (here : HasNotPassed k x) where
     -- the parts with the step
     abbrev now : Parts
     now = with_step k t x

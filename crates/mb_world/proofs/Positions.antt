@@ -7,10 +7,11 @@ use Rattle.mb_world.specs.Imports.{Has, IsOnceEach}
 use mathlib.Core.List.{reverse-cons}
 
 -- an element of the first of two joined lists keeps its position
-pub get-left : {A : Type 0} (xs ys : List A) (j : ℕ) (x : A) → slice_get xs j ≡ Some x → slice_get (xs ++ ys) j ≡ Some x
-get-left [] ys j x e = absurd (cc)
-get-left (a ∷ xs) ys zero x e = e
-get-left (a ∷ xs) ys (suc j) x e = get-left xs ys j x e
+pub get-front : {A : Type 0} (xs ys : List A) (j : ℕ) (x : A) → slice_get xs j ≡ Some x → slice_get (xs ++ ys) j
+    ≡ Some x
+get-front [] ys j x e = absurd (cc)
+get-front (a ∷ xs) ys zero x e = e
+get-front (a ∷ xs) ys (suc j) x e = get-front xs ys j x e
 
 -- the element at the end stands at the position after the list
 pub get-last : {A : Type 0} (xs : List A) (y : A) → slice_get (xs ++ y ∷ []) (length xs) ≡ Some y
@@ -48,7 +49,7 @@ reverse_at (x ∷ xs) j k (inl h) =
     (get-last (reverse xs) x ∙ ap Some h.1))
 reverse_at (x ∷ xs) j k (inr h) =
     subst (λ (ys : List ℕ). slice_get ys j ≡ Some k) (sym (reverse-cons x xs))
-    (get-left (reverse xs) (x ∷ []) j k (reverse_at xs j k h))
+    (get-front (reverse xs) (x ∷ []) j k (reverse_at xs j k h))
 
 -- an element at a position is in the list
 pub at_has : (xs : List ℕ) (j k : ℕ) → StandsAt xs j k → Has xs k
@@ -108,4 +109,4 @@ mapped_at {A} f (x ∷ xs) j k (inl h) =
     (get-last (reverse (map f xs)) (f x) ∙ ap (λ (i : ℕ). Some (f i)) h.1))
 mapped_at {A} f (x ∷ xs) j k (inr h) =
     subst (λ (ys : List A). slice_get ys j ≡ Some (f k)) (sym (reverse-cons (f x) (map f xs)))
-    (get-left (reverse (map f xs)) (f x ∷ []) j (f k) (mapped_at f xs j k h))
+    (get-front (reverse (map f xs)) (f x ∷ []) j (f k) (mapped_at f xs j k h))

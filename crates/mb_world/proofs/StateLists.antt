@@ -11,7 +11,7 @@ use Rattle.mb_world.specs.Report.{DiaryView, LaneView}
 use Rattle.mb_world.specs.Setups.{plan_in}
 use Rattle.mb_world.specs.StateReport.{AreDiariesTold, AreLanesTold, IsDiaryTold, IsLaneTold}
 use Rattle.mb_world.specs.WorldState.{WorldState}
-use Rattle.mb_world.proofs.Positions.{get-last, get-left}
+use Rattle.mb_world.proofs.Positions.{get-last, get-front}
 
 -- an element put at the end of a list stands at the position past the list
 get_end : {A : Type 0} (xs : List A) (y : A) (i : ℕ) → i ≡ length xs → slice_get (xs ++ y ∷ []) i ≡ Some y
@@ -23,7 +23,7 @@ pub lanes_more : (s : WorldState) (n : ℕ) (l : LaneView) (ls : List LaneView) 
 lanes_more s n l ls told here = record {
   count = omega (arith, length-append ls (l ∷ []), told.count);
   each = λ p less. elim (cases_lt p n) [
-    | inl old ↦ let q = told.each p old in (q.0, get-left ls (l ∷ []) p q.0 q.1, q.2)
+    | inl old ↦ let q = told.each p old in (q.0, get-front ls (l ∷ []) p q.0 q.1, q.2)
     | inr new ↦ (
       l,
       get_end ls l p (omega (arith, told.count, less, new)),
@@ -39,7 +39,7 @@ grid_more : {A : Type 0} (P : ℕ → ℕ → A → Type 0) (w c p : ℕ) (xs : 
     → (e q : ℕ) → q < w → e * w + q < c * w + (p + 1)
     → (x : A) × (slice_get (xs ++ y ∷ []) (e * w + q) ≡ Some x) × P e q x
 grid_more P w c p xs y ps count each here e q qs less = elim (cases_lt (e * w + q) (c * w + p)) [
-  | inl old ↦ let x = each e q qs old in (x.0, get-left xs (y ∷ []) (e * w + q) x.0 x.1, x.2)
+  | inl old ↦ let x = each e q qs old in (x.0, get-front xs (y ∷ []) (e * w + q) x.0 x.1, x.2)
   | inr new ↦
       let same : e * w + q ≡ c * w + p = omega (arith, less, new) in
       let at = same_from_place e q c p w qs ps same in (

@@ -40,10 +40,10 @@ use mathlib.Core.List.{reverse-cons}
 
 -- ---- lists of cells
 -- a cell of the first list is in both joined
-has_left : (xs ys : List ℕ) (k : ℕ) → Has xs k → Has (xs ++ ys) k
-has_left [] ys k has = absurd has
-has_left (x ∷ xs) ys k (inl e) = inl e
-has_left (x ∷ xs) ys k (inr m) = inr (has_left xs ys k m)
+has_front : (xs ys : List ℕ) (k : ℕ) → Has xs k → Has (xs ++ ys) k
+has_front [] ys k has = absurd has
+has_front (x ∷ xs) ys k (inl e) = inl e
+has_front (x ∷ xs) ys k (inr m) = inr (has_front xs ys k m)
 
 -- a cell of the second list is in both joined
 has_right : (xs ys : List ℕ) (k : ℕ) → Has ys k → Has (xs ++ ys) k
@@ -233,7 +233,7 @@ module _ (s : WorldState) (h : WorldHistory) (is : IsWorldAfter h s) (known : Wo
       none_late k has = by (note_on s c k) refl
         where
           stands : Has (linked p) k
-          stands = subst (λ (ls : List ℕ). Has ls k) late.1 (has_left late.0 with_notes k has)
+          stands = subst (λ (ls : List ℕ). Has ls k) late.1 (has_front late.0 with_notes k has)
 
           by : (o : Option Note) → note_on s c k ≡ o → note_on s c k ≡ None
           by None e = e

@@ -27,5 +27,5 @@ MayLookPast cs c [] x = Unit {0}
 MayLookPast cs c (k ∷ ks) x = IsDoneWith cs c k x
 
 -- a consumer with these parts has loaded neither the item nor the link of cell k
-abbrev pub HasNotLeft : ℕ → Parts → Type 0
-HasNotLeft k x = ((v : ℕ) → HasRead (Item k) v x.reads → ⊥) × ((v : ℕ) → HasRead (Link k) v x.reads → ⊥)
+abbrev pub HasNotPassed : ℕ → Parts → Type 0
+HasNotPassed k x = ((v : ℕ) → HasRead (Item k) v x.reads → ⊥) × ((v : ℕ) → HasRead (Link k) v x.reads → ⊥)

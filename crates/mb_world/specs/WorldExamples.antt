@@ -168,16 +168,16 @@ abbrev pub IsNoDiary : ℕ → ℕ → DiaryView → Type 0
 IsNoDiary c p d = IsDiaryOf two_by_two c p all_histories d → ⊥
 
 -- an item that nobody took is left out of the items left
-abbrev pub item_left_out : ReportView
-item_left_out = report_with [] (diary_with 1 0 (Lost 0 ∷ []))
+abbrev pub item_missing : ReportView
+item_missing = report_with [] (diary_with 1 0 (Lost 0 ∷ []))
 
 -- a report with nothing in it
 abbrev pub nothing_told : ReportView
 nothing_told = record { lanes = []; diaries = [] }
 
 -- consumer 1 has no note on the item that it has lost
-abbrev pub loss_left_out : DiaryView
-loss_left_out = diary_with 1 0 []
+abbrev pub loss_unnoted : DiaryView
+loss_unnoted = diary_with 1 0 []
 
 -- consumer 1 says that it took the item that it has lost
 abbrev pub loss_taken : DiaryView
@@ -188,8 +188,8 @@ abbrev pub unwon_taken : DiaryView
 unwon_taken = diary_with 1 1 (Took 6 ∷ [])
 
 -- consumer 1 does not say that its claim is begun
-abbrev pub claim_left_out : DiaryView
-claim_left_out = diary_with 1 1 []
+abbrev pub claim_missing : DiaryView
+claim_missing = diary_with 1 1 []
 
 -- ---- events of the world, and their answers
 -- the first events, which lead to `one_put`

@@ -28,8 +28,8 @@ ghost use Rattle.mb_world.specs.WorldExamples.{two_by_two, offered, both_put, on
 ghost use Rattle.mb_world.specs.WorldExamples.{second_begun, all_done, all_histories, all_reported, report_with};
 ghost use Rattle.mb_world.specs.WorldExamples.{MayNotFollow, taken_unwon, taken_again, taken_lost, unmet_claimed};
 ghost use Rattle.mb_world.specs.WorldExamples.{claim_passed, end_missed, offered_late, stranger, no_lane};
-ghost use Rattle.mb_world.specs.WorldExamples.{IsNoReport, IsNoDiary, item_left_out, nothing_told, loss_left_out};
-ghost use Rattle.mb_world.specs.WorldExamples.{loss_taken, unwon_taken, claim_left_out, diary_with};
+ghost use Rattle.mb_world.specs.WorldExamples.{IsNoReport, IsNoDiary, item_missing, nothing_told, loss_unnoted};
+ghost use Rattle.mb_world.specs.WorldExamples.{loss_taken, unwon_taken, claim_missing, diary_with};
 ghost use Rattle.mb_world.specs.WorldExamples.{first_events, first_answers, Answers, first_claimed};
 ghost use Rattle.mb_world.specs.WorldExamples.{first_lost, first_won, one_stored, one_taken, stores};
 ghost use Rattle.mb_world.specs.ConsumerPath.{claim_step, item_load, link_load};
@@ -265,19 +265,19 @@ pub fn worlds_are_reported()
 /// Reports and diaries that are not of that world.
 pub fn worlds_are_not_misreported()
     // An item that nobody took is left out, or a note is, or all is.
-    ensures left { IsNoReport item_left_out }
-    ensures skipped { IsNoReport (report_with (6 ∷ []) loss_left_out) }
+    ensures left { IsNoReport item_missing }
+    ensures skipped { IsNoReport (report_with (6 ∷ []) loss_unnoted) }
     ensures nothing { IsNoReport nothing_told }
 
     // A diary has no note on an item that its consumer has lost.
-    ensures silent { IsNoDiary 1 0 loss_left_out }
+    ensures silent { IsNoDiary 1 0 loss_unnoted }
 
     // A diary says that an item was taken that its consumer has not won.
     ensures lost { IsNoDiary 1 0 loss_taken }
     ensures unwon { IsNoDiary 1 1 unwon_taken }
 
     // A diary does not say that a claim is begun. In place of a consumer's diary there is another consumer's.
-    ensures open { IsNoDiary 1 1 claim_left_out }
+    ensures open { IsNoDiary 1 1 claim_missing }
     ensures other { IsNoDiary 1 0 (diary_with 0 0 (Lost 0 ∷ [])) }
 {
     named_tables_are_lawful();
@@ -289,7 +289,7 @@ pub fn worlds_are_not_misreported()
 /// What breaks the rule of end marks: a note that is missing, and an access of the lane's producer after its mark.
 pub fn end_marks_are_not_passed()
     ensures unnoted { NothingFollowsEnds two_by_two all_histories
-        (report_with (6 ∷ []) loss_left_out) → ⊥ }
+        (report_with (6 ∷ []) loss_unnoted) → ⊥ }
     ensures late { NothingFollowsEnds two_by_two
         (histories_of (offered_late ∷ all_done)) all_reported → ⊥ }
 {}

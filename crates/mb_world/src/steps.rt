@@ -6,7 +6,7 @@ ghost use Rattle.std.specs.Prelude.{ℕ, ◌≡◌, ◌≢◌, ◌+◌, ◌<◌,
 ghost use Rattle.mb_claim.specs.declared.access.Stage.TheVariants as stage;
 ghost use Rattle.mb_world.specs.Fitting.{Fits, FollowsLinks, HasStageIn, Parts, cells_met};
 ghost use Rattle.mb_world.specs.Reporting.{HasMetAll};
-ghost use Rattle.mb_world.specs.PartSteps.{HasNotLeft, MayLookPast, no_parts, with_load, with_step};
+ghost use Rattle.mb_world.specs.PartSteps.{HasNotPassed, MayLookPast, no_parts, with_load, with_step};
 ghost use Rattle.mb_world.specs.Imports.{Claims, Gave, Has, HasMet, History, IsOnceEach, Item, PoolSize, Reader, linked_cells};
 ghost use Rattle.mb_world.specs.Imports.{load, part, place_past};
 ghost use Rattle.mb_world.specs.Imports.{END, IsPoolLawful, IsQuorumTable, ObjectTurn, PoolAccess, Producer};
@@ -58,7 +58,7 @@ pub fn parts_fit_on()
 
     // A consumer may make a step of its claim on a cell that it met and has not left.
     ensures claims { (cs : Claims) (c k : ℕ) (t : ObjectTurn) (x : Parts) → Fits cs c x
-        → Gave k x.reads → HasNotLeft k x → Fits cs c (with_step k t x) }
+        → Gave k x.reads → HasNotPassed k x → Fits cs c (with_step k t x) }
 
     // A consumer may load the item of a cell if its claim there is won.
     ensures takes { (cs : Claims) (c q k v : ℕ) (x : Parts) → Fits cs c x
@@ -66,7 +66,7 @@ pub fn parts_fit_on()
 
     // A consumer has not left a cell on which its claim goes on.
     ensures going { (cs : Claims) (c k : ℕ) (x : Parts) → IsQuorumTable cs.table → Fits cs c x
-        → HasStageIn cs c k stage.Going x → HasNotLeft k x }
+        → HasStageIn cs c k stage.Going x → HasNotPassed k x }
 {
     prefixes_have_one_stage();
 }

@@ -4,7 +4,7 @@ ghost use Rattle.std.specs.Prelude.{◌≡◌, ◌<◌, ◌≤◌, ◌^◌, ℕ,
 ghost use Rattle.mb_quorum.specs.Quorum.{QuorumTable};
 ghost use Rattle.mb_deciding.specs.{setup_of, RefusesOnlyFor, first_from, refusal_in, IsSameFor, IsTrace};
 
-use super::Run;
+use super::Course;
 use super::machine::Machine;
 use crate::trace::{Fault, Trace};
 use std::alloc::{AllocError, Allocator};
@@ -85,7 +85,7 @@ fn traced<A: Allocator + Copy + Drop, M: Machine, T: ScheduledTurn>(
         IsTrace (setup_of t (M.kind machine.now) inputs.now) (map T.turn schedule.now)
         trace.entries.items trace.outputs.items) }
 {
-    let mut run = Run::begin(alloc, machine, inputs, schedule.len())?;
+    let mut run = Course::begin(alloc, machine, inputs, schedule.len())?;
     for turn in schedule {
         run.turn(machine, turn.process() as usize, turn.word())?;
     }

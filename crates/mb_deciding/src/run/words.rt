@@ -14,7 +14,7 @@ pub struct ObjectMemory {
 impl ObjectMemory {
     ghost use Rattle.std.specs.Prelude.{◌≡◌, ◌<◌, ◌^◌, [], ◌∷◌, ℕ, List};
     ghost use Rattle.mb_deciding.specs.{Reg, Store, Access, value_after, IsActInWords, act_of, reg_of, seen_by};
-    ghost use Rattle.mb_deciding.specs.{IsMemory, IsReg, word_of};
+    ghost use Rattle.mb_deciding.specs.{IsMemory, IsReg, held_in};
 
     /// Words that hold nothing yet.
     pub fn new() -> ObjectMemory
@@ -58,7 +58,7 @@ impl ObjectMemory {
     #[inline(always)]
     fn load(&self, reg: Reg) -> u64
         requires { IsReg reg }
-        ensures { result ≡ word_of self.now reg }
+        ensures { result ≡ held_in self.now reg }
     {
         match reg {
             Reg::Value => self.value,
@@ -72,7 +72,7 @@ impl ObjectMemory {
     fn store(&mut self, reg: Reg, value: u64)
         requires { IsReg reg }
         ensures { (at : Reg) → IsReg at
-            → word_of self.new at ≡ value_after at (Store reg value) (word_of self.old at) }
+            → held_in self.new at ≡ value_after at (Store reg value) (held_in self.old at) }
     {
         match reg {
             Reg::Value => self.value = value,

@@ -3,11 +3,11 @@ use Rattle.std.proofs.Common.{refl}
 use Rattle.mb_cells.proofs.laws.parts_tell_lanes.Goals as goal
 use Rattle.mb_cells.specs.{Head, Item, Link}
 use Rattle.mb_cells.proofs.EndMarks.{has_ended-part}
-use Rattle.mb_cells.proofs.Histories.{left_alone, linked_cells-part, local}
+use Rattle.mb_cells.proofs.Histories.{held_alone, linked_cells-part, local}
 use Rattle.mb_cells.proofs.Items.{is_put_at, put_list-part}
 
 pub returns-clause-alone : goal.returns-clause-alone
-returns-clause-alone c = left_alone
+returns-clause-alone c = held_alone
 
 pub returns-clause-head : goal.returns-clause-head
 returns-clause-head c = λ size h p l. local size h p (Head p) l refl

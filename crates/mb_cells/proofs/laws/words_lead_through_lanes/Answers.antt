@@ -2,7 +2,7 @@
 -- or to 0.
 use Rattle.mb_cells.proofs.laws.words_lead_through_lanes.Goals as goal
 use Rattle.mb_cells.proofs.EndMarks.{end_word}
-use Rattle.mb_cells.proofs.Items.{item_left}
+use Rattle.mb_cells.proofs.Items.{item_held}
 use Rattle.mb_cells.proofs.LaneReading.{lane_reads, next_cell}
 
 pub returns-clause-reads : goal.returns-clause-reads
@@ -15,4 +15,4 @@ pub returns-clause-end : goal.returns-clause-end
 returns-clause-end c = end_word
 
 pub returns-clause-items : goal.returns-clause-items
-returns-clause-items c = item_left
+returns-clause-items c = item_held

@@ -7,7 +7,7 @@ use Rattle.mb_claim.specs.{IsClaimLawful, IsClaimPrefix, part_on}
 use Rattle.mb_claim.proofs.LayoutObjects.{quorums_lawful}
 use Rattle.mb_claim.proofs.LastObjects.{begins_fast, conciliator_behind}
 use Rattle.mb_claim.proofs.ObjectHistories.{turns_at, part-object_history}
-use Rattle.mb_claim.proofs.PassedRatifiers.{left_by_both}
+use Rattle.mb_claim.proofs.PassedRatifiers.{both_came_undecided}
 use Rattle.mb_claim.proofs.laws.fast_layouts_avoid_conciliators.Goals as goal
 
 -- the objects after the fast path
@@ -45,7 +45,7 @@ returns-clause-undecided c layout cells k d o s h fast lawful is some =
     let here = part-object_history d k in
     let mine = lawful.parts d k (λ none. some (here o h ∙ ap (turns_at o) none)) in
     let left =
-    left_by_both t d (behind layout) d o xs mine.2.0 (past layout o s fast is)
+    both_came_undecided t d (behind layout) d o xs mine.2.0 (past layout o s fast is)
     (subst (λ ks. IsClaimPrefix (claims_of t ks cells) d xs mine.2.0) (row layout fast) mine.2.1)
     (λ none. some (here o h ∙ none)) in (
       left.0,

@@ -2,7 +2,7 @@
 use Rattle.std.proofs.Common.{List, map, sym, subst, Ok, Err, IfOk, Result}
 use Rattle.std.proofs.lemmas.List.{take_all}
 use Rattle.mb_claim.specs.{ClaimEntry, Stage, IsBoard, claims_in, claim_stage, IsPlayed}
-use Rattle.mb_claim.proofs.RunSteps.{board_played}
+use Rattle.mb_claim.proofs.PlaySteps.{board_played}
 use Rattle.mb_claim.proofs.plays.played.Goals as goal
 
 -- two facts of a result, if it is `Ok`, give a third

@@ -1,7 +1,7 @@
 -- Proof of `steps::claims_have_one_next_op`: what a claim has done determines its next op, whatever memory holds.
 use Rattle.mb_deciding.specs.Vocabulary.{object_of}
 use Rattle.mb_claim.proofs.NextSteps.{older_goes, one_next}
-use Rattle.mb_claim.proofs.OneRun.{one_access}
+use Rattle.mb_claim.proofs.OnePlay.{one_access}
 use Rattle.mb_claim.proofs.steps.claims_have_one_next_op.Goals as goal
 
 pub returns-clause-op : goal.returns-clause-op

@@ -1,7 +1,7 @@
 -- Proof of `steps::places_lead_on`: a process at its place goes on along its path by its next turn, with the value that
 -- the history leaves in its word.
 use Rattle.mb_deciding.proofs.Stepping.{next_part, next_found}
-use Rattle.mb_deciding.proofs.Runs.{reads_seen}
+use Rattle.mb_deciding.proofs.Courses.{reads_seen}
 use Rattle.mb_deciding.proofs.steps.places_lead_on.Goals as goal
 
 pub returns-clause-prefix : goal.returns-clause-prefix

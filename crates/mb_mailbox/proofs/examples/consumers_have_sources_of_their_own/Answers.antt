@@ -5,7 +5,7 @@ use Rattle.mb_mailbox.specs.Called.{WasPolled}
 use Rattle.mb_mailbox.specs.Calls.{AreCalls, Call}
 use Rattle.mb_mailbox.specs.Consumers.{ConsumerView}
 use Rattle.mb_mailbox.specs.Steps.{AreDrawn}
-use Rattle.mb_mailbox.specs.Worked.{ConsumerLeft}
+use Rattle.mb_mailbox.specs.Worked.{ConsumerEnd}
 use Rattle.mb_mailbox.specs.WorkExamples.{any_call}
 use Rattle.mb_mailbox.proofs.Called.{none_called}
 use Rattle.mb_mailbox.proofs.examples.consumers_have_sources_of_their_own.Goals as goal
@@ -17,7 +17,7 @@ Law = (from end budget : ℕ) (made : List Call) (source left : Stream) (old new
     → AreDrawn source (map (λ a. a.step.turn.word) new.seat.part) left
 
 -- the one word that a consumer has drawn is the first of its source
-first_word : Law → (c : ℕ) (s : Stream) (l : ConsumerLeft) (a : ClaimAccess) → l.claimed ≡ a ∷ []
+first_word : Law → (c : ℕ) (s : Stream) (l : ConsumerEnd) (a : ClaimAccess) → l.claimed ≡ a ∷ []
     → WasPolled any_call any_call 0 1 5 c s l
     → a.step.turn.word ≡ (next_u64 s).0
 first_word law c s l a is was =

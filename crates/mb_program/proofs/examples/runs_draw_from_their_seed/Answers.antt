@@ -9,7 +9,7 @@ use Rattle.mb_mailbox.specs.Called.{WasPolled, WerePolled}
 use Rattle.mb_mailbox.specs.Calls.{AreCalls, Call}
 use Rattle.mb_mailbox.specs.Consumers.{ConsumerView}
 use Rattle.mb_mailbox.specs.Steps.{AreDrawn}
-use Rattle.mb_mailbox.specs.Worked.{ConsumerLeft}
+use Rattle.mb_mailbox.specs.Worked.{ConsumerEnd}
 use Rattle.mb_mailbox.specs.declared.gate.Who.{Who}
 use Rattle.mb_program.specs.Running.{IsRunReport}
 use Rattle.mb_program.specs.Source.{source_from, words_from}
@@ -30,7 +30,7 @@ record HasDrawn (source : Stream) (done : List ClaimAccess) : Type 0 where
 
 module _ (law : Law) (may_stop may_pass : Who → ℕ → Type 0) where
   -- the accesses of a consumer that polled with a source have the first words of that source
-  drawn_by : (from end budget c : ℕ) (source : Stream) (l : ConsumerLeft)
+  drawn_by : (from end budget c : ℕ) (source : Stream) (l : ConsumerEnd)
       → WasPolled may_stop may_pass from end budget c source l → HasDrawn source l.claimed
   drawn_by from end budget c source l was =
       let none = was.none in
@@ -44,7 +44,7 @@ module _ (law : Law) (may_stop may_pass : Who → ℕ → Type 0) where
       }
 
   -- the accesses taken in of consumer c have the first words of source c, if all consumers polled with their sources
-  drawn_at : (from end budget n : ℕ) (ss : List Stream) (ls : List ConsumerLeft) (c : ℕ)
+  drawn_at : (from end budget n : ℕ) (ss : List Stream) (ls : List ConsumerEnd) (c : ℕ)
       (source : Stream) → WerePolled may_stop may_pass from end budget n ss ls
       → slice_get ss c ≡ Some source → HasDrawn source (taken_part (map (λ l. Some l.claimed) ls) c)
   drawn_at from end budget n [] [] c source were at = absurd (cc)

@@ -7,7 +7,7 @@ use Rattle.mb_mailbox.specs.Gathering.{FullTakesAll, lane_in}
 use Rattle.mb_mailbox.specs.Hubs.{HubView, PutListView}
 use Rattle.mb_mailbox.specs.Jobs.{IsFront}
 use Rattle.mb_mailbox.specs.Mailboxes.{MailboxView}
-use Rattle.mb_mailbox.specs.Worked.{AreCutByCells, AreStoppedPuts, LaneLeft, ended_list}
+use Rattle.mb_mailbox.specs.Worked.{AreCutByCells, AreStoppedPuts, ProducerEnd, ended_list}
 use Rattle.mb_world.specs.Report.{LaneView}
 use Rattle.mb_rounds.specs.RoundExamples.{at_no_call, one_lane}
 use Rattle.mb_rounds.proofs.Whole.{round_adds_up}
@@ -23,7 +23,7 @@ abbrev dealt : List (List ℕ)
 dealt = (7 ∷ []) ∷ []
 
 -- a producer that nobody stops, and for whose item there is a cell, has put the item
-puts_it : (m : MailboxView) (h : HubView) (n : ℕ) (left : List LaneLeft) → m.cells.size.cells ≡ 1
+puts_it : (m : MailboxView) (h : HubView) (n : ℕ) (left : List ProducerEnd) → m.cells.size.cells ≡ 1
     → h.puts ≡ map (λ l. Some (ended_list l)) left → h.cells.roll.lanes ≡ map (λ l. Some l.part) left
     → AllZip (λ list l. IsFront l.put list) dealt left
     → slice_get (one_lane []).lanes 0 ≡ Some (lane_in n 0 h)

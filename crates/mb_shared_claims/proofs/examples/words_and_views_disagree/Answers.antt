@@ -1,7 +1,7 @@
 -- Proof of `examples::words_and_views_disagree`: words and views that do not come from a history and a hub.
 use Rattle.std.proofs.Common.{[], arith, ap, refl, sym, ◌∷◌, ◌≡◌, ◌∙◌, ℕ, List, subst, suc, zero, Some, None}
 use mathlib.Core.Option.{some-injective, some-ne-none}
-use Rattle.mb_claim.specs.Vocabulary.{left_at, part}
+use Rattle.mb_claim.specs.Vocabulary.{held_at, part}
 use Rattle.mb_shared_claims.specs.Types.{ClaimAccess, Handing, Standing, TableSize}
 use Rattle.mb_shared_claims.specs.Views.{HasPart, HasPartAt}
 use Rattle.mb_shared_claims.proofs.examples.words_and_views_disagree.Goals as goal
@@ -29,7 +29,7 @@ returns-clause-made_up c = λ k o reg words some has held state.
     let empty : plan.history ≡ [] = nothing c.accesses_lengthen_one_part.ensures.own plan.history
     (λ n. s.others n (omega (arith, none))) in
     let left = s.memory.left 0 o reg some has in
-    let e : 1 ≡ 0 = sym held ∙ (left ∙ ap (λ h. left_at 0 o reg h) empty) in
+    let e : 1 ≡ 0 = sym held ∙ (left ∙ ap (λ h. held_at 0 o reg h) empty) in
     omega (arith, e)
 
 pub returns-clause-not_given : goal.returns-clause-not_given

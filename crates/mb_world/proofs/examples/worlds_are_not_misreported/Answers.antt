@@ -2,11 +2,11 @@
 use Rattle.std.proofs.Common.{arith}
 use Rattle.mb_quorum.specs.declared.table.TableName.TheVariants.{Unary}
 use Rattle.mb_world.specs.PathExamples.{two_cells}
-use Rattle.mb_world.proofs.ExampleReports.{no_item_left_out, no_loss_taken, no_note_skipped, no_other, no_rest, no_silence, no_unwon_taken, not_nothing}
+use Rattle.mb_world.proofs.ExampleReports.{no_item_missing, no_loss_taken, no_note_skipped, no_other, no_rest, no_silence, no_unwon_taken, not_nothing}
 use Rattle.mb_world.proofs.examples.worlds_are_not_misreported.Goals as goal
 
 pub returns-clause-left : goal.returns-clause-left
-returns-clause-left c = no_item_left_out
+returns-clause-left c = no_item_missing
 
 pub returns-clause-skipped : goal.returns-clause-skipped
 returns-clause-skipped c = no_note_skipped c.examples_are_lawful.ensures.lost.1

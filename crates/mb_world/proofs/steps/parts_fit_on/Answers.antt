@@ -1,7 +1,7 @@
 -- Proof of `steps::parts_fit_on`: the two parts of a consumer still fit after each access that it may make, whatever it
 -- finds.
 use Rattle.mb_claim.specs.declared.access.Stage.TheVariants as stage
-use Rattle.mb_world.proofs.FitSteps.{fits_empty, fits_past, fits_stepped, fits_taken, not_left}
+use Rattle.mb_world.proofs.FitSteps.{fits_empty, fits_past, fits_stepped, fits_taken, not_passed}
 use Rattle.mb_world.proofs.steps.parts_fit_on.Goals as goal
 
 pub returns-clause-looks : goal.returns-clause-looks
@@ -18,4 +18,4 @@ returns-clause-empty c cs d = fits_empty cs d
 
 pub returns-clause-going : goal.returns-clause-going
 returns-clause-going c cs d k x table fit going =
-    not_left cs d x fit k (λ s q. c.prefixes_have_one_stage.ensures cs d (x.claimed k) s stage.Going table q going)
+    not_passed cs d x fit k (λ s q. c.prefixes_have_one_stage.ensures cs d (x.claimed k) s stage.Going table q going)

@@ -3,7 +3,7 @@ use Rattle.std.proofs.Common.{◌≡◌, ◌≢◌, ◌↔◌, Bool, true, false
 use Rattle.std.proofs.lemmas.List.{set-get_or}
 use Rattle.std.proofs.lemmas.Bool.{false≢true}
 use Rattle.mb_claim.specs.{Stage, Going, BoardState, IsBoard}
-use Rattle.mb_claim.proofs.RunSteps.{board_done, board_stepped, held}
+use Rattle.mb_claim.proofs.PlaySteps.{board_done, board_stepped, held}
 use Rattle.mb_claim.proofs.board.Board.step.Goals as goal
 
 -- a claim for which the test returned true is going

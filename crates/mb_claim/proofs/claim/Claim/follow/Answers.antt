@@ -11,7 +11,7 @@ use Rattle.mb_claim.specs.Types.{ObjectTurn, Claim}
 use Rattle.mb_claim.specs.OneClaim.{placed_at}
 use Rattle.mb_claim.specs.Layouts.{quorums_of, kinds_of, claims_in}
 use Rattle.mb_claim.proofs.LayoutObjects.{quorums_lawful}
-use Rattle.mb_claim.proofs.ClaimSteps.{PartsOf, same_object, claim_going, claim_passed, claim_decided}
+use Rattle.mb_claim.proofs.ClaimSteps.{PlacesMakeParts, same_object, claim_going, claim_passed, claim_decided}
 use Rattle.mb_claim.proofs.StepsLeft.{fewer_here, fewer_passed, fewer_ended}
 use Rattle.mb_claim.proofs.claim.Claim.follow.Goals as goal
 
@@ -34,7 +34,7 @@ returns-in-None-clause-path c pc begun xs x of reaches =
     let old = c.args.self.now in
     let p = of.stands c.requires.going in
     let reached = reaches p.kind p.input p.turns p.place in
-    let parts : PartsOf t kinds =
+    let parts : PlacesMakeParts t kinds =
     λ d object pc ys. c.places_show_prefixes.ensures.prefix (claims_in layout 0) d object pc ys
     (quorums_lawful layout) in
     let step : ObjectTurn = record { object = old.object; turn = x } in
@@ -51,7 +51,7 @@ returns-in-Some-clause-path c pc begun xs x of reaches =
     let old = c.args.self.now in
     let p = of.stands c.requires.going in
     let reached = reaches p.kind p.input p.turns p.place in
-    let parts : PartsOf t kinds =
+    let parts : PlacesMakeParts t kinds =
     λ d object pc ys. c.places_show_prefixes.ensures.prefix (claims_in layout 0) d object pc ys
     (quorums_lawful layout) in
     let come : IsReached t p.kind p.input (leads.Out c.in-Some.out) (x ∷ p.turns) =

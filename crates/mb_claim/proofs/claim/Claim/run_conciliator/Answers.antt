@@ -5,7 +5,7 @@ use Rattle.mb_deciding.specs.ManySteps.{AreSteps, DrawsAndMakes}
 use Rattle.mb_deciding.specs.declared.place.pc.Next.TheVariants as leads
 use Rattle.mb_claim.specs.Layouts.{quorums_of, kinds_of, claims_in}
 use Rattle.mb_claim.proofs.LayoutObjects.{quorums_lawful}
-use Rattle.mb_claim.proofs.ClaimSteps.{PartsOf}
+use Rattle.mb_claim.proofs.ClaimSteps.{PlacesMakeParts}
 use Rattle.mb_claim.proofs.ManyClaimSteps.{stood_after, all_go_on, moved_on, ended_on, place_after, stage_after, object_after, stayed}
 use Rattle.mb_claim.proofs.claim.Claim.run_conciliator.Goals as goal
 
@@ -19,7 +19,7 @@ run-requires-clause-may g c n word at before mid op steps drawn is =
     let layout = c.args.layout.now in
     let claim = c.args.self.now in
     let start = c.args.memory.now in
-    let parts : PartsOf (quorums_of layout) (kinds_of layout) =
+    let parts : PlacesMakeParts (quorums_of layout) (kinds_of layout) =
     λ d object pc ys. c.places_show_prefixes.ensures.prefix (claims_in layout 0) d object pc ys
     (quorums_lawful layout) in
     let all = (subst (λ pc. AreSteps (quorums_of layout)
@@ -40,7 +40,7 @@ returns-then-left-most-clause-steps g c =
     let layout = c.args.layout.now in
     let claim = c.args.self.now in
     let start = c.args.memory.now in
-    let parts : PartsOf (quorums_of layout) (kinds_of layout) =
+    let parts : PlacesMakeParts (quorums_of layout) (kinds_of layout) =
     λ d object pc ys. c.places_show_prefixes.ensures.prefix (claims_in layout 0) d object pc ys
     (quorums_lawful layout) in
     let all = (subst (λ pc. AreSteps (quorums_of layout)
@@ -59,7 +59,7 @@ returns-else-left-most-clause-steps g c =
     let layout = c.args.layout.now in
     let claim = c.args.self.now in
     let start = c.args.memory.now in
-    let parts : PartsOf (quorums_of layout) (kinds_of layout) =
+    let parts : PlacesMakeParts (quorums_of layout) (kinds_of layout) =
     λ d object pc ys. c.places_show_prefixes.ensures.prefix (claims_in layout 0) d object pc ys
     (quorums_lawful layout) in
     let all = (subst (λ pc. AreSteps (quorums_of layout)
@@ -79,7 +79,7 @@ returns-in-Out-clause-steps g c =
     let layout = c.args.layout.now in
     let claim = c.args.self.now in
     let start = c.args.memory.now in
-    let parts : PartsOf (quorums_of layout) (kinds_of layout) =
+    let parts : PlacesMakeParts (quorums_of layout) (kinds_of layout) =
     λ d object pc ys. c.places_show_prefixes.ensures.prefix (claims_in layout 0) d object pc ys
     (quorums_lawful layout) in
     let all = (subst (λ pc. AreSteps (quorums_of layout)

@@ -1,7 +1,7 @@
 -- Proof of `Layout::max_steps`: the most accesses that a claim can make.
 use Rattle.std.proofs.Common.{◌≡◌, ◌≤◌, ◌+◌, suc, drop, arith, ap, ◌∙◌, subst}
 use Rattle.mb_deciding.specs.Vocabulary.{most_turns, largest_quorum}
-use Rattle.mb_deciding.specs.Run.{IsFitKind}
+use Rattle.mb_deciding.specs.Course.{IsFitKind}
 use Rattle.mb_claim.specs.{quorums_of, kinds_of, most_on_objects}
 use Rattle.mb_claim.proofs.Bounds.{row_steps}
 use Rattle.mb_claim.proofs.StepsLeft.{most_from}

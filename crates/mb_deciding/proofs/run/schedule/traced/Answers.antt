@@ -2,9 +2,9 @@
 use Rattle.std.proofs.Common.{◌≡◌, ℕ, List, Option, map, take, sym, ap, ◌∙◌, subst, Ok, Err, IfOk, Result, length}
 use Rattle.std.proofs.Common.{get_or, ◌<◌, arith}
 use Rattle.std.proofs.lemmas.List.{take_all, length-map, get_or-map}
-use Rattle.mb_deciding.specs.{Out, Entry, ObjectSetup, setup_of, RunState, IsRun, IsTableFor, out_of, IsTrace}
-use Rattle.mb_deciding.proofs.Runs.{run_trace}
-use Rattle.mb_deciding.proofs.RunsTables.{same_self, same_table}
+use Rattle.mb_deciding.specs.{Out, Entry, ObjectSetup, setup_of, CourseState, IsCourse, IsTableFor, out_of, IsTrace}
+use Rattle.mb_deciding.proofs.Courses.{course_trace}
+use Rattle.mb_deciding.proofs.CourseTables.{same_self, same_table}
 use Rattle.mb_deciding.proofs.run.schedule.traced.Goals as goal
 
 -- two facts of a result, if it is `Ok`, give a third
@@ -33,12 +33,12 @@ returns g c t same =
     let u : ObjectSetup = setup_of t kind c.args.inputs.now in
     let q : IsTableFor kind t = same_table kind t _ same (g.met.M.Machine.lawful c.args.machine.now) in
     let turns = map g.T.ScheduledTurn.turn c.args.schedule.now in
-    let run : RunState = c.loop-turn.run in
+    let run : CourseState = c.loop-turn.run in
     let whole : map g.T.ScheduledTurn.turn (take c.loop-turn.turn-index c.args.schedule.now) ≡ turns =
     ap (λ xs. map g.T.ScheduledTurn.turn xs)
     (take_all c.loop-turn.turn-index c.args.schedule.now c.loop-turn-test.false) in
-    let ran : IsRun u turns run = subst (λ xs. IsRun u xs run) whole (c.loop-turn.invariant t same) in
-    let traced = run_trace u turns run ran q c.requires.processes in
+    let ran : IsCourse u turns run = subst (λ xs. IsCourse u xs run) whole (c.loop-turn.invariant t same) in
+    let traced = course_trace u turns run ran q c.requires.processes in
     if_ok _ _ _ (λ trace es os.
     subst (λ (xs : List (Option Out)). IsTrace u turns trace.entries.items xs) (sym os)
     (subst (λ (xs : List Entry). IsTrace u turns xs (map out_of run.places)) (sym es) traced))

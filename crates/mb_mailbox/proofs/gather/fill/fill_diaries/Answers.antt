@@ -1,7 +1,7 @@
 use Rattle.std.proofs.Common.{◌≡◌, ◌+◌, ◌*◌, ◌≤◌, ◌∙◌, ◌∷◌, [], ap, arith, length, refl, subst, sym}
 use Rattle.std.specs.Prelude.{Some, slice_get}
 use Rattle.std.proofs.lemmas.List.{length_push, nil_from_length}
-use Rattle.mb_world.proofs.Positions.{get-left}
+use Rattle.mb_world.proofs.Positions.{get-front}
 use Rattle.mb_mailbox.specs.Filling.{with_row, with_rows}
 use Rattle.mb_mailbox.specs.Ledgers.{ledger_in, ledgers_in}
 use Rattle.mb_mailbox.proofs.CutLists.{ledgers_count, ledgers_more}
@@ -51,10 +51,10 @@ loop-kept-preserved g c =
       room = grind (arith, row, room, count);
       cut = λ d k e. c.loop-kept.invariant.cut d k
           (subst (λ os. slice_get os d ≡ Some (Some k)) (sym items)
-          (get-left new (c.in-Some.kept ∷ []) d (Some k) e));
+          (get-front new (c.in-Some.kept ∷ []) d (Some k) e));
       lists = λ d k e. c.loop-kept.invariant.lists d k
           (subst (λ os. slice_get os d ≡ Some (Some k)) (sym items)
-          (get-left new (c.in-Some.kept ∷ []) d (Some k) e));
+          (get-front new (c.in-Some.kept ∷ []) d (Some k) e));
       same = turned_by (λ d o es. with_row (d * c.args.lanes) o es) 0 (ledgers_in new) (ledgers_in old)
           (ledger_in c.in-Some.kept) c.loop-kept.diaries.items c.fill_row.new.diaries.items _
           (ap ledgers_in items ∙ ledgers_more new c.in-Some.kept)

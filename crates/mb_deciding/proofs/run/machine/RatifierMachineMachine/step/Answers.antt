@@ -1,7 +1,7 @@
 -- Proof of `RatifierMachine::step`: makes the next access of a process at its place in a ratifier.
 use Rattle.std.proofs.Common.{sym, subst}
 use Rattle.mb_deciding.specs.{IsStep, next_from}
-use Rattle.mb_deciding.proofs.RunsTables.{ratifier_place}
+use Rattle.mb_deciding.proofs.CourseTables.{ratifier_place}
 use Rattle.mb_deciding.proofs.run.machine.RatifierMachineMachine.step.Goals as goal
 
 pub step-requires-clause-place : goal.step-requires-clause-place

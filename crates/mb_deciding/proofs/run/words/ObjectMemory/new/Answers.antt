@@ -1,11 +1,11 @@
 -- Proof of `ObjectMemory::new`: words that hold nothing yet.
 use Rattle.std.proofs.Common.{◌≡◌, refl, replicate}
 use Rattle.std.proofs.lemmas.List.{get_or-replicate}
-use Rattle.mb_deciding.specs.{Reg, Value, Proposal, Quorum, Last, IsReg, word_of}
+use Rattle.mb_deciding.specs.{Reg, Value, Proposal, Quorum, Last, IsReg, held_in}
 use Rattle.mb_deciding.proofs.run.words.ObjectMemory.new.Goals as goal
 
 -- each word of a memory that is all 0 holds 0
-zero_words : (reg : Reg) → IsReg reg → word_of (record {
+zero_words : (reg : Reg) → IsReg reg → held_in (record {
   value = 0;
   proposal = 0;
   quorum = replicate 64 0;

@@ -1,4 +1,4 @@
--- Proof of `examples::runs_do_what_the_words_ask`: what the program does with its words: a script of no process, one
+-- Proof of `examples::programs_do_what_the_words_ask`: what the program does with its words: a script of no process, one
 -- with a fault, words that clap refuses, and help.
 use Rattle.std.proofs.Common.{◌≡◌, ℕ, Bool, true, false, List, [], ◌∷◌, codes, length, Some, Ok, Err, inl, inr, refl, sym, ap, ◌∙◌, subst, arith}
 use Rattle.std.specs.Fmt.{digits}
@@ -16,7 +16,7 @@ use Rattle.mb_program.specs.declared.command.Choice.TheVariants.{Ratify}
 use Rattle.mb_program.specs.declared.fault.Failed.TheVariants as failed
 use Rattle.mb_program.specs.declared.fault.RatifyFault.TheVariants.{BadLine}
 use Rattle.mb_program.proofs.Nobody.{nobody_answered}
-use Rattle.mb_program.proofs.examples.runs_do_what_the_words_ask.Goals as goal
+use Rattle.mb_program.proofs.examples.programs_do_what_the_words_ask.Goals as goal
 
 -- ---- what clap finds in the words
 -- the words of `ratify` name the command `ratify`

@@ -1,22 +1,22 @@
--- Proof of `Run::turn`: adds one turn of a process, with the random word of this turn.
+-- Proof of `Course::turn`: adds one turn of a process, with the random word of this turn.
 use Rattle.std.proofs.Common.{◌≡◌, ℕ, ◌<◌, List, ◌∷◌, get_or, set, length, ap, sym, ◌∙◌, subst, arith}
 use Rattle.std.proofs.lemmas.List.{set-get_or}
 use Rattle.mb_deciding.specs.{ObjectSetup, setup_of, object_in, ReadsLast, part, IsPrefix, CanFind, act_of}
-use Rattle.mb_deciding.specs.{next_from, seen_by, RunState, IsRun, IsTableFor, history_of}
+use Rattle.mb_deciding.specs.{next_from, seen_by, CourseState, IsCourse, IsTableFor, history_of}
 use Rattle.mb_deciding.proofs.Histories.{longer}
-use Rattle.mb_deciding.proofs.Runs.{reads_seen, place_at, ended_at, not_ended, run_done, run_accessed, comes_from, out_from}
-use Rattle.mb_deciding.proofs.RunsTables.{place_leads, place_finds, place_word, same_self, same_table}
-use Rattle.mb_deciding.proofs.run.Run.turn.Goals as goal
+use Rattle.mb_deciding.proofs.Courses.{reads_seen, place_at, ended_at, not_ended, course_done, course_accessed, comes_from, out_from}
+use Rattle.mb_deciding.proofs.CourseTables.{place_leads, place_finds, place_word, same_self, same_table}
+use Rattle.mb_deciding.proofs.run.Course.turn.Goals as goal
 
 -- a process of a run is one of those of an equal run
-below_same : (state run : RunState) (p : ℕ) → state ≡ run → p < length run.places → p < length state.places
-below_same state run p same below = subst (λ (s : RunState). p < length s.places) (sym same) below
+below_same : (state run : CourseState) (p : ℕ) → state ≡ run → p < length run.places → p < length state.places
+below_same state run p same below = subst (λ (s : CourseState). p < length s.places) (sym same) below
 
 -- a state that equals a run of a schedule is a run of it
-run_same :
-    (state run : RunState) (u : ObjectSetup) (schedule : List (ℕ × ℕ)) → state ≡ run → IsRun u schedule run
-    → IsRun u schedule state
-run_same state run u schedule same of = subst (λ (s : RunState). IsRun u schedule s) (sym same) of
+course_same :
+    (state run : CourseState) (u : ObjectSetup) (schedule : List (ℕ × ℕ)) → state ≡ run → IsCourse u schedule run
+    → IsCourse u schedule state
+course_same state run u schedule same of = subst (λ (s : CourseState). IsCourse u schedule s) (sym same) of
 
 pub step-out-requires-clause-place : goal.step-out-requires-clause-place
 step-out-requires-clause-place g c =
@@ -26,7 +26,7 @@ step-out-requires-clause-place g c =
     let p = c.args.process in (
       get_or inputs p 0,
       part p (history_of schedule c.self.inside.entries.items),
-      place_at u schedule _ (run_same _ _ u schedule c.self.view_is run) p c.index_mut-next.result.now c.in-Go.pc
+      place_at u schedule _ (course_same _ _ u schedule c.self.view_is run) p c.index_mut-next.result.now c.in-Go.pc
           (below_same _ _ p c.self.view_is c.requires.process) c.index_mut-next.ensures.value c.in-Go.is,
     )
 
@@ -45,13 +45,13 @@ pub returns-in_ok-push-in-Out : goal.returns-in_ok-push-in-Out
 returns-in_ok-push-in-Out g c = record {
   run = λ t inputs schedule same run.
       let u : ObjectSetup = setup_of t (g.M.Machine.kind c.args.machine.now) inputs in
-      let own = run_same _ _ u schedule c.self.view_is run in
+      let own = course_same _ _ u schedule c.self.view_is run in
       let places = c.self.inside.places.items in
       let kept : set places c.args.process c.index_mut-next.result.now ≡ places =
       ap (set places c.args.process) c.index_mut-next.ensures.value
       ∙ set-get_or places c.args.process c.index_mut-next.result.now in
       rw (c.in_ok-push-in-Out.ensures.items, kept)
-      (run_done u schedule _ own c.args.process c.args.word
+      (course_done u schedule _ own c.args.process c.args.word
       (ended_at u schedule _ own c.args.process c.index_mut-next.result.now c.in-Out.field-0
       (below_same _ _ c.args.process c.self.view_is c.requires.process) c.index_mut-next.ensures.value c.in-Out.is));
 }
@@ -62,7 +62,7 @@ returns-in_ok-push-in-Go g c = record {
       let kind = g.M.Machine.kind c.args.machine.now in
       let u : ObjectSetup = setup_of t kind inputs in
       let q : IsTableFor kind t = same_table kind t _ same (g.met.M.Machine.lawful c.args.machine.now) in
-      let run = run_same _ _ u schedule c.self.view_is old in
+      let run = course_same _ _ u schedule c.self.view_is old in
       let h = history_of schedule c.self.inside.entries.items in
       let p = c.args.process in
       let below = below_same _ _ p c.self.view_is c.requires.process in
@@ -86,7 +86,7 @@ returns-in_ok-push-in-Go g c = record {
       let out = c.step-out.result in
       let then = next_from out c.step-out.new.pc in
       let came : c.end.new.self ≡ then = c.end.ensures ∙ comes_from out c.step-out.new.pc in
-      let ran = run_accessed u schedule _ run q _ p c.args.word then
+      let ran = course_accessed u schedule _ run q _ p c.args.word then
       (act_of op seen) below (not_ended (object_in u) q h p pc at) lawful
       (access.memory h run.memory p c.args.word) (step.reached kind (input p) (part p h) at can) in
       rw (c.in_ok-push-in-Go.ensures.items, step.made.2, came) (rw (out_from out c.step-out.new.pc) at ran);

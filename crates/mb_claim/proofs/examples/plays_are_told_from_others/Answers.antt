@@ -1,11 +1,11 @@
--- Proof of `examples::runs_are_told_from_others`: a run, and entries and stages that do not make a run.
+-- Proof of `examples::plays_are_told_from_others`: a run, and entries and stages that do not make a run.
 use Rattle.std.proofs.Common.{arith}
 use Rattle.mb_quorum.specs.Unary.{unary_table}
 use Rattle.mb_quorum.specs.UnaryLaw.{unary_lawful}
 use Rattle.mb_deciding.specs.Vocabulary.{object_of}
 use Rattle.mb_claim.proofs.PlayedExamples.{won_played, silent_refused, another_refused, early_refused, late_refused}
 use Rattle.mb_claim.proofs.PlayedExamples.{boast_refused, few_refused, impatient_refused}
-use Rattle.mb_claim.proofs.examples.runs_are_told_from_others.Goals as goal
+use Rattle.mb_claim.proofs.examples.plays_are_told_from_others.Goals as goal
 
 pub returns-clause-won : goal.returns-clause-won
 returns-clause-won c = won_played (λ kind inputs. c.objects_keep_their_promises.ensures (object_of

@@ -1,8 +1,8 @@
--- Loop invariants of `Run::begin`: a run before its first turn, with room for `turns` entries.
+-- Loop invariants of `Course::begin`: a run before its first turn, with room for `turns` entries.
 use Rattle.std.proofs.Common.{◌≡◌, ◌<◌, ℕ, get_or, length, []}
 use Rattle.mb_quorum.specs.Quorum.{QuorumTable}
 use Rattle.mb_deciding.specs.{Next, IsReached, IsSameFor}
-use Rattle.mb_deciding.proofs.run.Run.begin.Given as goal
+use Rattle.mb_deciding.proofs.run.Course.begin.Given as goal
 
 abbrev pub invariant-loop-input : goal.invariant-loop-input
 invariant-loop-input g l = record {

@@ -107,10 +107,10 @@ module _ (cs : Claims) (law : AreDeciding cs.table) (one : OneOp cs.table) (act 
       (subst (λ d. AreEntriesOf cs steps fs (with_entry step.1 d h)) (sym first) y.2))
 
   -- steps have one list of entries and one of stages
-  pub one_run :
+  pub one_play :
       (steps : List (ℕ × ℕ)) (es fs : List ClaimEntry) (ss rs : List Stage)
       → IsPlayed cs steps es ss → IsPlayed cs steps fs rs → (es ≡ fs) × (ss ≡ rs)
-  one_run steps es fs ss rs a b =
+  one_play steps es fs ss rs a b =
       let entries : es ≡ fs = one_list steps es fs [] a.lawful b.lawful a.fits b.fits in
       let long : length ss ≡ length rs = a.consumers ∙ sym b.consumers in (
         entries,

@@ -40,13 +40,13 @@ out_of (leads.Go pc) = None
 out_of (leads.Out out) = Some out
 
 -- what a run holds: the words of its object, what each process has reached, and the entries of the turns so far
-pub record RunState : Type 0 where
+pub record CourseState : Type 0 where
   pub words : ObjectMemory
   pub places : List Next
   pub entries : List Entry
 
 -- the run is one after the turns of the schedule
-pub record IsRun (u : ObjectSetup) (schedule : List (ℕ × ℕ)) (run : RunState) : Type 0 where
+pub record IsCourse (u : ObjectSetup) (schedule : List (ℕ × ℕ)) (run : CourseState) : Type 0 where
   -- the entries fit the turns
   pub fits : AreEntriesOf (object_in u) schedule run.entries []
   -- the accesses of the entries are one lawful history, which leaves the words

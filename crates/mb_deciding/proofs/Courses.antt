@@ -8,12 +8,12 @@ use Rattle.mb_deciding.specs.{Act, Access, Turn, Op, Out, Pc}
 use Rattle.mb_deciding.specs.{InRatifier, Begin, Next, Entry, ObjectMemory, Object, ObjectSetup, object_in, ReadsLast}
 use Rattle.mb_deciding.specs.{part, IsPath, IsObjectLawful, answer, PcIsAt, IsReached, act_of, seen_by}
 use Rattle.mb_deciding.specs.{process_of, with_entry, history_from, history_of, HasEnded, IsOutputOf, IsEntryAfter}
-use Rattle.mb_deciding.specs.{AreEntriesOf, IsTrace, IsTableFor, IsMemory, RunState, IsRun, out_of, next_from, come_to}
+use Rattle.mb_deciding.specs.{AreEntriesOf, IsTrace, IsTableFor, IsMemory, CourseState, IsCourse, out_of, next_from, come_to}
 use Rattle.mb_deciding.specs.declared.access.Op.TheVariants as to
 use Rattle.mb_deciding.specs.declared.place.pc.Next.TheVariants as leads
 use Rattle.mb_deciding.specs.declared.trace.Entry.TheVariants as entry
 use Rattle.mb_deciding.proofs.Histories.{own_turns}
-use Rattle.mb_deciding.proofs.RunsTables.{place_unfinished}
+use Rattle.mb_deciding.proofs.CourseTables.{place_unfinished}
 
 -- ---- the entries of a longer schedule
 -- one more turn and its entry add the entry's access
@@ -87,17 +87,17 @@ out_from None pc = refl
 out_from (Some x) pc = refl
 
 -- ---- a run after one more turn
-module _ (u : ObjectSetup) (schedule : List (ℕ × ℕ)) (state : RunState) (run : IsRun u schedule state) where
+module _ (u : ObjectSetup) (schedule : List (ℕ × ℕ)) (state : CourseState) (run : IsCourse u schedule state) where
   -- the history of the run so far
   abbrev past : List Access
   past = history_of schedule state.entries
 
   -- with a turn of a process that has its output, which adds the entry `Done`, the run is that of the longer schedule
-  pub run_done :
+  pub course_done :
       (p word : ℕ) → HasEnded (object_in u) p past
-      → IsRun u (schedule ++ (p, word) ∷ [])
+      → IsCourse u (schedule ++ (p, word) ∷ [])
       (record { words = state.words; places = state.places; entries = state.entries ++ entry.Done p ∷ [] })
-  run_done p word ended =
+  course_done p word ended =
       let same : history_of (schedule ++ (p, word) ∷ []) (state.entries ++ entry.Done p ∷ []) ≡ past =
       history_from-push (object_in u) [] schedule state.entries (p, word) (entry.Done p) run.fits in
       record {
@@ -126,18 +126,18 @@ module _ (u : ObjectSetup) (schedule : List (ℕ × ℕ)) (state : RunState) (ru
       (run.reached p x below))
 
   -- with an access of a process that has not ended, the run is that of the longer schedule
-  pub run_accessed :
+  pub course_accessed :
       IsTableFor u.kind u.table → (words : ObjectMemory) (p word : ℕ) (next : Next) (act : Act) → p < length state.places
       → (HasEnded (object_in u) p past → ⊥)
       → IsObjectLawful (object_in u) (record { process = p; turn = record { act = act; word = word } } ∷ past)
       → IsMemory words (record { process = p; turn = record { act = act; word = word } } ∷ past)
       → IsReached u.table u.kind (get_or u.inputs p 0) next (record { act = act; word = word } ∷ part p past)
-      → IsRun u (schedule ++ (p, word) ∷ []) (record {
+      → IsCourse u (schedule ++ (p, word) ∷ []) (record {
         words = words;
         places = set state.places p next;
         entries = state.entries ++ entry.Access p act (out_of next) ∷ [];
       })
-  run_accessed q words p word next act below unended lawful memory arrives =
+  course_accessed q words p word next act below unended lawful memory arrives =
       let input : ℕ → ℕ = λ k. get_or u.inputs k 0 in
       let turn : Turn = record { act = act; word = word } in
       let a : Access = record { process = p; turn = turn } in
@@ -165,24 +165,24 @@ module _ (u : ObjectSetup) (schedule : List (ℕ × ℕ)) (state : RunState) (ru
       }
 
   -- the outputs of a run are those of its history
-  run_outputs :
+  course_outputs :
       IsTableFor u.kind u.table → (p : ℕ) (d : Option Out) → p < length (map out_of state.places)
       → IsOutputOf (object_in u) p (get_or (map out_of state.places) p d) past
-  run_outputs q p d below =
+  course_outputs q p d below =
       let first : Next = leads.Go (InRatifier (Begin 0)) in
       let inside : p < length state.places = rw length-map at below in
       rw (get_or-map out_of state.places p first d inside)
       (reached_output (object_in u) q past p (get_or state.places p first) (run.reached p first inside))
 
   -- the entries and outputs of a run are the trace of its schedule
-  pub run_trace :
+  pub course_trace :
       IsTableFor u.kind u.table → All (λ turn. turn.0 < length u.inputs) schedule
       → IsTrace u schedule state.entries (map out_of state.places)
-  run_trace q known =
+  course_trace q known =
       record {
         known = known;
         lawful = run.lawful;
         entries = run.fits;
         processes = length-map state.places out_of ∙ run.processes;
-        outputs = run_outputs q;
+        outputs = course_outputs q;
       }
