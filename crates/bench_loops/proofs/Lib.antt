@@ -1,2 +1,0 @@
-mod Contests
-mod Seats

@@ -1,9 +1,0 @@
-use Rattle.std.proofs.Common.{◌≡◌, List}
-use Rattle.mb_claim.specs.declared.access.ClaimAccess.{ClaimAccess}
-use Rattle.bench_loops.specs.UnderWay.{ChangesOnly, IsContest}
-use Rattle.bench_loops.proofs.contended.contend.Given as goal
-
-abbrev pub invariant-loop : goal.invariant-loop
-invariant-loop g l = (h : List ClaimAccess) → IsContest l.layout l.cell l.initial.claims l.initial.words h
-    → (later : List ClaimAccess) × IsContest l.layout l.cell l.claims l.words later
-    × ChangesOnly (λ c k. k ≡ l.cell) h later

@@ -1,5 +1,0 @@
-use Rattle.mb_cells.specs.State.{SameSize}
-use Rattle.bench_loops.proofs.mail.fill.Given as goal
-
-abbrev pub invariant-loop-number : goal.invariant-loop-number
-invariant-loop-number g l = SameSize l.initial.pool l.pool

@@ -1,5 +1,0 @@
-use Rattle.mb_mailbox.specs.Producers.{IsProducerOf}
-use Rattle.example_jobs.proofs.crew.put_jobs.Given as goal
-
-abbrev pub invariant-loop-job : goal.invariant-loop-job
-invariant-loop-job l = IsProducerOf l.mailbox l.producer

@@ -1,7 +1,0 @@
-use Rattle.std.specs.Prelude.{All}
-use Rattle.mb_mailbox.specs.Hubs.{IsHubOf}
-use Rattle.example_jobs.specs.Crew.{IsOf}
-use Rattle.example_jobs.proofs.crew.take_in.Given as goal
-
-abbrev pub invariant-loop-member : goal.invariant-loop-member
-invariant-loop-member l = record { hub : IsHubOf l.mailbox l.hub; crew : All (IsOf l.mailbox) l.fn.crew.items }

@@ -1,4 +1,0 @@
-mod AsBox
-mod BlockExamples
-mod Diaries
-mod Steps

@@ -1,4 +1,0 @@
-use Rattle.mb_claim.proofs.laws.claims_have_their_stages.Goals as goal
-
-pub returns : goal.returns
-returns c layout cells k claim h of = (of.known, of.prefix)

@@ -1,5 +1,0 @@
-use Rattle.mb_claim.proofs.OlderHistories.{older_history_lawful}
-use Rattle.mb_claim.proofs.laws.older_histories_are_lawful.Goals as goal
-
-pub returns : goal.returns
-returns c cs = older_history_lawful cs

@@ -1,6 +1,0 @@
-use Rattle.std.proofs.Common.{arith}
-use Rattle.mb_claim.proofs.LayoutObjects.{length-row_of}
-use Rattle.mb_claim.proofs.layout.Layout.objects_of.Goals as goal
-
-pub returns : goal.returns
-returns c s = omega (arith, length-row_of c.args.shape s c.args.pairs, c.before-2.ensures.exact, c.after.ensures.exact)

@@ -1,5 +1,0 @@
-use Rattle.mb_claim.proofs.HistorySteps.{adds}
-use Rattle.mb_claim.proofs.steps.history_extends.Goals as goal
-
-pub returns : goal.returns
-returns c cs a h = adds cs h a

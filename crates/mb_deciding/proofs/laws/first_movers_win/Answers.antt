@@ -1,5 +1,0 @@
-use Rattle.mb_deciding.proofs.Conciliators.{one_mover}
-use Rattle.mb_deciding.proofs.laws.first_movers_win.Goals as goal
-
-pub returns : goal.returns
-returns c = one_mover

@@ -1,5 +1,0 @@
-use Rattle.mb_deciding.proofs.Owed.{promises_kept}
-use Rattle.mb_deciding.proofs.laws.objects_keep_their_promises.Goals as goal
-
-pub returns : goal.returns
-returns c = promises_kept

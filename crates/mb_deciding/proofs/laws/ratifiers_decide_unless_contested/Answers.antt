@@ -1,5 +1,0 @@
-use Rattle.mb_deciding.proofs.Winner.{ratifies}
-use Rattle.mb_deciding.proofs.laws.ratifiers_decide_unless_contested.Goals as goal
-
-pub returns : goal.returns
-returns c = ratifies

@@ -1,5 +1,0 @@
-use Rattle.mb_deciding.proofs.OneTrace.{one_trace}
-use Rattle.mb_deciding.proofs.laws.schedules_have_one_trace.Goals as goal
-
-pub returns : goal.returns
-returns c = one_trace

@@ -1,4 +1,0 @@
-use Rattle.mb_deciding.proofs.run.machine.ConciliatorMachineMachine.step.Goals as goal
-
-pub returns : goal.returns
-returns g c t same = rw (c.in-InConciliator.is) (c.step.ensures.step t same)

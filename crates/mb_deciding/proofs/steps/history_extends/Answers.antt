@@ -1,8 +1,0 @@
-use Rattle.mb_deciding.proofs.Histories.{longer, none_lawful}
-use Rattle.mb_deciding.proofs.steps.history_extends.Goals as goal
-
-pub returns-clause-empty : goal.returns-clause-empty
-returns-clause-empty c = none_lawful
-
-pub returns-clause-longer : goal.returns-clause-longer
-returns-clause-longer c = longer

@@ -1,7 +1,0 @@
--- The last attempt s of a conciliator for m values.
-use Rattle.std.specs.Prelude.{ℕ, suc}
-use Rattle.mb_quorum.specs.Width.{width_of}
-
--- one more than the least b with m ≤ 2 ^ b
-abbrev pub spread : ℕ → ℕ
-spread m = suc (width_of m)

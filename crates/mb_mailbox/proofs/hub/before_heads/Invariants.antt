@@ -1,5 +1,0 @@
-use Rattle.mb_mailbox.specs.NewConsumers.{AreHeads}
-use Rattle.mb_mailbox.proofs.hub.before_heads.Given as goal
-
-abbrev pub invariant-loop-p : goal.invariant-loop-p
-invariant-loop-p l = AreHeads l.p l.places.items

@@ -1,5 +1,0 @@
-use Rattle.std.proofs.Common.{codes, refl}
-use Rattle.mb_picture.proofs.examples.diaries_may_be_empty.Goals as goal
-
-pub returns-clause-empty : goal.returns-clause-empty
-returns-clause-empty c = (codes "0", codes "1", refl)

@@ -1,3 +1,0 @@
-pub mod Escaped
-pub mod Led
-pub mod Diaries

@@ -1,6 +1,0 @@
-use Rattle.std.proofs.Common.{◌≡◌}
-use Rattle.mb_program.specs.Running.{items_of}
-use Rattle.mb_program.proofs.run.item_list.Given as goal
-
-abbrev pub invariant-loop-i : goal.invariant-loop-i
-invariant-loop-i g l = l.list.items ≡ items_of l.p l.i

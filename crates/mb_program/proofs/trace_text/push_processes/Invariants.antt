@@ -1,8 +1,0 @@
-use Rattle.std.proofs.Common.{◌≡◌, ◌++◌, drop, string_bytes}
-use Rattle.mb_program.specs.TraceText.{processes_text}
-use Rattle.mb_program.proofs.trace_text.push_processes.Given as goal
-
-abbrev pub invariant-loop-process : goal.invariant-loop-process
-invariant-loop-process g l =
-    string_bytes l.text ++ processes_text l.process (drop l.process l.outputs)
-    ≡ string_bytes l.fn.text ++ processes_text 0 l.outputs

@@ -1,9 +1,0 @@
--- Reading that may fail.
-use Rattle.std.specs.Prelude.{Result}
-use Rattle.mb_script.specs.Vocabulary.{GivesUnless}
-use Rattle.mb_program.specs.declared.fault.RatifyFault.{RatifyFault}
-use Rattle.mb_program.specs.declared.fault.RatifyFault.TheVariants.{NoMemory, ReadFault, WriteFault}
-
--- what a call returned, seen by view, is what was to be read, unless memory ran out
-abbrev pub Gives : {X Y : Type 0} → (X → Y) → Result X RatifyFault → Result Y RatifyFault → Type 0
-Gives view result read = GivesUnless NoMemory ReadFault WriteFault view result read

@@ -1,5 +1,0 @@
-mod Disjoint
-mod Masks
-mod LeastWidth
-mod Sets
-mod SetOrder

@@ -1,4 +1,0 @@
-use Rattle.mb_quorum.proofs.middle.+choose.Given as goal
-
-abbrev pub decreases-choose : goal.decreases-choose
-decreases-choose l = l.registers

@@ -1,6 +1,0 @@
-use Rattle.mb_rounds.proofs.Whole.{round_adds_up}
-use Rattle.mb_rounds.proofs.rounds.Rounds.round.Goals as goal
-
-pub returns-clause-same_items : goal.returns-clause-same_items
-returns-clause-same_items g c =
-    round_adds_up _ c.args.self.now.carried _ _ _ c.in_ok-round.ensures.round

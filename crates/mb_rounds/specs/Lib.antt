@@ -1,6 +1,0 @@
-pub mod Carried
-pub mod Behind
-pub mod Round
-pub mod Turns
-pub mod TurnExamples
-pub mod RoundExamples

@@ -1,5 +1,0 @@
-use Rattle.mb_script.proofs.ManyLines.{script_many}
-use Rattle.mb_script.proofs.laws.further_lines_are_too_many.Goals as goal
-
-pub returns : goal.returns
-returns c = script_many

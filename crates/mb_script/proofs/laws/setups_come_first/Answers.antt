@@ -1,5 +1,0 @@
-use Rattle.mb_script.proofs.FirstWords.{no_setup_always, no_setup_told}
-use Rattle.mb_script.proofs.laws.setups_come_first.Goals as goal
-
-pub returns : goal.returns
-returns c = record { always = no_setup_always; only = no_setup_told }

@@ -1,5 +1,0 @@
-use Rattle.mb_cells.specs.declared.access.PoolAct.TheVariants.{Load}
-use Rattle.mb_shared_cells.proofs.table.SharedCells.item.Given as goal
-
-abbrev pub ghosts-load : goal.ghosts-load
-ghosts-load g a = record { word = a.word; act = λ n. Load n }

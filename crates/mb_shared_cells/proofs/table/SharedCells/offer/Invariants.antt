@@ -1,6 +1,0 @@
-use Rattle.mb_cells.specs.declared.access.PoolAct.TheVariants.{FetchAdd}
-use Rattle.mb_cells.specs.declared.access.Word.TheVariants.{Counter}
-use Rattle.mb_shared_cells.proofs.table.SharedCells.offer.Given as goal
-
-abbrev pub ghosts-fetch_add : goal.ghosts-fetch_add
-ghosts-fetch_add g a = record { word = Counter; act = λ n. FetchAdd a.item n }

@@ -1,5 +1,0 @@
-use Rattle.mb_cells.specs.declared.access.PoolAct.TheVariants.{Store}
-use Rattle.mb_shared_cells.proofs.table.SharedCells.push.Given as goal
-
-abbrev pub ghosts-store : goal.ghosts-store
-ghosts-store g a = record { word = a.word; act = λ n. Store n }

@@ -1,9 +1,0 @@
-pub mod Views
-pub mod Rule
-pub mod Shown
-pub mod Calls
-pub mod Seats
-pub mod Examples
-pub mod Vocabulary
--- the names that clauses use, also for the crates above
-pub use Vocabulary.*

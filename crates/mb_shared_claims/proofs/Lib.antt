@@ -1,9 +1,0 @@
-pub mod Rolls
-pub mod Holders
-pub mod Plans
-pub mod Moves
-pub mod Accesses
-pub mod ClaimMoves
-pub mod Running
-pub mod Names
-pub mod Closing

@@ -1,5 +1,0 @@
-use Rattle.mb_shared_claims.specs.SeatSteps.{access_of}
-use Rattle.mb_shared_claims.proofs.table.step.SeatWordsMemory.perform.Given as goal
-
-abbrev pub ghosts-make : goal.ghosts-make
-ghosts-make g a = record { access = λ found. access_of a.seat.now.consumer a.cell a.next found a.word }

@@ -1,9 +1,0 @@
-use Rattle.std.specs.Prelude.{◌≡◌, [], All}
-use Rattle.mb_shared_claims.specs.Vocabulary.{name_of, SeatView}
-use Rattle.test_libraries.proofs.shared_claims.all_seats.Given as goal
-
-abbrev pub invariant-loop : goal.invariant-loop
-invariant-loop g l = record {
-  table : l.hub.table ≡ l.initial.hub.table;
-  all : All (λ (seat : SeatView). (seat.table ≡ name_of l.table) × (seat.part ≡ [])) l.seats.items;
-}

@@ -1,5 +1,0 @@
-use Rattle.mb_claim.specs.Vocabulary.{FitsLayout}
-use Rattle.test_libraries.proofs.straight_claims.play_twice.Given as goal
-
-abbrev pub invariant-loop : goal.invariant-loop
-invariant-loop g l = record { one : FitsLayout l.layout l.one; other : FitsLayout l.layout l.other }

@@ -1,5 +1,0 @@
-use Rattle.mb_mailbox.specs.Hubs.{IsHubOf}
-use Rattle.test_stress.proofs.refused.count_left.Given as goal
-
-abbrev pub invariant-loop-count : goal.invariant-loop-count
-invariant-loop-count l = IsHubOf l.mailbox l.hub

@@ -1,8 +1,0 @@
-use Rattle.std.proofs.Common.{ap}
-use Rattle.rand_core.specs.Stream.{fill_bytes}
-use Rattle.test_support.specs.Zeros.{zeros}
-use Rattle.test_support.proofs.zeros.SeenZerosRng.fill_bytes.Goals as goal
-
-pub returns : goal.returns
-unfolding fill_bytes
-returns c = ap (λ xs. (xs, zeros)) (c.fill.ensures.after (λ y e. e))

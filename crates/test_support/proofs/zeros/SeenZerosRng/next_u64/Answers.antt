@@ -1,7 +1,0 @@
-use Rattle.std.proofs.Common.{refl}
-use Rattle.rand_core.specs.Stream.{next_u64}
-use Rattle.test_support.proofs.zeros.SeenZerosRng.next_u64.Goals as goal
-
-pub returns : goal.returns
-unfolding next_u64
-returns c = refl
