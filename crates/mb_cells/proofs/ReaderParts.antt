@@ -50,7 +50,7 @@ path_of_parts lanes test (a ∷ d) all paths =
     (here.0, MayRead-filter lanes (test own.0) d a.word here.1, before)
 
 -- the test for a cell is true if the cell is in the list
-has_cell-true : (ks : List ℕ) (k : ℕ) → Has ks k → has_cell ks k ≡ true
+pub has_cell-true : (ks : List ℕ) (k : ℕ) → Has ks k → has_cell ks k ≡ true
 has_cell-true [] k has = absurd has
 has_cell-true (j ∷ js) k (inl is) = let same : nat_eq j k ≡ true = eq-eqb j k is in rw same refl
 has_cell-true (j ∷ js) k (inr has) = rw (has_cell-true js k has) (or-true (nat_eq j k))

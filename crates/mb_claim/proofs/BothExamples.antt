@@ -2,8 +2,8 @@
 use Rattle.std.proofs.Common.{ℕ, true, List, [], ◌∷◌, ◌++◌, refl, sym, subst, ◌∙◌}
 use Rattle.std.proofs.Common.{false, inl, inr, arith}
 use Rattle.mb_quorum.specs.Unary.{unary_table}
-use Rattle.mb_deciding.specs.Vocabulary.{IsInWords, answer, IsPath}
-use Rattle.mb_claim.specs.{Proposal, Quorum, Last, Load, Store, Exchange, Kind, Conciliator, Ratifier}
+use Rattle.mb_deciding.specs.Vocabulary.{answer, IsPath}
+use Rattle.mb_claim.specs.{Proposal, Quorum, Load, Store, Kind, Conciliator, Ratifier}
 use Rattle.mb_claim.specs.{LastObject, ObjectTurn, Won, Lost, part_on, turns_on, IsClaimPrefixFrom, IsClaimPart}
 use Rattle.mb_claim.specs.{ClaimAccess, AreInWords, IsClaimLawful, two_with, both_pass, through_all}
 use Rattle.mb_claim.specs.{past_the_pair, through_three}
@@ -11,6 +11,7 @@ use Rattle.mb_claim.proofs.Lists.{not_empty}
 use Rattle.mb_claim.proofs.ObjectHistories.{turns_at}
 use Rattle.mb_claim.proofs.LawfulExamples.{AreAll, known, zero_word, one_word, two_word, one_put, two_put}
 use Rattle.mb_claim.proofs.PassedRatifiers.{came_undecided}
+use Rattle.mb_claim.proofs.ShapedExamples.{found_word, put_word}
 
 -- ---- the part of consumer 0
 -- the row of the five objects
@@ -133,14 +134,6 @@ zero_here = ((omega arith), (omega arith), (Won, zero_all))
 one_here : IsBothPart 1 0
 one_here = ((omega arith), (omega arith), (Lost 0, one_all))
 
--- what the second exchange finds and stores is below 2 ^ 64
-exchange_two : IsInWords (record { act = Exchange Last 2 1; word = 0 })
-exchange_two = ((omega arith, tt), (omega arith))
-
--- what the first exchange finds and stores is below 2 ^ 64
-exchange_one : IsInWords (record { act = Exchange Last 1 0; word = 0 })
-exchange_one = ((omega arith, omega arith), (omega arith))
-
 -- if the older accesses belong to these claims, so do those on a ratifier that both pass
 pass_parts : (o : ℕ) (h : List ClaimAccess) → AreAll IsBothPart h → AreAll IsBothPart (both_pass o h)
 pass_parts o h older =
@@ -241,9 +234,9 @@ both_lawful =
         ),
       );
       words = (
-        exchange_two,
+        found_word,
         (
-          exchange_one,
+          put_word,
           pass_words 3 through_three (
             two_word,
             (

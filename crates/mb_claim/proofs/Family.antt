@@ -34,7 +34,7 @@ names_stage : (c a u : ℕ) (s : Stage) → s ≡ stage_for c a → StageNames c
 names_stage c a u s e n = names_decided c a u (eqb c a) refl (subst (λ r. StageNames c r u) e n)
 
 -- if a value was decided, the claim is not undecided
-decided_undecided : (c a : ℕ) (b : Bool) → Undecided ≡ cond b Won (Lost a) → ⊥
+pub decided_undecided : (c a : ℕ) (b : Bool) → Undecided ≡ cond b Won (Lost a) → ⊥
 decided_undecided c a true e = cc
 decided_undecided c a false e = cc
 

@@ -1,26 +1,22 @@
 -- A row that ends with a last object decides, and one that begins with a fast path has its conciliators after it.
-use Rattle.std.proofs.Common.{◌≡◌, ◌==◌, ◌≤◌, ℕ, zero, suc, Bool, true, false, cond, Some, List, [], ◌∷◌, ◌++◌, inl, inr}
+use Rattle.std.proofs.Common.{◌≡◌, ◌==◌, ◌≤◌, ℕ, zero, suc, true, false, Some, List, [], ◌∷◌, ◌++◌, inl, inr}
 use Rattle.std.proofs.Common.{sym, ap, ◌∙◌, slice_get, append_assoc, true≢false, arith}
 use Rattle.mb_quorum.specs.Vocabulary.{QuorumTable}
-use Rattle.mb_claim.specs.{Kind, Conciliator, Ratifier, LastObject, ObjectTurn, Going, Won, Lost, Undecided, pairs_of}
+use Rattle.mb_claim.specs.{Kind, Conciliator, Ratifier, LastObject, ObjectTurn, Going, Undecided, pairs_of}
 use Rattle.mb_claim.specs.{fast_row, last_row, row_of, Shape, IsClaimPrefixFrom}
+use Rattle.mb_claim.proofs.Family.{decided_undecided}
 
 -- ---- a row that ends with a last object
--- a decided stage is not undecided
-decided_not : (c u : ℕ) (b : Bool) → Undecided ≡ cond b Won (Lost u) → ⊥
-decided_not c u true e = cc
-decided_not c u false e = cc
-
 -- no prefix of a path through a row that ends with a last object is undecided
 pub never_undecided :
     (t : QuorumTable) (c : ℕ) (front : List Kind) (o v : ℕ) (xs : List ObjectTurn)
     → IsClaimPrefixFrom t c (front ++ LastObject ∷ []) o v xs Undecided → ⊥
 never_undecided t c [] o v xs (inl goes) = let e : Undecided ≡ Going = goes.is in cc
-never_undecided t c [] o v xs (inr (inl decides)) = decided_not c decides.value (c == decides.value) decides.is
+never_undecided t c [] o v xs (inr (inl decides)) = decided_undecided c decides.value (c == decides.value) decides.is
 never_undecided t c [] o v xs (inr (inr (u, later, passes, rest))) = true≢false (sym passes.path.0)
 never_undecided t c (kind ∷ front) o v xs (inl goes) = let e : Undecided ≡ Going = goes.is in cc
 never_undecided t c (kind ∷ front) o v xs (inr (inl decides)) =
-    decided_not c decides.value (c == decides.value) decides.is
+    decided_undecided c decides.value (c == decides.value) decides.is
 never_undecided t c (kind ∷ front) o v xs (inr (inr (u, later, passes, rest))) =
     never_undecided t c front (suc o) u later rest
 

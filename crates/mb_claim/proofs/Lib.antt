@@ -2,7 +2,6 @@
 
 -- Lists, turns and histories
 pub mod Lists
-pub mod FirstPlaces
 pub mod Turns
 pub mod ObjectHistories
 pub mod Parts

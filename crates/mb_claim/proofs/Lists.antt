@@ -1,22 +1,14 @@
 -- Facts about lists.
 use Rattle.std.proofs.lemmas.Bool.{cases_lt}
 use Rattle.std.proofs.lemmas.List.{get_or_append_left, get_or_push}
-use Rattle.std.proofs.Common.{ℕ, ◌<◌, ◌≤◌, subst, get_or, arith, suc, length, slice_get, ◌≡◌, ◌≢◌, ◌⊎◌, inl, inr}
+use Rattle.std.proofs.Common.{ℕ, ◌<◌, ◌≤◌, subst, get_or, arith, suc, length, slice_get, ◌≡◌, ◌⊎◌, inl, inr}
 use Rattle.std.proofs.Common.{Option, Some, None, List, [], ◌∷◌, ◌++◌, refl, ◌∙◌, ap, sym, append-nil, filter_map}
 use Rattle.std.proofs.Common.{option_and_then}
 use Rattle.std.specs.List.{cons_option}
 use Rattle.std.proofs.lemmas.Option.{none-some, same_Some}
+pub use Rattle.mb_deciding.proofs.Histories.{nil_or, not_empty}
 
 -- ---- empty lists, and lists joined
--- a list with a first element is not empty
-pub not_empty : {A : Type 0} (x : A) (xs : List A) → x ∷ xs ≢ []
-not_empty x xs e = cc
-
--- a list is empty or is not
-pub nil_or : {A : Type 0} (xs : List A) → (xs ≡ []) ⊎ (xs ≢ [])
-nil_or [] = inl refl
-nil_or (x ∷ xs) = inr (λ e. not_empty x xs e)
-
 -- two empty lists joined are empty
 pub append_nils : {A : Type 0} (xs ys : List A) → xs ≡ [] → ys ≡ [] → xs ++ ys ≡ []
 append_nils xs ys p q = ap (λ zs. zs ++ ys) p ∙ q

@@ -1,5 +1,5 @@
 -- The examples of runs: which of them are runs.
-use Rattle.std.proofs.Common.{◌≡◌, ◌≢◌, ◌<◌, ℕ, zero, suc, true, false, List, [], ◌∷◌, ◌++◌, get_or, refl, inl, inr}
+use Rattle.std.proofs.Common.{◌≡◌, ◌<◌, ℕ, zero, suc, true, false, List, [], ◌∷◌, ◌++◌, get_or, refl, inl, inr}
 use Rattle.std.proofs.Common.{⊎_elim, arith}
 use Rattle.mb_quorum.specs.Unary.{unary_table}
 use Rattle.mb_deciding.specs.Examples.{impatient_turns}
@@ -14,6 +14,7 @@ use Rattle.mb_claim.proofs.Counterexamples.{not_after_winning}
 use Rattle.mb_claim.proofs.OlderHistories.{older_history_lawful}
 use Rattle.mb_claim.proofs.LawfulExamples.{conciliated, ratified, won, lawful}
 use Rattle.mb_claim.proofs.Parts.{forward}
+use Rattle.mb_claim.proofs.StepsLeft.{won_ended}
 use Rattle.mb_claim.proofs.Unique.{one_stage_lem}
 
 -- ---- consumer 0 wins: its claim step by step
@@ -59,10 +60,6 @@ going_second turns later x path =
 -- consumer 0 is one of the two
 zero_known : 0 < 2
 zero_known = omega arith
-
--- a claim that was won is not going
-won_ended : Won ≢ Going
-won_ended e = cc
 
 -- the history before the other consumer came is lawful
 alone_lawful : IsClaimLawful two_consumers won_alone

@@ -27,7 +27,7 @@ abbrev pub IsClaimContested : Claims → ℕ → ℕ → List ClaimAccess → Ty
 IsClaimContested cs k o h =
     (u w : ℕ) × (u ≢ w) × IsClaimAnnounced cs k o u h × IsClaimAnnounced cs k o w h
 
--- all claims on cell k have one winner
+-- all claims on cell k that are won or lost name one winner. The fields also say when a claim is undecided
 pub record HasOneWinner (cs : Claims) (k : ℕ) (h : List ClaimAccess) : Type 0 where
   -- all who have won or lost name one winner
   pub same :

@@ -20,7 +20,7 @@ ghost use Rattle.mb_claim.specs.{FitsLayout, most_accesses, steps_left, ClaimEnt
 use mb_deciding::laws::{objects_keep_their_promises, ratifiers_decide_unless_contested};
 use mb_deciding::steps::{places_have_turns_left, turns_name_the_next_op};
 
-/// The claims on one cell have one winner, for all orders of accesses and all random words.
+/// All claims on a cell that are won or lost name one winner, for all orders of accesses and all random words.
 pub fn claims_have_one_winner()
     ensures { (cs : Claims) (h : List ClaimAccess) (k : ℕ) → ClaimsAreSound cs → IsClaimLawful cs h
         → HasOneWinner cs k h }

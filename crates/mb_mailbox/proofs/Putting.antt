@@ -8,8 +8,9 @@ use Rattle.mb_cells.specs.declared.answer.Offer.TheVariants as offer
 use Rattle.mb_cells.specs.declared.answer.Push.{Push}
 use Rattle.mb_cells.specs.declared.lane.LaneStage.{LaneStage}
 use Rattle.mb_cells.specs.declared.lane.LaneStage.TheVariants as stage
-use Rattle.mb_cells.specs.Vocabulary.{Entry, IsLaneAfter, entry_at, fetch, item_of, link_after, next_link, offer_refusal, push_store, put_list, stage_offer_refusal, stage_push_store, store}
+use Rattle.mb_cells.specs.Vocabulary.{Entry, IsLaneAfter, entry_at, fetch, item_of, next_link, offer_refusal, push_store, put_list, stage_offer_refusal, stage_push_store, store}
 use Rattle.mb_shared_cells.specs.Vocabulary.{IsAccessAfter, LaneMakes, LaneSeatView, OfferBy, OfferMakes, PushMakes}
+pub use Rattle.mb_shared_cells.proofs.PutMoves.{link_word}
 use Rattle.mb_world.specs.Reporting.{values_put}
 use Rattle.mb_mailbox.specs.Imports.{Counter, END, Head, History, Item, Link, Word, has_ended}
 use Rattle.mb_cells.specs.Vocabulary.{IsLinkWord}
@@ -21,11 +22,6 @@ use Rattle.mb_mailbox.proofs.Lists.{some_same}
 -- the producer with this seat and these items
 abbrev pub producer_at : LaneSeatView → List ℕ → ProducerView
 producer_at seat items = record { seat = seat; items = items }
-
--- the link after a cell, or the lane's head, is a link
-pub link_word : (p : ℕ) (last : Option ℕ) → IsLinkWord (link_after p last)
-link_word p None = tt
-link_word p (Some k) = tt
 
 -- a link to a cell is no end mark
 no_mark : (p k : ℕ) (w : Word) (h : History) → IsLinkWord w → k + 1 ≢ END

@@ -25,7 +25,7 @@ use Rattle.mb_mailbox.specs.Worked.{AreCutByCells, AreStoppedPolls, AreStoppedPu
 use Rattle.mb_program.specs.Running.{AreFew, HasNotedAll, IsLaneOf, IsRunReport, item_lists, items_of, plan_asked, terms_asked}
 use Rattle.mb_program.specs.declared.options.Options.{Options}
 use Rattle.mb_program.proofs.RunLanes.{found_none, front_whole, front_within, sum_short}
-use Rattle.mb_program.proofs.RunNotes.{notes_told}
+use Rattle.mb_program.proofs.RunNotes.{notes_told, same_some}
 
 -- if each entry of a list is there, none is missing
 pub none_missing : {X Y : Type 0} (f : X → Y) (xs : List X) → count_missing (map (λ x. Some (f x)) xs) ≡ 0
@@ -45,10 +45,6 @@ list_of : (producers count p : ℕ) → p < producers → slice_get (item_lists 
 list_of producers count p low =
     let same : 0 + p ≡ p = omega arith in place_of (λ p. items_of p count) 0 producers p low
     ∙ ap (λ k. Some (items_of k count)) same
-
--- two `Some` that are one have one value
-same_some : {X : Type 0} {x y : X} → ◌≡◌ {A = Option X} (Some x) (Some y) → x ≡ y
-same_some e = cc
 
 -- if two lists are related place by place, an element of the first has one beside it in the second
 pub beside : {X Y : Type 0} (R : X → Y → Type 0) (xs : List X) (ys : List Y) (p : ℕ) (x : X)

@@ -17,6 +17,8 @@ use Rattle.mb_program.specs.declared.fault.RatifyFault.TheVariants.{TooLong, Not
 use Rattle.mb_program.specs.declared.script.RatifyScript as code
 use Rattle.mb_script.specs.declared.transfer.TheConstants.{MAX_SCRIPT_LEN}
 use Rattle.mb_script.specs.Vocabulary.{◌>>=◌, table_name, table_named, IsWord, IsWordLine, lines_of, words_in_line, has_empty, number_of, numbers_of}
+use Rattle.mb_script.proofs.ReadAgain.{table_word}
+use Rattle.mb_script.proofs.ReadBack.{table_takes}
 use Rattle.mb_program.specs.Steps.{Gives}
 use Rattle.mb_program.specs.RatifyScript.{Script, view, line_words, head_of, list_of, three_lines, script_of}
 use Rattle.mb_program.specs.Spelling.{HasSpelling, script_words, script_lines}
@@ -88,21 +90,6 @@ line_again : TextLaws → (n : ℕ) (w : List ℕ) (ws rest : List (List ℕ)) �
     → line_words n (join_with_byte 32 (w ∷ ws) ∷ rest) ≡ Ok (w ∷ ws, rest)
 unfolding line_words
 line_again law n w ws rest are = rw (law.cut w ws are, law.none_empty (w ∷ ws) are) refl
-
--- a word that was read as a table, by its tests, is that table's name
-table_takes : (word : List ℕ) (t : TableName) (u b m : Bool)
-    → bytes_eq word (codes "unary") ≡ u → bytes_eq word (codes "bits") ≡ b → bytes_eq word (codes "middle") ≡ m
-    → cond u (Some Unary) (cond b (Some Bits) (cond m (Some Middle) None)) ≡ Some t → word ≡ table_name t
-table_takes word Unary true b m p q r e = (bytes_eq-Decides word (codes "unary")).0 p
-table_takes word Bits true b m p q r e = absurd (cc)
-table_takes word Middle true b m p q r e = absurd (cc)
-table_takes word Bits false true m p q r e = (bytes_eq-Decides word (codes "bits")).0 q
-table_takes word Unary false true m p q r e = absurd (cc)
-table_takes word Middle false true m p q r e = absurd (cc)
-table_takes word Middle false false true p q r e = (bytes_eq-Decides word (codes "middle")).0 r
-table_takes word Unary false false true p q r e = absurd (cc)
-table_takes word Bits false false true p q r e = absurd (cc)
-table_takes word t false false false p q r e = absurd (cc)
 
 -- what is left to be read of the first line after its table: the number of values
 abbrev head_values : List ℕ → TableName → Result (TableName × ℕ) RatifyFault
@@ -220,12 +207,6 @@ lines_take law lines s e =
     ∙ ap (λ (r : Lines). join (codes "turns" ∷ map decimal g.0) ∷ r) nothing)) in
     subst (λ (t : Script). HasSpelling t × (lines ≡ script_lines t)) (ok_is made s h.1)
     (record { values = head.1; inputs = inputs.1; turns = turns.1 }, whole)
-
--- the name of a table is a word
-table_word : (t : TableName) → IsWord (table_name t)
-table_word Unary = search rules
-table_word Bits = search rules
-table_word Middle = search rules
 
 -- the words of a script may stand on lines
 words_fit : TextLaws → (s : Script) → HasSpelling s → AllByRecursion IsWordLine (script_words s)

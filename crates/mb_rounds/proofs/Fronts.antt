@@ -3,27 +3,15 @@ use Rattle.std.proofs.Common.{◌≡◌, ℕ, zero, suc, ◌<◌, List, [], ◌�
 use Rattle.std.specs.Prelude.{slice_get}
 use Rattle.std.specs.Option.{option_map_or}
 use Rattle.std.specs.List.{AllZip}
+use Rattle.std.proofs.lemmas.Option.{slice_get_within}
+use Rattle.std.proofs.lemmas.Slice.Zip.{AllZip-long}
 use Rattle.mb_mailbox.specs.Gathering.{IsReportIn, lane_in}
 use Rattle.mb_mailbox.specs.Hubs.{HubView, PutListView}
 use Rattle.mb_mailbox.specs.Jobs.{IsFront}
 use Rattle.mb_mailbox.specs.Worked.{ProducerEnd, ended_list}
 use Rattle.mb_world.specs.Report.{LaneView, ReportView}
+use Rattle.mb_mailbox.proofs.Lists.{map_get}
 use Rattle.mb_rounds.specs.Round.{IsPutOf}
-
--- two lists whose elements are related side by side have one length
-pub zip_length : {A B : Type 0} (R : A → B → Type 0) (xs : List A) (ys : List B) → AllZip R xs ys
-    → length xs ≡ length ys
-zip_length R [] [] z = refl
-zip_length R [] (y ∷ ys) z = absurd z
-zip_length R (x ∷ xs) [] z = absurd z
-zip_length R (x ∷ xs) (y ∷ ys) z = let t = zip_length R xs ys z.1 in omega (arith, t)
-
--- what a function makes of the elements stands at their positions
-pub get_map : {A B : Type 0} (f : A → B) (xs : List A) (i : ℕ) (x : A) → slice_get xs i ≡ Some x
-    → slice_get (map f xs) i ≡ Some (f x)
-get_map f [] i x e = absurd (cc)
-get_map f (y ∷ xs) zero x e = let f_same : y ≡ x = cc in ap (λ z. Some (f z)) f_same
-get_map f (y ∷ xs) (suc i) x e = get_map f xs i x e
 
 -- what a function makes of the element at a position stands there
 pub get_map_at : {A B : Type 0} (f : A → B) (xs : List A) (i : ℕ) (x : A) → i < length xs → get_or xs i x ≡ x
@@ -31,12 +19,6 @@ pub get_map_at : {A B : Type 0} (f : A → B) (xs : List A) (i : ℕ) (x : A) �
 get_map_at f [] i x low e = absurd (omega arith)
 get_map_at f (y ∷ xs) zero x low e = ap (λ z. Some (f z)) e
 get_map_at f (y ∷ xs) (suc i) x low e = get_map_at f xs i x (omega arith) e
-
--- a position with an element is in the list
-get_below : {X : Type 0} (xs : List X) (i : ℕ) (x : X) → slice_get xs i ≡ Some x → i < length xs
-get_below [] i x e = absurd (cc)
-get_below (y ∷ xs) zero x e = omega arith
-get_below (y ∷ xs) (suc i) x e = let t = get_below xs i x e in omega (arith, t)
 
 -- position by position, the lanes of the report have what the workers put
 zip_put : (lists : List (List ℕ)) (ls : List ProducerEnd) (vs : List LaneView)
@@ -62,12 +44,12 @@ pub fronts_told : (lanes consumers : ℕ) (lists : List (List ℕ)) (ls : List P
     → h.puts ≡ map (λ l. Some (ended_list l)) ls
     → AllZip (λ list l. IsFront l.put list) lists ls → AllZip IsPutOf lists r.lanes
 fronts_told lanes consumers lists ls h r all is puts fronts =
-    let count = zip_length (λ list l. IsFront l.put list) lists ls fronts in
+    let count = sym (AllZip-long (λ list l. IsFront l.put list) lists ls fronts) in
     zip_put lists ls r.lanes fronts (is.lanes_count ∙ all ∙ count)
     (λ p l e. (
       lane_in consumers p h,
-      is.lane p (let t = get_below ls p l e in omega (arith, t, count, all)),
+      is.lane p (let t = slice_get_within ls p l e in omega (arith, t, count, all)),
       ap (λ (o : Option (Option PutListView)). option_map_or (λ (k : PutListView). k.items)
           (option_map_or (λ k. k) o None) [])
-          (ap (λ k. slice_get k p) puts ∙ get_map (λ (k : ProducerEnd). Some (ended_list k)) ls p l e),
+          (ap (λ k. slice_get k p) puts ∙ map_get (λ (k : ProducerEnd). Some (ended_list k)) ls p l e),
     ))

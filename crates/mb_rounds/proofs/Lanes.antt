@@ -1,7 +1,8 @@
 -- What is given out of one lane, and what is left of it, is what was put there.
-use Rattle.std.proofs.Common.{◌≡◌, ℕ, zero, suc, ◌+◌, ◌*◌, ◌<◌, ◌≤◌, Bool, true, false, List, [], ◌∷◌, length, refl, sym, ap, ◌∙◌, arith, Option, Some, None, ⊎_elim}
+use Rattle.std.proofs.Common.{◌≡◌, ℕ, zero, suc, ◌+◌, ◌*◌, ◌<◌, ◌≤◌, Bool, true, false, List, [], length, refl, sym, ap, ◌∙◌, arith, Option, Some, None, ⊎_elim}
 use Rattle.std.proofs.lemmas.Bool.{false≢true}
 use Rattle.std.proofs.lemmas.Nat.{mul-le}
+use Rattle.std.proofs.lemmas.Option.{slice_get_past}
 use Rattle.std.specs.Prelude.{if◌then◌else◌, nat_lt, slice_get}
 use Rattle.std.specs.Option.{option_map_or}
 use Rattle.mb_mailbox.specs.declared.gate.Who.{Who}
@@ -13,18 +14,6 @@ use Rattle.mb_mailbox.specs.ReportedRuns.{Terms}
 use Rattle.mb_rounds.specs.Carried.{times}
 use Rattle.mb_rounds.specs.Round.{IsPlayed}
 use Rattle.mb_rounds.proofs.Counts.{given_and_left, sum_below, sum_same}
-
--- past a list stands nothing
-get_none : {X : Type 0} (xs : List X) (i : ℕ) → length xs ≤ i → slice_get xs i ≡ None
-get_none [] i far = refl
-get_none (x ∷ xs) zero far = absurd (omega arith)
-get_none (x ∷ xs) (suc i) far = get_none xs i (omega arith)
-
--- a position with an element is in the list
-get_below : {X : Type 0} (xs : List X) (i : ℕ) (x : X) → slice_get xs i ≡ Some x → i < length xs
-get_below [] i x e = absurd (cc)
-get_below (y ∷ xs) zero x e = omega arith
-get_below (y ∷ xs) (suc i) x e = let t = get_below xs i x e in omega (arith, t)
 
 -- a choice between no value and no value is no value
 chosen_none : {X : Type 0} (b : Bool) (o : Option X) → o ≡ None → (if b then o else None) ≡ None
@@ -41,7 +30,7 @@ module _ {may_stop may_pass : Who → ℕ → Type 0} (terms : Terms) (lists : L
   no_diary : (c p : ℕ) → consumers_of plan ≤ c → diary c p r ≡ None
   no_diary c p far =
       chosen_none (nat_lt p (length r.lanes)) (slice_get r.diaries (c * length r.lanes + p))
-      (get_none r.diaries (c * length r.lanes + p)
+      (slice_get_past r.diaries (c * length r.lanes + p)
       (let count = played.report.diaries_count in
       let lanes = played.report.lanes_count in
       let few : consumers_of plan * plan.lanes ≤ c * plan.lanes = mul-le (consumers_of plan)

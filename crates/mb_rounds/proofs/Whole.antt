@@ -1,5 +1,5 @@
 -- What a round gives out, and what stays, is what was carried before it.
-use Rattle.std.proofs.Common.{◌≡◌, ℕ, zero, suc, ◌+◌, List, [], ◌∷◌, ◌++◌, length, refl, sym, ap, ◌∙◌, append_assoc, arith, Some}
+use Rattle.std.proofs.Common.{◌≡◌, ℕ, zero, suc, ◌+◌, List, [], ◌∷◌, ◌++◌, length, refl, sym, ap, ◌∙◌, append-nil, append_assoc, arith, Some}
 use Rattle.std.proofs.lemmas.List.{drop_at}
 use Rattle.std.specs.Prelude.{drop, slice_get}
 use Rattle.std.specs.List.{AllZip, concat}
@@ -15,11 +15,7 @@ use Rattle.mb_rounds.proofs.Lanes.{lane_adds_up}
 
 -- lists joined, with one more at the end, are those before joined, and then the last one
 pub concat_push : (lists : List (List ℕ)) (list : List ℕ) → concat (lists ++ list ∷ []) ≡ concat lists ++ list
-concat_push [] list = append_nothing list
-  where
-    append_nothing : (xs : List ℕ) → xs ++ [] ≡ xs
-    append_nothing [] = refl
-    append_nothing (x ∷ xs) = ap (λ l. x ∷ l) (append_nothing xs)
+concat_push [] list = append-nil list
 concat_push (l ∷ lists) list = ap (λ z. l ++ z) (concat_push lists list) ∙ sym (append_assoc l (concat lists) list)
 
 -- a consumer took x as often as it did from each lane, added up

@@ -2,7 +2,7 @@
 use Rattle.std.proofs.Common.{append-nil, option_map, ◌≡◌, ℕ, suc, Option, Some, None, ◌+◌, ◌<◌, ◌≤◌, nat_lt, sym, ◌∙◌, Bor, append_assoc, length-append}
 use Rattle.std.proofs.Common.{slice_set, Bool, true, false, cond, nat_eq, List, [], ◌∷◌, ◌++◌, length, take, drop, map, ◌||◌, refl, ap, arith}
 use Rattle.std.specs.Prelude.{not, option_and_then}
-use Rattle.std.proofs.lemmas.Bool.{lt-ltb}
+use Rattle.std.proofs.lemmas.Bool.{lt-ltb, or_right}
 use Rattle.std.proofs.lemmas.List.{length-map, length-take-le, map-append, take_more_set}
 use Rattle.std.specs.List.{position_or_len, before_first, after_first, onto_first}
 use Rattle.mb_script.specs.Text.{words_in_line, has_empty, number_of, numbers_of}
@@ -76,11 +76,6 @@ pub none_behind : (ws : List (List ℕ)) (w : List ℕ) → has_empty ws ≡ fal
     → has_empty (ws ++ w ∷ []) ≡ false
 none_behind ws w full some = rw (empty_among ws (w ∷ []), full, some) refl
 
--- if the second of two tests holds, one of the two does
-or_true : (a b : Bool) → b ≡ true → (a || b) ≡ true
-or_true true b e = refl
-or_true false b e = e
-
 -- if `most` words are cut off and a line is left, all the words are more than `most`
 pub too_many : (ws : List (List ℕ)) (w bs : List ℕ) (all : List (List ℕ)) (most : ℕ) → length ws + 1 ≡ most
     → ws ++ w ∷ words_in_line bs ≡ all → (has_empty all || nat_lt most (length all)) ≡ true
@@ -88,7 +83,7 @@ too_many ws w bs all most count cut =
     let long : length all ≡ length ws + suc (length (words_in_line bs)) =
     ap (λ (l : List (List ℕ)). length l) (sym cut) ∙ length-append ws (w ∷ words_in_line bs) in
     let some = some_word bs in
-    or_true (has_empty all) _ (lt-ltb most (length all) (omega (arith, long, some, count)))
+    or_right (has_empty all) _ (lt-ltb most (length all) (omega (arith, long, some, count)))
 
 -- one word moves from the line to the words before it
 pub word_moves : (ws : List (List ℕ)) (w bs after : List ℕ) (all : List (List ℕ)) → words_in_line bs

@@ -91,7 +91,7 @@ sizes_again shape p c m k Middle e =
     rw (named, number_again p s.0, number_again c s.1, number_again m s.2, number_again k s.3, e) refl
 
 -- the name of a table is a word
-table_word : (t : TableName) → IsWord (table_name t)
+pub table_word : (t : TableName) → IsWord (table_name t)
 table_word Unary = search rules
 table_word Bits = search rules
 table_word Middle = search rules

@@ -39,7 +39,7 @@ use Rattle.mb_script.proofs.Spelled.{number_takes}
 
 -- ---- words and numbers
 -- a word that was read as a table, by its tests, is that table's name
-table_takes : (word : List ℕ) (t : TableName) (u b m : Bool)
+pub table_takes : (word : List ℕ) (t : TableName) (u b m : Bool)
     → bytes_eq word (codes "unary") ≡ u → bytes_eq word (codes "bits") ≡ b → bytes_eq word (codes "middle") ≡ m
     → cond u (Some Unary) (cond b (Some Bits) (cond m (Some Middle) None)) ≡ Some t → word ≡ table_name t
 table_takes word Unary true b m p q r e = (bytes_eq-Decides word (codes "unary")).0 p

@@ -8,7 +8,7 @@ use Rattle.std.specs.Char.{is_ascii_digit, is_ascii}
 use Rattle.std.specs.List.{join_with_byte, AllByRecursion, list_all, onto_first}
 use Rattle.std.specs.Str.{all_ascii_digits}
 use Rattle.std.specs.Str.Parse.{digits_value}
-use Rattle.std.proofs.lemmas.Bool.{ltb-true, lt-ltb, eqb-true, false≢true, or_cases}
+use Rattle.std.proofs.lemmas.Bool.{and_parts, ltb-true, lt-ltb, eqb-true, false≢true, or_cases}
 use Rattle.std.proofs.lemmas.Bool.Decides.{nat_tests}
 use Rattle.std.proofs.lemmas.Fmt.{digits_decimal, digits_value-decimal, decimal_nonempty, first_decimal, decimal-digits_value, decimal_digit}
 use Rattle.std.proofs.lemmas.List.Splits.{slice_split_none, slice_split_at}
@@ -33,11 +33,6 @@ none_empty (w ∷ ws) are = rw (are.0.1) (none_empty ws are.1)
 digit_no_space : (b : ℕ) (t : Bool) → nat_eq b 32 ≡ t → is_ascii_digit b ≡ true → t ≡ false
 digit_no_space b true e d = absurd (false≢true (subst (λ (k : ℕ). is_ascii_digit k ≡ true) (eqb-true b 32 e) d))
 digit_no_space b false e d = refl
-
--- if two tests hold together, each of them holds
-and_parts : (x y : Bool) → (x && y) ≡ true → (x ≡ true) × (y ≡ true)
-and_parts true y e = (refl, e)
-and_parts false y e = absurd (cc)
 
 -- among digits there is no space
 digits_no_space : (w : List ℕ) → all_ascii_digits w ≡ true → AllByRecursion (λ b. nat_eq b 32 ≡ false) w

@@ -1,4 +1,4 @@
--- The transcript: a line for each event, which begins with the event's words and ends with its answer.
+-- The transcript: a line for each event. It has the event's words, except the random word of a step, and the answer.
 use Rattle.std.specs.Prelude.{ℕ, List, [], ◌∷◌, ◌++◌, codes}
 use Rattle.std.specs.Fmt.{decimal}
 use Rattle.mb_claim.specs.declared.access.Stage.{Stage}

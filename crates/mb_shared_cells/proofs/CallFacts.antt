@@ -1,8 +1,8 @@
 -- What the calls of a seat may do, and what they find, by the laws of the cells.
-use Rattle.std.proofs.Common.{List, [], ap, arith, inl, inr, subst, sym, true, ℕ, ◌++◌, ◌+◌, ◌-◌, ◌<◌, ◌∙◌, ◌∷◌, ◌≡◌, ◌≢◌, ◌||◌}
+use Rattle.std.proofs.Common.{[], ap, arith, inl, subst, sym, true, ℕ, ◌++◌, ◌+◌, ◌-◌, ◌<◌, ◌∙◌, ◌∷◌, ◌≡◌, ◌≢◌}
 use Rattle.std.specs.Prelude.{None, Some, slice_get}
 use Rattle.std.proofs.lemmas.Bool.{eqb-true}
-use Rattle.std.proofs.lemmas.Bool.Decides.{eqb_tells}
+use Rattle.mb_cells.proofs.ReaderParts.{cell-of_true}
 use Rattle.mb_cells.specs.Vocabulary.{Entry, Gave, Has, History, IsGift, IsLaneAfter, IsLanePrefix, IsLaneWord, IsPoolLawful, MayRead, fetch}
 use Rattle.mb_cells.specs.Vocabulary.{finish_refusal, has_cell, is_of_lane, lane_after_finish, lane_after_offer, lane_after_push, linked_cells, next_link}
 use Rattle.mb_cells.specs.Vocabulary.{offer_refusal, part, push_store, store, value_in, word_of}
@@ -142,14 +142,6 @@ pub record KnownLaws : Type 0 where
       → value_in (Link k) h ≡ value_in (Link k) (part (Producer p) h)
   pub linked : (h : History) (p : ℕ) → linked_cells p h ≡ linked_cells p (part (Producer p) h)
 
--- a cell that passes the test is in the list
-has_cell_has : (ks : List ℕ) (k : ℕ) → has_cell ks k ≡ true → Has ks k
-has_cell_has [] k e = absurd (cc)
-has_cell_has (j ∷ js) k e = elim (eqb_tells j k) [
-  | inl t ↦ inl t.1
-  | inr t ↦ inr (has_cell_has js k (subst (λ b. (b || has_cell js k) ≡ true) t.0 e))
-]
-
 -- what a history leaves in a word of a lane is what the lane's part leaves there
 held_there : KnownLaws → (size : PoolSize) (h : History) (p : ℕ) (w : Word) → IsPoolLawful size h
     → is_of_lane p (linked_cells p (part (Producer p) h)) w ≡ true
@@ -158,9 +150,9 @@ held_there laws size h p Counter l own = absurd (cc)
 held_there laws size h p (Head q) l own =
     subst (λ z. value_in (Head z) h ≡ value_in (Head z) (part (Producer p) h)) (eqb-true p q own) (laws.head size h p l)
 held_there laws size h p (Link k) l own =
-    laws.link size h p k l (has_cell_has _ k (subst (λ ks. has_cell ks k ≡ true) (sym (laws.linked h p)) own))
+    laws.link size h p k l (cell-of_true _ k (subst (λ ks. has_cell ks k ≡ true) (sym (laws.linked h p)) own))
 held_there laws size h p (Item k) l own =
-    laws.item size h p k l (has_cell_has _ k (subst (λ ks. has_cell ks k ≡ true) (sym (laws.linked h p)) own))
+    laws.item size h p k l (cell-of_true _ k (subst (λ ks. has_cell ks k ≡ true) (sym (laws.linked h p)) own))
 
 -- a load on a lane that is known finds what that lane's part left there
 pub known_tells : KnownLaws → (size : PoolSize) (r : ℕ) (known : PartList) (done : History) (w : Word) (v : ℕ)

@@ -88,7 +88,7 @@ got_at old x k new stage.Full made = absurd (cc)
 got_at old x k new (stage.Ended f) made = absurd (cc)
 
 -- the next link is a head or link
-link_word : (p : ℕ) (last : Option ℕ) → IsLinkWord (link_after p last)
+pub link_word : (p : ℕ) (last : Option ℕ) → IsLinkWord (link_after p last)
 link_word p None = tt
 link_word p (Some k) = tt
 

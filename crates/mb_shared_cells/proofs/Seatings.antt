@@ -7,6 +7,7 @@ use mathlib.Core.Option.{some, some-injective}
 use lib.ListN.{get_elem?}
 use Rattle.atomic_table.proofs.Lists.{at_longer, set_else}
 use Rattle.atomic_table.proofs.Lists.{set_here as view_here}
+pub use Rattle.mb_cells.proofs.Names.{cases_process}
 use Rattle.mb_cells.specs.Vocabulary.{History, ProcessFits, part}
 use Rattle.mb_cells.specs.declared.access.Process.{Process}
 use Rattle.mb_cells.specs.declared.access.Process.TheVariants.{Producer, Reader}
@@ -19,23 +20,14 @@ use Rattle.mb_shared_cells.specs.declared.views.View.TheVariants.{Empty, Hub, Hu
 use Rattle.mb_shared_cells.proofs.ViewLists.{at_within, longer_has, out_or_in, set_had, set_has, set_here}
 
 -- ---- a process that moves to another seat
--- two processes are equal or not
-pub one_or_other : (a b : Process) → (a ≡ b) ⊎ (a ≢ b)
-one_or_other (Producer p) (Producer q) =
-    elim (cases_eq p q) [ inl e ↦ inl (ap Producer e) | inr other ↦ inr (λ e. other (cc)) ]
-one_or_other (Producer p) (Reader q) = inr (λ e. cc)
-one_or_other (Reader p) (Producer q) = inr (λ e. cc)
-one_or_other (Reader p) (Reader q) =
-    elim (cases_eq p q) [ inl e ↦ inl (ap Reader e) | inr other ↦ inr (λ e. other (cc)) ]
-
 -- the seat of each process as in `seats`, but process `who` stands at seat `to`
 pub moved : Process → ℕ → (Process → ℕ) → Process → ℕ
-moved who to seats x = ⊎_elim (λ _. to) (λ _. seats x) (one_or_other who x)
+moved who to seats x = ⊎_elim (λ _. to) (λ _. seats x) (cases_process who x)
 
 -- process `who` then stands at seat `to`
 pub moved-here : (who : Process) (to : ℕ) (seats : Process → ℕ) → moved who to seats who ≡ to
 unfolding moved
-moved-here who to seats = here (one_or_other who who)
+moved-here who to seats = here (cases_process who who)
   where
     here : (d : (who ≡ who) ⊎ (who ≢ who)) → ⊎_elim (λ _. to) (λ _. seats who) d ≡ to
     here (inl e) = refl
@@ -45,7 +37,7 @@ moved-here who to seats = here (one_or_other who who)
 pub moved-else : (who : Process) (to : ℕ) (seats : Process → ℕ) (x : Process) → who ≢ x
     → moved who to seats x ≡ seats x
 unfolding moved
-moved-else who to seats x apart = there (one_or_other who x)
+moved-else who to seats x apart = there (cases_process who x)
   where
     there : (d : (who ≡ x) ⊎ (who ≢ x)) → ⊎_elim (λ _. to) (λ _. seats x) d ≡ seats x
     there (inl e) = absurd (apart e)
@@ -55,7 +47,7 @@ moved-else who to seats x apart = there (one_or_other who x)
 pub moved-to : (who : Process) (to : ℕ) (seats : Process → ℕ) (x : Process) → seats x ≡ to
     → moved who to seats x ≡ to
 unfolding moved
-moved-to who to seats x is = there (one_or_other who x)
+moved-to who to seats x is = there (cases_process who x)
   where
     there : (d : (who ≡ x) ⊎ (who ≢ x)) → ⊎_elim (λ _. to) (λ _. seats x) d ≡ to
     there (inl e) = refl

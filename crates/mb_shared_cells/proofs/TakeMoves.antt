@@ -15,7 +15,7 @@ use Rattle.mb_shared_cells.specs.Views.{IsRollOf, PartList, SeatState, WasOut, h
 use Rattle.mb_shared_cells.specs.declared.views.Roll.{Roll}
 use Rattle.mb_shared_cells.specs.declared.views.View.{View}
 use Rattle.mb_shared_cells.specs.declared.views.View.TheVariants.{Empty, Hub, HubJoins, Member}
-use Rattle.mb_shared_cells.proofs.Seatings.{Spares, enrolled_out, fits_still, moved, moved-else, moved-here, moved-to, one_or_other, stands_then}
+use Rattle.mb_shared_cells.proofs.Seatings.{Spares, enrolled_out, fits_still, moved, moved-else, moved-here, moved-to, cases_process, stands_then}
 use Rattle.mb_shared_cells.proofs.Seatings.{with_part-had, with_part-has, with_part-here, with_part-lanes, with_part-readers}
 use Rattle.mb_shared_cells.proofs.ViewLists.{all_set, at_within, none_past}
 
@@ -100,7 +100,7 @@ takes_in size id other own its roll who known done s h at apart there =
             subst (λ (n : ℕ). StandsAt (slice_set joined other Empty) n x)
             (sym (moved-else who id t.seat_of x e))
             (z.0, set_else joined other (t.seat_of x) Empty not_there ∙ z.1, z.2))
-            (one_or_other who x);
+            (cases_process who x);
         fits = all_set (λ j v. FitsView size u roster j v) joined other Empty
             (λ j v far e.
             all_set (λ i y. i ≢ other → FitsView size u roster i y) views id both

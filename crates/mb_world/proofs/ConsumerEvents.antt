@@ -1,4 +1,4 @@
--- A step of a consumer has one access, or one refusal, and never both.
+-- A step of a consumer has at most one access and at most one refusal, and never both.
 use Rattle.std.proofs.Common.{◌≡◌, ◌<◌, Bool, true, cond, ℕ, List, ◌∷◌, refl, sym, ◌∙◌, ap, subst, inl, inr, arith}
 use Rattle.std.specs.Prelude.{filter}
 use Rattle.mb_cells.specs.Memory.{value_in}

@@ -3,7 +3,7 @@ use Rattle.std.proofs.Common.{◌≡◌, ℕ, ◌<◌, ◌≤◌, subst, Bool, n
 use Rattle.std.specs.List.{position_or_len}
 use Rattle.std.proofs.lemmas.List.Sums.{fails_before_first}
 use Rattle.mb_claim.specs.{claims_in, history_of, HasStage, quorums_of, pair_count, shape_of, Stage, stranger_in}
-use Rattle.mb_claim.proofs.FirstPlaces.{below_by_test, none_inside}
+use Rattle.mb_deciding.proofs.FirstPlaces.{below_by_test, none_inside}
 use Rattle.mb_claim.proofs.LayoutObjects.{quorums_lawful}
 use Rattle.mb_claim.proofs.plays.play.Goals as goal
 

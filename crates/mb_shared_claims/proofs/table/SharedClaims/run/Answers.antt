@@ -10,7 +10,8 @@ use Rattle.mb_shared_claims.proofs.Running.{IsMade, arrives_in, few_steps_in, ma
 use Rattle.mb_shared_claims.proofs.table.SharedClaims.run.Goals as goal
 
 -- Each clause needs two facts, which stand after `c.args.claim.now` in this order. A draw changes only the random word
--- and its source. An access changes only the seat, by that access
+-- and its source. An access changes only the seat: its part is longer by that access. The facts `seat` and `rng` say
+-- that the caller gets back the seat and the source as the run left them in its memory
 pub run-requires-clause-may : goal.run-requires-clause-may
 run-requires-clause-may g c n word at before mid next steps going drawn is =
     let can = may_go_on_in c.args.self.now c.args.cell (λ m. m.seat.now) (λ m. g.R.Rng.stream m.rng.now) (λ m. m.word)
