@@ -1,4 +1,6 @@
 //! The command line: one word.
+ghost use Rattle.std.specs.Prelude.{◌≡◌, map};
+ghost use Rattle.mailbox_draw.specs.Asking.{asked_by, asks_for_help, word_asks};
 
 use std::convert::AsStr;
 
@@ -30,14 +32,36 @@ pub enum Asked {
 }
 
 /// What the words ask for. The first word is the program's name.
-pub fn asked_of<S: AsStr>(words: &[S]) -> Asked {
+#[tactic(auto, unfolding(crate::specs::Asking::asked_by))]
+pub fn asked_of<S: AsStr>(words: &[S]) -> Asked
+    ensures { result ≡ asked_by (map S.text words.now) }
+{
     let [_, word] = words else {
         return Asked::Unknown;
     };
-    match word.as_str() {
+    word_asks(word.as_str())
+}
+
+/// What the word asks for.
+#[tactic(auto, unfolding(crate::specs::Asking::word_asks))]
+fn word_asks(word: &str) -> Asked
+    ensures { result ≡ word_asks word.now }
+{
+    match word {
         "replay" => Asked::Replay,
         "ratify" => Asked::Ratify,
-        "--help" | "-h" | "help" => Asked::Help,
+        _ if asks_for_help(word) => Asked::Help,
         _ => Asked::Unknown,
+    }
+}
+
+/// Whether the word asks for help.
+#[tactic(auto, unfolding(crate::specs::Asking::asks_for_help))]
+fn asks_for_help(word: &str) -> bool
+    ensures { result ≡ asks_for_help word.now }
+{
+    match word {
+        "--help" | "-h" | "help" => true,
+        _ => false,
     }
 }

@@ -1,3 +1,5 @@
 pub mod Escaped
 pub mod Led
+pub mod LedExamples
 pub mod Diaries
+pub mod Svg

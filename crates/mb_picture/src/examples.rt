@@ -1,11 +1,13 @@
 //! The definitions by example. The functions compute nothing: their contracts are the examples.
-ghost use Rattle.std.specs.Prelude.{◌≡◌, [], ◌∷◌, codes, Some, None};
+ghost use Rattle.std.specs.Prelude.{◌≡◌, [], ◌∷◌, ◌++◌, codes, Some, None};
 ghost use Rattle.mb_picture.specs.declared.picture.Deed.TheVariants.{Load, Store, Exchange};
 ghost use Rattle.mb_picture.specs.declared.picture.Value.TheVariants.{Number};
 ghost use Rattle.mb_picture.specs.declared.picture.Word.TheVariants.{Counter, Item};
 ghost use Rattle.mb_picture.specs.Diaries.{IsEmptyDiary};
 ghost use Rattle.mb_picture.specs.Escaped.{escaped, escaped_text, text_element};
-ghost use Rattle.mb_picture.specs.Led.{loaded_by, stored_by};
+ghost use Rattle.mb_picture.specs.Led.{AreLinesAfter, IsLastStore, loaded_by, stored_by};
+ghost use Rattle.mb_picture.specs.LedExamples.{counter_load, mark_of, three_stores};
+ghost use Rattle.mb_picture.specs.Svg.{IsSvgOf, ratifier_title};
 
 /// What XML would read as its own is written as a reference. No control byte is written.
 pub fn texts_are_escaped()
@@ -26,6 +28,38 @@ pub fn exchanges_store_over_0()
     ensures loaded { loaded_by (Exchange (Item 3) 1 2) ≡ Some (Item 3) }
     ensures load { stored_by (Load Counter (Number 1)) ≡ None }
     ensures store { loaded_by (Store Counter (Number 1)) ≡ None }
+{}
+
+/// The last store of a word is the last row that stored in it, of those that count.
+pub fn last_stores_are_the_last()
+    ensures last { IsLastStore three_stores Counter 3 (Some 2) }
+    ensures first { IsLastStore three_stores Counter 3 (Some 0) → ⊥ }
+    ensures other_word { IsLastStore three_stores Counter 3 (Some 1) → ⊥ }
+    ensures overlooked { IsLastStore three_stores Counter 3 None → ⊥ }
+    ensures past_the_rows { IsLastStore three_stores Counter 2 (Some 2) → ⊥ }
+    ensures not_yet { IsLastStore three_stores (Item 3) 1 None }
+{}
+
+/// A line leads to a load, from the last store of its word. None leads to a store.
+pub fn lines_lead_to_loads()
+    ensures load { AreLinesAfter three_stores counter_load []
+        (record { from = 2; to = 3 } ∷ []) }
+    ensures first_store { AreLinesAfter three_stores counter_load []
+        (record { from = 0; to = 3 } ∷ []) → ⊥ }
+    ensures left_out { AreLinesAfter three_stores counter_load [] [] → ⊥ }
+    ensures store { AreLinesAfter three_stores (mark_of (Store Counter (Number 1))) [] [] }
+    ensures to_a_store { AreLinesAfter three_stores (mark_of (Store Counter (Number 1))) []
+        (record { from = 2; to = 3 } ∷ []) → ⊥ }
+    ensures lost { AreLinesAfter three_stores (mark_of (Store Counter (Number 1)))
+        (record { from = 0; to = 1 } ∷ []) [] → ⊥ }
+{}
+
+/// A title counts what it is of. The text of a picture begins and ends as SVG.
+pub fn pictures_have_titles()
+    ensures title { ratifier_title 1 2 4 ≡ codes "Ratifier: 1 turn, 2 processes, 4 values" }
+    ensures svg { IsSvgOf (codes "1<2") (codes "<svg xmlns='http://www.w3.org/2000/svg' >"
+        ++ codes "<title id='title'>1&lt;2</title>\n</svg>\n") }
+    ensures nothing { IsSvgOf (codes "1<2") [] → ⊥ }
 {}
 
 /// A diary with a note is not empty, and a lane is no diary.

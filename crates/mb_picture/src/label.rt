@@ -1,4 +1,6 @@
 //! The text in a mark, and above a column.
+ghost use Rattle.std.specs.Prelude.{◌≡◌, ◌++◌, OnOk, string_bytes};
+ghost use Rattle.mb_picture.specs.Svg.{counted, counted_next};
 
 use crate::picture::{Deed, Remark, Value, Who, Word};
 use mb_cells::NoMemory;
@@ -110,18 +112,35 @@ pub fn push_where<A: Allocator>(text: &mut String<A>, who: Who) -> Result<(), No
     }
 }
 
-/// Appends a count and the name of what is counted, after a comma if this is not the first count.
+/// Appends how many of these there are.
+#[tactic(auto, unfolding(crate::specs::Svg::counted))]
 pub fn push_count<A: Allocator>(
     text: &mut String<A>,
     count: u64,
-    name: &str,
-) -> Result<(), NoMemory> {
-    if !text.as_str().ends_with(": ") {
-        text.push_str(", ")?;
-    }
-    write!(text, "{count} {name}")?;
+    one: &str,
+    many: &str,
+) -> Result<(), NoMemory>
+    ensures { OnOk result
+        (string_bytes text.new ≡ string_bytes text.old ++ counted count one.now many.now) }
+{
     if count == 1 {
-        return Ok(());
+        write!(text, "{count} {one}")
+    } else {
+        write!(text, "{count} {many}")
     }
-    text.push_str(if name.ends_with("s") { "es" } else { "s" })
+}
+
+/// The same after another count.
+#[tactic(auto, unfolding(crate::specs::Svg::counted_next))]
+pub fn push_next_count<A: Allocator>(
+    text: &mut String<A>,
+    count: u64,
+    one: &str,
+    many: &str,
+) -> Result<(), NoMemory>
+    ensures { OnOk result
+        (string_bytes text.new ≡ string_bytes text.old ++ counted_next count one.now many.now) }
+{
+    text.push_str(", ")?;
+    push_count(text, count, one, many)
 }

@@ -1,6 +1,8 @@
 //! The picture of a ratifier.
+ghost use Rattle.std.specs.Prelude.{◌≡◌, ◌++◌, IfOk, OnOk, length, string_bytes};
+ghost use Rattle.mb_picture.specs.Svg.{ratifier_title};
 
-use crate::label::push_count;
+use crate::label::{push_count, push_next_count};
 use crate::picture::{Deed, Kind, MAX_ROWS, Mark, Picture, Remark, Value, Who, Word};
 use crate::report::MAX_LINES;
 use mb_cells::NoMemory;
@@ -121,11 +123,28 @@ fn push_title<A: Allocator>(
     turns: usize,
     processes: usize,
     values: u64,
-) -> Result<(), NoMemory> {
+) -> Result<(), NoMemory>
+    ensures { OnOk result (string_bytes text.new
+        ≡ string_bytes text.old ++ ratifier_title turns processes values) }
+{
     text.push_str("Ratifier: ")?;
-    push_count(text, turns as u64, "turn")?;
-    push_count(text, processes as u64, "process")?;
-    push_count(text, values, "value")
+    push_count(text, turns as u64, "turn", "turns")?;
+    push_next_count(text, processes as u64, "process", "processes")?;
+    push_next_count(text, values, "value", "values")
+}
+
+/// What the picture of a ratifier is of.
+fn title_of<A: Allocator>(
+    alloc: A,
+    turns: usize,
+    processes: usize,
+    values: u64,
+) -> Result<String<A>, NoMemory>
+    ensures { IfOk result (λ title. string_bytes title ≡ ratifier_title turns processes values) }
+{
+    let mut title = String::new(alloc);
+    push_title(&mut title, turns, processes, values)?;
+    Ok(title)
 }
 
 /// A mark for each of these entries, in the column of its process.
@@ -145,13 +164,11 @@ fn push_marks<A: Allocator + Copy>(
 /// Draws a trace, and appends the output of each process.
 fn draw<A: Allocator + Copy>(
     picture: &mut Picture<A>,
-    values: u64,
     inputs: &[u64],
     trace: &Trace<A>,
 ) -> Result<(), NoMemory> {
     let turns = trace.entries.len();
     let drawn = turns.min(MAX_ROWS);
-    push_title(&mut picture.title, turns, inputs.len(), values)?;
     push_columns(picture, inputs, &trace.entries[..drawn])?;
     push_marks(picture, &trace.entries[..drawn])?;
     picture.hidden = turns - drawn;
@@ -164,8 +181,12 @@ pub fn ratify_picture<A: Allocator + Copy>(
     values: u64,
     inputs: &[u64],
     trace: &Trace<A>,
-) -> Result<Picture<A>, NoMemory> {
+) -> Result<Picture<A>, NoMemory>
+    ensures { IfOk result (λ picture. string_bytes picture.title
+        ≡ ratifier_title (length trace.now.entries.items) (length inputs.now) values) }
+{
     let mut picture = Picture::new(alloc, Kind::Ratifier);
-    draw(&mut picture, values, inputs, trace)?;
+    draw(&mut picture, inputs, trace)?;
+    picture.title = title_of(alloc, trace.entries.len(), inputs.len(), values)?;
     Ok(picture)
 }

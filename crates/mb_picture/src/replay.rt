@@ -1,6 +1,9 @@
 //! The picture of a replay.
+ghost use Rattle.std.specs.Prelude.{◌≡◌, ◌++◌, IfOk, OnOk, string_bytes};
+ghost use Rattle.mb_script.specs.Vocabulary.{view};
+ghost use Rattle.mb_picture.specs.Svg.{replay_title};
 
-use crate::label::push_count;
+use crate::label::{push_count, push_next_count};
 use crate::picture::{Deed, Kind, MAX_ROWS, Mark, Picture, Remark, Value, Who, Word};
 use crate::report::push_shown;
 use mb_cells::{Finish, Look, NoMemory, Offer, Push};
@@ -246,15 +249,24 @@ fn draw_all<A: Allocator + Copy>(
 }
 
 /// Appends the title of a replay: how many events, producers, consumers and cells it has.
-fn push_title<A: Allocator + Copy>(
-    text: &mut String<A>,
-    script: &Script<A>,
-) -> Result<(), NoMemory> {
+fn push_title<A: Allocator + Copy>(text: &mut String<A>, script: &Script<A>) -> Result<(), NoMemory>
+    ensures { OnOk result
+        (string_bytes text.new ≡ string_bytes text.old ++ replay_title (view script.now)) }
+{
     text.push_str("Replay: ")?;
-    push_count(text, script.events.len() as u64, "event")?;
-    push_count(text, script.setup.producers(), "producer")?;
-    push_count(text, script.setup.consumers(), "consumer")?;
-    push_count(text, script.setup.cells(), "cell")
+    push_count(text, script.events.len() as u64, "event", "events")?;
+    push_next_count(text, script.setup.producers(), "producer", "producers")?;
+    push_next_count(text, script.setup.consumers(), "consumer", "consumers")?;
+    push_next_count(text, script.setup.cells(), "cell", "cells")
+}
+
+/// The title of a replay.
+fn title_of<A: Allocator + Copy>(alloc: A, script: &Script<A>) -> Result<String<A>, NoMemory>
+    ensures { IfOk result (λ title. string_bytes title ≡ replay_title (view script.now)) }
+{
+    let mut title = String::new(alloc);
+    push_title(&mut title, script)?;
+    Ok(title)
 }
 
 /// Appends the lines of a report that a picture shows.
@@ -274,7 +286,6 @@ fn draw_and_report<A: Allocator + Copy>(
     world: &mut World<A>,
     script: &Script<A>,
 ) -> Result<(), NoMemory> {
-    push_title(&mut picture.title, script)?;
     draw_all(alloc, picture, world, script)?;
     let report = world.report(alloc)?;
     push_report(alloc, &mut picture.report, &report)
@@ -294,8 +305,12 @@ fn draw_anew<A: Allocator + Copy>(
 pub fn replay_picture<A: Allocator + Copy>(
     alloc: A,
     script: &Script<A>,
-) -> Result<Picture<A>, NoMemory> {
+) -> Result<Picture<A>, NoMemory>
+    ensures { IfOk result
+        (λ picture. string_bytes picture.title ≡ replay_title (view script.now)) }
+{
     let mut picture = Picture::new(alloc, Kind::Replay);
     draw_anew(alloc, &mut picture, script)?;
+    picture.title = title_of(alloc, script)?;
     Ok(picture)
 }

@@ -1,4 +1,6 @@
 //! A picture as SVG.
+ghost use Rattle.std.specs.Prelude.{◌≡◌, ◌++◌, IfOk, OnOk, string_bytes};
+ghost use Rattle.mb_picture.specs.Svg.{IsSvgOf, svg_text};
 
 mod legend;
 mod shapes;
@@ -199,20 +201,27 @@ fn push_foot<A: Allocator>(
     Ok(at)
 }
 
-/// What stands before the drawing: the size, what a screen reader tells, and the style.
-fn push_opening<A: Allocator + Copy>(
+/// The attributes of a picture of this size.
+fn push_attributes<A: Allocator>(
     text: &mut String<A>,
-    picture: &Picture<A>,
     width: usize,
     height: usize,
 ) -> Result<(), NoMemory> {
     write!(
         text,
-        "<svg xmlns='http://www.w3.org/2000/svg' class='hz' width='{width}' height='{height}' viewBox='0 0 {width} {height}' "
+        "class='hz' width='{width}' height='{height}' viewBox='0 0 {width} {height}' "
     )?;
-    text.push_str("role='img' aria-labelledby='title desc'>\n<title id='title'>")?;
-    push_escaped(text, &picture.title)?;
-    text.push_str("</title>\n<desc id='desc'>Time runs downward, one event a row. The report: ")?;
+    text.push_str("role='img' aria-labelledby='title desc'>\n")
+}
+
+/// What stands before the drawing: what a screen reader tells beside the title, the style, the ground and the title.
+fn push_front<A: Allocator + Copy>(
+    text: &mut String<A>,
+    picture: &Picture<A>,
+    width: usize,
+    height: usize,
+) -> Result<(), NoMemory> {
+    text.push_str("<desc id='desc'>Time runs downward, one event a row. The report: ")?;
     for line in picture.report.as_str().lines() {
         push_escaped(text, line)?;
         text.push_str("; ")?;
@@ -242,34 +251,66 @@ fn push_body<A: Allocator + Copy>(
     push_legend(text, picture.kind, foot.saturating_add(10))
 }
 
-/// A body of this height between what stands before it and the end.
-fn push_whole<A: Allocator + Copy>(
+/// Appends the text of a picture with these attributes, this title, and this inside.
+fn push_whole<A: Allocator>(
     text: &mut String<A>,
-    picture: &Picture<A>,
-    width: usize,
-    height: usize,
-    body: &str,
-) -> Result<(), NoMemory> {
-    push_opening(text, picture, width, height)?;
-    text.push_str(body)?;
+    attributes: &str,
+    title: &str,
+    inside: &str,
+) -> Result<(), NoMemory>
+    ensures { OnOk result (string_bytes text.new
+        ≡ string_bytes text.old ++ svg_text attributes.now title.now inside.now) }
+{
+    text.push_str("<svg xmlns='http://www.w3.org/2000/svg' ")?;
+    text.push_str(attributes)?;
+    text.push_str("<title id='title'>")?;
+    push_escaped(text, title)?;
+    text.push_str("</title>\n")?;
+    text.push_str(inside)?;
     text.push_str("</svg>\n")
 }
 
-/// Appends the picture as SVG.
-fn push_svg<A: Allocator + Copy>(
+/// The text of a picture with these attributes, this title, and this inside.
+fn text_of<A: Allocator>(
     alloc: A,
-    text: &mut String<A>,
+    attributes: &str,
+    title: &str,
+    inside: &str,
+) -> Result<String<A>, NoMemory>
+    ensures { IfOk result
+        (λ text. string_bytes text ≡ svg_text attributes.now title.now inside.now) }
+{
+    let mut text = String::new(alloc);
+    push_whole(&mut text, attributes, title, inside)?;
+    Ok(text)
+}
+
+/// The picture of this size as SVG, with this drawing.
+fn sized_svg_of<A: Allocator + Copy>(
+    alloc: A,
     picture: &Picture<A>,
-) -> Result<(), NoMemory> {
-    let layout = layout_of(alloc, picture)?;
-    let mut body = String::new(alloc);
-    let height = push_body(alloc, &mut body, picture, &layout)?;
-    push_whole(text, picture, layout.width, height, &body)
+    width: usize,
+    height: usize,
+    drawing: &str,
+) -> Result<String<A>, NoMemory>
+    ensures { IfOk result
+        (λ text. IsSvgOf (string_bytes picture.now.title) (string_bytes text)) }
+{
+    let mut attributes = String::new(alloc);
+    push_attributes(&mut attributes, width, height)?;
+    let mut inside = String::new(alloc);
+    push_front(&mut inside, picture, width, height)?;
+    inside.push_str(drawing)?;
+    text_of(alloc, &attributes, &picture.title, &inside)
 }
 
 /// The picture as SVG.
-pub fn svg_of<A: Allocator + Copy>(alloc: A, picture: &Picture<A>) -> Result<String<A>, NoMemory> {
-    let mut text = String::new(alloc);
-    push_svg(alloc, &mut text, picture)?;
-    Ok(text)
+pub fn svg_of<A: Allocator + Copy>(alloc: A, picture: &Picture<A>) -> Result<String<A>, NoMemory>
+    ensures { IfOk result
+        (λ text. IsSvgOf (string_bytes picture.now.title) (string_bytes text)) }
+{
+    let layout = layout_of(alloc, picture)?;
+    let mut body = String::new(alloc);
+    let height = push_body(alloc, &mut body, picture, &layout)?;
+    sized_svg_of(alloc, picture, layout.width, height, &body)
 }

@@ -1,14 +1,8 @@
 -- Proof of `push_text`: appends a text.
-use Rattle.std.proofs.Common.{◌≡◌, List, ℕ, ◌++◌, append_assoc, codes, string_bytes, ◌∙◌}
-use Rattle.std.specs.Prelude.{if◌then◌else◌, Result, Ok, Err, OnOk, is_ok}
+use Rattle.std.proofs.Common.{◌≡◌, ◌++◌, append_assoc, codes, string_bytes}
 use Rattle.mb_picture.specs.Escaped.{text_element}
+use Rattle.mb_picture.proofs.Written.{written}
 use Rattle.mb_picture.proofs.svg.shapes.push_text.Goals as goal
-
--- what was written, if it was
-written : {T E : Type 0} (r : Result T E) (new all none text : List ℕ)
-    → new ≡ (if is_ok r then all else none) → all ≡ text → OnOk r (new ≡ text)
-written (Ok x) new all none text e f = e ∙ f
-written (Err x) new all none text e f = tt
 
 pub returns : goal.returns
 returns g c =
