@@ -64,6 +64,7 @@ fn put_jobs(mailbox: &Mailbox<Global>, producer: &mut Producer<Global>, jobs: (u
             // Every worker can find the job from now on.
             Put::Linked => {}
             // There is no cell left, now and for ever. The job is not in the mailbox, so it is still the producer's.
+            // `Closed` does not occur, since the lane is ended only after this loop.
             Put::Full | Put::Closed => break,
         }
     }

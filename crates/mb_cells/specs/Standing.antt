@@ -61,7 +61,7 @@ offer_by_found cells n = if nat_lt n cells then offer.Cell n else offer.Full
 abbrev pub offer_answer : ℕ → ℕ → Lane → Offer
 offer_answer cells n lane = unwrap_or (offer_refusal lane) (offer_by_found cells n)
 
--- the lane after an offer whose fetch-add gave n
+-- the place after an offer whose fetch-add gave n
 abbrev pub lane_after_offer : ℕ → ℕ → ℕ → Lane → Lane
 lane_after_offer cells item n lane =
     record { last = lane.last; stage = if nat_lt n cells then stage.Offered n item else stage.Full }
@@ -116,7 +116,7 @@ stage_after_push (stage.Ended full) = stage.Ended full
 stage_after_push stage.Full = stage.Full
 stage_after_push stage.Open = stage.Open
 
--- the lane after a push's store
+-- the place after a push's store
 abbrev pub lane_after_push : Lane → Lane
 lane_after_push lane =
     record { last = last_after_push lane.last lane.stage; stage = stage_after_push lane.stage }
@@ -146,7 +146,7 @@ is_full (stage.Ended full) = false
 is_full stage.Full = true
 is_full stage.Open = false
 
--- the lane after the store of the end mark
+-- the place after the store of the end mark
 abbrev pub lane_after_finish : Lane → Lane
 lane_after_finish lane = record { last = lane.last; stage = stage.Ended (is_full lane.stage) }
 

@@ -6,7 +6,7 @@ use Rattle.mb_deciding.specs.Vocabulary.{answer, IsPath}
 use Rattle.mb_claim.specs.{Proposal, Quorum, Load, Store, Kind, Conciliator, Ratifier}
 use Rattle.mb_claim.specs.{LastObject, ObjectTurn, Won, Lost, part_on, turns_on, IsClaimPrefixFrom, IsClaimPart}
 use Rattle.mb_claim.specs.{ClaimAccess, AreInWords, IsClaimLawful, two_with, both_pass, through_all}
-use Rattle.mb_claim.specs.{past_the_pair, through_three}
+use Rattle.mb_claim.specs.{skip_the_pair, through_three}
 use Rattle.mb_claim.proofs.Lists.{not_empty}
 use Rattle.mb_claim.proofs.ObjectHistories.{turns_at}
 use Rattle.mb_claim.proofs.LawfulExamples.{AreAll, known, zero_word, one_word, two_word, one_put, two_put}
@@ -274,9 +274,9 @@ both_lawful =
     }
 
 -- a history in which consumer 0 goes to the last object without the pair is not lawful
-pub past_refused : IsClaimLawful (two_with true true) past_the_pair → ⊥
+pub past_refused : IsClaimLawful (two_with true true) skip_the_pair → ⊥
 past_refused bad =
-    let xs : List ObjectTurn = part_on 0 0 past_the_pair in
+    let xs : List ObjectTurn = part_on 0 0 skip_the_pair in
     let mine = bad.parts 0 0 (λ none. not_empty _ _ none) in
     let first =
     came_undecided (unary_table 2) 0 Ratifier (Ratifier ∷ Conciliator 2 ∷ Ratifier ∷ LastObject ∷ []) 0 0 4 xs

@@ -6,7 +6,7 @@ use Rattle.mb_deciding.specs.Vocabulary.{IsInWords, answer, IsPath}
 use Rattle.mb_claim.specs.{Proposal, Quorum, Last, Load, Store, Exchange, Kind, Conciliator, Ratifier, LastObject}
 use Rattle.mb_claim.specs.{ObjectTurn, ClaimAccess, Stage, Going, Won, Lost, part_on, turns_on, IsClaimPrefixFrom}
 use Rattle.mb_claim.specs.{IsClaimPart, IsClaimLawful, both_undecided, two_consumers, two_with, lost_at_second}
-use Rattle.mb_claim.specs.{past_both_ratifiers, past_one_ratifier, last_decides, last_found_empty_twice, last_comes_first}
+use Rattle.mb_claim.specs.{skip_both_ratifiers, skip_one_ratifier, last_decides, last_found_empty_twice, last_comes_first}
 use Rattle.mb_claim.proofs.Lists.{not_empty}
 use Rattle.mb_claim.proofs.ObjectHistories.{turns_at}
 use Rattle.mb_claim.proofs.PassedRatifiers.{came_undecided, both_came_undecided}
@@ -120,18 +120,18 @@ fast_lawful =
       ) some;
     }
 
--- `past_both_ratifiers` is not lawful: who comes to the conciliator has passed the first ratifier
-pub both_refused : IsClaimLawful (two_with true false) past_both_ratifiers → ⊥
+-- `skip_both_ratifiers` is not lawful: who comes to the conciliator has passed the first ratifier
+pub both_refused : IsClaimLawful (two_with true false) skip_both_ratifiers → ⊥
 both_refused bad =
-    let xs : List ObjectTurn = part_on 0 0 past_both_ratifiers in
+    let xs : List ObjectTurn = part_on 0 0 skip_both_ratifiers in
     let mine = bad.parts 0 0 (λ none. not_empty _ _ none) in
     (both_came_undecided (unary_table 2) 0 (Conciliator 2 ∷ Ratifier ∷ []) 0 2 xs mine.2.0 (omega arith) mine.2.1
     (λ none. not_empty _ _ none)).2
 
--- `past_one_ratifier` is not lawful: who comes to the conciliator has passed the second ratifier
-pub one_refused : IsClaimLawful (two_with true false) past_one_ratifier → ⊥
+-- `skip_one_ratifier` is not lawful: who comes to the conciliator has passed the second ratifier
+pub one_refused : IsClaimLawful (two_with true false) skip_one_ratifier → ⊥
 one_refused bad =
-    let xs : List ObjectTurn = part_on 1 0 past_one_ratifier in
+    let xs : List ObjectTurn = part_on 1 0 skip_one_ratifier in
     let mine = bad.parts 1 0 (λ none. not_empty _ _ none) in
     (both_came_undecided (unary_table 2) 1 (Conciliator 2 ∷ Ratifier ∷ []) 1 2 xs mine.2.0 (omega arith) mine.2.1
     (λ none. not_empty _ _ none)).3

@@ -1,5 +1,5 @@
 -- Histories of claims on one cell, for two consumers and one pair over the unary table. Some are lawful, and some are
--- not. Below them stand the steps and entries of a run of such claims.
+-- not. Below them stand the steps and entries of a play of such claims.
 use Rattle.std.specs.Prelude.{ℕ, List, [], ◌∷◌}
 use Rattle.mb_quorum.specs.Unary.{unary_table}
 use Rattle.mb_claim.specs.declared.run.ClaimEntry.TheVariants as entry
@@ -63,7 +63,7 @@ own_number_again = access_at 1 1 (Store (Quorum 1) 1) ∷ access_at 1 0 (Load Va
 abbrev pub of_a_stranger : List ClaimAccess
 of_a_stranger = access_at 2 0 (Load Value 0) ∷ []
 
--- ---- steps and entries of a run
+-- ---- steps and entries of a play
 -- two consumers that make these steps have these entries and stages
 abbrev pub IsPlayedByTwo : List (ℕ × ℕ) → List ClaimEntry → List Stage → Type 0
 IsPlayedByTwo steps entries stages = IsPlayed two_consumers steps entries stages

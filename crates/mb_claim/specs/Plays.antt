@@ -1,4 +1,4 @@
--- A run of claims on one cell: steps are pairs (consumer, random word), in the order of time.
+-- A play of claims on one cell: steps are pairs (consumer, random word), in the order of time.
 use Rattle.std.specs.Prelude.{ℕ, ◌≡◌, ◌≢◌, ◌<◌, List, [], ◌∷◌, length, slice_index_or}
 use Rattle.mb_claim.specs.declared.run.ClaimEntry.TheVariants as entry
 use Rattle.mb_claim.specs.AllClaims.{Claims}

@@ -29,12 +29,12 @@ lost_at_second =
     (Quorum 1) 1) ∷ won_at_once
 
 -- not lawful: consumer 0 begins with the conciliator
-abbrev pub past_both_ratifiers : List ClaimAccess
-past_both_ratifiers = access_at 0 2 (Load Value 0) ∷ []
+abbrev pub skip_both_ratifiers : List ClaimAccess
+skip_both_ratifiers = access_at 0 2 (Load Value 0) ∷ []
 
--- not lawful: consumer 1 goes to the conciliator after the first ratifier
-abbrev pub past_one_ratifier : List ClaimAccess
-past_one_ratifier =
+-- not lawful: consumer 1 goes to the conciliator after the first ratifier alone
+abbrev pub skip_one_ratifier : List ClaimAccess
+skip_one_ratifier =
     access_at 1 2 (Load Value 0) ∷ access_at 1 0 (Load (Quorum 1) 1) ∷ access_at 1 0 (Load Proposal 1)
     ∷ access_at 1 0 (Store (Quorum 1) 1) ∷ won_at_once
 
@@ -76,5 +76,5 @@ through_all =
     access_at 1 4 (Exchange Last 2 1) ∷ access_at 0 4 (Exchange Last 1 0) ∷ both_pass 3 through_three
 
 -- not lawful: consumer 0 goes from the fast path to the last object
-abbrev pub past_the_pair : List ClaimAccess
-past_the_pair = access_at 0 4 (Exchange Last 1 0) ∷ both_pass 1 (both_pass 0 [])
+abbrev pub skip_the_pair : List ClaimAccess
+skip_the_pair = access_at 0 4 (Exchange Last 1 0) ∷ both_pass 1 (both_pass 0 [])

@@ -1,13 +1,13 @@
-//! Small histories and runs of the claims of two consumers on one cell: what the definitions admit, and what they
-//! refuse. The functions compute nothing. The proofs begin in `proofs/examples`.
+//! Small histories and plays of the claims of two consumers on one cell, and rows of accesses: what the definitions
+//! admit, and what they refuse. The functions compute nothing. The proofs begin in `proofs/examples`.
 ghost use Rattle.std.specs.Prelude.{ℕ, ◌≡◌, ◌≢◌, ◌+◌, true, false, [], ◌∷◌};
 ghost use Rattle.mb_claim.specs.{AreClaimSteps, Claim, Layout, claim_stage};
 ghost use Rattle.mb_claim.specs.declared.run.ClaimEntry.TheVariants as entry;
 ghost use Rattle.mb_claim.specs.{Load, Store, Value, Quorum, IsClaimLawful, HasStage, IsClaimContested, Going, Won};
 ghost use Rattle.mb_claim.specs.{Lost, Undecided, two_consumers, won_and_lost, both_undecided, begun_again};
 ghost use Rattle.mb_claim.specs.{after_winning, own_number_again, of_a_stranger, IsPlayedByTwo, step, eight_steps};
-ghost use Rattle.mb_claim.specs.{won_and, two_with, lost_at_second, past_both_ratifiers, past_one_ratifier};
-ghost use Rattle.mb_claim.specs.{last_decides, last_found_empty_twice, last_comes_first, through_all, past_the_pair};
+ghost use Rattle.mb_claim.specs.{won_and, two_with, lost_at_second, skip_both_ratifiers, skip_one_ratifier};
+ghost use Rattle.mb_claim.specs.{last_decides, last_found_empty_twice, last_comes_first, through_all, skip_the_pair};
 
 use crate::laws::last_objects_decide_claims;
 use mb_deciding::examples::small_histories;
@@ -54,9 +54,9 @@ pub fn fast_paths_come_first()
     ensures won { HasStage (two_with true false) 0 0 Won lost_at_second }
     ensures lost { HasStage (two_with true false) 1 0 (Lost 0) lost_at_second }
 
-    // No consumer may begin with the conciliator, or go there after the first ratifier.
-    ensures none { IsClaimLawful (two_with true false) past_both_ratifiers → ⊥ }
-    ensures one { IsClaimLawful (two_with true false) past_one_ratifier → ⊥ }
+    // No consumer may skip both ratifiers and begin with the conciliator, or skip the second alone.
+    ensures none { IsClaimLawful (two_with true false) skip_both_ratifiers → ⊥ }
+    ensures one { IsClaimLawful (two_with true false) skip_one_ratifier → ⊥ }
 {}
 
 /// Histories with a last object after the pair.
@@ -91,10 +91,10 @@ pub fn both_ends_may_be_there()
     ensures lost { HasStage (two_with true true) 1 0 (Lost 0) through_all }
 
     // No consumer may go from the fast path to the last object.
-    ensures past { IsClaimLawful (two_with true true) past_the_pair → ⊥ }
+    ensures past { IsClaimLawful (two_with true true) skip_the_pair → ⊥ }
 {}
 
-/// A run, and entries and stages that do not make a run.
+/// A play, and entries and stages that do not make a play.
 pub fn plays_are_told_from_others()
     // Consumer 0 wins in seven steps. Its eighth step makes no access.
     ensures won { IsPlayedByTwo eight_steps (won_and (entry.Done 0)) (Won ∷ Going ∷ []) }

@@ -105,7 +105,7 @@ pub fn claims_have_steps_left()
     places_have_turns_left();
 }
 
-/// Steps have one run at most: the entries and the stages are determined by the claims and the steps.
+/// Steps have one play at most: the entries and the stages are determined by the claims and the steps.
 pub fn steps_have_one_play()
     ensures { (cs : Claims) (steps : List (ℕ × ℕ)) (es fs : List ClaimEntry) (ss rs : List Stage)
         → ClaimsAreSound cs

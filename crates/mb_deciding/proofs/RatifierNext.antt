@@ -91,7 +91,7 @@ pub act_follows :
 act_follows t v later made a d u h = (suffix_follow t v later (a ∷ made) (path_follow t v (later ++ a ∷ made) d u h)).0
 
 -- ---- what was done before names one op
--- two registers with the same number of registers below them are one
+-- two registers of a quorum with equally many of its registers below them are one
 same_register :
     (act : ℕ → Act) (mask r s : ℕ) → IsMember mask r → IsMember mask s
     → length (acts_below act r mask) ≡ length (acts_below act s mask) → r ≡ s

@@ -23,7 +23,7 @@ count_missing [] = 0
 count_missing (Some x ∷ xs) = count_missing xs
 count_missing (None ∷ xs) = suc (count_missing xs)
 
--- ---- what was taken in, by numbers. If a number was not taken in, that is nothing
+-- ---- what was taken in, by numbers. Nothing stands at the number of one that was not taken in
 -- what stands at this number, if there is anything
 abbrev pub kept_at : {X : Type 0} → List (Option X) → ℕ → Option X
 kept_at xs n = option_map_or (λ o. o) (slice_get xs n) None
@@ -119,7 +119,7 @@ pub record IsGathered (m : MailboxView) (h : HubView) (r : ReportView) : Type 0 
 abbrev pub put_count : ReportView → ℕ
 put_count r = sum_by (λ l. length l.put) r.lanes
 
--- if a producer that was taken in found no cell, all the cells are put
+-- if a producer that was taken in found no cell, as many items are put as there are cells
 abbrev pub FullTakesAll : MailboxView → HubView → ReportView → Type 0
 FullTakesAll m h r =
     (p : ℕ) (done : History) → slice_get h.cells.roll.lanes p ≡ Some (Some done)

@@ -7,24 +7,24 @@ use Rattle.mb_picture.specs.declared.picture.Mark.{Mark}
 use Rattle.mb_picture.specs.declared.picture.Line.{Line}
 
 -- the word that a deed loaded, if it loaded one
-abbrev pub loaded_by : Deed → Option Word
-loaded_by (Load word found) = Some word
-loaded_by (Store word value) = None
-loaded_by (Add word found) = Some word
-loaded_by (Exchange word value found) = Some word
-loaded_by Nothing = None
+abbrev pub word_loaded : Deed → Option Word
+word_loaded (Load word found) = Some word
+word_loaded (Store word value) = None
+word_loaded (Add word found) = Some word
+word_loaded (Exchange word value found) = Some word
+word_loaded Nothing = None
 
 -- the word that a deed stored in, if it stored in one. An exchange stores only if it found 0.
-abbrev pub stored_by : Deed → Option Word
-stored_by (Load word found) = None
-stored_by (Store word value) = Some word
-stored_by (Add word found) = Some word
-stored_by (Exchange word value found) = if found == 0 then Some word else None
-stored_by Nothing = None
+abbrev pub word_stored : Deed → Option Word
+word_stored (Load word found) = None
+word_stored (Store word value) = Some word
+word_stored (Add word found) = Some word
+word_stored (Exchange word value found) = if found == 0 then Some word else None
+word_stored Nothing = None
 
 -- the mark in this row stored in the word
 abbrev pub StoresAt : List Mark → Word → ℕ → Type 0
-StoresAt marks word row = option_and_then (λ m. stored_by m.deed) (slice_get marks row) ≡ Some word
+StoresAt marks word row = option_and_then (λ m. word_stored m.deed) (slice_get marks row) ≡ Some word
 
 -- of the first `rows` rows this is the last one that stored in the word, or there is none
 abbrev pub IsLastStore : List Mark → Word → ℕ → Option ℕ → Type 0
@@ -45,4 +45,4 @@ lines_to row (Some from) = record { from = from; to = row } ∷ []
 -- the lines after the next mark: one more, or none
 abbrev pub AreLinesAfter : List Mark → Mark → List Line → List Line → Type 0
 AreLinesAfter marks mark before after =
-    (from : Option ℕ) × IsLedFrom marks (loaded_by mark.deed) from × (after ≡ before ++ lines_to (length marks) from)
+    (from : Option ℕ) × IsLedFrom marks (word_loaded mark.deed) from × (after ≡ before ++ lines_to (length marks) from)

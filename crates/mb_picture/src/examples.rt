@@ -5,7 +5,7 @@ ghost use Rattle.mb_picture.specs.declared.picture.Value.TheVariants.{Number};
 ghost use Rattle.mb_picture.specs.declared.picture.Word.TheVariants.{Counter, Item};
 ghost use Rattle.mb_picture.specs.Diaries.{IsEmptyDiary};
 ghost use Rattle.mb_picture.specs.Escaped.{escaped, escaped_text, text_element};
-ghost use Rattle.mb_picture.specs.Led.{AreLinesAfter, IsLastStore, loaded_by, stored_by};
+ghost use Rattle.mb_picture.specs.Led.{AreLinesAfter, IsLastStore, word_loaded, word_stored};
 ghost use Rattle.mb_picture.specs.LedExamples.{counter_load, mark_of, three_stores};
 ghost use Rattle.mb_picture.specs.Svg.{IsSvgOf, ratifier_title};
 
@@ -23,11 +23,11 @@ pub fn texts_are_escaped()
 
 /// An exchange loads its word, and stores in it if it found 0.
 pub fn exchanges_store_over_0()
-    ensures stored { stored_by (Exchange (Item 3) 1 0) ≡ Some (Item 3) }
-    ensures kept { stored_by (Exchange (Item 3) 1 2) ≡ None }
-    ensures loaded { loaded_by (Exchange (Item 3) 1 2) ≡ Some (Item 3) }
-    ensures load { stored_by (Load Counter (Number 1)) ≡ None }
-    ensures store { loaded_by (Store Counter (Number 1)) ≡ None }
+    ensures stored { word_stored (Exchange (Item 3) 1 0) ≡ Some (Item 3) }
+    ensures kept { word_stored (Exchange (Item 3) 1 2) ≡ None }
+    ensures loaded { word_loaded (Exchange (Item 3) 1 2) ≡ Some (Item 3) }
+    ensures load { word_stored (Load Counter (Number 1)) ≡ None }
+    ensures store { word_loaded (Store Counter (Number 1)) ≡ None }
 {}
 
 /// The last store of a word is the last row that stored in it, of those that count.

@@ -1,6 +1,6 @@
 //! A picture as data: columns for those who act, and a mark in a row of its own for each event.
 ghost use Rattle.std.specs.Prelude.{◌≡◌, ◌<◌, ◌++◌, ◌∷◌, [], OnOk, length, nat_lt, if◌then◌else◌};
-ghost use Rattle.mb_picture.specs.Led.{AreLinesAfter, IsLastStore, loaded_by, stored_by};
+ghost use Rattle.mb_picture.specs.Led.{AreLinesAfter, IsLastStore, word_loaded, word_stored};
 ghost use Rattle.mb_picture.specs.declared.picture.TheConstants.{MAX_ROWS};
 
 use mb_cells::NoMemory;
@@ -144,9 +144,9 @@ pub struct Mark {
     pub deed: Deed,
     /// The result of the event.
     pub remark: Remark,
-    /// Whether a claim begins with the event.
+    /// Whether a box begins with the event.
     pub opens: bool,
-    /// Whether the claim ends with the event.
+    /// Whether the box ends with the event.
     pub ends: bool,
 }
 
@@ -159,7 +159,7 @@ pub struct Line {
     pub to: usize,
 }
 
-/// A box round a claim.
+/// A box round a claim on an item, or round a process's use of a ratifier.
 #[derive(Clone, Copy)]
 pub struct Frame {
     /// The number of its column.
@@ -198,7 +198,7 @@ pub struct Picture<A: Allocator + Drop> {
 impl Deed {
     /// The word that the event loaded, if it loaded one.
     pub fn loaded(self) -> Option<Word>
-        ensures { result ≡ loaded_by self }
+        ensures { result ≡ word_loaded self }
     {
         match self {
             Deed::Load(word, _) | Deed::Add(word, _) | Deed::Exchange { word, .. } => Some(word),
@@ -208,7 +208,7 @@ impl Deed {
 
     /// The word in which the event stored, if it stored.
     pub fn stored(self) -> Option<Word>
-        ensures { result ≡ stored_by self }
+        ensures { result ≡ word_stored self }
     {
         match self {
             Deed::Store(word, _) | Deed::Add(word, _) => Some(word),

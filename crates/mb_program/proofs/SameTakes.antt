@@ -37,7 +37,7 @@ module _ (s : Swap) (same : ReadsSame s) where
   abbrev f : Rule → Rule
   f = swapped s
 
-  -- ---- one use of an argument
+  -- ---- one use of an argument, and its default values
   -- the values of an argument pass as before
   values_same : (a : Rule) (values : List Text) → values_pass (f a) values ≡ values_pass a values
   values_same a [] = refl

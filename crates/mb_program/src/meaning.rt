@@ -96,8 +96,8 @@ fn of_run(fault: RunFault) -> &'static str {
 
 /// What the fault means, in one line with its LF, for a person at a terminal.
 ///
-/// If the fault lies in a script, the line says where, and what a good script has there. The error comes if memory runs
-/// out.
+/// If the fault lies on a line, at an input or at a turn, the text says which, and what is wrong or wanted there. The
+/// error comes if memory runs out.
 pub fn explanation<A: Allocator>(alloc: A, failed: &Failed) -> Result<String<A>, NoMemory> {
     let (spot, words) = match *failed {
         Failed::Ratify(fault) => of_ratify(fault),

@@ -82,12 +82,13 @@ three_numbers n (a ∷ b ∷ c ∷ []) =
 three_numbers n words = Err (BadLine n)
 
 -- ---- the first line: `setup`, four numbers, a table's name, and the shape of cells that have more than pairs
--- what a setup makes, or its fault, if the setup is refused for a reason
+-- what a setup makes, or the fault of line 1, if there is a reason to refuse the setup
 abbrev pub made_of : Option SetupFault → Made → Result Made Fault
 made_of None made = Ok made
 made_of (Some fault) made = Err (BadSetup 1 fault)
 
--- what the words after `setup` make, or the first fault of them
+-- what the words after `setup` make, or a fault: first of their count, the table and the shape, then of the first bad
+-- number, and last of the ranges
 unfoldable pub sizes_of : List (List ℕ) → Result Made Fault
 sizes_of (producers ∷ consumers ∷ cells ∷ pairs ∷ name ∷ shape) = do
   t ← ok_or (table_named name) (BadLine 1)

@@ -1,4 +1,4 @@
--- The transcript: a line for each event. It has the event's words, except the random word of a step, and the answer.
+-- The transcript: a line for each event, with its words and its answer. Of a step it leaves out the random word.
 use Rattle.std.specs.Prelude.{ℕ, List, [], ◌∷◌, ◌++◌, codes}
 use Rattle.std.specs.Fmt.{decimal}
 use Rattle.mb_claim.specs.declared.access.Stage.{Stage}

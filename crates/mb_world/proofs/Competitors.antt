@@ -13,7 +13,7 @@ use Rattle.mb_world.specs.Fitting.{EndsAs, parts_of}
 use Rattle.mb_world.specs.Reporting.{IsDiaryOf, IsReportOf}
 use Rattle.mb_world.proofs.Diaries.{met_at, note_at, open_last, placed}
 use Rattle.mb_world.specs.Known.{Known}
-use Rattle.mb_world.proofs.Positions.{StandsAt, at_one, at_reverse, has_at}
+use Rattle.mb_world.proofs.Positions.{HasPosition, at_one, at_reverse, has_at}
 use Rattle.mb_world.proofs.Recorded.{competed_in}
 use Rattle.mb_world.proofs.ReportPositions.{begun_is, notes_is}
 use Rattle.mb_world.proofs.Diaries as diaries
@@ -31,7 +31,7 @@ module _ (plan : Plan) (hs : Histories) (known : Known plan hs)
   diary = (is.diary c p cs ps).2
 
   -- cell k stands at position j of the lane
-  on_lane : StandsAt (linked_cells p hs.pool) j k
+  on_lane : HasPosition (linked_cells p hs.pool) j k
   on_lane = at_reverse (linked_cells p hs.pool) j k here
 
   -- a claim that has ended has an access
@@ -47,7 +47,7 @@ module _ (plan : Plan) (hs : Histories) (known : Known plan hs)
   end_made i Undecided e = not_fresh i stage.Undecided e (λ f. cc)
 
   -- the cell at the position of a note is that of the item
-  cell_at : (i : ℕ) → StandsAt diary.cells j i → i ≡ k
+  cell_at : (i : ℕ) → HasPosition diary.cells j i → i ≡ k
   cell_at i at = at_one (linked_cells p hs.pool) j i k (placed plan hs known c p cs d diary j i at) on_lane
 
   -- who competed by its diary has an access to the claim on cell k
@@ -60,7 +60,7 @@ module _ (plan : Plan) (hs : Histories) (known : Known plan hs)
       let q = diary.begun.0 next.1 in
       let at = has_at diary.cells q.0 q.1 in
       let last = open_last plan hs known c p cs d diary at.0 q.0 at.1 q.3 in
-      let there : StandsAt diary.cells j q.0 = subst (λ i. StandsAt diary.cells i q.0) (sym last.0 ∙ next.0) at.1 in
+      let there : HasPosition diary.cells j q.0 = subst (λ i. HasPosition diary.cells i q.0) (sym last.0 ∙ next.0) at.1 in
       subst (λ i. claim_part c i hs.claims ≢ []) (cell_at q.0 there) q.2
 
   -- consumer c competed for the item by the report exactly if it has an access to the claim on cell k

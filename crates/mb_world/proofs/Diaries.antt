@@ -14,7 +14,7 @@ use Rattle.mb_world.specs.Report.{DiaryView}
 use Rattle.mb_world.specs.Fitting.{EndsAs, Fits, HasStageIn, HasRead, parts_of}
 use Rattle.mb_world.specs.Reporting.{IsDiaryOf, values_put}
 use Rattle.mb_world.specs.Known.{Known}
-use Rattle.mb_world.proofs.Positions.{StandsAt, at_has, at_once, at_one, at_reverse, at_some, at_start, at_within, has_at, mapped_at, reverse_at}
+use Rattle.mb_world.proofs.Positions.{HasPosition, at_has, at_once, at_one, at_reverse, at_some, at_start, at_within, has_at, mapped_at, reverse_at}
 use Rattle.mb_world.proofs.Loads.{met_link, read_or_not}
 use Rattle.mb_world.proofs.ReaderParts.{loaded-read, read-loaded}
 
@@ -26,7 +26,7 @@ values_length p pool =
     ∙ (length-reverse (map (entry_of items) (linked_cells p pool)) ∙ length-map (linked_cells p pool) (entry_of items))
 
 -- each value stands at the position of its cell
-value_at : (p j k : ℕ) (pool : History) → StandsAt (linked_cells p pool) j k
+value_at : (p j k : ℕ) (pool : History) → HasPosition (linked_cells p pool) j k
     → slice_get (values_put p pool) j ≡ Some (item_of k pool)
 value_at p j k pool at =
     slice_get-map (λ (e : Entry). e.value) (put_list p pool) j
@@ -92,17 +92,17 @@ module _ (plan : Plan) (hs : Histories) (known : Known plan hs) where
 
   module _ (c p : ℕ) (cs : c < consumers_of plan) (d : DiaryView) (diary : IsDiaryOf plan c p hs d) where
     -- a cell that the consumer met stands at the same position on the lane
-    pub placed : (j k : ℕ) → StandsAt diary.cells j k → StandsAt (linked_cells p hs.pool) j k
+    pub placed : (j k : ℕ) → HasPosition diary.cells j k → HasPosition (linked_cells p hs.pool) j k
     placed j k at =
         let s = known.start (hs.reader_of c) p diary.cells diary.met.met in
-        subst (λ (ls : List ℕ). StandsAt ls j k) s.1 (at_start s.0 diary.cells j k at)
+        subst (λ (ls : List ℕ). HasPosition ls j k) s.1 (at_start s.0 diary.cells j k at)
 
     -- a cell of the lane that the consumer was given stands at the same position among the cells met
-    pub met_at : (j k : ℕ) → StandsAt (linked_cells p hs.pool) j k → Gave k (part (Reader (hs.reader_of c)) hs.pool)
-        → StandsAt diary.cells j k
+    pub met_at : (j k : ℕ) → HasPosition (linked_cells p hs.pool) j k → Gave k (part (Reader (hs.reader_of c)) hs.pool)
+        → HasPosition diary.cells j k
     met_at j k at gave =
         let has = has_at diary.cells k (diary.met.all k gave (at_has (linked_cells p hs.pool) j k at)) in
-        subst (λ (i : ℕ). StandsAt diary.cells i k)
+        subst (λ (i : ℕ). HasPosition diary.cells i k)
         (at_once (linked_cells p hs.pool) has.0 j k (known.once p) (placed has.0 k has.1) at) has.1
 
     -- no more cells were met than are linked
@@ -112,15 +112,15 @@ module _ (plan : Plan) (hs : Histories) (known : Known plan hs) where
         omega (arith, ap length s.1, length-append s.0 diary.cells)
 
     -- note j is the end of the claim on the cell that was met at position j
-    pub note_at : (j : ℕ) (n : Note) → slice_get d.notes j ≡ Some n → (k : ℕ) × StandsAt diary.cells j k × Ends c k n
+    pub note_at : (j : ℕ) (n : Note) → slice_get d.notes j ≡ Some n → (k : ℕ) × HasPosition diary.cells j k × Ends c k n
     note_at j n e = let q = diary.notes j n e in (q.0, at_reverse diary.cells j q.0 q.1, q.2)
 
     -- a claim that has ended has a note
-    noted : (j k : ℕ) (n : Note) → StandsAt diary.cells j k → Ends c k n → j < length d.notes
+    noted : (j k : ℕ) (n : Note) → HasPosition diary.cells j k → Ends c k n → j < length d.notes
     noted j k n at end = diary.all j k n (reverse_at diary.cells j k at) end
 
     -- if a cell's link was loaded, the claim there has a note
-    pub passed : (j k v : ℕ) → StandsAt diary.cells j k
+    pub passed : (j k v : ℕ) → HasPosition diary.cells j k
         → HasLoaded (hs.reader_of c) (Link k) v hs.pool → j < length d.notes
     passed j k v at loaded = let q = ended_past c k v cs loaded in noted j k q.0 at q.1
 
@@ -145,7 +145,7 @@ module _ (plan : Plan) (hs : Histories) (known : Known plan hs) where
             omega (arith, at_within diary.cells (length diary.cells) q.0 q.1)
 
     -- a claim without an end is on the last cell met, and the claims on all cells before it have notes
-    pub open_last : (j k : ℕ) → StandsAt diary.cells j k → ((n : Note) → Ends c k n → ⊥)
+    pub open_last : (j k : ℕ) → HasPosition diary.cells j k → ((n : Note) → Ends c k n → ⊥)
         → (length d.notes ≡ j) × (suc j ≡ length diary.cells)
     open_last j k at none = (omega (arith, not_more, no_less, last), last)
       where
@@ -171,7 +171,7 @@ module _ (plan : Plan) (hs : Histories) (known : Known plan hs) where
         ]
 
     -- a consumer with a claim on a cell that it met competed for the item there
-    pub competes_at : (j k : ℕ) → StandsAt diary.cells j k → claim_part c k hs.claims ≢ []
+    pub competes_at : (j k : ℕ) → HasPosition diary.cells j k → claim_part c k hs.claims ≢ []
         → (j < length d.notes) ⊎ ((length d.notes ≡ j) × (d.begun ≡ true))
     competes_at j k at some = elim (ended_or_not c k some) [
       | inl end ↦ inl (noted j k end.0 at end.1)

@@ -10,7 +10,7 @@ use Rattle.mb_world.proofs.Cells.{cell-of_true}
 use Rattle.mb_world.proofs.Diaries.{met_at, passed, values_length}
 use Rattle.mb_world.specs.Known.{Known}
 use Rattle.mb_world.proofs.Loads.{gave-link, met_given, met_link}
-use Rattle.mb_world.proofs.Positions.{StandsAt, at_has, at_some, at_start, at_within}
+use Rattle.mb_world.proofs.Positions.{HasPosition, at_has, at_some, at_start, at_within}
 use Rattle.mb_world.proofs.ReaderParts.{read-loaded}
 
 module _ (plan : Plan) (hs : Histories) (known : Known plan hs) where
@@ -73,18 +73,18 @@ module _ (plan : Plan) (hs : Histories) (known : Known plan hs) where
         lane = met_lane (hs.reader_of c) p end
 
         -- cell x stands at position j of the lane
-        here : (x : ℕ) × StandsAt (linked_cells p hs.pool) j x
+        here : (x : ℕ) × HasPosition (linked_cells p hs.pool) j x
         here = at_some (linked_cells p hs.pool) j (omega (arith, inside, values_length p hs.pool))
 
         -- the consumer met that cell at the same position
-        there : StandsAt diary.cells j here.0
+        there : HasPosition diary.cells j here.0
         there =
             met_at plan hs known c p cs d diary j here.0 here.1
             (met_given (hs.reader_of c) p hs.pool (linked_cells p hs.pool) here.0 lane.all
             (at_has (linked_cells p hs.pool) j here.0 here.1))
 
         -- if the lane ends at position j, the end mark is in the link of this cell
-        last_link : (ls : List ℕ) → StandsAt ls j here.0 → length ls ≤ suc j
+        last_link : (ls : List ℕ) → HasPosition ls j here.0 → length ls ≤ suc j
             → HasLoaded (hs.reader_of c) (place_past p ls) END hs.pool
             → HasLoaded (hs.reader_of c) (Link here.0) END hs.pool
         last_link [] at low loaded = absurd at

@@ -5,7 +5,7 @@ use Rattle.mb_cells.proofs.Names.{is_same_word-eq, is_same_word-refl}
 use Rattle.mb_world.specs.Imports.{END, FetchAdd, Gave, Has, HasLoaded, HasMet, History, IsGift, IsReaderPath, Link, Load, MayRead, PoolAccess, PoolAct}
 use Rattle.mb_world.specs.Imports.{Reader, Store, Word, is_same_word, load, part, place_past}
 use Rattle.mb_world.specs.Fitting.{HasRead}
-use Rattle.mb_world.proofs.Positions.{StandsAt, at_within}
+use Rattle.mb_world.proofs.Positions.{HasPosition, at_within}
 use Rattle.mb_world.proofs.ReaderParts.{has_part}
 
 -- who loaded a cell's link was given the cell
@@ -37,7 +37,7 @@ met_given q p h (j ∷ ks) k met (inl e) =
 met_given q p h (j ∷ ks) k met (inr has) = met_given q p h ks k met.2 has
 
 -- the link of each cell met but the last was loaded
-pub met_link : (q p : ℕ) (h : History) (ks : List ℕ) (j k : ℕ) → HasMet q p ks h → StandsAt ks j k → suc j < length ks
+pub met_link : (q p : ℕ) (h : History) (ks : List ℕ) (j k : ℕ) → HasMet q p ks h → HasPosition ks j k → suc j < length ks
     → (v : ℕ) × HasLoaded q (Link k) v h
 met_link q p h [] j k met at less = absurd at
 met_link q p h (a ∷ []) j k met (inl at) less = absurd (omega (arith, at.0))

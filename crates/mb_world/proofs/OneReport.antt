@@ -12,7 +12,7 @@ use Rattle.mb_world.specs.Fitting.{EndsAs, HasStageIn, parts_of}
 use Rattle.mb_world.specs.Report.{DiaryView, LaneView, ReportView}
 use Rattle.mb_world.specs.Reporting.{IsDiaryOf, IsReportOf, lane_view}
 use Rattle.mb_world.specs.Known.{Known}
-use Rattle.mb_world.proofs.Positions.{StandsAt, at_has, at_one, has_at, reverse_at}
+use Rattle.mb_world.proofs.Positions.{HasPosition, at_has, at_one, has_at, reverse_at}
 use Rattle.mb_world.proofs.Diaries.{met_at, note_at, placed}
 use Rattle.mb_world.proofs.Loads.{met_given}
 use Rattle.mb_world.proofs.ReaderParts.{loaded-read}
@@ -84,7 +84,7 @@ module _ (plan : Plan) (hs : Histories) (known : Known plan hs) where
   module _ (c p : ℕ) (cs : c < consumers_of plan) where
     -- a cell met stands at the same position by both diaries
     same_at : (d e : DiaryView) (x : IsDiaryOf plan c p hs d) (y : IsDiaryOf plan c p hs e) (j k : ℕ)
-        → StandsAt x.cells j k → StandsAt y.cells j k
+        → HasPosition x.cells j k → HasPosition y.cells j k
     same_at d e x y j k at =
         met_at plan hs known c p cs e y j k (placed plan hs known c p cs d x j k at)
         (met_given (hs.reader_of c) p hs.pool x.cells k x.met.met (at_has x.cells j k at))

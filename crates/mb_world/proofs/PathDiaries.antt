@@ -8,7 +8,7 @@ use Rattle.mb_world.specs.declared.report.Note.TheVariants.{Took, Lost, Undecide
 use Rattle.mb_world.specs.Imports.{Claims, Gave, Has, History, IsClaimPrefix, IsGift, IsOnceEach, ObjectTurn, PoolAccess, Stage, claim_part}
 use Rattle.mb_world.specs.World.{WorldHistory, claim_accesses}
 use Rattle.mb_world.specs.ConsumerPath.{has_begun, note_of}
-use Rattle.mb_world.proofs.Positions.{StandsAt, at_within, get-snoc}
+use Rattle.mb_world.proofs.Positions.{HasPosition, at_within, get-snoc}
 use Rattle.mb_world.proofs.Tracks.{AreEnds, EndsIn, Tracks, ends_some}
 use mathlib.Core.List.{reverse-cons}
 
@@ -22,7 +22,7 @@ ends_length E (k ∷ ks) (n ∷ ns) h = ap suc (ends_length E ks ns h.1)
 
 -- a note stands at the position of its cell
 pub ends_at : (E : ℕ → Note → Type 0) (ks : List ℕ) (ns : List Note) (j : ℕ) (n : Note) → AreEnds E ks ns
-    → slice_get (reverse ns) j ≡ Some n → (k : ℕ) × StandsAt ks j k × E k n
+    → slice_get (reverse ns) j ≡ Some n → (k : ℕ) × HasPosition ks j k × E k n
 ends_at E [] [] j n h e = absurd (cc)
 ends_at E [] (m ∷ ns) j n h e = absurd h
 ends_at E (k ∷ ks) [] j n h e = absurd h
@@ -31,8 +31,8 @@ ends_at E (k ∷ ks) (m ∷ ns) j n h e =
     (λ g. ends_at E ks ns j n h.1 g)
   where
     by : (slice_get (reverse ns) j ≡ Some n) ⊎ ((j ≡ length (reverse ns)) × (m ≡ n))
-        → (slice_get (reverse ns) j ≡ Some n → (k : ℕ) × StandsAt ks j k × E k n) → (i : ℕ)
-        × StandsAt (k ∷ ks) j i × E i n
+        → (slice_get (reverse ns) j ≡ Some n → (k : ℕ) × HasPosition ks j k × E k n) → (i : ℕ)
+        × HasPosition (k ∷ ks) j i × E i n
     by (inl g) older = let q = older g in (q.0, inr q.1, q.2)
     by (inr g) older = (k, inl (g.0 ∙ (length-reverse ns ∙ ends_length E ks ns h.1), refl), subst (E k) g.1 h.0)
 
@@ -69,7 +69,7 @@ module _ (cs : Claims) (c : ℕ)
   -- a claim that has ended has its note
   pub noted_within : (done : WorldHistory) (ks : List ℕ) (ns : List Note) (held : Option (List ObjectTurn))
       → IsOnceEach ks → Tracks cs c done ks ns held
-      → (j k : ℕ) (n : Note) → StandsAt ks j k → EndsIn cs c done k n → j < length ns
+      → (j k : ℕ) (n : Note) → HasPosition ks j k → EndsIn cs c done k n → j < length ns
   noted_within done ks ns None once y j k n at e =
       omega (arith, at_within ks j k at, ends_length (EndsIn cs c done) ks ns y.ended)
   noted_within done [] ns (Some xs) once y j k n at e = absurd at

@@ -6,6 +6,7 @@ use Rattle.std.specs.Prelude.{map, reverse, slice_get}
 use Rattle.mb_world.specs.Imports.{Has, IsOnceEach}
 use mathlib.Core.List.{reverse-cons}
 
+-- ---- positions counted from the left
 -- an element of the first of two joined lists keeps its position
 pub get-front : {A : Type 0} (xs ys : List A) (j : ℕ) (x : A) → slice_get xs j ≡ Some x → slice_get (xs ++ ys) j
     ≡ Some x
@@ -26,13 +27,14 @@ get-snoc [] y (suc j) x e = absurd (cc)
 get-snoc (a ∷ xs) y zero x e = inl e
 get-snoc (a ∷ xs) y (suc j) x e = elim (get-snoc xs y j x e) [ inl h ↦ inl h | inr h ↦ inr (ap suc h.0, h.1) ]
 
+-- ---- positions counted from the right
 -- k stands at position j of the list, counted from the right
-abbrev pub StandsAt : List ℕ → ℕ → ℕ → Type 0
-StandsAt [] j k = ⊥
-StandsAt (x ∷ xs) j k = ((j ≡ length xs) × (x ≡ k)) ⊎ StandsAt xs j k
+abbrev pub HasPosition : List ℕ → ℕ → ℕ → Type 0
+HasPosition [] j k = ⊥
+HasPosition (x ∷ xs) j k = ((j ≡ length xs) × (x ≡ k)) ⊎ HasPosition xs j k
 
 -- what the reversed list has at a position, counted from the left, stands at this position
-pub at_reverse : (xs : List ℕ) (j k : ℕ) → slice_get (reverse xs) j ≡ Some k → StandsAt xs j k
+pub at_reverse : (xs : List ℕ) (j k : ℕ) → slice_get (reverse xs) j ≡ Some k → HasPosition xs j k
 at_reverse [] j k e = absurd (cc)
 at_reverse (x ∷ xs) j k e =
     elim (get-snoc (reverse xs) x j k (subst (λ (ys : List ℕ). slice_get ys j ≡ Some k) (reverse-cons x xs) e)) [
@@ -41,7 +43,7 @@ at_reverse (x ∷ xs) j k e =
     ]
 
 -- what stands at a position, the reversed list has there, counted from the left
-pub reverse_at : (xs : List ℕ) (j k : ℕ) → StandsAt xs j k → slice_get (reverse xs) j ≡ Some k
+pub reverse_at : (xs : List ℕ) (j k : ℕ) → HasPosition xs j k → slice_get (reverse xs) j ≡ Some k
 reverse_at [] j k h = absurd h
 reverse_at (x ∷ xs) j k (inl h) =
     subst (λ (ys : List ℕ). slice_get ys j ≡ Some k) (sym (reverse-cons x xs))
@@ -52,25 +54,25 @@ reverse_at (x ∷ xs) j k (inr h) =
     (get-front (reverse xs) (x ∷ []) j k (reverse_at xs j k h))
 
 -- an element at a position is in the list
-pub at_has : (xs : List ℕ) (j k : ℕ) → StandsAt xs j k → Has xs k
+pub at_has : (xs : List ℕ) (j k : ℕ) → HasPosition xs j k → Has xs k
 at_has [] j k h = h
 at_has (x ∷ xs) j k (inl h) = inl h.1
 at_has (x ∷ xs) j k (inr h) = inr (at_has xs j k h)
 
 -- each element of the list has a position
-pub has_at : (xs : List ℕ) (k : ℕ) → Has xs k → (j : ℕ) × StandsAt xs j k
+pub has_at : (xs : List ℕ) (k : ℕ) → Has xs k → (j : ℕ) × HasPosition xs j k
 has_at [] k h = absurd h
 has_at (x ∷ xs) k (inl e) = (length xs, inl (refl, e))
 has_at (x ∷ xs) k (inr h) = let q = has_at xs k h in (q.0, inr q.1)
 
 -- a position with an element is below the length of the list
-pub at_within : (xs : List ℕ) (j k : ℕ) → StandsAt xs j k → j < length xs
+pub at_within : (xs : List ℕ) (j k : ℕ) → HasPosition xs j k → j < length xs
 at_within [] j k h = absurd h
 at_within (x ∷ xs) j k (inl h) = omega (arith, h.0)
 at_within (x ∷ xs) j k (inr h) = omega (arith, at_within xs j k h)
 
 -- each position below the length of the list has an element
-pub at_some : (xs : List ℕ) (j : ℕ) → j < length xs → (k : ℕ) × StandsAt xs j k
+pub at_some : (xs : List ℕ) (j : ℕ) → j < length xs → (k : ℕ) × HasPosition xs j k
 at_some [] j h = absurd (omega arith)
 at_some (x ∷ xs) j h = elim (cases_lt j (length xs)) [
   | inl inside ↦ let q = at_some xs j inside in (q.0, inr q.1)
@@ -78,7 +80,7 @@ at_some (x ∷ xs) j h = elim (cases_lt j (length xs)) [
 ]
 
 -- one element stands at a position
-pub at_one : (xs : List ℕ) (j k m : ℕ) → StandsAt xs j k → StandsAt xs j m → k ≡ m
+pub at_one : (xs : List ℕ) (j k m : ℕ) → HasPosition xs j k → HasPosition xs j m → k ≡ m
 at_one [] j k m h g = absurd h
 at_one (x ∷ xs) j k m (inl h) (inl g) = sym h.1 ∙ g.1
 at_one (x ∷ xs) j k m (inl h) (inr g) = absurd (omega (arith, h.0, at_within xs j m g))
@@ -86,7 +88,7 @@ at_one (x ∷ xs) j k m (inr h) (inl g) = absurd (omega (arith, g.0, at_within x
 at_one (x ∷ xs) j k m (inr h) (inr g) = at_one xs j k m h g
 
 -- an element that stands once in the list has one position
-pub at_once : (xs : List ℕ) (i j k : ℕ) → IsOnceEach xs → StandsAt xs i k → StandsAt xs j k → i ≡ j
+pub at_once : (xs : List ℕ) (i j k : ℕ) → IsOnceEach xs → HasPosition xs i k → HasPosition xs j k → i ≡ j
 at_once [] i j k once h g = absurd h
 at_once (x ∷ xs) i j k once (inl h) (inl g) = h.0 ∙ sym g.0
 at_once (x ∷ xs) i j k once (inl h) (inr g) = absurd (once.0 (subst (Has xs) (sym h.1) (at_has xs j k g)))
@@ -94,12 +96,12 @@ at_once (x ∷ xs) i j k once (inr h) (inl g) = absurd (once.0 (subst (Has xs) (
 at_once (x ∷ xs) i j k once (inr h) (inr g) = at_once xs i j k once.1 h g
 
 -- elements keep their positions if others come in front of them
-pub at_start : (later ks : List ℕ) (j k : ℕ) → StandsAt ks j k → StandsAt (later ++ ks) j k
+pub at_start : (later ks : List ℕ) (j k : ℕ) → HasPosition ks j k → HasPosition (later ++ ks) j k
 at_start [] ks j k h = h
 at_start (x ∷ later) ks j k h = inr (at_start later ks j k h)
 
 -- what a function makes of the elements stands at their positions
-pub mapped_at : {A : Type 0} (f : ℕ → A) (xs : List ℕ) (j k : ℕ) → StandsAt xs j k
+pub mapped_at : {A : Type 0} (f : ℕ → A) (xs : List ℕ) (j k : ℕ) → HasPosition xs j k
     → slice_get (reverse (map f xs)) j ≡ Some (f k)
 mapped_at f [] j k h = absurd h
 mapped_at {A} f (x ∷ xs) j k (inl h) =

@@ -163,7 +163,7 @@ module _ (s : WorldState) (h : WorldHistory) (is : IsWorldAfter h s) (p : ℕ) (
       }
 
   -- ---- what pushes make of the world
-  -- a cell that is to be linked is no end mark
+  -- the link to a cell that is stored and not linked is no end mark
   link_is_no_mark : (cell : ℕ) (done : Phase) → PhaseFits (plan s h is).claims.cells done
       → lane.Stored cell ≡ stage_of done → cell + 1 ≢ END
   link_is_no_mark cell phase.Open fits e = absurd (cc)

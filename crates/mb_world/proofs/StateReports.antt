@@ -30,7 +30,7 @@ use Rattle.mb_world.specs.Places.{has_begun_at}
 use Rattle.mb_world.specs.StateReport.{AreDiariesTold, AreLanesTold, IsDiaryTold, IsLaneTold, IsWalked, begun_on, is_taken_on, note_on, note_there}
 use Rattle.mb_world.proofs.Cells.{has_cell-true}
 use Rattle.mb_world.proofs.PathDiaries.{ends_length}
-use Rattle.mb_world.proofs.Positions.{StandsAt, at_has, has_at, reverse_at}
+use Rattle.mb_world.proofs.Positions.{HasPosition, at_has, has_at, reverse_at}
 use Rattle.mb_world.proofs.StateNotes.{any_below-same, items_chosen, none_noted, note_by, note_placed, noted, put_cells}
 use Rattle.mb_world.proofs.Tracks.{AreEnds, EndsIn, closed, ends_more, ends_some}
 use Rattle.mb_world.proofs.WorldClaims.{end_here, met_all, on_lane, tracks}
@@ -80,7 +80,7 @@ closed_has [] (Some xs) k has = absurd has
 closed_has (q ∷ qs) (Some xs) k has = inr has
 
 -- a cell at a position with a note is one on which the claim has ended
-closed_at : (ks : List ℕ) (z : Option (List ObjectTurn)) (j k : ℕ) → StandsAt ks j k → j < length (closed ks z)
+closed_at : (ks : List ℕ) (z : Option (List ObjectTurn)) (j k : ℕ) → HasPosition ks j k → j < length (closed ks z)
     → Has (closed ks z) k
 closed_at ks None j k at less = at_has ks j k at
 closed_at [] (Some xs) j k at less = absurd at

@@ -17,14 +17,14 @@ use Rattle.mb_world.proofs.LaneParts.{Has-filter}
 use Rattle.mb_world.proofs.Loads.{gave-gift}
 use Rattle.mb_world.proofs.PathDiaries.{begun_open, ends_at, gave-some, noted_within, open_begun}
 use Rattle.mb_world.proofs.PathLoads.{path_gave}
-use Rattle.mb_world.proofs.Positions.{StandsAt, at_has, at_reverse, reverse_at}
+use Rattle.mb_world.proofs.Positions.{HasPosition, at_has, at_reverse, reverse_at}
 use Rattle.mb_world.proofs.Tracks.{EndsIn, Tracks, closed}
 use Rattle.mb_world.proofs.WorldClaims.{end_here, met_all, met_once, on_lane, steps_there, tracks}
 use Rattle.mb_world.specs.WorldKnown.{WorldKnown}
 use Rattle.mb_world.proofs.WorldPool.{load_lane, loads, loads_on, of_lane, on_word, read_there}
 
 -- a cell among those whose claims have ended is one of those met, at the same position
-closed_in : (qs : List ℕ) (z : Option (List ObjectTurn)) (j k : ℕ) → StandsAt (closed qs z) j k → StandsAt qs j k
+closed_in : (qs : List ℕ) (z : Option (List ObjectTurn)) (j k : ℕ) → HasPosition (closed qs z) j k → HasPosition qs j k
 closed_in qs None j k at = at
 closed_in [] (Some xs) j k at = at
 closed_in (q ∷ qs) (Some xs) j k at = inr at

@@ -44,7 +44,7 @@ fn new_lane<A: Allocator + Drop>(
     }
 }
 
-/// Links the item 8 of an only lane. Before that a reader finds nothing.
+/// Offers the item 8 as the first of lane 0, and links its cell. Until then a reader finds nothing.
 fn link_one_item<A: Allocator + Drop>(
     rt: &impl Abort,
     table: &SharedCells<A>,
@@ -228,7 +228,7 @@ fn an_offered_item_is_not_put(rt: HostRuntime) {
     table.close(hub);
 }
 
-/// Puts a hundred items, from `first` on, and ends the lane. Returns how many were put.
+/// Puts a hundred items, from `first` on, and ends the lane. Returns how many were put, or 0 if it did not end.
 fn put_hundred<A: Allocator + Drop>(
     table: &SharedCells<A>,
     mut seat: LaneSeat,
@@ -423,7 +423,7 @@ fn put_beside<R: Threads + Sync, A: Allocator + Drop + Send + Sync>(
     (lane, reader, at)
 }
 
-/// Reads a lane on from the bookmark, by `LOOKS` looks, while its producer runs.
+/// Reads a lane on from the bookmark, by at most `LOOKS` looks, while its producer runs.
 fn read_from<A: Allocator + Drop>(
     table: &SharedCells<A>,
     mut reader: ReaderSeat,

@@ -4,7 +4,7 @@ use Rattle.std.specs.Bool.{Decides}
 use Rattle.std.specs.Option.{option_and_then, option_eq}
 use Rattle.std.proofs.lemmas.Option.{slice_get-get_or}
 use borrow.Author.Count.{below_more}
-use Rattle.mb_picture.specs.Led.{IsLastStore, StoresAt, stored_by}
+use Rattle.mb_picture.specs.Led.{IsLastStore, StoresAt, word_stored}
 use Rattle.mb_picture.specs.contracts.picture.WordPartialEq.TheImpl.{eq-value}
 use Rattle.mb_picture.specs.declared.picture.Mark.{Mark}
 use Rattle.mb_picture.specs.declared.picture.Word.{Word}
@@ -20,10 +20,10 @@ some_eq (Some a) word = (λ h. ap Some ((word_eq a word).0 h), λ e. (word_eq a 
 
 -- what the test says of this row
 tested : (marks : List Mark) (word : Word) (row : ℕ) (d : Mark) (o : Option Word) (b : Bool)
-    → row < length marks → o ≡ stored_by (get_or marks row d).deed → b ≡ option_eq eq-value.it o (Some word)
+    → row < length marks → o ≡ word_stored (get_or marks row d).deed → b ≡ option_eq eq-value.it o (Some word)
     → Decides b (StoresAt marks word row)
 tested marks word row d o b l s e =
-    let there = ap (λ (m : Option Mark). option_and_then (λ (m : Mark). stored_by m.deed) m)
+    let there = ap (λ (m : Option Mark). option_and_then (λ (m : Mark). word_stored m.deed) m)
     (slice_get-get_or marks row d l) in
     (λ t. there ∙ sym s ∙ (some_eq o word).0 (sym e ∙ t), λ stores. e ∙ (some_eq o word).1 (s ∙ sym there ∙ stores))
 
