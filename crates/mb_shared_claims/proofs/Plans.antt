@@ -177,7 +177,6 @@ module _ (k : TableSize) (words : List ℕ) (views : List View) (plan : Plan) (s
     abbrev given_plan : Plan
     given_plan = with_number (length seats) plan
 
-    -- each number given then has its part at its place
     stands_given :
         (c : ℕ) → c < suc plan.given → Dec (c ≡ plan.given)
         → HasPartAt (seats ++ right ∷ []) (given_plan.place c) c (part c plan.history)
@@ -203,7 +202,6 @@ module _ (k : TableSize) (words : List ℕ) (views : List View) (plan : Plan) (s
         let below = p.0 in
         (omega arith, moved-else plan.place plan.given (length seats) d (λ e. omega arith) ∙ p.1, p.2)
 
-    -- each part that a seat then has is where the plan with the number has it
     parts_given :
         (seat c : ℕ) (xs : List ClaimAccess) → HasPartAt (seats ++ right ∷ []) seat c xs
         → (c < suc plan.given) × (given_plan.place c ≡ seat) × (xs ≡ part c plan.history)
