@@ -13,11 +13,13 @@ that a check does not refuse everything. The other checks show it by the functio
 The mutants of different functions share one check, since a proof reads the contracts of what is called and no bodies.
 The first check of a crate begins with what stands in its out/incremental. It keeps what it proved, and the others of the
 crate begin with that.
-A check reads the libraries below its crate from their out/rlib. They are built if they are missing or old.
+A check reads the libraries below its crate from their out/rlib. They are built if they are missing or old. With
+--beside rt ci makes them meanwhile: a crate's mutants are tried as soon as its libraries stand there.
 docs/CI.md says how a mutant is judged. The last line is `N passed, N failed`, and the status is 0 if none failed.
 """
 import argparse
 import dataclasses
+import fcntl
 import importlib.machinery
 import importlib.util
 import os
@@ -26,17 +28,19 @@ import subprocess
 import sys
 import tempfile
 import threading
+import time
 from collections import Counter
 from concurrent.futures import FIRST_COMPLETED, ThreadPoolExecutor, wait
 
 import edits
 import machine
 from judging import judged, spoiled, unended
-from keeping import handed_on
 
 TOP = os.path.dirname(os.path.dirname(os.path.abspath(__file__)))
 # The most that one check has been seen to take, with some room, in bytes.
 MEMORY = 3_000_000_000
+# How often the libraries that rt ci makes are looked for, and how long one has to stand there, in seconds.
+PAUSE = 5
 
 
 def load_kit():
@@ -130,6 +134,40 @@ def earlier(crate):
     return f"{crate.folder}/out/incremental"
 
 
+def link_or_copy(one, other):
+    """Gives a proof that was kept a second name. A check replaces such a file, and never writes into it."""
+    if one.endswith(".oantt"):
+        try:
+            return os.link(one, other)
+        except OSError:
+            # (on another disk)
+            pass
+    return shutil.copy2(one, other)
+
+
+def handed_on(kept, folder):
+    """Copies what a check kept, and returns the copy's folder."""
+    return shutil.copytree(kept, folder, copy_function=link_or_copy)
+
+
+def is_held(path):
+    """Whether someone holds the lock of the file, as ci/parts.py does while rt ci runs. Without a file nobody does."""
+    if not path:
+        return False
+    with open(path, encoding="utf-8") as file:
+        try:
+            fcntl.flock(file, fcntl.LOCK_SH | fcntl.LOCK_NB)
+        except BlockingIOError:
+            return True
+    return False
+
+
+def stand_below(crate):
+    """Whether all libraries below the crate are built, and not only just now."""
+    libraries = [it.rlib for it in crate.below()]
+    return all(os.path.isdir(it) and time.time() - os.stat(it).st_mtime > PAUSE for it in libraries)
+
+
 def cut(why):
     """The first line of a reason, no longer than a line of the output may be."""
     return why.partition("\n")[0][:160]
@@ -169,26 +207,35 @@ class Report:
 class Trials:
     """Tries groups of mutants, and remembers what became of each control and which checks were killed."""
 
-    def __init__(self, kit, report):
-        self.kit, self.report = kit, report
+    def __init__(self, kit, report, beside=""):
+        self.kit, self.report, self.beside = kit, report, beside  # (rt ci holds the lock of this file while it runs)
         self.controls, self.killed = {}, []  # (for each control, whether each of its checks proved it)
 
     def run(self, tasks, jobs):
         """Tries the groups side by side in their order, and then each whose check was killed, one at a time.
 
-        A crate's other groups wait for its first, and begin with what that one proved."""
+        A crate's other groups wait for its first, and begin with what that one proved. While rt ci runs, they wait for
+        the libraries below, and half as many run."""
         left, running, firsts, times = [*tasks], {}, {}, Counter(it.crate.name for it in tasks)
         with tempfile.TemporaryDirectory(prefix="mutants-kept-") as room, ThreadPoolExecutor(jobs) as pool:
             while left or running:
-                is_ready = lambda it: it.crate.name not in firsts or firsts[it.crate.name].done()
-                while len(running) < jobs and (task := next(filter(is_ready, left), None)):
+                is_early = is_held(self.beside)
+                most = max(1, jobs // 2) if is_early else jobs
+                if self.beside and not is_early:
+                    left = self.with_libraries(left)
+                stands = {it.crate.name: not is_early or stand_below(it.crate) for it in left}
+                is_first = lambda it: it.crate.name not in firsts or firsts[it.crate.name].done()
+                is_ready = lambda it: stands[it.crate.name] and is_first(it)
+                while len(running) < most and (task := next(filter(is_ready, left), None)):
                     left.remove(task)
                     name = task.crate.name
-                    kept = f"{room}/{name}" if times[name] > 1 or os.path.isdir(earlier(task.crate)) else None
+                    kept = f"{room}/{name}" if times[name] > 1 or self.begins_with(task.crate) else None
                     began = pool.submit(self.try_over if name in firsts else self.try_first, task, kept)
                     firsts.setdefault(name, began)
                     running[began] = name
-                for it in wait(running, return_when=FIRST_COMPLETED).done:
+                if is_early and not running:
+                    time.sleep(PAUSE)
+                for it in wait(running, PAUSE if is_early else None, FIRST_COMPLETED).done:
                     name = running.pop(it)
                     it.result()
                     if name not in [*running.values(), *(other.crate.name for other in left)]:
@@ -199,9 +246,20 @@ class Trials:
             word = "proved" if any(ends) else "NOT PROVED"
             self.report.tell(label, any(ends), word, f"in {sum(ends)} of the {len(ends)} checks that it stood in")
 
+    def with_libraries(self, tasks):
+        """The tasks whose libraries stand there, after a word on each crate whose libraries do not."""
+        lacking = {it.crate.name for it in tasks if not all(os.path.isdir(lib.rlib) for lib in it.crate.below())}
+        for name in sorted(lacking):
+            self.report.tell(name, False, "NOT TRIED", "a library below it is not proved")
+        return [it for it in tasks if it.crate.name not in lacking]
+
+    def begins_with(self, crate):
+        """The folder of what was proved of the crate before, if it stands there and nobody else may be writing in it."""
+        return "" if self.beside or not os.path.isdir(earlier(crate)) else earlier(crate)
+
     def try_first(self, task, kept):
         """Tries the first group of a crate over what was proved of it before, and keeps its proofs for the others."""
-        if kept and os.path.isdir(earlier(task.crate)):
+        if kept and self.begins_with(task.crate):
             handed_on(earlier(task.crate), kept)
         elif kept:
             os.mkdir(kept)
@@ -248,7 +306,7 @@ class Trials:
         for label, why in faults.items():
             self.report.tell(label, False, "BAD EDIT", why)
         lacking = [it for it in crate.below() if not (is_proved and os.path.isdir(it.rlib))]
-        if any(it.build_rlib(["--jobs", "1"], anew=False) for it in lacking):
+        if not self.beside and any(it.build_rlib(["--jobs", "1"], anew=False) for it in lacking):
             self.report.tell(crate.name, False, "NOT TRIED", "a library below it is not proved")
             return []
         if control:
@@ -281,6 +339,7 @@ def asked_of(words):
     """What the command line asks for."""
     asked = argparse.ArgumentParser(description=__doc__, formatter_class=argparse.RawDescriptionHelpFormatter)
     asked.add_argument("--proved", action="store_true", help="take the libraries as they are, right after rt ci")
+    asked.add_argument("--beside", action="store_true", help="take the libraries as rt ci makes them, of ci/parts.py")
     asked.add_argument("--texts", action="store_true", help="look only whether each edit applies, and run no prover")
     asked.add_argument("--jobs", type=int, default=machine.at_once(MEMORY), help="how many checks run side by side")
     asked.add_argument("crate", nargs="*", help="a crate whose mutants are tried (none: all crates)")
@@ -298,11 +357,15 @@ def main(words):
     if asked.texts:
         print(f"all {count} mutants apply")
         return 0
-    trials = Trials(kit, report)
+    beside = os.environ["CI_BESIDE"] if asked.beside else ""
+    if beside:
+        # (rt ci goes first)
+        os.nice(10)
+    trials = Trials(kit, report, beside)
     wanted = asked.crate or [name for name, it in crates.items() if os.path.isdir(f"{it.folder}/mutants")]
     named = [crates[it] for it in wanted if it in crates]
     # (as rt does, so that no other command changes the libraries meanwhile)
-    held = kit.lock({below for it in named for below in [it, *it.below()]})
+    held = None if beside else kit.lock({below for it in named for below in [it, *it.below()]})
     for name in wanted:
         if name in crates and os.path.isdir(f"{crates[name].folder}/mutants"):
             tasks += trials.tasks_of(crates[name], asked.proved)

@@ -33,17 +33,17 @@ class Machine(unittest.TestCase):
         self.assertEqual((machine.rt_jobs(), machine.at_once(GIGABYTE)), ("", 1))
 
     def test_a_host(self):
-        self.write_free(33)
-        self.assertEqual((machine.rt_jobs(), machine.at_once(5 * GIGABYTE)), (8, 6))
-        self.write_free(31)
+        self.write_free(38)
+        self.assertEqual((machine.rt_jobs(), machine.at_once(5 * GIGABYTE)), (8, 7))
+        self.write_free(36)
         self.assertEqual(machine.rt_jobs(), "")
 
     def test_a_group_of_version_2(self):
         self.write_free(100)
         self.write("sys/fs/cgroup/cpu.max", "350000 100000\n")
-        self.write("sys/fs/cgroup/memory.max", f"{15 * GIGABYTE}\n")
+        self.write("sys/fs/cgroup/memory.max", f"{17 * GIGABYTE}\n")
         self.write("sys/fs/cgroup/memory.stat", f"file 7\nanon {2 * GIGABYTE}\nkernel 1\n")
-        self.assertEqual((machine.processors(), machine.free()), (3, 13 * GIGABYTE))
+        self.assertEqual((machine.processors(), machine.free()), (3, 15 * GIGABYTE))
         self.assertEqual((machine.rt_jobs(), machine.at_once(8 * GIGABYTE)), (3, 1))
 
     def test_a_group_of_version_1(self):

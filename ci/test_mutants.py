@@ -1,9 +1,11 @@
 """Tests of ci/mutants.py over a kit that is not real: its prover takes a function for proved by a word of its body."""
 import contextlib
+import fcntl
 import io
 import os
 import sys
 import tempfile
+import threading
 import types
 import unittest
 from unittest import mock
@@ -242,6 +244,49 @@ class Trying(WithKit):
     def test_a_check_that_ends_otherwise(self):
         self.mutant("g.edit", text_of("values::g", "2", "wrong babbles"))
         self.ends(1, "2 passed, 1 failed", "mb_a/g.edit: NOT TRIED: its check ended with status 1, and said at last: ")
+
+
+class Beside(WithKit):
+    """The mutants while rt ci runs, as ci/parts.py starts them: it holds the lock of a file meanwhile."""
+
+    def setUp(self):
+        super().setUp()
+        self.lock = tempfile.NamedTemporaryFile("w")
+        self.addCleanup(self.lock.close)
+        fcntl.flock(self.lock, fcntl.LOCK_EX)
+        self.patch(mock.patch.dict(os.environ, {"CI_BESIDE": self.lock.name}))
+        self.patch(mock.patch.object(mutants, "PAUSE", 0.2))
+        self.patch(mock.patch.object(os, "nice"))
+
+    def later(self, seconds, action):
+        """Does something once so many seconds have gone, and so tells whether the script waited for it."""
+        done = []
+        timer = threading.Timer(seconds, lambda: (done.append(len(self.tried())), action()))
+        timer.start()
+        self.addCleanup(timer.join)
+        return done
+
+    def tried(self):
+        return self.log().splitlines() if os.path.exists(f"{self.kit}/log") else []
+
+    def test_a_library_that_is_made_meanwhile(self):
+        made = self.later(0.5, lambda: os.makedirs(f"{self.top}/crates/mb_low/out/rlib"))
+        ended = self.later(2, lambda: fcntl.flock(self.lock, fcntl.LOCK_UN))
+        self.ends(0, "3 passed, 0 failed", words=["--beside"])
+        # (rt ci was still running then)
+        self.assertEqual((made, ended), ([0], []))
+
+    def test_a_library_that_is_never_made(self):
+        ended = self.later(0.5, lambda: fcntl.flock(self.lock, fcntl.LOCK_UN))
+        self.ends(1, "0 passed, 2 failed", "mb_a: NOT TRIED: a library below it is not proved", words=["--beside"])
+        self.assertEqual((ended, self.tried()), ([0], []))
+
+    def test_what_stands_in_out_is_not_taken(self):
+        # (rt may be writing there)
+        self.write(f"{self.crate}/out/incremental/X", "")
+        os.makedirs(f"{self.top}/crates/mb_low/out/rlib")
+        self.ends(0, "3 passed, 0 failed", words=["--beside"])
+        self.assertNotIn("--incremental", self.tried()[0])
 
 
 class Finding(WithKit):

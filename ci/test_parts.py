@@ -1,16 +1,20 @@
 """Tests of ci/parts.py, over parts that print a line or two."""
 import contextlib
 import io
+import os
+import tempfile
+import time
 import unittest
 
 import parts
 
 
 class Parts(unittest.TestCase):
-    def run_parts(self, *commands):
+    def run_parts(self, *commands, lines=None):
         with contextlib.redirect_stdout(io.StringIO()) as out:
             status = parts.main(commands)
-        return status, out.getvalue().splitlines()[-1]
+        said = out.getvalue().splitlines()
+        return status, said[lines:] if lines else said[-1]
 
     def test_counts_are_added(self):
         self.assertEqual(self.run_parts("a: echo 3 passed, 0 failed", "b: echo OK"), (0, "4 passed, 0 failed"))
@@ -29,6 +33,26 @@ class Parts(unittest.TestCase):
     def test_words_that_are_like_it_fail_nothing(self):
         said = self.run_parts("a: echo \'note: bad must-fail edits: 0, a NOT TRIED one: 0\'; echo 3 passed, 0 failed")
         self.assertEqual(said, (0, "3 passed, 0 failed"))
+
+    def test_a_part_may_begin_with_an_earlier_one(self):
+        # (the second part ends the first, and the lock says whether that runs)
+        with tempfile.TemporaryDirectory() as room:
+            asks = f"flock -n $CI_BESIDE true || echo it runs; touch {room}/go; flock $CI_BESIDE echo 1 passed, 0 failed"
+            waits = f"until [ -e {room}/go ]; do sleep 0.1; done; echo 2 passed, 0 failed"
+            said = self.run_parts(f"a: {waits}", "b: true", f"c, from a on: {asks}", lines=-8)
+        self.assertEqual(said[0], 0)
+        self.assertRegex(
+            "\n".join(said[1]),
+            "^-- c: .*\nit runs\n1 passed, 0 failed\n-- the parts\na: 2 passed, 0 failed; .*\nb: 1 passed, 0 failed; .*"
+            "\nc: 1 passed, 0 failed; 0.* min by the clock from a on, .*\n4 passed, 0 failed$",
+        )
+
+    def test_a_part_that_began_early_ends_if_another_fails(self):
+        with tempfile.TemporaryDirectory() as room:
+            said = self.run_parts(f"a: sleep 0.5; false", "b: true", f"c, from a on: sleep 3; touch {room}/ended")
+            self.assertEqual(said, (1, "0 passed, 3 failed"))
+            time.sleep(3)
+            self.assertEqual(os.listdir(room), [])
 
 
 if __name__ == "__main__":
