@@ -12,7 +12,7 @@ use std::process::Abort;
 use test_support::Zeros;
 
 /// How many producers, consumers and cells a mailbox has, the calls with their answers, and the report.
-type Scene = ([u64; 3], &'static str, &'static str);
+pub(crate) type Scene = ([u64; 3], &'static str, &'static str);
 
 /// A put, a finish and a poll each come to their end with nobody else there.
 const NOTHING_IS_WAITED_FOR: Scene = (

@@ -33,10 +33,11 @@ pub(crate) fn take_all<A: Allocator + Clone + Drop>(trial: &mut Trial<A>) {
 pub(crate) fn reads<A: Allocator + Drop, B: Allocator + Drop>(
     rt: &impl Abort,
     alloc: A,
-    report: &Report<B>,
+    report: Report<B>,
     want: &str,
 ) {
-    let text = report_text(alloc, report).expect(rt, "no text");
+    let text = report_text(alloc, &report).expect(rt, "no text");
+    drop(report);
     same(rt, &text.as_str(), &want);
 }
 
@@ -48,20 +49,20 @@ pub(crate) fn gathered<A: Allocator + Clone + Drop>(
 ) -> Report<A> {
     match trial.gather(alloc) {
         Ok(report) => report,
-        Err(_) => panic!(rt; "no report"),
+        Err(_) => rt.panic("no report"),
     }
 }
 
-/// What an audit counts in the report of a trial. If the report has a flaw, the test fails.
-pub(crate) fn audited<A: Allocator + Clone + Drop>(
+/// What an audit counts in a report. If the report has a flaw, the test fails.
+pub(crate) fn tally_of<A: Allocator + Drop>(
     rt: &impl Abort,
-    alloc: A,
-    trial: Trial<A>,
+    report: Report<A>,
     producers: u64,
     consumers: u64,
 ) -> Tally {
-    let report = gathered(rt, alloc, trial);
-    audit(&report, producers, consumers).expect(rt, "a flaw")
+    let tally = audit(&report, producers, consumers);
+    drop(report);
+    tally.expect(rt, "a flaw")
 }
 
 /// Checks that each lane has these items and has ended, and that there are `diaries` diaries, each with `notes` notes
@@ -91,6 +92,5 @@ pub(crate) fn ends<A: Allocator + Copy + Drop>(
     want: &str,
 ) {
     take_all(&mut trial);
-    let report = gathered(rt, alloc, trial);
-    reads(rt, alloc, &report, want);
+    reads(rt, alloc, gathered(rt, alloc, trial), want);
 }
