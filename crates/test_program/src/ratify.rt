@@ -6,13 +6,17 @@ use crate::examples::ratifiers::LATE_INPUT;
 use mb_program::{RatifyFault, ratify_text, read_script};
 use mb_quorum::TableName;
 use mb_script::CountingIo;
-use std::alloc::AllocError;
+use std::alloc::{AllocError, Allocator};
 
-// Runs the script. Returns how the call ended, and what was written.
-fn ratified(rt: &HostRuntime, script: &str) -> (Result<(), RatifyFault>, Vec<u8>) {
+// Runs the script, with this allocator for all but what is written. Returns how the call ended, and what was written.
+pub(crate) fn ratified<R: AllocGlobal, A: Allocator + Copy>(
+    rt: &R,
+    alloc: A,
+    script: &str,
+) -> (Result<(), RatifyFault>, Vec<u8>) {
     let mut reader = CountingIo::new(script.as_bytes());
     let mut writer = CountingIo::new(Vec::<u8>::new(rt.alloc()));
-    let result = ratify_text(rt.alloc(), &mut reader, &mut writer);
+    let result = ratify_text(alloc, &mut reader, &mut writer);
     (result, writer.device)
 }
 
@@ -55,7 +59,7 @@ fn ten_thousand_turns_are_answered(rt: HostRuntime) {
     push_turns(&mut script).expect(&rt, "no script");
     let mut want = String::new(rt.alloc());
     push_answers(&mut want).expect(&rt, "no answers");
-    let (result, text) = ratified(&rt, script.as_str());
+    let (result, text) = ratified(&rt, rt.alloc(), script.as_str());
     let is_whole = text.as_slice() == want.as_bytes();
     same(&rt, &(result, is_whole), &(Ok(()), true));
 }
@@ -131,7 +135,7 @@ fn the_first_fault_decides(rt: HostRuntime) {
             RatifyFault::BadInput(1),
         ),
     ] {
-        let (result, text) = ratified(&rt, script);
+        let (result, text) = ratified(&rt, rt.alloc(), script);
         same_at(&rt, &(result, text.len()), &(Err(want), 0), &script);
     }
 }

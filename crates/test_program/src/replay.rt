@@ -5,15 +5,19 @@ use crate::devices::{Letters, NarrowWriter, SlowReader};
 use crate::examples::claims::ITEM_TAKEN;
 use mb_script::{CountingIo, Fault, report_text, run};
 use mb_world::{Note, SetupFault};
-use std::alloc::{AllocError, Global};
+use std::alloc::{AllocError, Allocator, Global};
 use std::process::Abort;
 use test_support::made_up;
 
-// Replays the script. Returns how the call ended, and what was written.
-fn replayed(rt: &HostRuntime, script: &str) -> (Result<(), Fault>, Vec<u8>) {
+// Replays the script, with this allocator for all but what is written. Returns how the call ended, and what was written.
+pub(crate) fn replayed<R: AllocGlobal, A: Allocator + Copy>(
+    rt: &R,
+    alloc: A,
+    script: &str,
+) -> (Result<(), Fault>, Vec<u8>) {
     let mut reader = CountingIo::new(script.as_bytes());
     let mut writer = CountingIo::new(Vec::<u8>::new(rt.alloc()));
-    let result = run(rt.alloc(), &mut reader, &mut writer);
+    let result = run(alloc, &mut reader, &mut writer);
     (result, writer.device)
 }
 
@@ -38,7 +42,7 @@ fn a_fault_leaves_nothing_written(rt: HostRuntime) {
         ("setup 1 1 1 1 bits fast last\n", Fault::BadLine(1)),
         ("setup x 1 1 1 bits fast\n", Fault::BadNumber(1)),
     ] {
-        let (result, text) = replayed(&rt, script);
+        let (result, text) = replayed(&rt, rt.alloc(), script);
         same_at(&rt, &(result, text.len()), &(Err(want), 0), &script);
     }
 }
@@ -73,7 +77,7 @@ fn answers<R: Abort + AllocGlobal>(rt: &R, count: usize) -> String {
 #[test]
 fn many_events_are_replayed(rt: HostRuntime) {
     for count in [1_000, 19_999, 20_000] {
-        let (result, text) = replayed(&rt, &pushes(&rt, count, ""));
+        let (result, text) = replayed(&rt, rt.alloc(), &pushes(&rt, count, ""));
         let is_whole = text.as_slice() == answers(&rt, count).as_bytes();
         same_at(&rt, &(result, is_whole), &(Ok(()), true), &count);
     }
@@ -82,7 +86,7 @@ fn many_events_are_replayed(rt: HostRuntime) {
 // A line past the last event that is allowed is one too many, whatever it says.
 #[test]
 fn a_script_has_a_limit_of_events(rt: HostRuntime) {
-    let (result, text) = replayed(&rt, &pushes(&rt, 20_000, "x\n"));
+    let (result, text) = replayed(&rt, rt.alloc(), &pushes(&rt, 20_000, "x\n"));
     same(&rt, &(result, text.len()), &(Err(Fault::TooManyEvents), 0));
 }
 

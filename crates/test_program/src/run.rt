@@ -10,6 +10,7 @@ use mb_program::{Options, RunFault, run_threads, source_of, workload_of};
 use mb_script::CountingIo;
 use mb_world::SetupFault;
 use rand_core::Rng;
+use std::alloc::Allocator;
 use std::sync::Wait;
 use std::thread::Threads;
 
@@ -24,11 +25,12 @@ pub const ALONE: Options = Options {
     shape: Shape::PLAIN,
 };
 
-// Runs the workers of these options. Returns the result, and what was written.
-fn reported<R: AllocGlobal + Threads + Wait + Sync>(
-    rt: &R,
-    options: Options,
-) -> (Result<(), RunFault>, Vec<u8>) {
+// Runs the workers of these options, with this allocator for all but what is written. Returns the result, and what was
+// written.
+pub(crate) fn reported<
+    R: AllocGlobal + Threads + Wait + Sync,
+    A: Allocator + Copy + Drop + Send + Sync,
+>(rt: &R, alloc: A, options: Options) -> (Result<(), RunFault>, Vec<u8>) {
     // The call needs a budget of 1 or more. Each budget here is so large, but in a loop over options the prover does
     // not know it.
     let options = Options {
@@ -36,7 +38,7 @@ fn reported<R: AllocGlobal + Threads + Wait + Sync>(
         ..options
     };
     let mut writer = CountingIo::new(Vec::<u8>::new(rt.alloc()));
-    let result = run_threads(rt.alloc(), rt, options, &mut writer);
+    let result = run_threads(alloc, rt, options, &mut writer);
     (result, writer.device)
 }
 
@@ -83,7 +85,7 @@ fn workers_are_reported(rt: HostRuntime) {
             "lane 0 ended put\nleft 0\nlane 1 ended put\nleft 1\ndiary 0 0\ndiary 0 1\ndiary 1 0\ndiary 1 1\n",
         ),
     ] {
-        let (result, text) = reported(&rt, options);
+        let (result, text) = reported(&rt, rt.alloc(), options);
         same(&rt, &(result, text.as_slice()), &(Ok(()), want.as_bytes()));
     }
 }
@@ -100,7 +102,7 @@ fn items_are_put(rt: HostRuntime) {
         seed: 7,
         shape: Shape::PLAIN,
     };
-    let (result, text) = reported(&rt, options);
+    let (result, text) = reported(&rt, rt.alloc(), options);
     let text = str::from_utf8(text.as_slice()).expect(&rt, "no text");
     let lane_0 = text.starts_with("lane 0 ended put 0 1 2\nleft 0");
     let lane_1 = text.contains("\nlane 1 ended put 1000 1001 1002\nleft 1");
@@ -138,7 +140,7 @@ fn setups_are_refused(rt: HostRuntime) {
             pairs,
             ..ALONE
         };
-        let (result, written) = reported(&rt, options);
+        let (result, written) = reported(&rt, rt.alloc(), options);
         let want = (Err(RunFault::BadSetup(why)), 0);
         same_at(&rt, &(result, written.len()), &want, &options);
     }
