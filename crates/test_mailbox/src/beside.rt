@@ -302,6 +302,6 @@ fn two_threads_put_while_two_poll(rt: HostRuntime) {
     let report = report_all(&rt, rt.alloc());
     let (first, second) = (items_from(1000), items_from(2000));
     let lists = [first.as_slice(), second.as_slice()];
-    tells_all(&rt, &report, &lists, 4, ITEMS as usize);
+    let report = tells_all(&rt, report, &lists, 4, ITEMS as usize);
     same(&rt, &tally_of(&rt, report, 2, 2).put, &(2 * ITEMS));
 }

@@ -134,7 +134,7 @@ fn one_consumer_is_out<R: Abort + AllocGlobal>(rt: &R, scene: Scene) {
     trial.take_producer(0);
     trial.take_consumer(1);
     match trial.gather(alloc) {
-        Ok(_) => panic!(rt; "a report is made while a consumer is out"),
+        Ok(_) => rt.panic("a report is made while a consumer is out"),
         Err((fault, trial)) => {
             same(rt, &fault, &GatherFault::Missing(0, 1));
             ends(rt, alloc, trial, report);

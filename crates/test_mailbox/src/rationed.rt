@@ -56,28 +56,18 @@ pub(crate) fn two_are_served<'r, R: Abort + Threads + Wait + Sync>(
 }
 
 /// One worker puts two items and another polls, in a mailbox with numbers for two more. If the first allocator does not
-/// serve them, the call is made again with memory, and is done. Returns whether the first allocator serves them.
-fn two_are_served_at_last<'r, R: Abort + Threads + Wait + Sync>(
-    rt: &R,
-    trial: &mut Trial<Alloc<'r>>,
-    alloc: Alloc<'r>,
-    ample: Alloc<'r>,
-) -> bool {
-    let served = is_done(rt, trial, alloc, ample, &[&[1, 2]], 1);
-    assert!(rt; served || is_done(rt, trial, ample, ample, &[&[1, 2]], 1));
-    served
-}
-
-/// Two workers are served, by a second call if need be. Checks that the report has the items and the notes of the call
-/// that was done. They are under the second numbers if the first call was refused after it had given both first ones.
-/// Returns whether the first call was done.
+/// serve them, the call is made again with memory, and is done. Checks that the report has the items and the notes of
+/// the call that was done. They are under the second numbers if the first call was refused after it had given both
+/// first ones. Returns whether the first call was done.
 pub(crate) fn second_call_is_done<'r, R: Abort + Threads + Wait + Sync>(
     rt: &R,
     alloc: Alloc<'r>,
     ample: Alloc<'r>,
 ) -> bool {
     let mut trial = new_trial(rt, ample, 2, 2, 2);
-    let served = two_are_served_at_last(rt, &mut trial, alloc, ample);
+    let served = is_done(rt, &mut trial, alloc, ample, &[&[1, 2]], 1);
+    let at_last = served || is_done(rt, &mut trial, ample, ample, &[&[1, 2]], 1);
+    same(rt, &at_last, &true);
     let given_before = !has_lane(&mut trial, ample);
     let report = if given_before {
         "\
@@ -104,13 +94,6 @@ diary 1 1
     };
     ends(rt, ample, trial, report);
     served
-}
-
-/// Checks that both lanes have their items and have ended, and that each consumer has a note on each item.
-fn tells_of_four<'r>(rt: &impl Abort, ample: Alloc<'r>, trial: Trial<Alloc<'r>>) {
-    let report = gathered(rt, ample, trial);
-    tells_all(rt, &report, &[&[1, 2], &[3, 4]], 4, 2);
-    drop(report);
 }
 
 /// The report of two lanes without items and two consumers without notes. `left` says whether one producer's number was
@@ -168,8 +151,10 @@ pub(crate) fn four_are_served<'r, R: Abort + Threads + Wait + Sync>(
     let one_is_left = has_lane(&mut trial, ample);
     let two_are_left = one_is_left && has_lane(&mut trial, ample);
     if served {
-        assert!(rt; !one_is_left);
-        tells_of_four(rt, ample, trial);
+        same(rt, &one_is_left, &false);
+        // Both lanes have their items and have ended, and each consumer has a note on each item.
+        let report = gathered(rt, ample, trial);
+        drop(tells_all(rt, report, &[&[1, 2], &[3, 4]], 4, 2));
     } else {
         let report = nothing_is_told((one_is_left, two_are_left));
         ends(rt, ample, trial, report);

@@ -66,14 +66,14 @@ pub(crate) fn tally_of<A: Allocator + Drop>(
 }
 
 /// Checks that each lane has these items and has ended, and that there are `diaries` diaries, each with `notes` notes
-/// and no claim under way.
+/// and no claim under way. Returns the report.
 pub(crate) fn tells_all<A: Allocator + Drop>(
     rt: &impl Abort,
-    report: &Report<A>,
+    report: Report<A>,
     lists: &[&[u64]],
     diaries: usize,
     notes: usize,
-) {
+) -> Report<A> {
     let told = (report.lanes.len(), report.diaries.len());
     same(rt, &told, &(lists.len(), diaries));
     for (lane, list) in report.lanes.iter().zip(lists) {
@@ -82,6 +82,7 @@ pub(crate) fn tells_all<A: Allocator + Drop>(
     for diary in &report.diaries {
         same(rt, &(diary.notes.len(), diary.begun), &(notes, false));
     }
+    report
 }
 
 /// Takes in all that are out. Then checks that the report has this text.

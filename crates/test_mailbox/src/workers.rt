@@ -260,7 +260,7 @@ fn four_producers_and_four_consumers_share_64_cells(rt: HostRuntime) {
     ];
     let setup = Setup::new(4, 4, 64, 4, TableName::Bits).expect(&rt, "no setup");
     let report = all_done(&rt, setup, &items, 3, 4, &OpenGate);
-    tells_all(&rt, &report, &items, 16, 16);
+    let report = tells_all(&rt, report, &items, 16, 16);
     // Among others: no item has two who took it.
     same(&rt, &tally_of(&rt, report, 4, 4).put, &64);
 }
