@@ -6,7 +6,7 @@ use mb_script::Fault;
 use mb_world::SetupFault;
 
 /// A row has the failure, the line that tells it, and the exit status.
-const FAULTS: [(Failed, &str, u8); 33] = [
+const FAULTS: &[(Failed, &str, u8)] = &[
     (Failed::Ratify(RatifyFault::TooLong), "fault 1 TooLong\n", 2),
     (
         Failed::Ratify(RatifyFault::NotAscii),
@@ -128,7 +128,7 @@ const FAULTS: [(Failed, &str, u8); 33] = [
 
 #[test]
 fn faults_have_a_line_and_a_status(rt: HostRuntime) {
-    for (failed, line, status) in FAULTS {
+    for &(failed, line, status) in FAULTS {
         let text = fault_text(rt.alloc(), &failed).expect(&rt, "no text");
         same(&rt, &(text.as_str(), status_of(&failed)), &(line, status));
     }

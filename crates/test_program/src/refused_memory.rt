@@ -24,13 +24,14 @@ use test_support::made_up;
 /// A call whose allocations are refused.
 #[derive(Clone, Copy)]
 enum Call {
-    /// The command `ratify`.
-    Ratify,
+    /// The command `ratify` on the script of this example.
+    Ratify(Example),
     /// The command `replay` on the script of this example.
     Replay(Example),
-    /// The command `run`.
-    Run,
-    ReportText,
+    /// The command `run`, which writes what this example does.
+    Run(Example),
+    /// The report of two items, which has the text of this example.
+    ReportText(Example),
     /// The line of this failure, which has this text.
     FaultText(Failed, &'static str),
 }
@@ -67,17 +68,20 @@ fn is_text<A: Allocator, E: Drop>(rt: &impl Abort, told: Result<String<A>, E>, w
     }
 }
 
-/// Whether the allocator serves the text of a report of two items, which an only consumer took.
-fn report_is_served<R: Abort + AllocGlobal>(rt: &R, alloc: &FaultyHeap<Global>) -> bool {
-    let report = made_up(
-        rt.alloc(),
-        &[(&[0, 1], true, &[])],
-        &[(0, 0, &[Note::Took(0), Note::Took(1)], false)],
-    )
-    .expect(rt, "no report");
+/// Whether the allocator serves the text of a report of a lane with these items, on which an only consumer has these
+/// notes. Checks that the text is `want`.
+pub(crate) fn report_is_served<R: Abort + AllocGlobal, A: Allocator + Drop>(
+    rt: &R,
+    alloc: A,
+    items: &[u64],
+    notes: &[Note],
+    want: &str,
+) -> bool {
+    let report = made_up(rt.alloc(), &[(items, true, &[])], &[(0, 0, notes, false)]);
+    let report = report.expect(rt, "no report");
     let told = report_text(alloc, &report);
     drop(report);
-    is_text(rt, told, TWO_ITEMS.output)
+    is_text(rt, told, want)
 }
 
 /// Makes the call, and returns whether the allocator serves it.
@@ -87,19 +91,22 @@ fn is_served<R: Abort + AllocGlobal + Threads + Wait + Sync>(
     alloc: &FaultyHeap<Global>,
 ) -> bool {
     match call {
-        Call::Ratify => {
-            let told = ratified(rt, alloc, LATE_INPUT.input);
-            is_done(rt, told, RatifyFault::NoMemory, LATE_INPUT.output)
+        Call::Ratify(example) => {
+            let told = ratified(rt, alloc, example.input);
+            is_done(rt, told, RatifyFault::NoMemory, example.output)
         }
         Call::Replay(example) => {
             let told = replayed(rt, alloc, example.input);
             is_done(rt, told, Fault::NoMemory, example.output)
         }
-        Call::Run => {
+        Call::Run(example) => {
             let told = reported(rt, alloc, ALONE);
-            is_done(rt, told, RunFault::NoMemory, TWO_ITEMS.output)
+            is_done(rt, told, RunFault::NoMemory, example.output)
         }
-        Call::ReportText => report_is_served(rt, alloc),
+        Call::ReportText(example) => {
+            let notes = [Note::Took(0), Note::Took(1)];
+            report_is_served(rt, alloc, &[0, 1], &notes, example.output)
+        }
         Call::FaultText(failed, line) => is_text(rt, fault_text(alloc, &failed), line),
     }
 }
@@ -111,9 +118,9 @@ const BAD_PRODUCERS: Failed = Failed::Replay(Fault::BadSetup(1, SetupFault::BadP
 const BAD_CELLS: Failed = Failed::Run(RunFault::BadSetup(SetupFault::BadCells));
 
 /// Each call with its name, and the least number of its allocations.
-const CALLS: [(&str, Call, u64); 8] = [
+const CALLS: &[(&str, Call, u64)] = &[
     // The script's bytes, the inputs, the turns, the ratifier's processes, entries and outputs, and the text.
-    ("ratify", Call::Ratify, 7),
+    ("ratify", Call::Ratify(LATE_INPUT), 7),
     // The script's bytes and its events, seven lists of the world, four of its report, and the text. The cells of the
     // lane are listed once for the lane and once for each diary.
     ("replay of an item taken", Call::Replay(ITEM_TAKEN), 16),
@@ -121,8 +128,8 @@ const CALLS: [(&str, Call, u64); 8] = [
     ("replay where one loses", Call::Replay(ONE_LOSES), 18),
     // The items and their list, the sources, two lists of the hub and two of each table's words, nine allocations of
     // `work`, four lists of the report, and the text.
-    ("run", Call::Run, 23),
-    ("report text", Call::ReportText, 1),
+    ("run", Call::Run(TWO_ITEMS), 23),
+    ("report text", Call::ReportText(TWO_ITEMS), 1),
     (
         "line of a bad input",
         Call::FaultText(BAD_INPUT, "fault 6 BadInput 1048575\n"),
@@ -142,7 +149,7 @@ const CALLS: [(&str, Call, u64); 8] = [
 
 #[test]
 fn each_growth_of_each_call_refused(rt: HostRuntime) -> Result<(), Fail> {
-    for (name, call, growths) in CALLS {
+    for &(name, call, growths) in CALLS {
         let refused = growths_refused(&rt, |alloc| Ok(is_served(&rt, call, alloc)))?;
         assert!(rt; growths <= refused, "{name}");
     }
