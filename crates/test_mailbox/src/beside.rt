@@ -288,20 +288,23 @@ fn report_all<R: Abort + Threads + Sync>(rt: &R, alloc: Global) -> Report<Global
     gathered(rt, alloc, mailbox, hub)
 }
 
-/// The items of the producer whose first item is this one, in order.
-fn items_from(first: u64) -> [u64; ITEMS as usize] {
-    let mut items = [first; ITEMS as usize];
-    for place in 0..ITEMS as usize {
-        items[place] = first.wrapping_add(place as u64);
-    }
-    items
-}
+/// The `ITEMS` items of each producer.
+const ITEMS_OF_BOTH: &[&[u64]] = &[
+    &[
+        1000, 1001, 1002, 1003, 1004, 1005, 1006, 1007, 1008, 1009, 1010, 1011, 1012, 1013, 1014,
+        1015, 1016, 1017, 1018, 1019, 1020, 1021, 1022, 1023, 1024, 1025, 1026, 1027, 1028, 1029,
+        1030, 1031,
+    ],
+    &[
+        2000, 2001, 2002, 2003, 2004, 2005, 2006, 2007, 2008, 2009, 2010, 2011, 2012, 2013, 2014,
+        2015, 2016, 2017, 2018, 2019, 2020, 2021, 2022, 2023, 2024, 2025, 2026, 2027, 2028, 2029,
+        2030, 2031,
+    ],
+];
 
 #[test]
 fn two_threads_put_while_two_poll(rt: HostRuntime) {
     let report = report_all(&rt, rt.alloc());
-    let (first, second) = (items_from(1000), items_from(2000));
-    let lists = [first.as_slice(), second.as_slice()];
-    let report = tells_all(&rt, report, &lists, 4, ITEMS as usize);
+    let report = tells_all(&rt, report, ITEMS_OF_BOTH, 4, ITEMS as usize);
     same(&rt, &tally_of(&rt, report, 2, 2).put, &(2 * ITEMS));
 }

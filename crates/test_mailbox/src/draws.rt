@@ -38,23 +38,25 @@ fn words_drawn<R: Abort + AllocGlobal + Threads + Wait + Sync>(
     )
 }
 
-// A row has the consumer that is stopped, the report, and how many words the two sources gave.
+/// A row has the consumer that is stopped, the report, and how many words the two sources gave.
+const DRAWN: &[(u32, &str, (u64, u64))] = &[
+    (
+        1,
+        "lane 0 ended put 5\nleft 0\ndiary 0 0 took 5\ndiary 1 0\n",
+        (7, 0),
+    ),
+    (
+        0,
+        "lane 0 ended put 5\nleft 0\ndiary 0 0\ndiary 1 0 took 5\n",
+        (0, 7),
+    ),
+];
+
 #[test]
 fn each_consumer_draws_from_its_own_source(rt: HostRuntime) {
     // The claim of the other consumer meets no other claim. It makes seven accesses, three to the conciliator and four
     // to the ratifier, and draws a word for each.
-    for (stopped, report, drawn) in [
-        (
-            1,
-            "lane 0 ended put 5\nleft 0\ndiary 0 0 took 5\ndiary 1 0\n",
-            (7, 0),
-        ),
-        (
-            0,
-            "lane 0 ended put 5\nleft 0\ndiary 0 0\ndiary 1 0 took 5\n",
-            (0, 7),
-        ),
-    ] {
+    for &(stopped, report, drawn) in DRAWN {
         same_at(&rt, &words_drawn(&rt, stopped, report), &drawn, &stopped);
     }
 }

@@ -122,7 +122,7 @@ diary 1 1 begun
 );
 
 /// Each call with its name, and the least number of its allocations.
-const CALLS: [(&str, Call, u64); 9] = [
+const CALLS: &[(&str, Call, u64)] = &[
     // The lists of what is taken in, the words of the cells, the zeros and the words of the claims.
     ("new", Call::New, 5),
     // At least the list of the producer's items.
@@ -164,7 +164,7 @@ fn is_refused<R: Abort + AllocGlobal + Threads + Wait + Sync>(
 
 #[test]
 fn each_growth_of_each_call_refused(rt: HostRuntime) -> Result<(), Fail> {
-    for (name, call, least) in CALLS {
+    for &(name, call, least) in CALLS {
         is_refused(&rt, name, call, least)?;
     }
     Ok(())

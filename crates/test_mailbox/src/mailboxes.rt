@@ -1,15 +1,13 @@
 //! Mailboxes in one thread: the answers of their calls, and the report at the end.
 
 use crate::compare::same;
-use crate::scenes::{play, plays};
-use crate::trial::Trial;
+use crate::scenes::{play, plays, plays_in};
 use crate::trials::{ends, new_trial};
-use mb_mailbox::{GatherFault, Poll, Put};
+use mb_mailbox::GatherFault;
 use mb_quorum::TableName;
 use mb_world::Setup;
-use std::alloc::{AllocError, Global};
+use std::alloc::Global;
 use std::process::Abort;
-use test_support::Zeros;
 
 /// How many producers, consumers and cells a mailbox has, the calls with their answers, and the report.
 pub(crate) type Scene = ([u64; 3], &'static str, &'static str);
@@ -111,15 +109,17 @@ diary 0 0 took 7
 ",
 );
 
+const SCENES: &[Scene] = &[
+    NOTHING_IS_WAITED_FOR,
+    A_POLL_OF_NO_LANE_OR_NO_BUDGET_DRAWS_NOTHING,
+    NOBODY_IS_GIVEN,
+    TWO_PRODUCERS_WANT_THE_ONLY_CELL,
+    AN_ENDED_LANE_IS_READ_BY_A_CONSUMER_GIVEN_LATER,
+];
+
 #[test]
 fn scenes_of_one_thread(rt: HostRuntime) {
-    for (sizes, lines, report) in [
-        NOTHING_IS_WAITED_FOR,
-        A_POLL_OF_NO_LANE_OR_NO_BUDGET_DRAWS_NOTHING,
-        NOBODY_IS_GIVEN,
-        TWO_PRODUCERS_WANT_THE_ONLY_CELL,
-        AN_ENDED_LANE_IS_READ_BY_A_CONSUMER_GIVEN_LATER,
-    ] {
+    for &(sizes, lines, report) in SCENES {
         plays(&rt, sizes, lines, report);
     }
 }
@@ -183,40 +183,27 @@ fn no_report_is_made_while_one_is_out(rt: HostRuntime) {
     one_consumer_is_out(&rt, A_LATER_CONSUMER_LOSES_TO_ONE_THAT_WENT_AWAY);
 }
 
-/// Puts `items` items, and then polls until all are taken, in their order.
-fn put_and_take_all(rt: &impl Abort, trial: &mut Trial<Global>, items: u64) {
-    for x in 0..items {
-        same(rt, &trial.put(0, x), &Some(Put::Linked));
+/// Each of 300 items, in their order, with these texts around it.
+fn each_item(rt: &impl Abort, alloc: Global, before: &str, after: &str) -> String {
+    let mut text = String::new(alloc);
+    for x in 0..300u64 {
+        write!(text, "{before}{x}{after}").expect(rt, "no text");
     }
-    for x in 0..items {
-        let told = trial.poll(0, 0, 100, &mut Zeros::default());
-        same(rt, &told, &Some(Poll::Took(x)));
-    }
+    text
 }
 
-/// The text of the report after `items` items were put and taken.
-fn all_taken(alloc: Global, items: u64) -> Result<String, AllocError> {
-    let mut report = String::new(alloc);
-    report.push_str("lane 0 open put")?;
-    for x in 0..items {
-        write!(report, " {x}")?;
-    }
-    report.push_str("\nleft 0\ndiary 0 0")?;
-    for x in 0..items {
-        write!(report, " took {x}")?;
-    }
-    report.push_str("\n")?;
-    Ok(report)
-}
-
-// A script has at most 256 cells, and this mailbox has 300.
+// A script has at most 256 cells, and this mailbox has 300. All items are put and then taken, in their order.
 #[test]
 fn a_large_mailbox_takes_more_items_than_a_script_has(rt: HostRuntime) {
     let alloc = rt.alloc();
-    let report = all_taken(alloc, 300).expect(&rt, "no text");
+    let puts = each_item(&rt, alloc, "put 0 ", ": linked\n");
+    let polls = each_item(&rt, alloc, "poll 0 0 100: took ", "\n");
+    let lines = format!(in alloc; "producer: given\nconsumer: given\n{puts}{polls}");
+    let lines = lines.expect(&rt, "no lines");
+    let put = each_item(&rt, alloc, " ", "");
+    let taken = each_item(&rt, alloc, " took ", "");
+    let report = format!(in alloc; "lane 0 open put{put}\nleft 0\ndiary 0 0{taken}\n");
+    let report = report.expect(&rt, "no report");
     let setup = Setup::large(1, 1, 300, 1, TableName::Bits).expect(&rt, "no setup");
-    let mut trial = Trial::new(alloc, setup).expect(&rt, "no mailbox");
-    play(&rt, &mut trial, alloc, "producer: given\nconsumer: given\n");
-    put_and_take_all(&rt, &mut trial, 300);
-    ends(&rt, alloc, trial, report.as_str());
+    plays_in(&rt, setup, lines.as_str(), report.as_str());
 }

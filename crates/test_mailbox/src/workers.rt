@@ -190,18 +190,21 @@ fn nobody_comes_through_a_closed_gate(rt: HostRuntime) {
     );
 }
 
+/// Calls on one mailbox of one producer and one consumer. A row has the lists of items, the budget, the number of
+/// consumers, and the result.
+const CALLS: &[(&[&[u64]], u64, usize, Result<Worked, WorkFault>)] = &[
+    (&[&[1, 2]], 5, 1, Ok(ALL_DONE)),
+    // Calls that need one more number are refused. The error for that comes before the one for the budget.
+    (&[&[3]], 0, 0, Err(WorkFault::AllGiven)),
+    (&[], 5, 1, Err(WorkFault::AllGiven)),
+    // Without lists and sources there is no worker and nothing to do.
+    (&[], 5, 0, Ok(ALL_DONE)),
+];
+
 #[test]
 fn no_numbers_are_left_for_more_workers(rt: HostRuntime) {
     let mut trial = new_trial(&rt, rt.alloc(), 1, 1, 2);
-    let (one, more, none): (&[&[u64]], &[&[u64]], &[&[u64]]) = (&[&[1, 2]], &[&[3]], &[]);
-    for (items, budget, consumers, want) in [
-        (one, 5, 1, Ok(ALL_DONE)),
-        // Calls that need one more number are refused. The error for that comes before the one for the budget.
-        (more, 0, 0, Err(WorkFault::AllGiven)),
-        (none, 5, 1, Err(WorkFault::AllGiven)),
-        // Without lists and sources there is no worker and nothing to do.
-        (none, 5, 0, Ok(ALL_DONE)),
-    ] {
+    for &(items, budget, consumers, want) in CALLS {
         let worked = works(&rt, &mut trial, items, budget, consumers, &OpenGate);
         same(&rt, &worked, &want);
     }
@@ -240,27 +243,25 @@ fn a_consumer_without_lanes_polls_none(rt: HostRuntime) {
     same(&rt, &gate.calls.load(Ordering::SeqCst), &0);
 }
 
-/// Sixteen items in order, from this one on.
-fn sixteen_from(first: u64) -> [u64; 16] {
-    let mut items = [first; 16];
-    for place in 0..16 {
-        items[place] = first.wrapping_add(place as u64);
-    }
-    items
-}
+/// Sixteen items for each of four producers.
+const ITEMS_OF_FOUR: &[&[u64]] = &[
+    &[0, 1, 2, 3, 4, 5, 6, 7, 8, 9, 10, 11, 12, 13, 14, 15],
+    &[
+        100, 101, 102, 103, 104, 105, 106, 107, 108, 109, 110, 111, 112, 113, 114, 115,
+    ],
+    &[
+        200, 201, 202, 203, 204, 205, 206, 207, 208, 209, 210, 211, 212, 213, 214, 215,
+    ],
+    &[
+        300, 301, 302, 303, 304, 305, 306, 307, 308, 309, 310, 311, 312, 313, 314, 315,
+    ],
+];
 
 #[test]
 fn four_producers_and_four_consumers_share_64_cells(rt: HostRuntime) {
-    let items = [0, 100, 200, 300].map(sixteen_from);
-    let items = [
-        items[0].as_slice(),
-        items[1].as_slice(),
-        items[2].as_slice(),
-        items[3].as_slice(),
-    ];
     let setup = Setup::new(4, 4, 64, 4, TableName::Bits).expect(&rt, "no setup");
-    let report = all_done(&rt, setup, &items, 3, 4, &OpenGate);
-    let report = tells_all(&rt, report, &items, 16, 16);
+    let report = all_done(&rt, setup, ITEMS_OF_FOUR, 3, 4, &OpenGate);
+    let report = tells_all(&rt, report, ITEMS_OF_FOUR, 16, 16);
     // Among others: no item has two who took it.
     same(&rt, &tally_of(&rt, report, 4, 4).put, &64);
 }

@@ -7,19 +7,18 @@ use crate::examples::entry::Example;
 use crate::examples::ratifiers::LATE_INPUT;
 use crate::examples::runs::TWO_ITEMS;
 use crate::ratify::ratified;
-use crate::replay::replayed;
+use crate::replay::{is_text, replayed, report_is_served};
 use crate::run::{ALONE, reported};
 use mb_program::{Failed, RatifyFault, RunFault, fault_text};
-use mb_script::{Fault, report_text};
+use mb_script::Fault;
 use mb_world::{Note, SetupFault};
-use std::alloc::{Allocator, Global};
+use std::alloc::Global;
 use std::fmt::Debug;
 use std::process::Abort;
 use std::sync::Wait;
 use std::test::Fail;
 use std::thread::Threads;
 use test_alloc::{FaultyHeap, growths_refused};
-use test_support::made_up;
 
 /// A call whose allocations are refused.
 #[derive(Clone, Copy)]
@@ -55,33 +54,6 @@ fn is_done<F: PartialEq + Debug + Copy>(
         &(Ok(()), want.as_bytes()),
     );
     true
-}
-
-/// Checks that a text that was made is `want`. Returns whether one was made.
-fn is_text<A: Allocator, E: Drop>(rt: &impl Abort, told: Result<String<A>, E>, want: &str) -> bool {
-    match told {
-        Ok(text) => {
-            same(rt, &text.as_str(), &want);
-            true
-        }
-        Err(_) => false,
-    }
-}
-
-/// Whether the allocator serves the text of a report of a lane with these items, on which an only consumer has these
-/// notes. Checks that the text is `want`.
-pub(crate) fn report_is_served<R: Abort + AllocGlobal, A: Allocator + Drop>(
-    rt: &R,
-    alloc: A,
-    items: &[u64],
-    notes: &[Note],
-    want: &str,
-) -> bool {
-    let report = made_up(rt.alloc(), &[(items, true, &[])], &[(0, 0, notes, false)]);
-    let report = report.expect(rt, "no report");
-    let told = report_text(alloc, &report);
-    drop(report);
-    is_text(rt, told, want)
 }
 
 /// Makes the call, and returns whether the allocator serves it.

@@ -3,11 +3,11 @@
 use crate::compare::{same, same_at};
 use crate::devices::{Letters, NarrowWriter, SlowReader};
 use crate::examples::claims::ITEM_TAKEN;
-use crate::refused_memory::report_is_served;
-use mb_script::{CountingIo, Fault, run};
+use mb_script::{CountingIo, Fault, report_text, run};
 use mb_world::{Note, SetupFault};
 use std::alloc::{AllocError, Allocator, Global};
 use std::process::Abort;
+use test_support::made_up;
 
 // Replays the script, with this allocator for all but what is written. Returns how the call ended, and what was written.
 pub(crate) fn replayed<R: AllocGlobal, A: Allocator + Copy>(
@@ -90,6 +90,37 @@ fn many_events_are_replayed(rt: HostRuntime) {
 fn a_script_has_a_limit_of_events(rt: HostRuntime) {
     let (result, text) = replayed(&rt, rt.alloc(), &pushes(&rt, 20_000, "x\n"));
     same(&rt, &(result, text.len()), &(Err(Fault::TooManyEvents), 0));
+}
+
+/// Checks that a text that was made is `want`. Returns whether one was made.
+pub(crate) fn is_text<A: Allocator, E: Drop>(
+    rt: &impl Abort,
+    told: Result<String<A>, E>,
+    want: &str,
+) -> bool {
+    match told {
+        Ok(text) => {
+            same(rt, &text.as_str(), &want);
+            true
+        }
+        Err(_) => false,
+    }
+}
+
+/// Whether the allocator serves the text of a report of a lane with these items, on which an only consumer has these
+/// notes. Checks that the text is `want`.
+pub(crate) fn report_is_served<R: Abort + AllocGlobal, A: Allocator + Drop>(
+    rt: &R,
+    alloc: A,
+    items: &[u64],
+    notes: &[Note],
+    want: &str,
+) -> bool {
+    let report = made_up(rt.alloc(), &[(items, true, &[])], &[(0, 0, notes, false)]);
+    let report = report.expect(rt, "no report");
+    let told = report_text(alloc, &report);
+    drop(report);
+    is_text(rt, told, want)
 }
 
 // The report is of one item, which a consumer took.
