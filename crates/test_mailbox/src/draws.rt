@@ -3,10 +3,7 @@
 use crate::compare::same_at;
 use crate::workers::stop_one;
 use mb_mailbox::{Gate, Who};
-use std::process::Abort;
-use std::sync::Wait;
 use std::sync::atomic::{AtomicU64, Ordering};
-use std::thread::Threads;
 
 /// A gate that stops one consumer before its first call, and nobody else.
 #[derive(Drop)]
@@ -21,21 +18,6 @@ impl Gate for AllBut {
     }
 
     fn leave(&self, _who: Who, _call: u64) {}
-}
-
-/// How many words each of two consumers draws for one item, if consumer `stopped` is stopped. Checks that the report
-/// then has this text.
-fn words_drawn<R: Abort + AllocGlobal + Threads + Wait + Sync>(
-    rt: &R,
-    stopped: u32,
-    report: &str,
-) -> (u64, u64) {
-    let given = [AtomicU64::new(0), AtomicU64::new(0)];
-    stop_one(rt, &given, &AllBut { consumer: stopped }, report);
-    (
-        given[0].load(Ordering::SeqCst),
-        given[1].load(Ordering::SeqCst),
-    )
 }
 
 /// A row has the consumer that is stopped, the report, and how many words the two sources gave.
@@ -57,6 +39,12 @@ fn each_consumer_draws_from_its_own_source(rt: HostRuntime) {
     // The claim of the other consumer meets no other claim. It makes seven accesses, three to the conciliator and four
     // to the ratifier, and draws a word for each.
     for &(stopped, report, drawn) in DRAWN {
-        same_at(&rt, &words_drawn(&rt, stopped, report), &drawn, &stopped);
+        let given = [AtomicU64::new(0), AtomicU64::new(0)];
+        stop_one(&rt, &given, &AllBut { consumer: stopped }, report);
+        let (first, second) = (
+            given[0].load(Ordering::SeqCst),
+            given[1].load(Ordering::SeqCst),
+        );
+        same_at(&rt, &(first, second), &drawn, &stopped);
     }
 }

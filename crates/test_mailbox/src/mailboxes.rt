@@ -6,7 +6,6 @@ use crate::trials::{ends, new_trial};
 use mb_mailbox::GatherFault;
 use mb_quorum::TableName;
 use mb_world::Setup;
-use std::alloc::Global;
 use std::process::Abort;
 
 /// How many producers, consumers and cells a mailbox has, the calls with their answers, and the report.
@@ -183,27 +182,29 @@ fn no_report_is_made_while_one_is_out(rt: HostRuntime) {
     one_consumer_is_out(&rt, A_LATER_CONSUMER_LOSES_TO_ONE_THAT_WENT_AWAY);
 }
 
-/// Each of 300 items, in their order, with these texts around it.
-fn each_item(rt: &impl Abort, alloc: Global, before: &str, after: &str) -> String {
-    let mut text = String::new(alloc);
+/// Appends each of 300 items, in their order, with these texts around it.
+fn push_each(rt: &impl Abort, text: &mut String, before: &str, after: &str) {
     for x in 0..300u64 {
         write!(text, "{before}{x}{after}").expect(rt, "no text");
     }
-    text
 }
 
 // A script has at most 256 cells, and this mailbox has 300. All items are put and then taken, in their order.
 #[test]
 fn a_large_mailbox_takes_more_items_than_a_script_has(rt: HostRuntime) {
-    let alloc = rt.alloc();
-    let puts = each_item(&rt, alloc, "put 0 ", ": linked\n");
-    let polls = each_item(&rt, alloc, "poll 0 0 100: took ", "\n");
-    let lines = format!(in alloc; "producer: given\nconsumer: given\n{puts}{polls}");
-    let lines = lines.expect(&rt, "no lines");
-    let put = each_item(&rt, alloc, " ", "");
-    let taken = each_item(&rt, alloc, " took ", "");
-    let report = format!(in alloc; "lane 0 open put{put}\nleft 0\ndiary 0 0{taken}\n");
-    let report = report.expect(&rt, "no report");
+    let both_given = "producer: given\nconsumer: given\n";
+    let mut lines = both_given.to_string(rt.alloc()).expect(&rt, "no text");
+    push_each(&rt, &mut lines, "put 0 ", ": linked\n");
+    push_each(&rt, &mut lines, "poll 0 0 100: took ", "\n");
+    let mut report = "lane 0 open put"
+        .to_string(rt.alloc())
+        .expect(&rt, "no text");
+    push_each(&rt, &mut report, " ", "");
+    report
+        .push_str("\nleft 0\ndiary 0 0")
+        .expect(&rt, "no text");
+    push_each(&rt, &mut report, " took ", "");
+    report.push_str("\n").expect(&rt, "no text");
     let setup = Setup::large(1, 1, 300, 1, TableName::Bits).expect(&rt, "no setup");
     plays_in(&rt, setup, lines.as_str(), report.as_str());
 }
