@@ -5,7 +5,7 @@ ghost use Rattle.mb_mailbox.specs.Hubs.{IsHubOf};
 ghost use Rattle.mb_mailbox.specs.Producers.{IsProducerOf};
 
 use crate::compare::same;
-use crate::trials::{reads, tells_all};
+use crate::trials::{reads, tally_of, tells_all};
 use crate::words::chacha;
 use mb_mailbox::{Consumer, Hub, Mailbox, Poll, Producer, Put};
 use mb_quorum::TableName;
@@ -13,7 +13,6 @@ use mb_world::{Report, Setup};
 use std::alloc::Global;
 use std::process::Abort;
 use std::thread::{Threads, join};
-use test_audit::audit;
 use test_support::Zeros;
 
 /// The report of a mailbox whose producers and consumers were all taken in. If one was not, the test fails.
@@ -27,7 +26,7 @@ pub(crate) fn gathered(
 {
     match mailbox.gather(alloc, hub) {
         Ok(report) => report,
-        Err(_) => panic!(rt; "no report"),
+        Err(_) => rt.panic("no report"),
     }
 }
 
@@ -83,14 +82,8 @@ fn give_both(
     ensures producer { IsProducerOf mailbox.now result.0 }
     ensures consumer { IsConsumerOf mailbox.now result.1 }
 {
-    let producer = match hub.producer(alloc, mailbox) {
-        Ok(producer) => producer,
-        Err(_) => panic!(rt; "no producer"),
-    };
-    let consumer = match hub.consumer(alloc, mailbox) {
-        Ok(consumer) => consumer,
-        Err(_) => panic!(rt; "no consumer"),
-    };
+    let producer = hub.producer(alloc, mailbox).expect(rt, "no producer");
+    let consumer = hub.consumer(alloc, mailbox).expect(rt, "no consumer");
     (producer, consumer)
 }
 
@@ -140,14 +133,11 @@ fn read_back_four<R: Abort + Threads + Sync>(
 #[test]
 fn each_item_is_read_back_at_once(rt: HostRuntime) {
     let setup = Setup::new(1, 1, 4, 1, TableName::Bits).expect(&rt, "no setup");
-    let (mailbox, mut hub) = match Mailbox::new(rt.alloc(), setup) {
-        Ok(made) => made,
-        Err(_) => panic!(rt; "no mailbox"),
-    };
+    let (mailbox, mut hub) = Mailbox::new(rt.alloc(), setup).expect(&rt, "no mailbox");
     read_back_four(&rt, rt.alloc(), &mailbox, &mut hub);
     let report = gathered(&rt, rt.alloc(), mailbox, hub);
     let want = "lane 0 open put 1 2 3 4\nleft 0\ndiary 0 0 took 1 took 2 took 3 took 4\n";
-    reads(&rt, rt.alloc(), &report, want);
+    reads(&rt, rt.alloc(), report, want);
 }
 
 /// Puts the `ITEMS` items from `first` on, in order, and ends the lane.
@@ -293,29 +283,28 @@ fn share_all<R: Abort + Threads + Sync>(
 /// The report of a mailbox in which two threads put while two others poll.
 fn report_all<R: Abort + Threads + Sync>(rt: &R, alloc: Global) -> Report<Global> {
     let setup = Setup::new(2, 2, 64, 4, TableName::Bits).expect(rt, "no setup");
-    let (mailbox, mut hub) = match Mailbox::new(alloc, setup) {
-        Ok(made) => made,
-        Err(_) => panic!(rt; "no mailbox"),
-    };
+    let (mailbox, mut hub) = Mailbox::new(alloc, setup).expect(rt, "no mailbox");
     share_all(rt, alloc, &mailbox, &mut hub);
     gathered(rt, alloc, mailbox, hub)
 }
 
-/// The items of the producer whose first item is this one, in order.
-fn items_from(first: u64) -> [u64; ITEMS as usize] {
-    let mut items = [first; ITEMS as usize];
-    for place in 0..ITEMS as usize {
-        items[place] = first.wrapping_add(place as u64);
-    }
-    items
-}
+/// The `ITEMS` items of each producer.
+const ITEMS_OF_BOTH: &[&[u64]] = &[
+    &[
+        1000, 1001, 1002, 1003, 1004, 1005, 1006, 1007, 1008, 1009, 1010, 1011, 1012, 1013, 1014,
+        1015, 1016, 1017, 1018, 1019, 1020, 1021, 1022, 1023, 1024, 1025, 1026, 1027, 1028, 1029,
+        1030, 1031,
+    ],
+    &[
+        2000, 2001, 2002, 2003, 2004, 2005, 2006, 2007, 2008, 2009, 2010, 2011, 2012, 2013, 2014,
+        2015, 2016, 2017, 2018, 2019, 2020, 2021, 2022, 2023, 2024, 2025, 2026, 2027, 2028, 2029,
+        2030, 2031,
+    ],
+];
 
 #[test]
 fn two_threads_put_while_two_poll(rt: HostRuntime) {
     let report = report_all(&rt, rt.alloc());
-    let (first, second) = (items_from(1000), items_from(2000));
-    let lists = [first.as_slice(), second.as_slice()];
-    tells_all(&rt, &report, &lists, 4, ITEMS as usize);
-    let tally = audit(&report, 2, 2).expect(&rt, "a flaw");
-    same(&rt, &tally.put, &(2 * ITEMS));
+    let report = tells_all(&rt, report, ITEMS_OF_BOTH, 4, ITEMS as usize);
+    same(&rt, &tally_of(&rt, report, 2, 2).put, &(2 * ITEMS));
 }

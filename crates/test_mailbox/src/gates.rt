@@ -1,13 +1,11 @@
 //! The calls of a gate show that workers run at one time, make their calls in order, and poll the lanes in turn.
 
 use crate::compare::{same, same_at};
-use crate::trial::Trial;
-use crate::trials::{audited, ends, new_trial};
-use crate::workers::{ALL_DONE, works};
+use crate::trials::tally_of;
+use crate::workers::{ONE_STOPPED, all_done, work_once};
 use mb_mailbox::{Gate, Who, Worked};
 use mb_quorum::TableName;
 use mb_world::Setup;
-use std::alloc::Global;
 use std::process::Abort;
 use std::sync::Wait;
 use std::sync::atomic::{AtomicU64, Ordering};
@@ -47,28 +45,16 @@ impl Gate for AllCome {
     fn leave(&self, _who: Who, _call: u64) {}
 }
 
-/// Checks that `consumers` consumers and one producer come to the gate at one time, and that none is stopped.
-fn come_to_the_gate<R: Abort + AllocGlobal + Threads + Wait + Sync>(
-    rt: &R,
-    trial: &mut Trial<Global>,
-    consumers: u64,
-) {
+/// Lets a producer and `consumers` consumers come to the gate at one time, where none is stopped. Then it audits the
+/// report: all four items were put, and an only consumer took them all.
+fn come_and_put<R: Abort + AllocGlobal + Threads + Wait + Sync>(rt: &R, consumers: u64) {
     let gate = AllCome {
         come: AtomicU64::new(0),
         workers: consumers.wrapping_add(1),
     };
-    let worked = works(rt, trial, &[&[1, 2, 3, 4]], 5, consumers as usize, &gate);
-    same_at(rt, &worked, &Ok(ALL_DONE), &consumers);
-}
-
-/// Lets a producer and `consumers` consumers come to the gate at one time. Then it audits the report: all four items
-/// were put, and an only consumer took them all.
-fn come_and_put<R: Abort + AllocGlobal + Threads + Wait + Sync>(rt: &R, consumers: u64) {
-    let alloc = rt.alloc();
     let setup = Setup::new(1, consumers, 4, 4, TableName::Bits).expect(rt, "no setup");
-    let mut trial = Trial::new(alloc, setup).expect(rt, "no mailbox");
-    come_to_the_gate(rt, &mut trial, consumers);
-    let tally = audited(rt, alloc, trial, 1, consumers);
+    let report = all_done(rt, setup, &[&[1, 2, 3, 4]], 5, consumers, &gate);
+    let tally = tally_of(rt, report, 1, consumers);
     // The claim of an only consumer always decides, so that it takes each item.
     let are_taken = consumers != 1 || tally.took == 4;
     same_at(rt, &(tally.put, are_taken), &(4, true), &consumers);
@@ -133,41 +119,38 @@ fn alternates(rt: &impl Abort, gate: &Record) {
     // A producer makes one call for each item, and each call enters and leaves.
     let first = gate.times[0].load(Ordering::SeqCst);
     let second = gate.times[1].load(Ordering::SeqCst);
-    same(rt, &(flaws, first, second), &(0, 4, 6));
     // A consumer makes at least one call for each of five items and two ends, and has left after each.
-    for consumer in 2..4 {
-        let times = gate.times[consumer].load(Ordering::SeqCst);
-        assert!(rt; 14 <= times && times % 2 == 0);
-    }
+    let third = gate.times[2].load(Ordering::SeqCst);
+    let fourth = gate.times[3].load(Ordering::SeqCst);
+    let have_met_all = 14 <= third && 14 <= fourth;
+    let told = (flaws, first, second, have_met_all, third % 2, fourth % 2);
+    same(rt, &told, &(0, 4, 6, true, 0, 0));
 }
 
 // Each call of a worker enters the gate and leaves it before the next one enters.
 #[test]
 fn asks_and_tells_of_a_gate_alternate(rt: HostRuntime) {
-    let mut trial = new_trial(&rt, rt.alloc(), 2, 2, 5);
     let gate = Record::new();
-    let worked = works(&rt, &mut trial, &[&[1, 2], &[3, 4, 5]], 5, 2, &gate);
-    same(&rt, &worked, &Ok(ALL_DONE));
+    let setup = Setup::new(2, 2, 5, 1, TableName::Bits).expect(&rt, "no setup");
+    let report = all_done(&rt, setup, &[&[1, 2], &[3, 4, 5]], 5, 2, &gate);
     alternates(&rt, &gate);
-    same(&rt, &audited(&rt, rt.alloc(), trial, 2, 2).put, &5);
+    same(&rt, &tally_of(&rt, report, 2, 2).put, &5);
 }
 
 // A put that finds no cell leaves the gate as any other does. Its worker makes no further put.
 #[test]
 fn a_put_that_finds_no_cell_is_told_of(rt: HostRuntime) {
-    let mut trial = new_trial(&rt, rt.alloc(), 1, 1, 1);
     let gate = Record::new();
-    let worked = works(&rt, &mut trial, &[&[1, 2, 3]], 5, 1, &gate);
     let two_are_over = Worked {
         full: 2,
         stopped: 0,
     };
-    same(&rt, &worked, &Ok(two_are_over));
+    let (items, run): (&[u64], ([u64; 3], u64)) = (&[1, 2, 3], ([1, 1, 1], 5));
+    let report = "lane 0 ended put 1\nleft 0\ndiary 0 0 took 1\n";
+    work_once(&rt, run, &[items], &gate, two_are_over, report);
     // The producer made two puts, which entered and left, and none after the one that found no cell.
     let flaws = gate.flaws.load(Ordering::SeqCst);
     same(&rt, &(flaws, gate.times[0].load(Ordering::SeqCst)), &(0, 4));
-    let report = "lane 0 ended put 1\nleft 0\ndiary 0 0 took 1\n";
-    ends(&rt, rt.alloc(), trial, report);
 }
 
 /// A gate that lets a consumer in for three calls, once four puts were made. If `TURNS` looks find fewer, it does not
@@ -201,16 +184,10 @@ impl Gate for ThreeCalls {
 // The consumer's three calls poll lane 0, lane 1 and lane 0.
 #[test]
 fn lanes_are_polled_in_turn(rt: HostRuntime) {
-    let mut trial = new_trial(&rt, rt.alloc(), 2, 1, 4);
     let gate = ThreeCalls {
         made: AtomicU64::new(0),
     };
-    let worked = works(&rt, &mut trial, &[&[10, 11], &[20, 21]], 100, 1, &gate);
-    let one_stopped = Worked {
-        full: 0,
-        stopped: 1,
-    };
-    same(&rt, &worked, &Ok(one_stopped));
+    let (one, other): (&[u64], &[u64]) = (&[10, 11], &[20, 21]);
     let report = "\
 lane 0 ended put 10 11
 left 0
@@ -219,5 +196,12 @@ left 1 21
 diary 0 0 took 10 took 11
 diary 0 1 took 20
 ";
-    ends(&rt, rt.alloc(), trial, report);
+    work_once(
+        &rt,
+        ([2, 1, 4], 100),
+        &[one, other],
+        &gate,
+        ONE_STOPPED,
+        report,
+    );
 }

@@ -6,6 +6,7 @@ ghost use Rattle.mb_mailbox.specs.Producers.{IsProducerOf};
 
 use crate::beside::gathered;
 use crate::compare::same;
+use crate::trials::tally_of;
 use crate::words::chacha;
 use mb_claim::Shape;
 use mb_mailbox::{Consumer, Hub, Mailbox, Poll, Producer, Put};
@@ -16,7 +17,7 @@ use std::alloc::Global;
 use std::process::Abort;
 use std::sync::atomic::{AtomicU64, Ordering};
 use std::thread::{Threads, for_each_mut, yield_now};
-use test_audit::{Tally, audit};
+use test_audit::Tally;
 
 /// How many consumers compete for each item.
 const CONSUMERS: u64 = 16;
@@ -85,7 +86,7 @@ fn all_settlers(
     for stream in 0..CONSUMERS {
         let consumer = match hub.consumer(alloc, mailbox) {
             Ok(consumer) => consumer,
-            Err(_) => panic!(rt; "no consumer"),
+            Err(_) => rt.panic("no consumer"),
         };
         let settler = Settler {
             consumer,
@@ -94,7 +95,7 @@ fn all_settlers(
             ended: 0,
         };
         let Ok(()) = settlers.push(settler) else {
-            panic!(rt; "no list")
+            rt.panic("no list")
         };
     }
     settlers
@@ -139,10 +140,7 @@ fn settle_all<R: Abort + AllocGlobal + Threads + Sync>(
     requires { IsHubOf mailbox.now hub.old }
     ensures { IsHubOf mailbox.now hub.new }
 {
-    let mut producer = match hub.producer(rt.alloc(), mailbox) {
-        Ok(producer) => producer,
-        Err(_) => panic!(rt; "no producer"),
-    };
+    let mut producer = hub.producer(rt.alloc(), mailbox).expect(rt, "no producer");
     let mut settlers = all_settlers(rt, rt.alloc(), mailbox, hub, seed);
     put_all(rt, mailbox, &mut producer);
     let come = AtomicU64::new(0);
@@ -166,10 +164,7 @@ fn are_all_taken<R: Abort + AllocGlobal + Threads + Sync>(rt: &R, seed: u64) {
     let setup = Setup::new(1, CONSUMERS, ITEMS, 1, TableName::Bits).expect(rt, "no setup");
     let setup = setup.shaped(shape);
     let budget = setup.layout().max_steps().wrapping_add(2);
-    let (mailbox, mut hub) = match Mailbox::new(rt.alloc(), setup) {
-        Ok(made) => made,
-        Err(_) => panic!(rt; "no mailbox"),
-    };
+    let (mailbox, mut hub) = Mailbox::new(rt.alloc(), setup).expect(rt, "no mailbox");
     settle_all(rt, &mailbox, &mut hub, budget, seed);
     let report = gathered(rt, rt.alloc(), mailbox, hub);
     let all_taken = Tally {
@@ -180,8 +175,7 @@ fn are_all_taken<R: Abort + AllocGlobal + Threads + Sync>(rt: &R, seed: u64) {
         undecided: 0,
         under_way: 0,
     };
-    let tally = audit(&report, 1, CONSUMERS).expect(rt, "a flaw");
-    same(rt, &tally, &all_taken);
+    same(rt, &tally_of(rt, report, 1, CONSUMERS), &all_taken);
 }
 
 #[test]

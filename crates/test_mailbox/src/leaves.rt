@@ -2,16 +2,10 @@
 
 use crate::compare::same;
 use crate::gates::TURNS;
-use crate::trial::Trial;
-use crate::trials::{ends, new_trial};
-use crate::workers::lists;
-use mb_mailbox::{Gate, Who, Worked};
-use std::alloc::{AllocError, Global};
-use std::process::Abort;
-use std::sync::Wait;
+use crate::workers::stop_one;
+use mb_mailbox::{Gate, Who};
+use std::slice;
 use std::sync::atomic::{AtomicBool, AtomicU64, Ordering};
-use std::thread::Threads;
-use test_support::SeenZeros;
 
 /// A gate by which the only consumer polls once, while the only producer leaves after its put. Neither waits for ever.
 #[derive(Drop)]
@@ -59,30 +53,6 @@ impl Gate for PollInALeave {
     }
 }
 
-/// A source of zeros, which counts the words that it gave in this counter.
-fn one_source<'a>(alloc: Global, given: &'a AtomicU64) -> Result<Vec<SeenZeros<'a>>, AllocError> {
-    let mut sources = Vec::new(alloc);
-    sources.push(SeenZeros { given })?;
-    Ok(sources)
-}
-
-/// One worker puts an item. While it leaves the gate, a consumer polls once. The consumer is stopped at its next call.
-fn polls_once<R: Abort + AllocGlobal + Threads + Wait + Sync>(
-    rt: &R,
-    trial: &mut Trial<Global>,
-    gate: &PollInALeave,
-) {
-    let alloc = rt.alloc();
-    let items = lists(rt, alloc, &[&[5]]);
-    let rngs = one_source(alloc, &gate.drawn).expect(rt, "no list");
-    let worked = trial.work(alloc, rt, items, 100, rngs, gate);
-    let one_stopped = Worked {
-        full: 0,
-        stopped: 1,
-    };
-    same(rt, &worked, &Ok(one_stopped));
-}
-
 // What is seen while the put leaves the gate, and when the poll leaves it, shows that their accesses were made.
 #[test]
 fn a_call_is_told_of_after_its_accesses(rt: HostRuntime) {
@@ -92,16 +62,11 @@ fn a_call_is_told_of_after_its_accesses(rt: HostRuntime) {
         drawn: AtomicU64::new(0),
         told: AtomicU64::new(0),
     };
-    let mut trial = new_trial(&rt, rt.alloc(), 1, 1, 1);
-    polls_once(&rt, &mut trial, &gate);
+    // While the put leaves the gate, the consumer polls once. It is stopped at its next call. The poll finds the item,
+    // so the item was put before the put left the gate.
+    let report = "lane 0 ended put 5\nleft 0\ndiary 0 0 took 5\n";
+    stop_one(&rt, slice::from_ref(&gate.drawn), &gate, report);
     // An only consumer's claim makes five accesses, three to the conciliator and two to the proposal. It draws a word
     // for each. All were made before the poll left the gate.
     same(&rt, &gate.told.load(Ordering::SeqCst), &5);
-    // The poll found the item, so the item was put before the put left the gate.
-    ends(
-        &rt,
-        rt.alloc(),
-        trial,
-        "lane 0 ended put 5\nleft 0\ndiary 0 0 took 5\n",
-    );
 }

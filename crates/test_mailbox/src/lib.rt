@@ -10,6 +10,8 @@ mod draws;
 #[cfg(test)]
 mod gates;
 #[cfg(test)]
+mod growths;
+#[cfg(test)]
 mod last_objects;
 #[cfg(test)]
 mod leaves;

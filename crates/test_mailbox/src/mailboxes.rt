@@ -1,18 +1,15 @@
 //! Mailboxes in one thread: the answers of their calls, and the report at the end.
 
 use crate::compare::same;
-use crate::scenes::{play, plays};
-use crate::trial::Trial;
+use crate::scenes::{play, plays, plays_in};
 use crate::trials::{ends, new_trial};
-use mb_mailbox::{GatherFault, Poll, Put};
+use mb_mailbox::GatherFault;
 use mb_quorum::TableName;
 use mb_world::Setup;
-use std::alloc::{AllocError, Global};
 use std::process::Abort;
-use test_support::Zeros;
 
 /// How many producers, consumers and cells a mailbox has, the calls with their answers, and the report.
-type Scene = ([u64; 3], &'static str, &'static str);
+pub(crate) type Scene = ([u64; 3], &'static str, &'static str);
 
 /// A put, a finish and a poll each come to their end with nobody else there.
 const NOTHING_IS_WAITED_FOR: Scene = (
@@ -111,15 +108,17 @@ diary 0 0 took 7
 ",
 );
 
+const SCENES: &[Scene] = &[
+    NOTHING_IS_WAITED_FOR,
+    A_POLL_OF_NO_LANE_OR_NO_BUDGET_DRAWS_NOTHING,
+    NOBODY_IS_GIVEN,
+    TWO_PRODUCERS_WANT_THE_ONLY_CELL,
+    AN_ENDED_LANE_IS_READ_BY_A_CONSUMER_GIVEN_LATER,
+];
+
 #[test]
 fn scenes_of_one_thread(rt: HostRuntime) {
-    for (sizes, lines, report) in [
-        NOTHING_IS_WAITED_FOR,
-        A_POLL_OF_NO_LANE_OR_NO_BUDGET_DRAWS_NOTHING,
-        NOBODY_IS_GIVEN,
-        TWO_PRODUCERS_WANT_THE_ONLY_CELL,
-        AN_ENDED_LANE_IS_READ_BY_A_CONSUMER_GIVEN_LATER,
-    ] {
+    for &(sizes, lines, report) in SCENES {
         plays(&rt, sizes, lines, report);
     }
 }
@@ -134,7 +133,7 @@ fn one_consumer_is_out<R: Abort + AllocGlobal>(rt: &R, scene: Scene) {
     trial.take_producer(0);
     trial.take_consumer(1);
     match trial.gather(alloc) {
-        Ok(_) => panic!(rt; "a report is made while a consumer is out"),
+        Ok(_) => rt.panic("a report is made while a consumer is out"),
         Err((fault, trial)) => {
             same(rt, &fault, &GatherFault::Missing(0, 1));
             ends(rt, alloc, trial, report);
@@ -183,40 +182,29 @@ fn no_report_is_made_while_one_is_out(rt: HostRuntime) {
     one_consumer_is_out(&rt, A_LATER_CONSUMER_LOSES_TO_ONE_THAT_WENT_AWAY);
 }
 
-/// Puts `items` items, and then polls until all are taken, in their order.
-fn put_and_take_all(rt: &impl Abort, trial: &mut Trial<Global>, items: u64) {
-    for x in 0..items {
-        same(rt, &trial.put(0, x), &Some(Put::Linked));
-    }
-    for x in 0..items {
-        let told = trial.poll(0, 0, 100, &mut Zeros::default());
-        same(rt, &told, &Some(Poll::Took(x)));
+/// Appends each of 300 items, in their order, with these texts around it.
+fn push_each(rt: &impl Abort, text: &mut String, before: &str, after: &str) {
+    for x in 0..300u64 {
+        write!(text, "{before}{x}{after}").expect(rt, "no text");
     }
 }
 
-/// The text of the report after `items` items were put and taken.
-fn all_taken(alloc: Global, items: u64) -> Result<String, AllocError> {
-    let mut report = String::new(alloc);
-    report.push_str("lane 0 open put")?;
-    for x in 0..items {
-        write!(report, " {x}")?;
-    }
-    report.push_str("\nleft 0\ndiary 0 0")?;
-    for x in 0..items {
-        write!(report, " took {x}")?;
-    }
-    report.push_str("\n")?;
-    Ok(report)
-}
-
-// A script has at most 256 cells, and this mailbox has 300.
+// A script has at most 256 cells, and this mailbox has 300. All items are put and then taken, in their order.
 #[test]
 fn a_large_mailbox_takes_more_items_than_a_script_has(rt: HostRuntime) {
-    let alloc = rt.alloc();
-    let report = all_taken(alloc, 300).expect(&rt, "no text");
+    let both_given = "producer: given\nconsumer: given\n";
+    let mut lines = both_given.to_string(rt.alloc()).expect(&rt, "no text");
+    push_each(&rt, &mut lines, "put 0 ", ": linked\n");
+    push_each(&rt, &mut lines, "poll 0 0 100: took ", "\n");
+    let mut report = "lane 0 open put"
+        .to_string(rt.alloc())
+        .expect(&rt, "no text");
+    push_each(&rt, &mut report, " ", "");
+    report
+        .push_str("\nleft 0\ndiary 0 0")
+        .expect(&rt, "no text");
+    push_each(&rt, &mut report, " took ", "");
+    report.push_str("\n").expect(&rt, "no text");
     let setup = Setup::large(1, 1, 300, 1, TableName::Bits).expect(&rt, "no setup");
-    let mut trial = Trial::new(alloc, setup).expect(&rt, "no mailbox");
-    play(&rt, &mut trial, alloc, "producer: given\nconsumer: given\n");
-    put_and_take_all(&rt, &mut trial, 300);
-    ends(&rt, alloc, trial, report.as_str());
+    plays_in(&rt, setup, lines.as_str(), report.as_str());
 }

@@ -1,62 +1,18 @@
-//! Calls of `work` and of a hub, with each of their allocations refused in turn, and then calls that have memory.
+//! Calls of `work` that run out of memory, and then calls that have memory.
 
 use crate::compare::same;
-use crate::refused_mailboxes::{Alloc, is_given};
-use crate::scenes::play;
+use crate::refused_mailboxes::Alloc;
 use crate::trial::Trial;
 use crate::trials::{ends, gathered, new_trial, tells_all};
 use crate::workers::{ALL_DONE, lists, sources};
 use mb_mailbox::{OpenGate, WorkFault};
-use std::alloc::Global;
 use std::process::Abort;
 use std::sync::Wait;
-use std::test::Fail;
 use std::thread::Threads;
-use test_alloc::{FaultyHeap, Refuse, growths_refused};
 
 /// Whether a producer's number is left. If so, this producer is given, and is taken in without an access.
 fn has_lane<'r>(trial: &mut Trial<Alloc<'r>>, ample: Alloc<'r>) -> bool {
     trial.producer(ample).is_ok() && trial.take_producer(0)
-}
-
-/// In a mailbox of one cell an item is put and taken, and the lane ends. If the first allocator does not serve the
-/// producer, its number is left, and the producer is given over the second one. After it no number is left. Returns
-/// whether the first allocator serves the producer.
-fn one_item_is_served<'r>(rt: &impl Abort, alloc: Alloc<'r>, ample: Alloc<'r>) -> bool {
-    let mut trial = new_trial(rt, ample, 1, 1, 1);
-    let served = is_given(rt, trial.producer(alloc));
-    if !served {
-        play(rt, &mut trial, ample, "producer: given\n");
-    }
-    let lines = "\
-put 0 7: linked
-finish 0: ended
-take_producer 0: taken
-producer: all_given
-consumer: given
-poll 0 0 100: took 7
-";
-    play(rt, &mut trial, ample, lines);
-    ends(
-        rt,
-        ample,
-        trial,
-        "lane 0 ended put 7\nleft 0\ndiary 0 0 took 7\n",
-    );
-    served
-}
-
-#[test]
-fn each_growth_of_a_lone_producer_refused(rt: HostRuntime) -> Result<(), Fail> {
-    let refused = growths_refused(&rt, |alloc| {
-        let ample = FaultyHeap::new(rt.alloc(), Refuse::Never);
-        let served = one_item_is_served(&rt, alloc, &ample);
-        same(&rt, &ample.out(), &0);
-        Ok(served)
-    })?;
-    // What is allocated is at least the list of the producer's items.
-    assert!(rt; 1 <= refused);
-    Ok(())
 }
 
 /// Workers over the first allocator put these lists, and `consumers` others poll them to their ends. The only possible
@@ -82,7 +38,7 @@ fn is_done<'r, R: Abort + Threads + Wait + Sync>(
 
 /// One worker puts two items and another takes both, in a mailbox of these two. If the first allocator does not serve
 /// them, all that was given is taken in, and a lane that was given has ended. Returns whether it serves them.
-fn two_are_served<'r, R: Abort + Threads + Wait + Sync>(
+pub(crate) fn two_are_served<'r, R: Abort + Threads + Wait + Sync>(
     rt: &R,
     alloc: Alloc<'r>,
     ample: Alloc<'r>,
@@ -99,44 +55,19 @@ fn two_are_served<'r, R: Abort + Threads + Wait + Sync>(
     served
 }
 
-#[test]
-fn each_growth_of_two_workers_refused(rt: HostRuntime) -> Result<(), Fail> {
-    let refused = growths_refused(&rt, |alloc| {
-        let ample = FaultyHeap::new(rt.alloc(), Refuse::Never);
-        let served = two_are_served(&rt, alloc, &ample);
-        let again = two_are_served(&rt, &ample, &ample);
-        same(&rt, &(again, ample.out()), &(true, 0));
-        Ok(served)
-    })?;
-    // What is allocated: three lists for each kind of worker, the producer's items, the marks and words of the
-    // consumer's notes.
-    assert!(rt; 9 <= refused);
-    Ok(())
-}
-
 /// One worker puts two items and another polls, in a mailbox with numbers for two more. If the first allocator does not
-/// serve them, the call is made again with memory, and is done. Returns whether the first allocator serves them.
-fn two_are_served_at_last<'r, R: Abort + Threads + Wait + Sync>(
-    rt: &R,
-    trial: &mut Trial<Alloc<'r>>,
-    alloc: Alloc<'r>,
-    ample: Alloc<'r>,
-) -> bool {
-    let served = is_done(rt, trial, alloc, ample, &[&[1, 2]], 1);
-    assert!(rt; served || is_done(rt, trial, ample, ample, &[&[1, 2]], 1));
-    served
-}
-
-/// Two workers are served, by a second call if need be. Checks that the report has the items and the notes of the call
-/// that was done. They are under the second numbers if the first call was refused after it had given both first ones.
-/// Returns whether the first call was done.
-fn second_call_is_done<'r, R: Abort + Threads + Wait + Sync>(
+/// serve them, the call is made again with memory, and is done. Checks that the report has the items and the notes of
+/// the call that was done. They are under the second numbers if the first call was refused after it had given both
+/// first ones. Returns whether the first call was done.
+pub(crate) fn second_call_is_done<'r, R: Abort + Threads + Wait + Sync>(
     rt: &R,
     alloc: Alloc<'r>,
     ample: Alloc<'r>,
 ) -> bool {
     let mut trial = new_trial(rt, ample, 2, 2, 2);
-    let served = two_are_served_at_last(rt, &mut trial, alloc, ample);
+    let served = is_done(rt, &mut trial, alloc, ample, &[&[1, 2]], 1);
+    let at_last = served || is_done(rt, &mut trial, ample, ample, &[&[1, 2]], 1);
+    same(rt, &at_last, &true);
     let given_before = !has_lane(&mut trial, ample);
     let report = if given_before {
         "\
@@ -163,26 +94,6 @@ diary 1 1
     };
     ends(rt, ample, trial, report);
     served
-}
-
-// Each allocation of `work` is refused in turn, and then the call is made again.
-#[test]
-fn a_refused_call_is_made_again(rt: HostRuntime) -> Result<(), Fail> {
-    let refused = growths_refused(&rt, |alloc| {
-        let ample = FaultyHeap::new(rt.alloc(), Refuse::Never);
-        let served = second_call_is_done(&rt, alloc, &ample);
-        same(&rt, &ample.out(), &0);
-        Ok(served)
-    })?;
-    // As many as in a mailbox of one lane: one lane more needs no further list.
-    assert!(rt; 9 <= refused);
-    Ok(())
-}
-
-/// Checks that both lanes have their items and have ended, and that each consumer has a note on each item.
-fn tells_of_four<'r>(rt: &impl Abort, ample: Alloc<'r>, trial: Trial<Alloc<'r>>) {
-    let report = gathered(rt, ample, trial);
-    tells_all(rt, &report, &[&[1, 2], &[3, 4]], 4, 2);
 }
 
 /// The report of two lanes without items and two consumers without notes. `left` says whether one producer's number was
@@ -230,7 +141,7 @@ diary 1 1
 
 /// Two workers put two items each and two others poll, in a mailbox of these four. If the allocator does not serve
 /// them, all that was given is taken in, and exactly the lanes given have ended. Returns whether it serves them.
-fn four_are_served<'r, R: Abort + Threads + Wait + Sync>(
+pub(crate) fn four_are_served<'r, R: Abort + Threads + Wait + Sync>(
     rt: &R,
     alloc: Alloc<'r>,
     ample: Alloc<'r>,
@@ -240,25 +151,13 @@ fn four_are_served<'r, R: Abort + Threads + Wait + Sync>(
     let one_is_left = has_lane(&mut trial, ample);
     let two_are_left = one_is_left && has_lane(&mut trial, ample);
     if served {
-        assert!(rt; !one_is_left);
-        tells_of_four(rt, ample, trial);
+        same(rt, &one_is_left, &false);
+        // Both lanes have their items and have ended, and each consumer has a note on each item.
+        let report = gathered(rt, ample, trial);
+        drop(tells_all(rt, report, &[&[1, 2], &[3, 4]], 4, 2));
     } else {
         let report = nothing_is_told((one_is_left, two_are_left));
         ends(rt, ample, trial, report);
     }
     served
-}
-
-#[test]
-fn each_growth_of_four_workers_refused(rt: HostRuntime) -> Result<(), Fail> {
-    let refused = growths_refused(&rt, |alloc| {
-        let ample = FaultyHeap::new(rt.alloc(), Refuse::Never);
-        let served = four_are_served(&rt, alloc, &ample);
-        let again = four_are_served(&rt, &ample, &ample);
-        same(&rt, &(again, ample.out()), &(true, 0));
-        Ok(served)
-    })?;
-    // What is allocated: three lists for each kind of worker, each producer's items, each consumer's marks and words.
-    assert!(rt; 12 <= refused);
-    Ok(())
 }

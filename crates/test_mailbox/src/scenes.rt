@@ -2,10 +2,12 @@
 
 use crate::compare::same_at;
 use crate::trial::Trial;
-use crate::trials::{ends, new_trial};
+use crate::trials::ends;
 use mb_cells::Finish;
 use mb_mailbox::{HubFault, Poll, Put};
+use mb_quorum::TableName;
 use mb_script::{number, split_word};
+use mb_world::Setup;
 use std::alloc::Allocator;
 use std::process::Abort;
 use test_support::Zeros;
@@ -36,11 +38,17 @@ pub(crate) fn play<A: Allocator + Copy + Drop>(
     }
 }
 
-/// Makes the calls of these lines in a new mailbox of so many producers, consumers and cells. Then the report has this
-/// text.
+/// Makes the calls of these lines in a new mailbox of so many producers, consumers and cells, with one pair for each
+/// cell. Then the report has this text.
 pub(crate) fn plays<R: Abort + AllocGlobal>(rt: &R, sizes: [u64; 3], lines: &str, report: &str) {
+    let setup = Setup::new(sizes[0], sizes[1], sizes[2], 1, TableName::Bits);
+    plays_in(rt, setup.expect(rt, "no setup"), lines, report);
+}
+
+/// Makes the calls of these lines in a new mailbox of this setup. Then the report has this text.
+pub(crate) fn plays_in<R: Abort + AllocGlobal>(rt: &R, setup: Setup, lines: &str, report: &str) {
     let alloc = rt.alloc();
-    let mut trial = new_trial(rt, alloc, sizes[0], sizes[1], sizes[2]);
+    let mut trial = Trial::new(alloc, setup).expect(rt, "no mailbox");
     play(rt, &mut trial, alloc, lines);
     ends(rt, alloc, trial, report);
 }
@@ -69,6 +77,13 @@ fn next_number(rest: Option<&str>) -> (u64, Option<&str>) {
     }
 }
 
+/// The next three numbers of a line.
+fn three_numbers(rest: Option<&str>) -> (usize, u64, u64) {
+    let (first, rest) = next_number(rest);
+    let (second, rest) = next_number(rest);
+    (first as usize, second, next_number(rest).0)
+}
+
 /// Makes the call that stands in a line before its colon, and returns the answer.
 fn make<'a, A: Allocator + Copy + Drop>(
     trial: &mut Trial<A>,
@@ -77,48 +92,48 @@ fn make<'a, A: Allocator + Copy + Drop>(
     call: &str,
 ) -> Told<'a> {
     let (name, rest) = split_word(call);
-    let (first, rest) = next_number(rest);
-    let (second, rest) = next_number(rest);
-    let (third, _) = next_number(rest);
-    let place = first as usize;
+    let (place, second, third) = three_numbers(rest);
     match name {
-        "producer" => (given(trial.producer(alloc)), None),
-        "consumer" => (given(trial.consumer(alloc)), None),
-        "put" => (put(trial.put(place, second)), None),
-        "finish" => (finished(trial.finish(place)), None),
+        "producer" => given(trial.producer(alloc)),
+        "consumer" => given(trial.consumer(alloc)),
+        "put" => put(trial.put(place, second)),
+        "finish" => finished(trial.finish(place)),
         "poll" => polled(trial.poll(place, second, third, words)),
-        "spend" => ("spent", Some(spent(trial, words, place, second, third))),
+        "spend" => spent(trial, words, place, second, third),
         "drawn" => ("words", Some(words.given)),
-        "take_producer" => (taken(trial.take_producer(place)), None),
+        "take_producer" => taken(trial.take_producer(place)),
         _ => ("no such call", None),
     }
 }
 
 /// The word for the answer of a hub that was asked for a producer or a consumer. Those below are for other calls.
-fn given<'a>(told: Result<(), HubFault>) -> &'a str {
-    match told {
+fn given<'a>(told: Result<(), HubFault>) -> Told<'a> {
+    let word = match told {
         Ok(()) => "given",
         Err(HubFault::AllGiven) => "all_given",
         Err(HubFault::NoMemory) => "no_memory",
-    }
+    };
+    (word, None)
 }
 
-fn put<'a>(told: Option<Put>) -> &'a str {
-    match told {
+fn put<'a>(told: Option<Put>) -> Told<'a> {
+    let word = match told {
         Some(Put::Linked) => "linked",
         Some(Put::Full) => "full",
         Some(Put::Closed) => "closed",
         None => "nobody",
-    }
+    };
+    (word, None)
 }
 
-fn finished<'a>(told: Option<Finish>) -> &'a str {
-    match told {
+fn finished<'a>(told: Option<Finish>) -> Told<'a> {
+    let word = match told {
         Some(Finish::Ended) => "ended",
         Some(Finish::Busy) => "busy",
         Some(Finish::Closed) => "closed",
         None => "nobody",
-    }
+    };
+    (word, None)
 }
 
 fn polled<'a>(told: Option<Poll>) -> Told<'a> {
@@ -134,23 +149,23 @@ fn polled<'a>(told: Option<Poll>) -> Told<'a> {
     }
 }
 
-fn taken<'a>(told: bool) -> &'a str {
-    if told { "taken" } else { "nobody" }
+fn taken<'a>(told: bool) -> Told<'a> {
+    (if told { "taken" } else { "nobody" }, None)
 }
 
 /// How many of `times` polls of lane 0 are spent.
-fn spent<A: Allocator + Copy + Drop>(
+fn spent<'a, A: Allocator + Copy + Drop>(
     trial: &mut Trial<A>,
     words: &mut Zeros,
     place: usize,
     budget: u64,
     times: u64,
-) -> u64 {
+) -> Told<'a> {
     let mut count = 0u64;
     for _ in 0..times {
         if trial.poll(place, 0, budget, words) == Some(Poll::Spent) {
             count = count.wrapping_add(1);
         }
     }
-    count
+    ("spent", Some(count))
 }

@@ -20,14 +20,20 @@ fn text_of_mailboxes(rt: HostRuntime) -> Result<(), Fail> {
     check_display(&rt, &HubFault::NoMemory, "out of memory")
 }
 
+const WORK_FAULTS: &[(WorkFault, &str)] = &[
+    (
+        WorkFault::AllGiven,
+        "more numbers are asked for than the mailbox has left",
+    ),
+    (WorkFault::BadBudget, "the budget is 0"),
+    (WorkFault::NoMemory, "out of memory"),
+    (WorkFault::NoThread, "a thread could not be started"),
+];
+
 #[test]
 fn text_of_workers(rt: HostRuntime) -> Result<(), Fail> {
-    check_display(
-        &rt,
-        &WorkFault::AllGiven,
-        "more numbers are asked for than the mailbox has left",
-    )?;
-    check_display(&rt, &WorkFault::BadBudget, "the budget is 0")?;
-    check_display(&rt, &WorkFault::NoMemory, "out of memory")?;
-    check_display(&rt, &WorkFault::NoThread, "a thread could not be started")
+    for (fault, text) in WORK_FAULTS {
+        check_display(&rt, fault, text)?;
+    }
+    Ok(())
 }

@@ -62,9 +62,9 @@ impl<A: Allocator + Clone + Drop> Trial<A> {
     pub(crate) fn producer(&mut self, alloc: A) -> Result<(), HubFault> {
         let producer = self.hub.producer(alloc, &self.mailbox)?;
         if self.first_producer.is_none() {
-            self.first_producer = Some(producer);
+            drop(self.first_producer.replace(producer));
         } else {
-            self.second_producer = Some(producer);
+            drop(self.second_producer.replace(producer));
         }
         Ok(())
     }
@@ -74,9 +74,9 @@ impl<A: Allocator + Clone + Drop> Trial<A> {
     pub(crate) fn consumer(&mut self, alloc: A) -> Result<(), HubFault> {
         let consumer = self.hub.consumer(alloc, &self.mailbox)?;
         if self.first_consumer.is_none() {
-            self.first_consumer = Some(consumer);
+            drop(self.first_consumer.replace(consumer));
         } else {
-            self.second_consumer = Some(consumer);
+            drop(self.second_consumer.replace(consumer));
         }
         Ok(())
     }
@@ -163,7 +163,11 @@ impl<A: Allocator + Clone + Drop> Trial<A> {
             second_consumer,
         } = self;
         match mailbox.gather(alloc, hub) {
-            Ok(report) => Ok(report),
+            Ok(report) => {
+                drop((first_producer, second_producer));
+                drop((first_consumer, second_consumer));
+                Ok(report)
+            }
             Err((fault, mailbox, hub)) => Err((
                 fault,
                 Trial {

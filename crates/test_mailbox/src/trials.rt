@@ -23,20 +23,21 @@ pub(crate) fn new_trial<A: Allocator + Clone + Drop>(
 
 /// Takes in all producers and consumers that are out.
 pub(crate) fn take_all<A: Allocator + Clone + Drop>(trial: &mut Trial<A>) {
-    for place in 0..2 {
-        trial.take_producer(place);
-        trial.take_consumer(place);
-    }
+    trial.take_producer(0);
+    trial.take_consumer(0);
+    trial.take_producer(1);
+    trial.take_consumer(1);
 }
 
 /// Checks that the report has this text.
 pub(crate) fn reads<A: Allocator + Drop, B: Allocator + Drop>(
     rt: &impl Abort,
     alloc: A,
-    report: &Report<B>,
+    report: Report<B>,
     want: &str,
 ) {
-    let text = report_text(alloc, report).expect(rt, "no text");
+    let text = report_text(alloc, &report).expect(rt, "no text");
+    drop(report);
     same(rt, &text.as_str(), &want);
 }
 
@@ -48,31 +49,31 @@ pub(crate) fn gathered<A: Allocator + Clone + Drop>(
 ) -> Report<A> {
     match trial.gather(alloc) {
         Ok(report) => report,
-        Err(_) => panic!(rt; "no report"),
+        Err(_) => rt.panic("no report"),
     }
 }
 
-/// What an audit counts in the report of a trial. If the report has a flaw, the test fails.
-pub(crate) fn audited<A: Allocator + Clone + Drop>(
+/// What an audit counts in a report. If the report has a flaw, the test fails.
+pub(crate) fn tally_of<A: Allocator + Drop>(
     rt: &impl Abort,
-    alloc: A,
-    trial: Trial<A>,
+    report: Report<A>,
     producers: u64,
     consumers: u64,
 ) -> Tally {
-    let report = gathered(rt, alloc, trial);
-    audit(&report, producers, consumers).expect(rt, "a flaw")
+    let tally = audit(&report, producers, consumers);
+    drop(report);
+    tally.expect(rt, "a flaw")
 }
 
 /// Checks that each lane has these items and has ended, and that there are `diaries` diaries, each with `notes` notes
-/// and no claim under way.
+/// and no claim under way. Returns the report.
 pub(crate) fn tells_all<A: Allocator + Drop>(
     rt: &impl Abort,
-    report: &Report<A>,
+    report: Report<A>,
     lists: &[&[u64]],
     diaries: usize,
     notes: usize,
-) {
+) -> Report<A> {
     let told = (report.lanes.len(), report.diaries.len());
     same(rt, &told, &(lists.len(), diaries));
     for (lane, list) in report.lanes.iter().zip(lists) {
@@ -81,6 +82,7 @@ pub(crate) fn tells_all<A: Allocator + Drop>(
     for diary in &report.diaries {
         same(rt, &(diary.notes.len(), diary.begun), &(notes, false));
     }
+    report
 }
 
 /// Takes in all that are out. Then checks that the report has this text.
@@ -91,6 +93,5 @@ pub(crate) fn ends<A: Allocator + Copy + Drop>(
     want: &str,
 ) {
     take_all(&mut trial);
-    let report = gathered(rt, alloc, trial);
-    reads(rt, alloc, &report, want);
+    reads(rt, alloc, gathered(rt, alloc, trial), want);
 }

@@ -3,7 +3,7 @@
 use crate::compare::same;
 use crate::scenes::play;
 use crate::trial::Trial;
-use crate::trials::{ends, gathered, new_trial, tells_all};
+use crate::trials::{ends, gathered, new_trial, tally_of, tells_all};
 use mb_mailbox::{Gate, OpenGate, Who, WorkFault, Worked};
 use mb_quorum::TableName;
 use mb_world::{Report, Setup};
@@ -12,8 +12,7 @@ use std::process::Abort;
 use std::sync::Wait;
 use std::sync::atomic::{AtomicU64, Ordering};
 use std::thread::Threads;
-use test_audit::audit;
-use test_support::Zeros;
+use test_support::{SeenZeros, Zeros};
 
 /// The result of `work` if each item was put and nobody was stopped.
 pub(crate) const ALL_DONE: Worked = Worked {
@@ -34,6 +33,12 @@ pub(crate) fn lists<A: Allocator + Copy + Drop>(
     }
     lists
 }
+
+/// The result of `work` if each item was put and one worker was stopped.
+pub(crate) const ONE_STOPPED: Worked = Worked {
+    full: 0,
+    stopped: 1,
+};
 
 /// So many sources of zeros.
 pub(crate) fn sources<A: Allocator + Drop>(
@@ -75,33 +80,86 @@ impl Gate for ClosedGate {
     fn leave(&self, _who: Who, _call: u64) {}
 }
 
-/// In a new mailbox of two cells a worker puts the items of each of these lists, and another polls. Checks that `work`
-/// has this result, and the report this text.
-fn work_once<R: Abort + AllocGlobal + Threads + Wait + Sync, G: Gate>(
+/// In a new mailbox of so many producers, consumers and cells a worker puts the items of each of these lists, and the
+/// consumers poll with this budget. Checks that `work` has this result, and the report this text.
+pub(crate) fn work_once<R: Abort + AllocGlobal + Threads + Wait + Sync, G: Gate>(
     rt: &R,
+    (sizes, budget): ([u64; 3], u64),
     items: &[&[u64]],
     gate: &G,
     want: Worked,
     report: &str,
 ) {
-    let mut trial = new_trial(rt, rt.alloc(), 1, 1, 2);
-    let worked = works(rt, &mut trial, items, 5, 1, gate);
+    let mut trial = new_trial(rt, rt.alloc(), sizes[0], sizes[1], sizes[2]);
+    let worked = works(rt, &mut trial, items, budget, sizes[1] as usize, gate);
     same(rt, &worked, &Ok(want));
     ends(rt, rt.alloc(), trial, report);
 }
+
+/// In a new mailbox of this setup a worker puts the items of each of these lists, and `consumers` others poll with this
+/// budget. Checks that all is done. Returns the report.
+pub(crate) fn all_done<R: Abort + AllocGlobal + Threads + Wait + Sync, G: Gate>(
+    rt: &R,
+    setup: Setup,
+    items: &[&[u64]],
+    budget: u64,
+    consumers: u64,
+    gate: &G,
+) -> Report<Global> {
+    let mut trial = Trial::new(rt.alloc(), setup).expect(rt, "no mailbox");
+    let worked = works(rt, &mut trial, items, budget, consumers as usize, gate);
+    same(rt, &worked, &Ok(ALL_DONE));
+    gathered(rt, rt.alloc(), trial)
+}
+
+/// A source of zeros for each of these counters. Each counts there the words that it gave.
+fn seen_sources<'a>(rt: &impl Abort, alloc: Global, given: &'a [AtomicU64]) -> Vec<SeenZeros<'a>> {
+    let mut sources = Vec::new(alloc);
+    for given in given {
+        sources.push(SeenZeros { given }).expect(rt, "no list");
+    }
+    sources
+}
+
+/// In a new mailbox of one cell a worker puts the item 5, and for each of these counters a consumer polls, which counts
+/// there the words that it draws. Checks that the gate stops one worker, and that the report has this text.
+pub(crate) fn stop_one<R: Abort + AllocGlobal + Threads + Wait + Sync, G: Gate>(
+    rt: &R,
+    given: &[AtomicU64],
+    gate: &G,
+    report: &str,
+) {
+    let alloc = rt.alloc();
+    let mut trial = new_trial(rt, alloc, 1, given.len() as u64, 1);
+    let items = lists(rt, alloc, &[&[5]]);
+    let rngs = seen_sources(rt, alloc, given);
+    let worked = trial.work(alloc, rt, items, 100, rngs, gate);
+    same(rt, &worked, &Ok(ONE_STOPPED));
+    ends(rt, alloc, trial, report);
+}
+
+/// A mailbox of one producer, one consumer and two cells, and the budget of a poll.
+const TWO_CELLS: ([u64; 3], u64) = ([1, 1, 2], 5);
 
 /// The report after two items were put and taken, and the lane has ended.
 const TWO_TAKEN: &str = "lane 0 ended put 1 2\nleft 0\ndiary 0 0 took 1 took 2\n";
 
 #[test]
 fn a_worker_puts_and_another_takes(rt: HostRuntime) {
-    work_once(&rt, &[&[1, 2]], &OpenGate, ALL_DONE, TWO_TAKEN);
+    work_once(&rt, TWO_CELLS, &[&[1, 2]], &OpenGate, ALL_DONE, TWO_TAKEN);
     // The producer has one item more than there are cells.
     let one_full = Worked {
         full: 1,
         stopped: 0,
     };
-    work_once(&rt, &[&[1, 2, 3]], &OpenGate, one_full, TWO_TAKEN);
+    work_once(
+        &rt,
+        TWO_CELLS,
+        &[&[1, 2, 3]],
+        &OpenGate,
+        one_full,
+        TWO_TAKEN,
+    );
 }
 
 #[test]
@@ -124,6 +182,7 @@ fn nobody_comes_through_a_closed_gate(rt: HostRuntime) {
     };
     work_once(
         &rt,
+        TWO_CELLS,
         &[&[1, 2]],
         &ClosedGate,
         both,
@@ -131,18 +190,21 @@ fn nobody_comes_through_a_closed_gate(rt: HostRuntime) {
     );
 }
 
+/// Calls on one mailbox of one producer and one consumer. A row has the lists of items, the budget, the number of
+/// consumers, and the result.
+const CALLS: &[(&[&[u64]], u64, usize, Result<Worked, WorkFault>)] = &[
+    (&[&[1, 2]], 5, 1, Ok(ALL_DONE)),
+    // Calls that need one more number are refused. The error for that comes before the one for the budget.
+    (&[&[3]], 0, 0, Err(WorkFault::AllGiven)),
+    (&[], 5, 1, Err(WorkFault::AllGiven)),
+    // Without lists and sources there is no worker and nothing to do.
+    (&[], 5, 0, Ok(ALL_DONE)),
+];
+
 #[test]
 fn no_numbers_are_left_for_more_workers(rt: HostRuntime) {
     let mut trial = new_trial(&rt, rt.alloc(), 1, 1, 2);
-    let (one, more, none): (&[&[u64]], &[&[u64]], &[&[u64]]) = (&[&[1, 2]], &[&[3]], &[]);
-    for (items, budget, consumers, want) in [
-        (one, 5, 1, Ok(ALL_DONE)),
-        // Calls that need one more number are refused. The error for that comes before the one for the budget.
-        (more, 0, 0, Err(WorkFault::AllGiven)),
-        (none, 5, 1, Err(WorkFault::AllGiven)),
-        // Without lists and sources there is no worker and nothing to do.
-        (none, 5, 0, Ok(ALL_DONE)),
-    ] {
+    for &(items, budget, consumers, want) in CALLS {
         let worked = works(&rt, &mut trial, items, budget, consumers, &OpenGate);
         same(&rt, &worked, &want);
     }
@@ -172,6 +234,7 @@ fn a_consumer_without_lanes_polls_none(rt: HostRuntime) {
     };
     work_once(
         &rt,
+        TWO_CELLS,
         &[],
         &gate,
         ALL_DONE,
@@ -180,39 +243,25 @@ fn a_consumer_without_lanes_polls_none(rt: HostRuntime) {
     same(&rt, &gate.calls.load(Ordering::SeqCst), &0);
 }
 
-/// Sixteen items in order, from this one on.
-fn sixteen_from(first: u64) -> [u64; 16] {
-    let mut items = [first; 16];
-    for place in 0..16 {
-        items[place] = first.wrapping_add(place as u64);
-    }
-    items
-}
-
-/// The report of a run of four producers of these items and four consumers, which share 64 cells.
-fn four_and_four<R: Abort + AllocGlobal + Threads + Wait + Sync>(
-    rt: &R,
-    items: &[&[u64]],
-) -> Report<Global> {
-    let setup = Setup::new(4, 4, 64, 4, TableName::Bits).expect(rt, "no setup");
-    let mut trial = Trial::new(rt.alloc(), setup).expect(rt, "no mailbox");
-    let worked = works(rt, &mut trial, items, 3, 4, &OpenGate);
-    same(rt, &worked, &Ok(ALL_DONE));
-    gathered(rt, rt.alloc(), trial)
-}
+/// Sixteen items for each of four producers.
+const ITEMS_OF_FOUR: &[&[u64]] = &[
+    &[0, 1, 2, 3, 4, 5, 6, 7, 8, 9, 10, 11, 12, 13, 14, 15],
+    &[
+        100, 101, 102, 103, 104, 105, 106, 107, 108, 109, 110, 111, 112, 113, 114, 115,
+    ],
+    &[
+        200, 201, 202, 203, 204, 205, 206, 207, 208, 209, 210, 211, 212, 213, 214, 215,
+    ],
+    &[
+        300, 301, 302, 303, 304, 305, 306, 307, 308, 309, 310, 311, 312, 313, 314, 315,
+    ],
+];
 
 #[test]
 fn four_producers_and_four_consumers_share_64_cells(rt: HostRuntime) {
-    let items = [0, 100, 200, 300].map(sixteen_from);
-    let items = [
-        items[0].as_slice(),
-        items[1].as_slice(),
-        items[2].as_slice(),
-        items[3].as_slice(),
-    ];
-    let report = four_and_four(&rt, &items);
-    tells_all(&rt, &report, &items, 16, 16);
+    let setup = Setup::new(4, 4, 64, 4, TableName::Bits).expect(&rt, "no setup");
+    let report = all_done(&rt, setup, ITEMS_OF_FOUR, 3, 4, &OpenGate);
+    let report = tells_all(&rt, report, ITEMS_OF_FOUR, 16, 16);
     // Among others: no item has two who took it.
-    let tally = audit(&report, 4, 4).expect(&rt, "a flaw");
-    same(&rt, &tally.put, &64);
+    same(&rt, &tally_of(&rt, report, 4, 4).put, &64);
 }

@@ -87,14 +87,17 @@ fn options_are_read(rt: HostRuntime) {
     }
 }
 
+/// A row has the word, and whether the shape has a fast path and a last object.
+const SHAPES: &[(&str, bool, bool)] = &[
+    ("plain", false, false),
+    ("fast", true, false),
+    ("last", false, true),
+    ("fastlast", true, true),
+];
+
 #[test]
 fn shapes_are_read(rt: HostRuntime) {
-    for (name, fast, last) in [
-        ("plain", false, false),
-        ("fast", true, false),
-        ("last", false, true),
-        ("fastlast", true, true),
-    ] {
+    for &(name, fast, last) in SHAPES {
         let words = ["mailbox", "run", "--shape", name];
         let options = Options {
             shape: Shape { fast, last },
@@ -123,87 +126,86 @@ fn refusal(kind: ErrorKind) -> (u8, u8) {
     (status_of_ending(&printed), status_of_ending(&unprinted))
 }
 
-// A row has the words, why clap refuses them, and the statuses of a refusal that is printed and of one that cannot be.
+/// The statuses of a text that is asked for, printed and not printed.
+const PRINTED: (u8, u8) = (0, 3);
+
+/// The statuses of words that are not read.
+const NOT_READ: (u8, u8) = (2, 2);
+
+/// A row has the words, why clap refuses them, and the statuses of a refusal that is printed and of one that cannot be.
+const REFUSED: &[(&[&str], ErrorKind, (u8, u8))] = &[
+    (&["mailbox", "--help"], ErrorKind::DisplayHelp, PRINTED),
+    (
+        &["mailbox", "run", "--help"],
+        ErrorKind::DisplayHelp,
+        PRINTED,
+    ),
+    (&["mailbox"], ErrorKind::MissingSubcommand, NOT_READ),
+    (
+        &["mailbox", "ratifier"],
+        ErrorKind::InvalidSubcommand,
+        NOT_READ,
+    ),
+    (
+        &["mailbox", "--version"],
+        ErrorKind::DisplayVersion,
+        PRINTED,
+    ),
+    (
+        &["mailbox", "--verbose"],
+        ErrorKind::UnknownArgument,
+        NOT_READ,
+    ),
+    (
+        &["mailbox", "ratify", "now"],
+        ErrorKind::UnknownArgument,
+        NOT_READ,
+    ),
+    (
+        &["mailbox", "run", "--budget", "0"],
+        ErrorKind::ValueValidation,
+        NOT_READ,
+    ),
+    (
+        &["mailbox", "run", "--budget", "1000001"],
+        ErrorKind::ValueValidation,
+        NOT_READ,
+    ),
+    (
+        &["mailbox", "run", "--seed", "18446744073709551616"],
+        ErrorKind::ValueValidation,
+        NOT_READ,
+    ),
+    (
+        &["mailbox", "run", "--items", "many"],
+        ErrorKind::ValueValidation,
+        NOT_READ,
+    ),
+    (
+        &["mailbox", "run", "--shape", "other"],
+        ErrorKind::InvalidValue,
+        NOT_READ,
+    ),
+    (
+        &["mailbox", "run", "--items", "1", "--items", "2"],
+        ErrorKind::ArgumentConflict,
+        NOT_READ,
+    ),
+    (
+        &["mailbox", "run", "--lanes", "1"],
+        ErrorKind::UnknownArgument,
+        NOT_READ,
+    ),
+    (
+        &["mailbox", "ratify", "--items", "1"],
+        ErrorKind::UnknownArgument,
+        NOT_READ,
+    ),
+];
+
 #[test]
 fn lines_are_refused(rt: HostRuntime) {
-    let (help, refused) = ((0, 3), (2, 2));
-    for (words, want, statuses) in [
-        (
-            ["mailbox", "--help"].as_slice(),
-            ErrorKind::DisplayHelp,
-            help,
-        ),
-        (
-            ["mailbox", "run", "--help"].as_slice(),
-            ErrorKind::DisplayHelp,
-            help,
-        ),
-        (
-            ["mailbox"].as_slice(),
-            ErrorKind::MissingSubcommand,
-            refused,
-        ),
-        (
-            ["mailbox", "ratifier"].as_slice(),
-            ErrorKind::InvalidSubcommand,
-            refused,
-        ),
-        (
-            ["mailbox", "--version"].as_slice(),
-            ErrorKind::DisplayVersion,
-            help,
-        ),
-        (
-            ["mailbox", "--verbose"].as_slice(),
-            ErrorKind::UnknownArgument,
-            refused,
-        ),
-        (
-            ["mailbox", "ratify", "now"].as_slice(),
-            ErrorKind::UnknownArgument,
-            refused,
-        ),
-        (
-            ["mailbox", "run", "--budget", "0"].as_slice(),
-            ErrorKind::ValueValidation,
-            refused,
-        ),
-        (
-            ["mailbox", "run", "--budget", "1000001"].as_slice(),
-            ErrorKind::ValueValidation,
-            refused,
-        ),
-        (
-            ["mailbox", "run", "--seed", "18446744073709551616"].as_slice(),
-            ErrorKind::ValueValidation,
-            refused,
-        ),
-        (
-            ["mailbox", "run", "--items", "many"].as_slice(),
-            ErrorKind::ValueValidation,
-            refused,
-        ),
-        (
-            ["mailbox", "run", "--shape", "other"].as_slice(),
-            ErrorKind::InvalidValue,
-            refused,
-        ),
-        (
-            ["mailbox", "run", "--items", "1", "--items", "2"].as_slice(),
-            ErrorKind::ArgumentConflict,
-            refused,
-        ),
-        (
-            ["mailbox", "run", "--lanes", "1"].as_slice(),
-            ErrorKind::UnknownArgument,
-            refused,
-        ),
-        (
-            ["mailbox", "ratify", "--items", "1"].as_slice(),
-            ErrorKind::UnknownArgument,
-            refused,
-        ),
-    ] {
+    for &(words, want, statuses) in REFUSED {
         let Err(error) = command_of(rt.alloc(), words) else {
             panic!(rt; "a line is not refused")
         };
@@ -213,31 +215,33 @@ fn lines_are_refused(rt: HostRuntime) {
     }
 }
 
-// A row has how the program ended, and the exit status.
+/// A row has how the program ended, and the exit status.
+const ENDINGS: &[(ProgramExit, u8)] = &[
+    (ProgramExit::Done, 0),
+    (
+        ProgramExit::Failed(Failed::Ratify(RatifyFault::BadLine(1))),
+        2,
+    ),
+    (ProgramExit::Failed(Failed::Replay(Fault::ReadFault)), 3),
+    (
+        ProgramExit::Failed(Failed::Run(RunFault::BadSetup(SetupFault::BadCells))),
+        2,
+    ),
+    (ProgramExit::Failed(Failed::Run(RunFault::NoThread)), 3),
+    (
+        ProgramExit::Refused {
+            kind: ErrorKind::OutOfMemory,
+            printed: true,
+        },
+        3,
+    ),
+    (ProgramExit::NonUtf8Args, 2),
+    (ProgramExit::ArgsUnavailable, 3),
+];
+
 #[test]
 fn endings_have_a_status(rt: HostRuntime) {
-    for (ending, status) in [
-        (ProgramExit::Done, 0),
-        (
-            ProgramExit::Failed(Failed::Ratify(RatifyFault::BadLine(1))),
-            2,
-        ),
-        (ProgramExit::Failed(Failed::Replay(Fault::ReadFault)), 3),
-        (
-            ProgramExit::Failed(Failed::Run(RunFault::BadSetup(SetupFault::BadCells))),
-            2,
-        ),
-        (ProgramExit::Failed(Failed::Run(RunFault::NoThread)), 3),
-        (
-            ProgramExit::Refused {
-                kind: ErrorKind::OutOfMemory,
-                printed: true,
-            },
-            3,
-        ),
-        (ProgramExit::NonUtf8Args, 2),
-        (ProgramExit::ArgsUnavailable, 3),
-    ] {
-        same(&rt, &status_of_ending(&ending), &status);
+    for (ending, status) in ENDINGS {
+        same(&rt, &status_of_ending(ending), status);
     }
 }

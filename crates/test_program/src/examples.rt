@@ -2,7 +2,7 @@
 //! `examples/README.md` says what each shows.
 
 pub mod claims;
-mod entry;
+pub mod entry;
 mod lanes;
 pub mod ratifiers;
 mod refused_replays;

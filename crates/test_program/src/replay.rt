@@ -5,40 +5,46 @@ use crate::devices::{Letters, NarrowWriter, SlowReader};
 use crate::examples::claims::ITEM_TAKEN;
 use mb_script::{CountingIo, Fault, report_text, run};
 use mb_world::{Note, SetupFault};
-use std::alloc::{AllocError, Global};
+use std::alloc::{AllocError, Allocator, Global};
 use std::process::Abort;
 use test_support::made_up;
 
-// Replays the script. Returns how the call ended, and what was written.
-fn replayed(rt: &HostRuntime, script: &str) -> (Result<(), Fault>, Vec<u8>) {
+// Replays the script, with this allocator for all but what is written. Returns how the call ended, and what was written.
+pub(crate) fn replayed<R: AllocGlobal, A: Allocator + Copy>(
+    rt: &R,
+    alloc: A,
+    script: &str,
+) -> (Result<(), Fault>, Vec<u8>) {
     let mut reader = CountingIo::new(script.as_bytes());
     let mut writer = CountingIo::new(Vec::<u8>::new(rt.alloc()));
-    let result = run(rt.alloc(), &mut reader, &mut writer);
+    let result = run(alloc, &mut reader, &mut writer);
     (result, writer.device)
 }
 
-// Which fault a script has is tested where scripts are read. Here nothing is written, even if a script begins with good
-// lines.
+/// Which fault a script has is tested where scripts are read. Here nothing is written, even if a script begins with good
+/// lines.
+const REFUSED: &[(&str, Fault)] = &[
+    (
+        "setup 0 0 300 0 bits\npush\n",
+        Fault::BadSetup(1, SetupFault::BadProducers),
+    ),
+    ("setup 1 1 1 1 bits\npush 0\npush\n", Fault::BadLine(3)),
+    ("setup 1 1 1 1 bits\npush 1\npush\n", Fault::NoLane(2)),
+    ("setup 1 1 1 1 bits\npush\npush \u{80}\n", Fault::NotAscii),
+    ("setup 1 1 0 1 bits\npush 00\n", Fault::BadNumber(2)),
+    ("setup 1 16 0 1 bits\nstep 16 1 0\n", Fault::NoLane(2)),
+    ("", Fault::NoSetup),
+    // A shape is a seventh word, and is known before any number is read.
+    ("setup x 1 1 1 bits other\n", Fault::BadLine(1)),
+    ("setup 1 1 1 1 bits plain\n", Fault::BadLine(1)),
+    ("setup 1 1 1 1 bits fast last\n", Fault::BadLine(1)),
+    ("setup x 1 1 1 bits fast\n", Fault::BadNumber(1)),
+];
+
 #[test]
 fn a_fault_leaves_nothing_written(rt: HostRuntime) {
-    for (script, want) in [
-        (
-            "setup 0 0 300 0 bits\npush\n",
-            Fault::BadSetup(1, SetupFault::BadProducers),
-        ),
-        ("setup 1 1 1 1 bits\npush 0\npush\n", Fault::BadLine(3)),
-        ("setup 1 1 1 1 bits\npush 1\npush\n", Fault::NoLane(2)),
-        ("setup 1 1 1 1 bits\npush\npush \u{80}\n", Fault::NotAscii),
-        ("setup 1 1 0 1 bits\npush 00\n", Fault::BadNumber(2)),
-        ("setup 1 16 0 1 bits\nstep 16 1 0\n", Fault::NoLane(2)),
-        ("", Fault::NoSetup),
-        // A shape is a seventh word, and is known before any number is read.
-        ("setup x 1 1 1 bits other\n", Fault::BadLine(1)),
-        ("setup 1 1 1 1 bits plain\n", Fault::BadLine(1)),
-        ("setup 1 1 1 1 bits fast last\n", Fault::BadLine(1)),
-        ("setup x 1 1 1 bits fast\n", Fault::BadNumber(1)),
-    ] {
-        let (result, text) = replayed(&rt, script);
+    for &(script, want) in REFUSED {
+        let (result, text) = replayed(&rt, rt.alloc(), script);
         same_at(&rt, &(result, text.len()), &(Err(want), 0), &script);
     }
 }
@@ -73,7 +79,7 @@ fn answers<R: Abort + AllocGlobal>(rt: &R, count: usize) -> String {
 #[test]
 fn many_events_are_replayed(rt: HostRuntime) {
     for count in [1_000, 19_999, 20_000] {
-        let (result, text) = replayed(&rt, &pushes(&rt, count, ""));
+        let (result, text) = replayed(&rt, rt.alloc(), &pushes(&rt, count, ""));
         let is_whole = text.as_slice() == answers(&rt, count).as_bytes();
         same_at(&rt, &(result, is_whole), &(Ok(()), true), &count);
     }
@@ -82,41 +88,89 @@ fn many_events_are_replayed(rt: HostRuntime) {
 // A line past the last event that is allowed is one too many, whatever it says.
 #[test]
 fn a_script_has_a_limit_of_events(rt: HostRuntime) {
-    let (result, text) = replayed(&rt, &pushes(&rt, 20_000, "x\n"));
+    let (result, text) = replayed(&rt, rt.alloc(), &pushes(&rt, 20_000, "x\n"));
     same(&rt, &(result, text.len()), &(Err(Fault::TooManyEvents), 0));
+}
+
+/// Checks that a text that was made is `want`. Returns whether one was made.
+pub(crate) fn is_text<A: Allocator, E: Drop>(
+    rt: &impl Abort,
+    told: Result<String<A>, E>,
+    want: &str,
+) -> bool {
+    match told {
+        Ok(text) => {
+            same(rt, &text.as_str(), &want);
+            true
+        }
+        Err(_) => false,
+    }
+}
+
+/// Whether the allocator serves the text of a report of a lane with these items, on which an only consumer has these
+/// notes. Checks that the text is `want`.
+pub(crate) fn report_is_served<R: Abort + AllocGlobal, A: Allocator + Drop>(
+    rt: &R,
+    alloc: A,
+    items: &[u64],
+    notes: &[Note],
+    want: &str,
+) -> bool {
+    let report = made_up(rt.alloc(), &[(items, true, &[])], &[(0, 0, notes, false)]);
+    let report = report.expect(rt, "no report");
+    let told = report_text(alloc, &report);
+    drop(report);
+    is_text(rt, told, want)
 }
 
 // The report is of one item, which a consumer took.
 #[test]
 fn a_report_has_its_text(rt: HostRuntime) {
-    let report = made_up(
-        rt.alloc(),
-        &[(&[5], true, &[])],
-        &[(0, 0, &[Note::Took(5)], false)],
-    )
-    .expect(&rt, "no report");
-    let text = report_text(rt.alloc(), &report).expect(&rt, "no text");
-    same(
-        &rt,
-        &text.as_str(),
-        &"lane 0 ended put 5\nleft 0\ndiary 0 0 took 5\n",
-    );
+    let want = "lane 0 ended put 5\nleft 0\ndiary 0 0 took 5\n";
+    let is_made = report_is_served(&rt, rt.alloc(), &[5], &[Note::Took(5)], want);
+    same(&rt, &is_made, &true);
 }
 
-// A row has the script, whether the reader fails at its end, the room of the writer, whether the writer then fails, the
-// result, and what was written.
+/// A row of `DEVICES`. No script is that of the example, and no text is what the example writes.
+type DeviceRow = (
+    Option<&'static str>,
+    bool,
+    usize,
+    bool,
+    Result<(), Fault>,
+    Option<&'static str>,
+);
+
+/// A row has the script, whether the reader fails at its end, the room of the writer, whether the writer then fails, the
+/// result, and what was written.
+const DEVICES: &[DeviceRow] = &[
+    (None, false, 1000, false, Ok(()), None),
+    (None, true, 1000, false, Err(Fault::ReadFault), Some("")),
+    (Some(""), true, 1000, false, Err(Fault::ReadFault), Some("")),
+    (
+        None,
+        false,
+        10,
+        true,
+        Err(Fault::WriteFault),
+        Some("offer 0 7 "),
+    ),
+    (
+        None,
+        false,
+        10,
+        false,
+        Err(Fault::WriteFault),
+        Some("offer 0 7 "),
+    ),
+];
+
 #[test]
 fn devices_fail(rt: HostRuntime) {
-    let read_fault = Err(Fault::ReadFault);
-    let write_fault = Err(Fault::WriteFault);
-    let (taken, taken_text) = (ITEM_TAKEN.input, ITEM_TAKEN.output);
-    for (script, reader_fails, room, writer_fails, want, written) in [
-        (taken, false, 1000, false, Ok(()), taken_text),
-        (taken, true, 1000, false, read_fault, ""),
-        ("", true, 1000, false, read_fault, ""),
-        (taken, false, 10, true, write_fault, "offer 0 7 "),
-        (taken, false, 10, false, write_fault, "offer 0 7 "),
-    ] {
+    let example = ITEM_TAKEN;
+    for &(script, reader_fails, room, writer_fails, want, written) in DEVICES {
+        let script = script.unwrap_or(example.input);
+        let written = written.unwrap_or(example.output);
         let mut reader = CountingIo::new(SlowReader {
             script: script.as_bytes(),
             fails: reader_fails,
@@ -139,22 +193,24 @@ fn devices_fail(rt: HostRuntime) {
                 want,
                 written.as_bytes(),
                 u64::from(reader_fails),
-                u64::from(want == write_fault),
+                u64::from(want == Err(Fault::WriteFault)),
             ),
         );
     }
 }
 
-// A row has how many letters the reader gives, whether it then fails, and the fault. At most one byte past the limit
-// is read.
+/// A row has how many letters the reader gives, whether it then fails, and the fault. At most one byte past the limit
+/// is read.
+const LENGTHS: &[(usize, bool, Fault)] = &[
+    (1_048_576, false, Fault::NoSetup),
+    (1_048_576, true, Fault::ReadFault),
+    (1_048_577, true, Fault::TooLong),
+    (1_048_578, false, Fault::TooLong),
+];
+
 #[test]
 fn reading_stops_past_the_limit(rt: HostRuntime) {
-    for (left, fails, want) in [
-        (1_048_576, false, Fault::NoSetup),
-        (1_048_576, true, Fault::ReadFault),
-        (1_048_577, true, Fault::TooLong),
-        (1_048_578, false, Fault::TooLong),
-    ] {
+    for &(left, fails, want) in LENGTHS {
         let mut reader = CountingIo::new(Letters { left, fails });
         let mut writer = CountingIo::new(Vec::<u8>::new(rt.alloc()));
         let result = run(rt.alloc(), &mut reader, &mut writer);

@@ -10,6 +10,7 @@ use mb_program::{Options, RunFault, run_threads, source_of, workload_of};
 use mb_script::CountingIo;
 use mb_world::SetupFault;
 use rand_core::Rng;
+use std::alloc::Allocator;
 use std::sync::Wait;
 use std::thread::Threads;
 
@@ -24,11 +25,12 @@ pub const ALONE: Options = Options {
     shape: Shape::PLAIN,
 };
 
-// Runs the workers of these options. Returns the result, and what was written.
-fn reported<R: AllocGlobal + Threads + Wait + Sync>(
-    rt: &R,
-    options: Options,
-) -> (Result<(), RunFault>, Vec<u8>) {
+// Runs the workers of these options, with this allocator for all but what is written. Returns the result, and what was
+// written.
+pub(crate) fn reported<
+    R: AllocGlobal + Threads + Wait + Sync,
+    A: Allocator + Copy + Drop + Send + Sync,
+>(rt: &R, alloc: A, options: Options) -> (Result<(), RunFault>, Vec<u8>) {
     // The call needs a budget of 1 or more. Each budget here is so large, but in a loop over options the prover does
     // not know it.
     let options = Options {
@@ -36,54 +38,64 @@ fn reported<R: AllocGlobal + Threads + Wait + Sync>(
         ..options
     };
     let mut writer = CountingIo::new(Vec::<u8>::new(rt.alloc()));
-    let result = run_threads(rt.alloc(), rt, options, &mut writer);
+    let result = run_threads(alloc, rt, options, &mut writer);
     (result, writer.device)
 }
 
-// A row has the options, and what is written: none of these reports depends on the order of the threads.
-#[test]
-fn workers_are_reported(rt: HostRuntime) {
-    for (options, want) in [
-        (ALONE, TWO_ITEMS.output),
-        (
-            Options {
-                budget: 1,
-                seed: u64::MAX,
-                ..ALONE
-            },
-            TWO_ITEMS.output,
-        ),
-        (
-            Options {
-                budget: u64::MAX,
-                pairs: 8,
-                ..ALONE
-            },
-            TWO_ITEMS.output,
-        ),
-        (
-            Options { items: 0, ..ALONE },
-            "lane 0 ended put\nleft 0\ndiary 0 0\n",
-        ),
-        (
-            Options {
-                producers: 2,
-                items: 1,
-                ..ALONE
-            },
+/// A row has the producers, the consumers, the items of each producer, the pairs of each cell, the budget and the seed.
+/// Then comes what is written, or none for what the example with two items writes. None of these reports depends on the
+/// order of the threads.
+const REPORTS: &[(u64, u64, u64, u64, u64, u64, Option<&str>)] = &[
+    (1, 1, 2, 1, 64, 0, None),
+    (1, 1, 2, 1, 1, u64::MAX, None),
+    (1, 1, 2, 8, u64::MAX, 0, None),
+    (
+        1,
+        1,
+        0,
+        1,
+        64,
+        0,
+        Some("lane 0 ended put\nleft 0\ndiary 0 0\n"),
+    ),
+    (
+        2,
+        1,
+        1,
+        1,
+        64,
+        0,
+        Some(
             "lane 0 ended put 0\nleft 0\nlane 1 ended put 1000\nleft 1\ndiary 0 0 took 0\ndiary 0 1 took 1000\n",
         ),
-        (
-            Options {
-                producers: 2,
-                consumers: 2,
-                items: 0,
-                ..ALONE
-            },
+    ),
+    (
+        2,
+        2,
+        0,
+        1,
+        64,
+        0,
+        Some(
             "lane 0 ended put\nleft 0\nlane 1 ended put\nleft 1\ndiary 0 0\ndiary 0 1\ndiary 1 0\ndiary 1 1\n",
         ),
-    ] {
-        let (result, text) = reported(&rt, options);
+    ),
+];
+
+#[test]
+fn workers_are_reported(rt: HostRuntime) {
+    for &(producers, consumers, items, pairs, budget, seed, want) in REPORTS {
+        let options = Options {
+            producers,
+            consumers,
+            items,
+            pairs,
+            budget,
+            seed,
+            shape: Shape::PLAIN,
+        };
+        let (result, text) = reported(&rt, rt.alloc(), options);
+        let want = want.unwrap_or(TWO_ITEMS.output);
         same(&rt, &(result, text.as_slice()), &(Ok(()), want.as_bytes()));
     }
 }
@@ -100,7 +112,7 @@ fn items_are_put(rt: HostRuntime) {
         seed: 7,
         shape: Shape::PLAIN,
     };
-    let (result, text) = reported(&rt, options);
+    let (result, text) = reported(&rt, rt.alloc(), options);
     let text = str::from_utf8(text.as_slice()).expect(&rt, "no text");
     let lane_0 = text.starts_with("lane 0 ended put 0 1 2\nleft 0");
     let lane_1 = text.contains("\nlane 1 ended put 1000 1001 1002\nleft 1");
@@ -113,24 +125,25 @@ fn items_are_put(rt: HostRuntime) {
     );
 }
 
-// A row has the producers, the consumers, the items of each producer, the pairs of each cell, and the fault.
+/// A row has the producers, the consumers, the items of each producer, the pairs of each cell, and the fault.
+const REFUSED: &[(u64, u64, u64, u64, SetupFault)] = &[
+    (0, 1, 2, 1, SetupFault::BadProducers),
+    (17, 0, 257, 0, SetupFault::BadProducers),
+    (u64::MAX, 1, u64::MAX, 1, SetupFault::BadProducers),
+    (1, 0, 257, 0, SetupFault::BadConsumers),
+    (1, 65, 1, 1, SetupFault::BadConsumers),
+    (1, 1, 257, 0, SetupFault::BadCells),
+    (1, 1, 257, 1, SetupFault::BadCells),
+    (2, 1, 129, 1, SetupFault::BadCells),
+    (16, 1, 1 << 60, 1, SetupFault::BadCells),
+    (16, 1, u64::MAX, 1, SetupFault::BadCells),
+    (1, 1, 256, 0, SetupFault::BadRounds),
+    (2, 1, 128, 9, SetupFault::BadRounds),
+];
+
 #[test]
 fn setups_are_refused(rt: HostRuntime) {
-    let most = u64::MAX;
-    for (producers, consumers, items, pairs, why) in [
-        (0, 1, 2, 1, SetupFault::BadProducers),
-        (17, 0, 257, 0, SetupFault::BadProducers),
-        (most, 1, most, 1, SetupFault::BadProducers),
-        (1, 0, 257, 0, SetupFault::BadConsumers),
-        (1, 65, 1, 1, SetupFault::BadConsumers),
-        (1, 1, 257, 0, SetupFault::BadCells),
-        (1, 1, 257, 1, SetupFault::BadCells),
-        (2, 1, 129, 1, SetupFault::BadCells),
-        (16, 1, 1 << 60, 1, SetupFault::BadCells),
-        (16, 1, most, 1, SetupFault::BadCells),
-        (1, 1, 256, 0, SetupFault::BadRounds),
-        (2, 1, 128, 9, SetupFault::BadRounds),
-    ] {
+    for &(producers, consumers, items, pairs, why) in REFUSED {
         let options = Options {
             producers,
             consumers,
@@ -138,42 +151,49 @@ fn setups_are_refused(rt: HostRuntime) {
             pairs,
             ..ALONE
         };
-        let (result, written) = reported(&rt, options);
+        let (result, written) = reported(&rt, rt.alloc(), options);
         let want = (Err(RunFault::BadSetup(why)), 0);
         same_at(&rt, &(result, written.len()), &want, &options);
     }
 }
 
-// One writer takes all bytes, one takes 10 and then fails, one takes 10 and then none, and one takes none at all.
+/// One writer takes all bytes, one takes 10 and then fails, one takes 10 and then none, and one takes none at all. A row
+/// has the room, whether the writer then fails, the result, and what is written, or none for all of the report.
+const WRITERS: &[(usize, bool, Result<(), RunFault>, Option<&str>)] = &[
+    (1000, false, Ok(()), None),
+    (10, true, Err(RunFault::WriteFault), Some("lane 0 end")),
+    (10, false, Err(RunFault::WriteFault), Some("lane 0 end")),
+    (0, false, Err(RunFault::WriteFault), Some("")),
+];
+
 #[test]
 fn writers_fail(rt: HostRuntime) {
-    for (room, fails, want, written) in [
-        (1000, false, Ok(()), TWO_ITEMS.output),
-        (10, true, Err(RunFault::WriteFault), "lane 0 end"),
-        (10, false, Err(RunFault::WriteFault), "lane 0 end"),
-        (0, false, Err(RunFault::WriteFault), ""),
-    ] {
+    let example = TWO_ITEMS;
+    for &(room, fails, want, written) in WRITERS {
         let mut writer = CountingIo::new(NarrowWriter {
             taken: Vec::new(rt.alloc()),
             room,
             fails,
         });
         let result = run_threads(rt.alloc(), &rt, ALONE, &mut writer);
+        let written = written.unwrap_or(example.output);
         let told = (result, writer.device.taken.as_slice());
         same(&rt, &told, &(want, written.as_bytes()));
     }
 }
 
-// The first block of ChaCha with 8 rounds, a key of zeros and stream 0 begins with the bytes 3e 00 ef 2f 89 5f 40 d6. A
-// small program that gives these words gives the others, too.
+/// The first block of ChaCha with 8 rounds, a key of zeros and stream 0 begins with the bytes 3e 00 ef 2f 89 5f 40 d6. A
+/// small program that gives these words gives the others, too.
+const WORDS: &[(u64, u32, u64)] = &[
+    (0, 0, 0xd640_5f89_2fef_003e),
+    (0, 1, 0xca06_8379_b34b_8f2b),
+    (1, 0, 0x61a9_4a49_a0e9_5ecf),
+    (u64::MAX, 0, 0xb44e_8639_2271_48c7),
+];
+
 #[test]
 fn sources_have_known_words(rt: HostRuntime) {
-    for (seed, consumer, word) in [
-        (0, 0, 0xd640_5f89_2fef_003e),
-        (0, 1, 0xca06_8379_b34b_8f2b),
-        (1, 0, 0x61a9_4a49_a0e9_5ecf),
-        (u64::MAX, 0, 0xb44e_8639_2271_48c7),
-    ] {
+    for &(seed, consumer, word) in WORDS {
         same(&rt, &source_of(seed, consumer).next_u64(), &word);
     }
 }
@@ -196,11 +216,9 @@ fn workers_are_handed_what_is_asked(rt: HostRuntime) {
         for rng in load.rngs.iter_mut() {
             words.push(rng.next_u64()).expect(&rt, "no list");
         }
-        same(
-            &rt,
-            &(words.as_slice(), load.budget),
-            &(want.as_slice(), budget),
-        );
+        let handed = load.budget;
+        drop(load);
+        same(&rt, &(words.as_slice(), handed), &(want.as_slice(), budget));
     }
 }
 
@@ -217,34 +235,35 @@ fn lines_and_notes(text: &str) -> (u64, u64) {
     (lines, notes)
 }
 
-// By default, and with sixteen producers and sixteen consumers, all items are put and all lanes end. Each consumer has
-// a note on each item.
+/// By default, and with sixteen producers and sixteen consumers, all items are put and all lanes end. Each consumer has
+/// a note on each item.
+const RUNS: &[(&[&str], &str, &str, (u64, u64))] = &[
+    (
+        &["mailbox", "run"],
+        "lane 0 ended put 0 1 2 3 4 5 6 7\nleft 0",
+        "\nlane 1 ended put 1000 1001 1002 1003 1004 1005 1006 1007\nleft 1",
+        (8, 32),
+    ),
+    (
+        &[
+            "mailbox",
+            "run",
+            "--producers",
+            "16",
+            "--consumers",
+            "16",
+            "--items",
+            "16",
+        ],
+        "lane 0 ended put 0 1 2 3 4 5 6 7 8 9 10 11 12 13 14 15\nleft 0",
+        "\nlane 15 ended put 15000 15001 15002 15003 15004 15005 15006 15007 15008 15009 15010 15011 15012 15013 15014 15015\nleft 15",
+        (288, 4096),
+    ),
+];
+
 #[test]
 fn words_are_run(rt: HostRuntime) {
-    for (words, first, last, counts) in [
-        (
-            ["mailbox", "run"].as_slice(),
-            "lane 0 ended put 0 1 2 3 4 5 6 7\nleft 0",
-            "\nlane 1 ended put 1000 1001 1002 1003 1004 1005 1006 1007\nleft 1",
-            (8, 32),
-        ),
-        (
-            [
-                "mailbox",
-                "run",
-                "--producers",
-                "16",
-                "--consumers",
-                "16",
-                "--items",
-                "16",
-            ]
-            .as_slice(),
-            "lane 0 ended put 0 1 2 3 4 5 6 7 8 9 10 11 12 13 14 15\nleft 0",
-            "\nlane 15 ended put 15000 15001 15002 15003 15004 15005 15006 15007 15008 15009 15010 15011 15012 15013 15014 15015\nleft 15",
-            (288, 4096),
-        ),
-    ] {
+    for &(words, first, last, counts) in RUNS {
         let (output, error, status) = ended(&rt, words, "");
         let text = str::from_utf8(output.as_slice()).expect(&rt, "no text");
         let is_put = text.starts_with(first) && text.contains(last);
