@@ -24,16 +24,18 @@ fresh_contest layout cell claims words h before whose stands =
 
 -- after a contest on this cell nobody has touched a cell after it
 contest_over :
-    {layout : Layout} {cell : ℕ} {claims : List Claim} {old new : List ℕ} {h later : List ClaimAccess}
+    {layout : Layout} {cell : ℕ} {claims : List Claim} {old new : List ℕ} {h : List ClaimAccess}
     → ((c : ℕ) → ClaimIsBefore layout c cell old h)
-    → IsContest layout cell claims new later
-    → ChangesOnly (λ c k. k ≡ cell) h later
-    → (c : ℕ) → ClaimIsBefore layout c (cell + 1) new later
-contest_over before contest changes c = record {
-  memory = contest.memory;
-  untouched = λ k after.
-      changes c k (λ at. absurd (omega (arith, at, after))) ∙ (before c).untouched k (omega (arith, after));
-}
+    → (later : List ClaimAccess) × IsContest layout cell claims new later × ChangesOnly (λ c k. k ≡ cell) h later
+    → (later : List ClaimAccess) × ((c : ℕ) → ClaimIsBefore layout c (cell + 1) new later)
+contest_over before made = (
+  made.0,
+  λ c. record {
+    memory = made.1.memory;
+    untouched = λ k after.
+        made.2 c k (λ at. absurd (omega (arith, at, after))) ∙ (before c).untouched k (omega (arith, after));
+  },
+)
 
 pub contend-requires-clause-contest : goal.contend-requires-clause-contest
 contend-requires-clause-contest g c =
@@ -50,7 +52,5 @@ loop-cell-preserved g c =
     let made = c.contend.ensures.kept past.0
     (fresh_contest c.args.layout.now c.loop-cell.cell c.loop-consumer.claims c.loop-cell.words past.0 past.1
     (λ i d within. c.loop-consumer.invariant.whose i d (omega arith))
-    (λ i d within. c.loop-consumer.invariant.stands i d (omega arith))) in (
-      made.0,
-      contest_over past.1 made.1 made.2,
-    )
+    (λ i d within. c.loop-consumer.invariant.stands i d (omega arith))) in
+    contest_over past.1 made
