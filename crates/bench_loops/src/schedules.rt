@@ -1,4 +1,6 @@
 //! Whole schedules: plays of claims on one cell, and ratifiers.
+ghost use Rattle.std.specs.Prelude.{◌<◌};
+
 use crate::source::Source;
 use mb_claim::laws::layouts_are_sound;
 use mb_claim::{Layout, play};
@@ -17,7 +19,7 @@ const TURNS: u64 = 100_000;
 const STEPS: u64 = 20;
 
 /// The counts of runs.
-#[derive(Clone, Copy, Debug)]
+#[derive(Clone, Copy)]
 pub struct Runs {
     /// The entries of all runs: one for each step or turn.
     pub entries: u64,
@@ -38,6 +40,22 @@ impl fmt::Display for Runs {
         let Runs { entries, ends } = self;
         write!(f, "{entries} entries, {ends} ends")
     }
+}
+
+/// So many random numbers below the bound.
+fn numbers<A: Allocator + Drop>(
+    alloc: A,
+    source: &mut Source,
+    count: u64,
+    bound: u64,
+) -> Result<Vec<u64, A>, AllocError>
+    requires { 0 < bound }
+{
+    let mut numbers = Vec::new(alloc);
+    for _ in 0..count {
+        numbers.push(source.below(bound))?;
+    }
+    Ok(numbers)
 }
 
 /// Makes `times` plays of one random schedule, in which all consumers claim one cell.
@@ -77,14 +95,8 @@ pub fn ratifiers<A: Allocator + Copy + Drop>(
     layouts_are_sound();
     let mut source = Source::new();
     let m = u64::from(layout.consumers());
-    let mut inputs = Vec::new(alloc);
-    for _ in 0..PROCESSES {
-        inputs.push(source.below(m))?;
-    }
-    let mut schedule = Vec::new(alloc);
-    for _ in 0..TURNS {
-        schedule.push(source.below(PROCESSES))?;
-    }
+    let inputs = numbers(alloc, &mut source, PROCESSES, m)?;
+    let schedule = numbers(alloc, &mut source, TURNS, PROCESSES)?;
     let mut runs = Runs {
         entries: 0,
         ends: 0,

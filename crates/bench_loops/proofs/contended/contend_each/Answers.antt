@@ -1,9 +1,9 @@
-use Rattle.std.proofs.Common.{◌≡◌, ◌<◌, [], ℕ, List, ◌∙◌, length, sym, subst, slice_index_or, arith}
+use Rattle.std.proofs.Common.{◌≡◌, ◌<◌, ◌+◌, [], ℕ, List, ◌∙◌, length, sym, subst, slice_index_or, arith}
 use Rattle.mb_claim.specs.declared.access.ClaimAccess.{ClaimAccess}
 use Rattle.mb_claim.specs.declared.claim.Claim.{Claim}
 use Rattle.mb_claim.specs.declared.layout.Layout.{Layout}
 use Rattle.mb_claim.specs.Vocabulary.{IsClaimIn, consumer_of}
-use Rattle.bench_loops.specs.UnderWay.{ClaimIsBefore, IsContest}
+use Rattle.bench_loops.specs.UnderWay.{ChangesOnly, ClaimIsBefore, IsContest}
 use Rattle.bench_loops.proofs.contended.contend_each.Goals as goal
 
 -- new claims on a cell that nobody has touched are a contest
@@ -22,6 +22,21 @@ fresh_contest layout cell claims words h before whose stands =
           (stands i d within);
     }
 
+-- after a contest on this cell nobody has touched a cell after it
+contest_over :
+    {layout : Layout} {cell : ℕ} {claims : List Claim} {old new : List ℕ} {h : List ClaimAccess}
+    → ((c : ℕ) → ClaimIsBefore layout c cell old h)
+    → (later : List ClaimAccess) × IsContest layout cell claims new later × ChangesOnly (λ c k. k ≡ cell) h later
+    → (later : List ClaimAccess) × ((c : ℕ) → ClaimIsBefore layout c (cell + 1) new later)
+contest_over before made = (
+  made.0,
+  λ c. record {
+    memory = made.1.memory;
+    untouched = λ k after.
+        made.2 c k (λ at. absurd (omega (arith, at, after))) ∙ (before c).untouched k (omega (arith, after));
+  },
+)
+
 pub contend-requires-clause-contest : goal.contend-requires-clause-contest
 contend-requires-clause-contest g c =
     let past = c.loop-cell.invariant in (
@@ -37,11 +52,5 @@ loop-cell-preserved g c =
     let made = c.contend.ensures.kept past.0
     (fresh_contest c.args.layout.now c.loop-cell.cell c.loop-consumer.claims c.loop-cell.words past.0 past.1
     (λ i d within. c.loop-consumer.invariant.whose i d (omega arith))
-    (λ i d within. c.loop-consumer.invariant.stands i d (omega arith))) in (
-      made.0,
-      λ d. record {
-        memory = made.1.memory;
-        untouched = λ k later.
-            made.2 d k (λ at. absurd (omega (arith, at, later))) ∙ (past.1 d).untouched k (omega (arith, later));
-      },
-    )
+    (λ i d within. c.loop-consumer.invariant.stands i d (omega arith))) in
+    contest_over past.1 made
