@@ -1,5 +1,6 @@
 //! Pools that are called by lists of calls, so that a test has no premise to prove.
 
+use crate::compare::same_at;
 use mb_cells::{Cursor, Finish, Look, NoMemory, Offer, Pool, Push};
 use std::alloc::Allocator;
 use std::marker::Model;
@@ -48,14 +49,14 @@ impl<A: Allocator + Drop> Calls<A> {
     /// Makes these calls, and compares each answer.
     pub(crate) fn make(&mut self, rt: &impl Abort, calls: &[PoolCall]) {
         for (place, call) in calls.iter().enumerate() {
-            let same = match *call {
+            let told = match *call {
                 PoolCall::Offer(p, x, answer) => self.offer(p, x) == Some(answer),
                 PoolCall::Push(p, answer) => self.push(p) == Some(answer),
                 PoolCall::Finish(p, answer) => self.finish(p) == Some(answer),
                 PoolCall::Look(cursor, answer) => self.look(cursor) == Some(answer),
                 PoolCall::Item(k, x) => self.item(k) == Some(x),
             };
-            assert!(rt; same, "call {place}");
+            same_at(rt, &told, &true, &place);
         }
     }
 
