@@ -66,7 +66,7 @@ fn three_come_to<R: Abort + AllocGlobal>(
 const OTHER_WINNER: Option<Flaw> = Some(Flaw::OtherWinner);
 
 /// Whether the item is left, the notes of the three consumers, and the flaw.
-const WINNERS: [(bool, [&[Note]; 3], Option<Flaw>); 11] = [
+static WINNERS: [(bool, [&[Note]; 3], Option<Flaw>); 11] = [
     (false, [&[Lost(1)], &[Took(5)], &[Lost(1)]], None),
     (true, [&[Lost(2)], &[Lost(2)], &[Undecided]], None),
     (false, [&[Took(5)], &[Took(5)], &[]], Some(Flaw::TwoTakers)),
@@ -96,7 +96,7 @@ fn an_item_has_one_winner(rt: HostRuntime) {
 const OTHER_LEFT: Option<Flaw> = Some(Flaw::OtherLeft);
 
 /// What is left of the items 5, 6 and 7 if 5 was taken, and the flaw.
-const LEFT: [(&[u64], Option<Flaw>); 8] = [
+static LEFT: [(&[u64], Option<Flaw>); 8] = [
     (&[6, 7], None),
     // The items left are in their order.
     (&[7, 6], OTHER_LEFT),
@@ -118,10 +118,10 @@ fn what_is_left_is_what_nobody_took(rt: HostRuntime) {
 }
 
 /// Two lanes, of which the second has one item.
-const TWO_LANES: [LaneTold<'static>; 2] = [(&[5, 6], false, &[6]), (&[8], false, &[])];
+static TWO_LANES: [LaneTold<'static>; 2] = [(&[5, 6], false, &[6]), (&[8], false, &[])];
 
 /// The notes of consumer 1 on the second lane, whether it has a claim under way there, and the flaw.
-const NOTES: [(&[Note], bool, Option<Flaw>); 3] = [
+static NOTES: [(&[Note], bool, Option<Flaw>); 3] = [
     (&[Took(8)], false, None),
     (&[Took(8)], true, Some(Flaw::TooManyNotes)),
     (&[Took(8), Lost(0)], false, Some(Flaw::TooManyNotes)),
@@ -159,7 +159,7 @@ const DIARIES: Option<Flaw> = Some(Flaw::OtherDiary);
 
 /// Each case has the number of consumers that were asked for, the lanes, the diaries and the flaw. Two producers were
 /// asked for.
-const SIZES: [(
+static SIZES: [(
     u64,
     &[LaneTold<'static>],
     &[DiaryTold<'static>],

@@ -14,7 +14,7 @@ use std::alloc::{Allocator, Global};
 use std::process::Abort;
 
 /// The calls that put and read one item of an only lane, from the first look to the end mark.
-const ONE_ITEM: [PoolCall; 9] = [
+static ONE_ITEM: [PoolCall; 9] = [
     Looks(Cursor::Head(0), Look::Nothing),
     Offers(0, 8, Offer::Cell(0)),
     Pushes(0, Push::Item(0)),

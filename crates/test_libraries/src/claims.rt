@@ -1,7 +1,7 @@
 //! Claims of consumers on one cell: worked examples.
 
 use crate::compare::{same, same_at};
-use mb_claim::{BadLayout, Claim, ClaimEntry, Layout, PlayFault, Stage, play};
+use mb_claim::{BadLayout, Claim, ClaimEntry, ClaimRun, Layout, PlayFault, Stage, play};
 use mb_deciding::{Act, Op, Reg};
 use mb_quorum::TableName;
 use std::alloc::Allocator;
@@ -230,10 +230,17 @@ fn steps_in_order() -> [(u64, u64); STEPS] {
     steps
 }
 
-/// Ends the test unless exactly the steps from `first` on are of claims that had ended before. Sixteen consumers step
-/// in order.
-fn are_done_from(rt: &impl Abort, entries: &[ClaimEntry], first: usize) {
-    for (place, entry) in entries.iter().enumerate() {
+/// Ends the test unless the run has `STEPS` entries and these stages, and exactly the steps from `first` on are of claims
+/// that had ended before. Sixteen consumers step in order.
+fn are_done_from<A: Allocator + Drop>(
+    rt: &impl Abort,
+    run: &ClaimRun<A>,
+    stages: &[Stage],
+    first: usize,
+) {
+    let told = (run.entries.len(), run.stages.as_slice());
+    same(rt, &told, &(STEPS, stages));
+    for (place, entry) in run.entries.iter().enumerate() {
         let done = ClaimEntry::Done {
             consumer: (place % 16) as u32,
         };
@@ -249,11 +256,6 @@ fn two_thousand_steps_of_sixteen_consumers(rt: HostRuntime) {
     // All find the conciliator's word empty, and the last to store there wins.
     let mut stages = [Stage::Lost(15); 16];
     stages[15] = Stage::Won;
-    same(
-        &rt,
-        &(run.entries.len(), run.stages.as_slice()),
-        &(STEPS, stages.as_slice()),
-    );
     // Each makes 3 accesses to the conciliator, and 4 + 1 + 1 + 4 to the ratifier.
-    are_done_from(&rt, run.entries.as_slice(), 16 * 13);
+    are_done_from(&rt, &run, &stages, 16 * 13);
 }

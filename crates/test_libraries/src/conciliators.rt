@@ -50,7 +50,7 @@ fn one_value(rt: HostRuntime) {
 }
 
 /// Numbers of values, inputs and turns, and why they are refused.
-const REASONS: [(u64, &[u64], &[(u64, u64)], Fault); 4] = [
+static REASONS: [(u64, &[u64], &[(u64, u64)], Fault); 4] = [
     (0, &[5], &[(9, 0)], Fault::BadValues),
     (65, &[], &[], Fault::BadValues),
     (2, &[0, 2], &[], Fault::BadInput(1)),
@@ -91,11 +91,5 @@ fn two_thousand_turns_of_sixteen_processes(rt: HostRuntime) {
     let inputs = [0, 1, 2, 3, 4, 5, 6, 7, 8, 9, 10, 11, 12, 13, 14, 15];
     let trace = conciliate(rt.alloc(), 16, &inputs, &turns_in_order()).expect(&rt, "no trace");
     // All find the word empty and store, and then all find what the last one stored.
-    let outputs = [Some(Out::undecided(15)); 16];
-    same(
-        &rt,
-        &(trace.entries.len(), trace.outputs.as_slice()),
-        &(TURNS, outputs.as_slice()),
-    );
-    are_done_from(&rt, trace.entries.as_slice(), 48);
+    are_done_from(&rt, &trace, TURNS, Out::undecided(15), 48);
 }

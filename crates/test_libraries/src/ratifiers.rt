@@ -21,7 +21,7 @@ fn fault(alloc: Global, m: u64, inputs: &[u64], schedule: &[u64]) -> Option<Faul
 }
 
 /// Numbers of values, inputs and turns, and why they are refused.
-const REASONS: [(u64, &[u64], &[u64], Fault); 6] = [
+static REASONS: [(u64, &[u64], &[u64], Fault); 6] = [
     (0, &[], &[], Fault::BadValues),
     (65, &[65], &[9], Fault::BadValues),
     (2, &[2], &[5], Fault::BadInput(0)),
@@ -62,13 +62,7 @@ fn two_thousand_turns_of_sixteen_processes(rt: HostRuntime) {
         &turns_in_order(),
     )
     .expect(&rt, "no trace");
-    // All have one input, so all decide it.
-    let outputs = [Some(Out::decided(3)); 16];
-    same(
-        &rt,
-        &(trace.entries.len(), trace.outputs.as_slice()),
-        &(TURNS, outputs.as_slice()),
-    );
-    // Each announces in one register, finds the proposal empty, stores it, and checks the 15 others.
-    are_done_from(&rt, trace.entries.as_slice(), 288);
+    // All have one input, so all decide it. Each announces in one register, finds the proposal empty, stores it, and checks
+    // the 15 others.
+    are_done_from(&rt, &trace, TURNS, Out::decided(3), 288);
 }

@@ -125,7 +125,7 @@ fn is_served<'a>(rt: &impl Abort, alloc: Alloc<'a>, ample: Alloc<'a>, call: Trie
 const MANY: u64 = 100;
 
 /// The calls, each with the fewest and the most allocations that it may make.
-const CALLS: [(Tried, u64, u64); 10] = [
+static CALLS: [(Tried, u64, u64); 10] = [
     // The processes, the entries and the outputs.
     (Tried::Ratify, 3, MANY),
     (Tried::Conciliate, 3, MANY),

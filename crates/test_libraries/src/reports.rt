@@ -30,7 +30,7 @@ const LANE: LaneTold<'static> = (&[7], false, &[]);
 const DIARY: DiaryTold<'static> = (0, 0, TOOK, false);
 
 /// Other lanes and diaries, each with the first difference.
-const OTHERS: [(LaneTold<'static>, DiaryTold<'static>, Difference); 7] = [
+static OTHERS: [(LaneTold<'static>, DiaryTold<'static>, Difference); 7] = [
     ((&[8], false, &[]), DIARY, Difference::Put(0)),
     ((&[7], true, &[]), DIARY, Difference::Ended(0)),
     ((&[7], false, &[7]), DIARY, Difference::Left(0)),

@@ -247,15 +247,18 @@ pub(crate) fn is_read<A: Allocator + Clone + Drop>(
     true
 }
 
+/// Texts with their first line and what is behind it, if the line has an end.
+static LINES: [(&str, Option<(&str, &str)>); 4] = [
+    ("", None),
+    ("\n", Some(("", ""))),
+    ("a b", Some(("a b", ""))),
+    ("a\r\n\nb", Some(("a\r", "\nb"))),
+];
+
 #[test]
 fn lines_are_cut_off(rt: HostRuntime) {
-    for (text, want) in &[
-        ("", None),
-        ("\n", Some(("", ""))),
-        ("a b", Some(("a b", ""))),
-        ("a\r\n\nb", Some(("a\r", "\nb"))),
-    ] {
-        assert!(rt; split_line(*text) == *want, "{text}");
+    for (text, want) in &LINES {
+        same_at(&rt, &split_line(*text), want, text);
     }
 }
 
@@ -284,7 +287,7 @@ fn has_few_words(line: &str, want: &[&str], empty: bool) -> bool {
 }
 
 /// Lines with their words, and whether one of them is empty.
-const WORDS: [(&str, &[&str], bool); 5] = [
+static WORDS: [(&str, &[&str], bool); 5] = [
     ("", &[""], true),
     ("a b\tc", &["a", "b\tc"], false),
     (" a  b", &["", "a", "", "b"], true),
@@ -340,7 +343,7 @@ fn has_numbers<R: Abort + AllocGlobal>(rt: &R, words: Option<&str>, want: Option
 }
 
 /// Words with their numbers, if they are numbers.
-const NUMBERS: [(Option<&str>, Option<&[u64]>); 5] = [
+static NUMBERS: [(Option<&str>, Option<&[u64]>); 5] = [
     (None, Some(&[])),
     (Some("0"), Some(&[0])),
     (Some("3 10 0"), Some(&[3, 10, 0])),

@@ -25,7 +25,7 @@ pub(crate) const BOTH: Shape = Shape {
 };
 
 /// Each shape.
-pub(crate) const SHAPES: [Shape; 4] = [Shape::PLAIN, FAST, LAST, BOTH];
+pub(crate) static SHAPES: [Shape; 4] = [Shape::PLAIN, FAST, LAST, BOTH];
 
 /// The stages if consumer 0 has won and consumer 1 has lost to it.
 const WON_AND_LOST: [Stage; 2] = [Stage::Won, Stage::Lost(0)];

@@ -18,7 +18,7 @@ fn are_displayed<R: AllocGlobal, F: Display>(rt: &R, rows: &[(F, &str)]) -> Resu
 }
 
 /// The texts of the faults of schedules.
-const FAULTS: [(Fault, &str); 4] = [
+static FAULTS: [(Fault, &str); 4] = [
     (
         Fault::BadInput(1),
         "input 1 is not below the number of values",
@@ -32,7 +32,7 @@ const FAULTS: [(Fault, &str); 4] = [
 ];
 
 /// The texts of layouts that are refused.
-const LAYOUTS: [(BadLayout, &str); 2] = [
+static LAYOUTS: [(BadLayout, &str); 2] = [
     (
         BadLayout::BadConsumers,
         "the number of consumers is out of range",
@@ -41,7 +41,7 @@ const LAYOUTS: [(BadLayout, &str); 2] = [
 ];
 
 /// The texts of runs that are refused.
-const RUNS: [(PlayFault, &str); 2] = [
+static RUNS: [(PlayFault, &str); 2] = [
     (
         PlayFault::NoConsumer(7),
         "the step at place 7 is of no consumer of the layout",
@@ -50,7 +50,7 @@ const RUNS: [(PlayFault, &str); 2] = [
 ];
 
 /// The texts of setups that are refused.
-const SETUPS: [(SetupFault, &str); 4] = [
+static SETUPS: [(SetupFault, &str); 4] = [
     (
         SetupFault::BadProducers,
         "the number of producers is out of range",
