@@ -63,6 +63,31 @@ fn new_seat<A: Allocator + Drop>(
     }
 }
 
+/// Makes one step of a claim with the random word 0.
+fn step_once<A: Allocator + Drop>(
+    table: &SharedClaims<A>,
+    seat: &mut ClaimSeat,
+    claim: &mut Claim,
+    cell: u32,
+)
+    requires table { seat.old.table ≡ name_of table.now }
+    requires cell { cell < table.now.cells }
+    requires consumer { consumer_of claim.old ≡ seat.old.consumer }
+    requires standing { IsClaimIn table.now.layout claim.old
+        (part_on seat.old.consumer cell seat.old.part) }
+    requires going { claim_stage claim.old ≡ Going }
+    ensures table { seat.new.table ≡ seat.old.table }
+    ensures same { seat.new.consumer ≡ seat.old.consumer }
+    ensures consumer { consumer_of claim.new ≡ seat.new.consumer }
+    ensures standing { IsClaimIn table.now.layout claim.new
+        (part_on seat.new.consumer cell seat.new.part) }
+    ensures others { (k : ℕ) → k ≢ cell
+        → part_on seat.new.consumer k seat.new.part ≡ part_on seat.old.consumer k seat.old.part }
+{
+    accesses_lengthen_one_part();
+    table.step(seat, claim, cell, 0);
+}
+
 /// Makes `most` steps of a claim with the random word 0, or fewer if it ends before. Returns how many.
 fn step_on<A: Allocator + Drop>(
     table: &SharedClaims<A>,
@@ -84,13 +109,12 @@ fn step_on<A: Allocator + Drop>(
     ensures others { (k : ℕ) → k ≢ cell
         → part_on seat.new.consumer k seat.new.part ≡ part_on seat.old.consumer k seat.old.part }
 {
-    accesses_lengthen_one_part();
     let mut made = 0u32;
     for turn in 0..most {
         if claim.stage() != Stage::Going {
             break;
         }
-        table.step(seat, claim, cell, 0);
+        step_once(table, seat, claim, cell);
         made = made.wrapping_add(1);
     }
     made
