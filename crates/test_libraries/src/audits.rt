@@ -62,97 +62,127 @@ fn three_come_to<R: Abort + AllocGlobal>(
     comes_to(rt, (1, 3), &[(&[5], false, left)], &diaries, flaw);
 }
 
+/// The flaw that losers name another winner.
+const OTHER_WINNER: Option<Flaw> = Some(Flaw::OtherWinner);
+
+/// Whether the item is left, the notes of the three consumers, and the flaw.
+static WINNERS: [(bool, [&[Note]; 3], Option<Flaw>); 11] = [
+    (false, [&[Lost(1)], &[Took(5)], &[Lost(1)]], None),
+    (true, [&[Lost(2)], &[Lost(2)], &[Undecided]], None),
+    (false, [&[Took(5)], &[Took(5)], &[]], Some(Flaw::TwoTakers)),
+    (false, [&[], &[Took(6)], &[]], Some(Flaw::OtherItem)),
+    // A loser does not name itself.
+    (true, [&[], &[Lost(1)], &[]], OTHER_WINNER),
+    // Losers name one winner.
+    (true, [&[Lost(1)], &[Lost(2)], &[Undecided]], OTHER_WINNER),
+    // The winner that they name competed, and there is such a consumer.
+    (true, [&[Lost(1)], &[], &[]], OTHER_WINNER),
+    (true, [&[Lost(3)], &[], &[]], OTHER_WINNER),
+    // If the item was taken, the winner that they name is the taker.
+    (false, [&[Took(5)], &[Lost(2)], &[Undecided]], OTHER_WINNER),
+    // A consumer that is alone decides.
+    (true, [&[], &[], &[Undecided]], Some(Flaw::UndecidedAlone)),
+    (true, [&[], &[Undecided], &[Undecided]], None),
+];
+
 #[test]
 fn an_item_has_one_winner(rt: HostRuntime) {
-    let other = Some(Flaw::OtherWinner);
-    let cases: [(bool, [&[Note]; 3], Option<Flaw>); 11] = [
-        (false, [&[Lost(1)], &[Took(5)], &[Lost(1)]], None),
-        (true, [&[Lost(2)], &[Lost(2)], &[Undecided]], None),
-        (false, [&[Took(5)], &[Took(5)], &[]], Some(Flaw::TwoTakers)),
-        (false, [&[], &[Took(6)], &[]], Some(Flaw::OtherItem)),
-        // A loser does not name itself.
-        (true, [&[], &[Lost(1)], &[]], other),
-        // Losers name one winner.
-        (true, [&[Lost(1)], &[Lost(2)], &[Undecided]], other),
-        // The winner that they name competed, and there is such a consumer.
-        (true, [&[Lost(1)], &[], &[]], other),
-        (true, [&[Lost(3)], &[], &[]], other),
-        // If the item was taken, the winner that they name is the taker.
-        (false, [&[Took(5)], &[Lost(2)], &[Undecided]], other),
-        // A consumer that is alone decides.
-        (true, [&[], &[], &[Undecided]], Some(Flaw::UndecidedAlone)),
-        (true, [&[], &[Undecided], &[Undecided]], None),
-    ];
-    for (is_left, notes, flaw) in cases {
-        three_come_to(&rt, is_left, notes, flaw);
+    for (is_left, notes, flaw) in &WINNERS {
+        three_come_to(&rt, *is_left, *notes, *flaw);
     }
 }
+
+/// The flaw that other items are left.
+const OTHER_LEFT: Option<Flaw> = Some(Flaw::OtherLeft);
+
+/// What is left of the items 5, 6 and 7 if 5 was taken, and the flaw.
+static LEFT: [(&[u64], Option<Flaw>); 8] = [
+    (&[6, 7], None),
+    // The items left are in their order.
+    (&[7, 6], OTHER_LEFT),
+    (&[6, 8], OTHER_LEFT),
+    // They are all items that nobody took, and no more.
+    (&[], OTHER_LEFT),
+    (&[6], OTHER_LEFT),
+    (&[7], OTHER_LEFT),
+    (&[6, 7, 7], OTHER_LEFT),
+    (&[5, 6, 7], OTHER_LEFT),
+];
 
 #[test]
 fn what_is_left_is_what_nobody_took(rt: HostRuntime) {
-    let other = Some(Flaw::OtherLeft);
-    let cases: [(&[u64], Option<Flaw>); 8] = [
-        (&[6, 7], None),
-        // The items left are in their order.
-        (&[7, 6], other),
-        (&[6, 8], other),
-        // They are all items that nobody took, and no more.
-        (&[], other),
-        (&[6], other),
-        (&[7], other),
-        (&[6, 7, 7], other),
-        (&[5, 6, 7], other),
-    ];
-    for (left, flaw) in cases {
-        let lanes: [LaneTold<'_>; 1] = [(&[5, 6, 7], false, left)];
-        comes_to(&rt, (1, 1), &lanes, &[(0, 0, &[Took(5)], true)], flaw);
+    for (left, flaw) in &LEFT {
+        let lanes: [LaneTold<'_>; 1] = [(&[5, 6, 7], false, *left)];
+        comes_to(&rt, (1, 1), &lanes, &[(0, 0, &[Took(5)], true)], *flaw);
     }
 }
 
+/// Two lanes, of which the second has one item.
+static TWO_LANES: [LaneTold<'static>; 2] = [(&[5, 6], false, &[6]), (&[8], false, &[])];
+
+/// The notes of consumer 1 on the second lane, whether it has a claim under way there, and the flaw.
+static NOTES: [(&[Note], bool, Option<Flaw>); 3] = [
+    (&[Took(8)], false, None),
+    (&[Took(8)], true, Some(Flaw::TooManyNotes)),
+    (&[Took(8), Lost(0)], false, Some(Flaw::TooManyNotes)),
+];
+
 #[test]
 fn notes_are_on_items(rt: HostRuntime) {
-    let many = Some(Flaw::TooManyNotes);
-    let lanes: [LaneTold<'_>; 2] = [(&[5, 6], false, &[6]), (&[8], false, &[])];
-    let cases: [(&[Note], bool, Option<Flaw>); 3] = [
-        (&[Took(8)], false, None),
-        (&[Took(8)], true, many),
-        (&[Took(8), Lost(0)], false, many),
-    ];
-    for (notes, begun, flaw) in cases {
+    for (notes, begun, flaw) in &NOTES {
         let diaries: [DiaryTold<'_>; 4] = [
             (0, 0, &[Took(5)], true),
             (0, 1, &[Lost(1)], false),
             (1, 0, &[Lost(0)], true),
-            (1, 1, notes, begun),
+            (1, 1, *notes, *begun),
         ];
-        comes_to(&rt, (2, 2), &lanes, &diaries, flaw);
+        comes_to(&rt, (2, 2), &TWO_LANES, &diaries, *flaw);
     }
 }
 
+/// A lane without items.
+const LANE: LaneTold<'static> = (&[], false, &[]);
+
+/// The diaries of two consumers of two lanes, in their order.
+const FIRST: DiaryTold<'static> = (0, 0, &[], false);
+
+const SECOND: DiaryTold<'static> = (0, 1, &[], false);
+
+const THIRD: DiaryTold<'static> = (1, 0, &[], false);
+
+const FOURTH: DiaryTold<'static> = (1, 1, &[], false);
+
+/// The flaw that there are other lanes, and that there are other diaries.
+const LANES: Option<Flaw> = Some(Flaw::OtherLanes);
+
+const DIARIES: Option<Flaw> = Some(Flaw::OtherDiary);
+
+/// Each case has the number of consumers that were asked for, the lanes, the diaries and the flaw. Two producers were
+/// asked for.
+static SIZES: [(
+    u64,
+    &[LaneTold<'static>],
+    &[DiaryTold<'static>],
+    Option<Flaw>,
+); 12] = [
+    (2, &[LANE; 2], &[FIRST, SECOND, THIRD, FOURTH], None),
+    (0, &[LANE; 2], &[], None),
+    (1, &[LANE], &[FIRST, SECOND], LANES),
+    (0, &[LANE; 3], &[], LANES),
+    (1, &[], &[], LANES),
+    (1, &[LANE; 2], &[], DIARIES),
+    (2, &[LANE; 2], &[FIRST, SECOND], DIARIES),
+    (1, &[LANE; 2], &[FIRST, SECOND, THIRD, FOURTH], DIARIES),
+    // Each diary has the consumer and the lane of its place.
+    (1, &[LANE; 2], &[THIRD, FOURTH], DIARIES),
+    (1, &[LANE; 2], &[SECOND, FIRST], DIARIES),
+    (2, &[LANE; 2], &[FIRST, THIRD, SECOND, FOURTH], DIARIES),
+    (2, &[LANE; 2], &[FIRST, SECOND, THIRD, THIRD], DIARIES),
+];
+
 #[test]
 fn there_is_a_diary_for_each_consumer_and_lane(rt: HostRuntime) {
-    let (lanes, other) = (Some(Flaw::OtherLanes), Some(Flaw::OtherDiary));
-    let lane: LaneTold<'_> = (&[], false, &[]);
-    let first: [DiaryTold<'_>; 2] = [(0, 0, &[], false), (0, 1, &[], false)];
-    let second: [DiaryTold<'_>; 2] = [(1, 0, &[], false), (1, 1, &[], false)];
-    let all = [first[0], first[1], second[0], second[1]];
-    // Each case has the number of consumers that were asked for. Two producers were asked for.
-    let cases: [(u64, &[LaneTold<'_>], &[DiaryTold<'_>], Option<Flaw>); 12] = [
-        (2, &[lane; 2], &all, None),
-        (0, &[lane; 2], &[], None),
-        (1, &[lane], &first, lanes),
-        (0, &[lane; 3], &[], lanes),
-        (1, &[], &[], lanes),
-        (1, &[lane; 2], &[], other),
-        (2, &[lane; 2], &first, other),
-        (1, &[lane; 2], &all, other),
-        // Each diary has the consumer and the lane of its place.
-        (1, &[lane; 2], &second, other),
-        (1, &[lane; 2], &[first[1], first[0]], other),
-        (2, &[lane; 2], &[all[0], all[2], all[1], all[3]], other),
-        (2, &[lane; 2], &[all[0], all[1], all[2], all[2]], other),
-    ];
-    for (consumers, lanes, diaries, flaw) in cases {
-        comes_to(&rt, (2, consumers), lanes, diaries, flaw);
+    for (consumers, lanes, diaries, flaw) in &SIZES {
+        comes_to(&rt, (2, *consumers), *lanes, *diaries, *flaw);
     }
 }

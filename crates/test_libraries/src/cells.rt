@@ -10,37 +10,41 @@ use crate::pools::PoolCall::{
 };
 use crate::pools::{Calls, PoolCall};
 use mb_cells::{Cursor, Finish, Look, Offer, Pool, Push};
-use std::alloc::Allocator;
-use std::test::Fail;
-use test_alloc::growths_refused;
+use std::alloc::{Allocator, Global};
+use std::process::Abort;
 
 /// The calls that put and read one item of an only lane, from the first look to the end mark.
-fn one_item() -> [PoolCall; 9] {
-    [
-        Looks(Cursor::head(0), Look::Nothing),
-        Offers(0, 8, Offer::Cell(0)),
-        Pushes(0, Push::Item(0)),
-        Looks(Cursor::head(0), Look::Nothing),
-        Pushes(0, Push::Link(0)),
-        Looks(Cursor::head(0), Look::Cell(0)),
-        Item(0, 8),
-        Ends(0, Finish::Ended),
-        Looks(Cursor::past(0), Look::Ended),
-    ]
+static ONE_ITEM: [PoolCall; 9] = [
+    Looks(Cursor::Head(0), Look::Nothing),
+    Offers(0, 8, Offer::Cell(0)),
+    Pushes(0, Push::Item(0)),
+    Looks(Cursor::Head(0), Look::Nothing),
+    Pushes(0, Push::Link(0)),
+    Looks(Cursor::Head(0), Look::Cell(0)),
+    Item(0, 8),
+    Ends(0, Finish::Ended),
+    Looks(Cursor::Past(0), Look::Ended),
+];
+
+/// Whether the allocator serves a pool of one lane and one cell, which then takes that item.
+pub(crate) fn is_served<A: Allocator + Clone + Drop>(rt: &impl Abort, alloc: A) -> bool {
+    match Calls::new(alloc, 1, 1) {
+        Ok(mut pool) => {
+            pool.make(rt, &ONE_ITEM);
+            true
+        }
+        Err(_) => false,
+    }
 }
 
-#[test]
-fn each_growth_of_new_refused(rt: HostRuntime) -> Result<(), Fail> {
-    let refused = growths_refused(&rt, |alloc| match Calls::new(alloc, 1, 1) {
-        Ok(mut pool) => {
-            pool.make(&rt, &one_item());
-            Ok(true)
-        }
-        Err(_) => Ok(false),
-    })?;
-    // The allocations are of the heads, the links, the items and the lanes.
-    assert!(rt; 4 <= refused);
-    Ok(())
+/// A new pool with `lanes` lanes and `cells` cells.
+fn new_pool<R: Abort + AllocGlobal>(rt: &R, lanes: u32, cells: u32) -> Calls<Global> {
+    Calls::new(rt.alloc(), lanes, cells).expect(rt, "no pool")
+}
+
+/// Checks that a new pool gives these answers.
+fn answers<R: Abort + AllocGlobal>(rt: &R, lanes: u32, cells: u32, calls: &[PoolCall]) {
+    new_pool(rt, lanes, cells).make(rt, calls);
 }
 
 /// The calls of lane `p` by which item `x` is offered, gets this cell, and is put.
@@ -70,84 +74,93 @@ fn put_and_end<A: Allocator + Drop>(
 }
 
 #[test]
-fn calls_join_a_list(rt: HostRuntime) -> Result<(), Fail> {
-    let mut pool = Pool::new(rt.alloc(), 1, 1)?;
+fn calls_join_a_list(rt: HostRuntime) {
+    let mut pool = match Pool::new(rt.alloc(), 1, 1) {
+        Ok(pool) => pool,
+        Err(_) => panic!(rt; "no pool"),
+    };
     let (offered, stored, linked, ended) = put_and_end(&mut pool, 0, 8);
     same(
         &rt,
         &(offered, stored, linked, ended),
         &(Offer::Cell(0), Push::Item(0), Push::Link(0), Finish::Ended),
     );
-    Ok(())
 }
 
 // Two lanes get the cells of one pool in turns. Looks find each lane's own cells.
 #[test]
-fn two_lanes_draw_from_one_pool(rt: HostRuntime) -> Result<(), Fail> {
-    let mut pool = Calls::new(rt.alloc(), 2, 4)?;
-    for (p, x, cell) in [(0, 10, 0), (1, 20, 1), (0, 11, 2), (1, 21, 3)] {
-        pool.make(&rt, &put(p, x, cell));
+fn two_lanes_draw_from_one_pool(rt: HostRuntime) {
+    let mut pool = new_pool(&rt, 2, 4);
+    for (p, x, cell) in &[(0, 10, 0), (1, 20, 1), (0, 11, 2), (1, 21, 3)] {
+        pool.make(&rt, &put(*p, *x, *cell));
     }
-    let calls = [
-        Looks(Cursor::head(0), Look::Cell(0)),
-        Looks(Cursor::past(0), Look::Cell(2)),
-        Looks(Cursor::past(2), Look::Nothing),
-        Looks(Cursor::head(1), Look::Cell(1)),
-        Looks(Cursor::past(1), Look::Cell(3)),
-        Looks(Cursor::past(3), Look::Nothing),
-        Item(3, 21),
-    ];
-    pool.make(&rt, &calls);
-    Ok(())
+    pool.make(
+        &rt,
+        &[
+            Looks(Cursor::Head(0), Look::Cell(0)),
+            Looks(Cursor::Past(0), Look::Cell(2)),
+            Looks(Cursor::Past(2), Look::Nothing),
+            Looks(Cursor::Head(1), Look::Cell(1)),
+            Looks(Cursor::Past(1), Look::Cell(3)),
+            Looks(Cursor::Past(3), Look::Nothing),
+            Item(3, 21),
+        ],
+    );
 }
 
 // Lane 1 finds no cell. It returns Full again and again, and may still end. Lane 0 may not, since its item is not put.
 #[test]
-fn full_comes_with_one_access(rt: HostRuntime) -> Result<(), Fail> {
-    let mut pool = Calls::new(rt.alloc(), 2, 1)?;
-    let calls = [
-        Offers(0, 1, Offer::Cell(0)),
-        Offers(1, 2, Offer::Full),
-        Offers(1, 3, Offer::Full),
-        Ends(1, Finish::Ended),
-        Ends(0, Finish::Busy),
-    ];
-    pool.make(&rt, &calls);
-    Ok(())
+fn full_comes_with_one_access(rt: HostRuntime) {
+    answers(
+        &rt,
+        2,
+        1,
+        &[
+            Offers(0, 1, Offer::Cell(0)),
+            Offers(1, 2, Offer::Full),
+            Offers(1, 3, Offer::Full),
+            Ends(1, Finish::Ended),
+            Ends(0, Finish::Busy),
+        ],
+    );
 }
 
 #[test]
-fn a_pool_of_no_cells(rt: HostRuntime) -> Result<(), Fail> {
-    let mut pool = Calls::new(rt.alloc(), 1, 0)?;
-    let calls = [
-        Offers(0, 5, Offer::Full),
-        Offers(0, 5, Offer::Full),
-        Ends(0, Finish::Ended),
-        Looks(Cursor::head(0), Look::Ended),
-    ];
-    pool.make(&rt, &calls);
-    Ok(())
+fn a_pool_of_no_cells(rt: HostRuntime) {
+    answers(
+        &rt,
+        1,
+        0,
+        &[
+            Offers(0, 5, Offer::Full),
+            Offers(0, 5, Offer::Full),
+            Ends(0, Finish::Ended),
+            Looks(Cursor::Head(0), Look::Ended),
+        ],
+    );
 }
 
 // Offers and finishes are refused while an item waits to be put (Busy), and after the end mark (Closed).
 #[test]
-fn refusals_in_their_order(rt: HostRuntime) -> Result<(), Fail> {
-    let mut pool = Calls::new(rt.alloc(), 1, 1)?;
-    let calls = [
-        Offers(0, 3, Offer::Cell(0)),
-        Ends(0, Finish::Busy),
-        Offers(0, 4, Offer::Busy),
-        Pushes(0, Push::Item(0)),
-        Ends(0, Finish::Busy),
-        Pushes(0, Push::Link(0)),
-        Pushes(0, Push::Idle),
-        Ends(0, Finish::Ended),
-        Offers(0, 4, Offer::Closed),
-        Ends(0, Finish::Closed),
-        Pushes(0, Push::Idle),
-    ];
-    pool.make(&rt, &calls);
-    Ok(())
+fn refusals_in_their_order(rt: HostRuntime) {
+    answers(
+        &rt,
+        1,
+        1,
+        &[
+            Offers(0, 3, Offer::Cell(0)),
+            Ends(0, Finish::Busy),
+            Offers(0, 4, Offer::Busy),
+            Pushes(0, Push::Item(0)),
+            Ends(0, Finish::Busy),
+            Pushes(0, Push::Link(0)),
+            Pushes(0, Push::Idle),
+            Ends(0, Finish::Ended),
+            Offers(0, 4, Offer::Closed),
+            Ends(0, Finish::Closed),
+            Pushes(0, Push::Idle),
+        ],
+    );
 }
 
 /// The calls of lane `p` if no cell is left. The lane ends, and its first cell is cell `p`.
@@ -170,8 +183,8 @@ fn two_cells_on(p: u32, last: u32) -> [PoolCall; 3] {
 
 // Sixteen lanes get forty cells in turns, so the first eight have three cells and the others two.
 #[test]
-fn sixteen_lanes_until_full(rt: HostRuntime) -> Result<(), Fail> {
-    let mut pool = Calls::new(rt.alloc(), 16, 40)?;
+fn sixteen_lanes_until_full(rt: HostRuntime) {
+    let mut pool = new_pool(&rt, 16, 40);
     for cell in 0..40u32 {
         pool.make(&rt, &put(cell % 16, u64::from(cell) + 100, cell));
     }
@@ -180,7 +193,6 @@ fn sixteen_lanes_until_full(rt: HostRuntime) -> Result<(), Fail> {
         pool.make(&rt, &full_and_ended(p));
         pool.make(&rt, &two_cells_on(p, last));
     }
-    Ok(())
 }
 
 /// The calls that find the item of cell `k` of 256, and after it cell `k + step` or the end mark.
@@ -195,8 +207,8 @@ fn read(k: u32, step: u32) -> [PoolCall; 2] {
 }
 
 #[test]
-fn sixteen_lanes_share_256_cells(rt: HostRuntime) -> Result<(), Fail> {
-    let mut pool = Calls::new(rt.alloc(), 16, 256)?;
+fn sixteen_lanes_share_256_cells(rt: HostRuntime) {
+    let mut pool = new_pool(&rt, 16, 256);
     for cell in 0..256u32 {
         pool.make(&rt, &put(cell % 16, u64::from(cell) + 1000, cell));
     }
@@ -206,27 +218,27 @@ fn sixteen_lanes_share_256_cells(rt: HostRuntime) -> Result<(), Fail> {
     for k in 0..256 {
         pool.make(&rt, &read(k, 16));
     }
-    Ok(())
 }
 
 #[test]
-fn one_lane_takes_all_256_cells(rt: HostRuntime) -> Result<(), Fail> {
-    let mut pool = Calls::new(rt.alloc(), 16, 256)?;
+fn one_lane_takes_all_256_cells(rt: HostRuntime) {
+    let mut pool = new_pool(&rt, 16, 256);
     for cell in 0..256u32 {
         pool.make(&rt, &put(5, u64::from(cell) + 1000, cell));
         pool.make(&rt, &[Looks(Cursor::past(cell), Look::Nothing)]);
     }
-    let calls = [
-        Offers(5, 7, Offer::Full),
-        Ends(5, Finish::Ended),
-        Looks(Cursor::head(5), Look::Cell(0)),
-    ];
-    pool.make(&rt, &calls);
+    pool.make(
+        &rt,
+        &[
+            Offers(5, 7, Offer::Full),
+            Ends(5, Finish::Ended),
+            Looks(Cursor::Head(5), Look::Cell(0)),
+        ],
+    );
     for k in 0..256 {
         pool.make(&rt, &[Pushes(5, Push::Idle)]);
         pool.make(&rt, &read(k, 1));
     }
-    Ok(())
 }
 
 /// The calls of lane `p` that are refused while its item is offered and not put. A look finds nothing there.
@@ -260,8 +272,8 @@ fn is_closed(p: u32) -> [PoolCall; 6] {
 }
 
 #[test]
-fn a_thousand_refusals_change_nothing(rt: HostRuntime) -> Result<(), Fail> {
-    let mut pool = Calls::new(rt.alloc(), 16, 256)?;
+fn a_thousand_refusals_change_nothing(rt: HostRuntime) {
+    let mut pool = new_pool(&rt, 16, 256);
     for p in 0..16u32 {
         pool.make(&rt, &[Offers(p, u64::from(p) + 1, Offer::Cell(p))]);
     }
@@ -274,5 +286,4 @@ fn a_thousand_refusals_change_nothing(rt: HostRuntime) -> Result<(), Fail> {
     for after in 0..1024 {
         pool.make(&rt, &is_closed(after % 16));
     }
-    Ok(())
 }

@@ -1,12 +1,11 @@
 //! Claims of consumers on one cell: worked examples.
 
 use crate::compare::{same, same_at};
-use mb_claim::{BadLayout, Claim, ClaimEntry, Layout, PlayFault, Stage, play};
+use mb_claim::{BadLayout, Claim, ClaimEntry, ClaimRun, Layout, PlayFault, Stage, play};
 use mb_deciding::{Act, Op, Reg};
 use mb_quorum::TableName;
 use std::alloc::Allocator;
 use std::process::Abort;
-use std::test::Fail;
 
 /// The entry of a consumer's load that found this value.
 pub(crate) fn loaded(consumer: u32, object: u32, reg: Reg, value: u64) -> ClaimEntry {
@@ -68,6 +67,31 @@ pub(crate) fn is_played<A: Allocator + Copy + Drop>(
     }
 }
 
+/// Checks that claims on one cell that make these steps have these stages, and these entries from this place on.
+pub(crate) fn plays<R: Abort + AllocGlobal>(
+    rt: &R,
+    layout: &Layout,
+    steps: &[(u64, u64)],
+    entries: (usize, &[ClaimEntry]),
+    stages: &[Stage],
+) {
+    assert!(rt; is_played(rt, rt.alloc(), layout, steps, entries, stages));
+}
+
+/// The bit table's layout of so many consumers and one pair.
+pub(crate) fn one_pair(rt: &impl Abort, consumers: u64) -> Layout {
+    Layout::new(consumers, 1, TableName::Bits).expect(rt, "no layout")
+}
+
+/// The steps of these consumers, with the random word 0.
+pub(crate) fn steps_of<const STEPS: usize>(consumers: [u64; STEPS]) -> [(u64, u64); STEPS] {
+    let mut steps = [(0, 0); STEPS];
+    for place in 0..STEPS {
+        steps[place] = (consumers[place], 0);
+    }
+    steps
+}
+
 /// The entries of the steps `WON_AND_LOST`, of two consumers and one pair over the bit table.
 pub(crate) fn won_and_lost() -> [ClaimEntry; 12] {
     [
@@ -88,23 +112,22 @@ pub(crate) fn won_and_lost() -> [ClaimEntry; 12] {
 
 #[test]
 fn layouts_out_of_range(rt: HostRuntime) {
-    let (consumers, pairs) = (BadLayout::BadConsumers, BadLayout::BadRounds);
-    for (c, k, name, want) in [
-        (0, 0, TableName::Bits, consumers),
-        (65, 1, TableName::Middle, consumers),
-        (65, 9, TableName::Unary, consumers),
-        (1, 0, TableName::Bits, pairs),
-        (16, 9, TableName::Bits, pairs),
-        (64, 9, TableName::Middle, pairs),
+    for (c, k, name, want) in &[
+        (0, 0, TableName::Bits, BadLayout::BadConsumers),
+        (65, 1, TableName::Middle, BadLayout::BadConsumers),
+        (65, 9, TableName::Unary, BadLayout::BadConsumers),
+        (1, 0, TableName::Bits, BadLayout::BadRounds),
+        (16, 9, TableName::Bits, BadLayout::BadRounds),
+        (64, 9, TableName::Middle, BadLayout::BadRounds),
     ] {
-        same_at(&rt, &Layout::new(c, k, name), &Err(want), &(c, k));
+        same_at(&rt, &Layout::new(*c, *k, *name), &Err(*want), &(c, k));
     }
 }
 
 // A layout tells how many words one and two cells have, where a word lies, and the most accesses of a claim.
 #[test]
-fn two_consumers_and_three_pairs(rt: HostRuntime) -> Result<(), Fail> {
-    let layout = Layout::new(2, 3, TableName::Bits)?;
+fn two_consumers_and_three_pairs(rt: HostRuntime) {
+    let layout = Layout::new(2, 3, TableName::Bits).expect(&rt, "no layout");
     // A conciliator has one word, a ratifier its proposal and two registers: four a pair, and twelve a cell.
     let words = (layout.words(1), layout.words(2));
     // The word comes after two cells, the objects 0 to 2 with 1, 3 and 1 words, the proposal and register 0.
@@ -116,12 +139,11 @@ fn two_consumers_and_three_pairs(rt: HostRuntime) -> Result<(), Fail> {
         &(layout.consumers(), words, address, most),
         &(2, (12, 24), 31, 27),
     );
-    Ok(())
 }
 
 #[test]
-fn most_accesses_of_eight_pairs(rt: HostRuntime) -> Result<(), Fail> {
-    for (consumers, name, most) in [
+fn most_accesses_of_eight_pairs(rt: HostRuntime) {
+    for (consumers, name, most) in &[
         // Each pair is a conciliator of at most 5 + 3 accesses and a ratifier of 4 + 2 + 4, or 1 + 2 + 15 over the
         // unary table.
         (16, TableName::Bits, 144),
@@ -131,15 +153,18 @@ fn most_accesses_of_eight_pairs(rt: HostRuntime) -> Result<(), Fail> {
         (64, TableName::Unary, 608),
         (64, TableName::Middle, 160),
     ] {
-        same(&rt, &Layout::new(consumers, 8, name)?.max_steps(), &most);
+        let layout = Layout::new(*consumers, 8, *name).expect(&rt, "no layout");
+        same(&rt, &layout.max_steps(), most);
     }
-    Ok(())
 }
 
 // A claim is begun by its first access, and then goes on.
 #[test]
-fn first_access_of_a_claim(rt: HostRuntime) -> Result<(), Fail> {
-    let layout = Layout::new(2, 1, TableName::Bits)?;
+fn first_access_of_a_claim(rt: HostRuntime) {
+    let layout = match Layout::new(2, 1, TableName::Bits) {
+        Ok(layout) => layout,
+        Err(_) => panic!(rt; "no layout"),
+    };
     let mut claim = Claim::new(&layout, 1);
     let before = (claim.begun(), claim.next(&layout).op);
     let after = (claim.after(&layout, 0, 0), claim.begun(), claim.stage());
@@ -151,48 +176,27 @@ fn first_access_of_a_claim(rt: HostRuntime) -> Result<(), Fail> {
             (Stage::Going, true, Stage::Going),
         ),
     );
-    Ok(())
 }
 
 #[test]
-fn one_wins_and_the_other_loses(rt: HostRuntime) -> Result<(), Fail> {
-    let layout = Layout::new(2, 1, TableName::Bits)?;
+fn one_wins_and_the_other_loses(rt: HostRuntime) {
+    let layout = one_pair(&rt, 2);
     let (entries, stages) = (won_and_lost(), [Stage::Won, Stage::Lost(0)]);
-    assert!(rt;
-        is_played(
-            &rt,
-            rt.alloc(),
-            &layout,
-            &WON_AND_LOST,
-            (0, &entries),
-            &stages
-        )
-    );
-    Ok(())
+    plays(&rt, &layout, &WON_AND_LOST, (0, &entries), &stages);
 }
 
 // Fourteen steps in this order leave both claims undecided.
 #[test]
-fn both_stay_undecided(rt: HostRuntime) -> Result<(), Fail> {
-    let layout = Layout::new(2, 1, TableName::Bits)?;
-    let steps = [0, 1, 0, 0, 1, 1, 0, 1, 0, 1, 0, 0, 1, 1].map(|consumer| (consumer, 0));
-    assert!(rt;
-        is_played(
-            &rt,
-            rt.alloc(),
-            &layout,
-            &steps,
-            (14, &[]),
-            &[Stage::Undecided; 2]
-        )
-    );
-    Ok(())
+fn both_stay_undecided(rt: HostRuntime) {
+    let layout = one_pair(&rt, 2);
+    let steps = steps_of([0, 1, 0, 0, 1, 1, 0, 1, 0, 1, 0, 0, 1, 1]);
+    plays(&rt, &layout, &steps, (14, &[]), &[Stage::Undecided; 2]);
 }
 
 // The conciliator's first attempt has the random word 1 and does not store. The second has 0 and stores.
 #[test]
-fn the_first_random_word_does_not_store(rt: HostRuntime) -> Result<(), Fail> {
-    let layout = Layout::new(1, 1, TableName::Bits)?;
+fn the_first_random_word_does_not_store(rt: HostRuntime) {
+    let layout = one_pair(&rt, 1);
     same(&rt, &layout.max_steps(), &6);
     let steps = [(0, 1), (0, 0), (0, 0), (0, 0), (0, 0), (0, 0), (0, 0)];
     let entries = [
@@ -204,25 +208,14 @@ fn the_first_random_word_does_not_store(rt: HostRuntime) -> Result<(), Fail> {
         stored(0, 1, Reg::Proposal, 1),
         ClaimEntry::Done { consumer: 0 },
     ];
-    assert!(rt;
-        is_played(
-            &rt,
-            rt.alloc(),
-            &layout,
-            &steps,
-            (0, &entries),
-            &[Stage::Won]
-        )
-    );
-    Ok(())
+    plays(&rt, &layout, &steps, (0, &entries), &[Stage::Won]);
 }
 
 #[test]
-fn a_step_of_no_consumer(rt: HostRuntime) -> Result<(), Fail> {
-    let layout = Layout::new(2, 1, TableName::Bits)?;
+fn a_step_of_no_consumer(rt: HostRuntime) {
+    let layout = one_pair(&rt, 2);
     let fault = play(rt.alloc(), &layout, &[(0, 0), (1, 0), (2, 0), (3, 0)]).err();
     same(&rt, &fault, &Some(PlayFault::NoConsumer(2)));
-    Ok(())
 }
 
 /// More steps than a run of all claims takes, so that most of them are `Done`.
@@ -237,10 +230,17 @@ fn steps_in_order() -> [(u64, u64); STEPS] {
     steps
 }
 
-/// Ends the test unless exactly the steps from `first` on are of claims that had ended before. Sixteen consumers step
-/// in order.
-fn are_done_from(rt: &impl Abort, entries: &[ClaimEntry], first: usize) {
-    for (place, entry) in entries.iter().enumerate() {
+/// Ends the test unless the run has `STEPS` entries and these stages, and exactly the steps from `first` on are of claims
+/// that had ended before. Sixteen consumers step in order.
+fn are_done_from<A: Allocator + Drop>(
+    rt: &impl Abort,
+    run: &ClaimRun<A>,
+    stages: &[Stage],
+    first: usize,
+) {
+    let told = (run.entries.len(), run.stages.as_slice());
+    same(rt, &told, &(STEPS, stages));
+    for (place, entry) in run.entries.iter().enumerate() {
         let done = ClaimEntry::Done {
             consumer: (place % 16) as u32,
         };
@@ -250,18 +250,12 @@ fn are_done_from(rt: &impl Abort, entries: &[ClaimEntry], first: usize) {
 
 // There are many more steps than accesses. Each claim ends, and its later steps make no access.
 #[test]
-fn two_thousand_steps_of_sixteen_consumers(rt: HostRuntime) -> Result<(), Fail> {
-    let layout = Layout::new(16, 8, TableName::Bits)?;
-    let run = play(rt.alloc(), &layout, &steps_in_order())?;
+fn two_thousand_steps_of_sixteen_consumers(rt: HostRuntime) {
+    let layout = Layout::new(16, 8, TableName::Bits).expect(&rt, "no layout");
+    let run = play(rt.alloc(), &layout, &steps_in_order()).expect(&rt, "no run");
     // All find the conciliator's word empty, and the last to store there wins.
     let mut stages = [Stage::Lost(15); 16];
     stages[15] = Stage::Won;
-    same(
-        &rt,
-        &(run.entries.len(), run.stages.as_slice()),
-        &(STEPS, stages.as_slice()),
-    );
     // Each makes 3 accesses to the conciliator, and 4 + 1 + 1 + 4 to the ratifier.
-    are_done_from(&rt, run.entries.as_slice(), 16 * 13);
-    Ok(())
+    are_done_from(&rt, &run, &stages, 16 * 13);
 }

@@ -3,17 +3,16 @@
 use crate::compare::same;
 use crate::entries::{are_done_from, ending, last_turn, loaded, shows, stored};
 use mb_deciding::{Entry, Fault, Out, Reg, conciliate};
-use std::test::Fail;
 
 // The last attempt of a process stores, also on a random word on which the earlier ones do not.
 #[test]
 fn last_turn_stores(rt: HostRuntime) {
-    for turns in [
+    for turns in &[
         [(0, 3), (0, 3), (0, 3), (0, 3), (0, 3)],
         // The random words of the store and of the load after it do not count.
         [(0, 3), (0, 7), (0, 3), (0, 0), (0, u64::MAX)],
     ] {
-        let returned = conciliate(rt.alloc(), 2, &[0], &turns);
+        let returned = conciliate(rt.alloc(), 2, &[0], turns);
         assert!(rt; shows(&rt, returned, &last_turn(), &[Some(Out::undecided(0))]));
     }
 }
@@ -50,17 +49,21 @@ fn one_value(rt: HostRuntime) {
     assert!(rt; shows(&rt, even, &entries[1..4], &[Some(Out::undecided(0))]));
 }
 
+/// Numbers of values, inputs and turns, and why they are refused.
+static REASONS: [(u64, &[u64], &[(u64, u64)], Fault); 4] = [
+    (0, &[5], &[(9, 0)], Fault::BadValues),
+    (65, &[], &[], Fault::BadValues),
+    (2, &[0, 2], &[], Fault::BadInput(1)),
+    (2, &[0], &[(1, 0)], Fault::NoSuchProcess(0)),
+];
+
 // The number of values is looked at first, then the inputs, then the turns.
 #[test]
 fn first_reason_refuses(rt: HostRuntime) {
     let alloc = rt.alloc();
-    for (m, inputs, turns, want) in [
-        (0, [5].as_slice(), [(9, 0)].as_slice(), Fault::BadValues),
-        (65, &[], &[], Fault::BadValues),
-        (2, &[0, 2], &[], Fault::BadInput(1)),
-        (2, &[0], &[(1, 0)], Fault::NoSuchProcess(0)),
-    ] {
-        same(&rt, &conciliate(alloc, m, inputs, turns).err(), &Some(want));
+    for (m, inputs, turns, want) in &REASONS {
+        let fault = conciliate(alloc, *m, *inputs, *turns).err();
+        same(&rt, &fault, &Some(*want));
     }
 }
 
@@ -84,16 +87,9 @@ fn turns_in_order() -> [(u64, u64); TURNS] {
 
 // There are many more turns than accesses. Each process has its output, and its later turns make no access.
 #[test]
-fn two_thousand_turns_of_sixteen_processes(rt: HostRuntime) -> Result<(), Fail> {
+fn two_thousand_turns_of_sixteen_processes(rt: HostRuntime) {
     let inputs = [0, 1, 2, 3, 4, 5, 6, 7, 8, 9, 10, 11, 12, 13, 14, 15];
-    let trace = conciliate(rt.alloc(), 16, &inputs, &turns_in_order())?;
+    let trace = conciliate(rt.alloc(), 16, &inputs, &turns_in_order()).expect(&rt, "no trace");
     // All find the word empty and store, and then all find what the last one stored.
-    let outputs = [Some(Out::undecided(15)); 16];
-    same(
-        &rt,
-        &(trace.entries.len(), trace.outputs.as_slice()),
-        &(TURNS, outputs.as_slice()),
-    );
-    are_done_from(&rt, trace.entries.as_slice(), 48);
-    Ok(())
+    are_done_from(&rt, &trace, TURNS, Out::undecided(15), 48);
 }

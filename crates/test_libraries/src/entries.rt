@@ -79,10 +79,19 @@ pub(crate) fn shows<A: Allocator + Drop>(
     }
 }
 
-/// Ends the test unless exactly the turns from `first` on are of processes that had their output before. Sixteen
-/// processes have turns in order.
-pub(crate) fn are_done_from(rt: &impl Abort, entries: &[Entry], first: usize) {
-    for (place, entry) in entries.iter().enumerate() {
+/// Ends the test unless the trace has so many entries, and each of sixteen processes this output, and exactly the turns
+/// from `first` on are of processes that had their output before. The processes have turns in order.
+pub(crate) fn are_done_from<A: Allocator + Drop>(
+    rt: &impl Abort,
+    trace: &Trace<A>,
+    turns: usize,
+    output: Out,
+    first: usize,
+) {
+    let outputs = [Some(output); 16];
+    let told = (trace.entries.len(), trace.outputs.as_slice());
+    same(rt, &told, &(turns, outputs.as_slice()));
+    for (place, entry) in trace.entries.iter().enumerate() {
         let done = Entry::Done {
             process: place % 16,
         };

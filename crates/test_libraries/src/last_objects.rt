@@ -4,7 +4,6 @@ ghost use Rattle.std.specs.Prelude.{⊤};
 use crate::compare::same;
 use mb_deciding::{Memory, Next, Op, Out, Pc, Reg};
 use mb_quorum::{Bits, Quorums};
-use std::test::Fail;
 
 /// The word of a last object.
 #[derive(Drop)]
@@ -53,9 +52,10 @@ fn at_once(q: &Bits, word: &mut Word, input: u32) -> Option<Out> {
 }
 
 #[test]
-fn the_second_finds_the_value_of_the_first(rt: HostRuntime) -> Result<(), Fail> {
-    let q = Bits::new(2)?;
-    for (first, second) in [(0, 1), (1, 0), (1, 1)] {
+fn the_second_finds_the_value_of_the_first(rt: HostRuntime) {
+    let q = Bits::new(2).expect(&rt, "no table");
+    for (first, second) in &[(0, 1), (1, 0), (1, 1)] {
+        let (first, second) = (*first, *second);
         let mut word = Word { held: 0 };
         let made = by_parts(&q, &mut word, first);
         let found = by_parts(&q, &mut word, second);
@@ -72,12 +72,11 @@ fn the_second_finds_the_value_of_the_first(rt: HostRuntime) -> Result<(), Fail> 
             ),
         );
     }
-    Ok(())
 }
 
 #[test]
-fn steps_give_the_same(rt: HostRuntime) -> Result<(), Fail> {
-    let q = Bits::new(2)?;
+fn steps_give_the_same(rt: HostRuntime) {
+    let q = Bits::new(2).expect(&rt, "no table");
     let mut word = Word { held: 0 };
     let outputs = (at_once(&q, &mut word, 1), at_once(&q, &mut word, 0));
     same(
@@ -85,5 +84,4 @@ fn steps_give_the_same(rt: HostRuntime) -> Result<(), Fail> {
         &(outputs, word.held),
         &((Some(Out::decided(1)), Some(Out::decided(1))), 2),
     );
-    Ok(())
 }

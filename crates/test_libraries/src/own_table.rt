@@ -6,7 +6,6 @@ use mb_deciding::{Next, Op, Out, Pc, Reg};
 use mb_quorum::Quorums;
 use std::marker::Model;
 use std::process::Abort;
-use std::test::Fail;
 
 /// A process in a ratifier over the mirrored table, and its place. After its output it has none.
 #[derive(Drop)]
@@ -66,8 +65,8 @@ fn makes(rt: &impl Abort, q: Mirrored, input: u32, accesses: &[(Op, u64, Option<
 
 // In the mirrored table of two values, value 0 is announced in register 1, and value 1 in register 0.
 #[test]
-fn one_after_the_other(rt: HostRuntime) -> Result<(), Fail> {
-    let q = Mirrored::new(2)?;
+fn one_after_the_other(rt: HostRuntime) {
+    let q = Mirrored::new(2).expect(&rt, "no table");
     let first = [
         (Op::Store(Reg::Quorum(1), 1), 0, None),
         (Op::Load(Reg::Proposal), 0, None),
@@ -81,5 +80,4 @@ fn one_after_the_other(rt: HostRuntime) -> Result<(), Fail> {
         (Op::Load(Reg::Quorum(0)), 1, Some(Out::undecided(0))),
     ];
     makes(&rt, q, 1, &second);
-    Ok(())
 }

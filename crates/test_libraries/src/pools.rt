@@ -1,5 +1,6 @@
 //! Pools that are called by lists of calls, so that a test has no premise to prove.
 
+use crate::compare::same_at;
 use mb_cells::{Cursor, Finish, Look, NoMemory, Offer, Pool, Push};
 use std::alloc::Allocator;
 use std::marker::Model;
@@ -48,54 +49,44 @@ impl<A: Allocator + Drop> Calls<A> {
     /// Makes these calls, and compares each answer.
     pub(crate) fn make(&mut self, rt: &impl Abort, calls: &[PoolCall]) {
         for (place, call) in calls.iter().enumerate() {
-            let same = match *call {
-                PoolCall::Offer(p, x, answer) => self.offer(p, x) == Some(answer),
-                PoolCall::Push(p, answer) => self.push(p) == Some(answer),
-                PoolCall::Finish(p, answer) => self.finish(p) == Some(answer),
-                PoolCall::Look(cursor, answer) => self.look(cursor) == Some(answer),
-                PoolCall::Item(k, x) => self.item(k) == Some(x),
-            };
-            assert!(rt; same, "call {place}");
+            same_at(rt, &self.answers(*call), &true, &place);
         }
     }
 
-    // Each of these calls returns none, and makes no call, if its lane, cell or cursor is not one of the pool.
-    fn offer(&mut self, p: u32, x: u64) -> Option<Offer> {
-        if self.lanes <= p {
-            return None;
+    /// Makes this call, and returns whether it is answered so.
+    fn answers(&mut self, call: PoolCall) -> bool {
+        match call {
+            PoolCall::Offer(p, x, answer) => self.offer(p, x, answer),
+            PoolCall::Push(p, answer) => self.push(p, answer),
+            PoolCall::Finish(p, answer) => self.finish(p, answer),
+            PoolCall::Look(cursor, answer) => self.look(cursor, answer),
+            PoolCall::Item(k, x) => self.item(k, x),
         }
-        Some(self.pool.offer(p, x))
     }
 
-    fn push(&mut self, p: u32) -> Option<Push> {
-        if self.lanes <= p {
-            return None;
-        }
-        Some(self.pool.push(p))
+    // Each of these calls returns whether it is answered so. It returns `false`, and makes no call, if its lane, cell or
+    // cursor is not one of the pool.
+    fn offer(&mut self, p: u32, x: u64, answer: Offer) -> bool {
+        p < self.lanes && self.pool.offer(p, x) == answer
     }
 
-    fn finish(&mut self, p: u32) -> Option<Finish> {
-        if self.lanes <= p {
-            return None;
-        }
-        Some(self.pool.finish(p))
+    fn push(&mut self, p: u32, answer: Push) -> bool {
+        p < self.lanes && self.pool.push(p) == answer
     }
 
-    fn look(&self, cursor: Cursor) -> Option<Look> {
+    fn finish(&mut self, p: u32, answer: Finish) -> bool {
+        p < self.lanes && self.pool.finish(p) == answer
+    }
+
+    fn look(&self, cursor: Cursor, answer: Look) -> bool {
         let is_within = match cursor {
             Cursor::Head(p) => p < self.lanes,
             Cursor::Past(k) => k < self.cells,
         };
-        if !is_within {
-            return None;
-        }
-        Some(self.pool.look(cursor))
+        is_within && self.pool.look(cursor) == answer
     }
 
-    fn item(&self, k: u32) -> Option<u64> {
-        if self.cells <= k {
-            return None;
-        }
-        Some(self.pool.item(k))
+    fn item(&self, k: u32, x: u64) -> bool {
+        k < self.cells && self.pool.item(k) == x
     }
 }

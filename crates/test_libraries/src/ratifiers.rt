@@ -5,7 +5,6 @@ use crate::entries::{are_done_from, ending, late_input, loaded, shows, stored};
 use mb_deciding::{Entry, Fault, Out, Reg, ratify};
 use mb_quorum::TableName;
 use std::alloc::Global;
-use std::test::Fail;
 
 // Process 1 comes after process 0 has decided its value 0. It returns that value, undecided.
 #[test]
@@ -21,19 +20,22 @@ fn fault(alloc: Global, m: u64, inputs: &[u64], schedule: &[u64]) -> Option<Faul
     ratify(alloc, TableName::Unary, m, inputs, schedule).err()
 }
 
+/// Numbers of values, inputs and turns, and why they are refused.
+static REASONS: [(u64, &[u64], &[u64], Fault); 6] = [
+    (0, &[], &[], Fault::BadValues),
+    (65, &[65], &[9], Fault::BadValues),
+    (2, &[2], &[5], Fault::BadInput(0)),
+    (2, &[0], &[0, 1], Fault::NoSuchProcess(1)),
+    (2, &[0, 3, 2], &[5], Fault::BadInput(1)),
+    (2, &[0], &[0, 2, 1], Fault::NoSuchProcess(1)),
+];
+
 // The number of values is looked at first, then the inputs, then the turns.
 #[test]
 fn first_reason_refuses(rt: HostRuntime) {
     let alloc = rt.alloc();
-    for (m, inputs, turns, want) in [
-        (0, [].as_slice(), [].as_slice(), Fault::BadValues),
-        (65, &[65], &[9], Fault::BadValues),
-        (2, &[2], &[5], Fault::BadInput(0)),
-        (2, &[0], &[0, 1], Fault::NoSuchProcess(1)),
-        (2, &[0, 3, 2], &[5], Fault::BadInput(1)),
-        (2, &[0], &[0, 2, 1], Fault::NoSuchProcess(1)),
-    ] {
-        same(&rt, &fault(alloc, m, inputs, turns), &Some(want));
+    for (m, inputs, turns, want) in &REASONS {
+        same(&rt, &fault(alloc, *m, *inputs, *turns), &Some(*want));
     }
 }
 
@@ -51,22 +53,16 @@ fn turns_in_order() -> [u64; TURNS] {
 
 // There are many more turns than accesses. Each process has its output, and its later turns make no access.
 #[test]
-fn two_thousand_turns_of_sixteen_processes(rt: HostRuntime) -> Result<(), Fail> {
+fn two_thousand_turns_of_sixteen_processes(rt: HostRuntime) {
     let trace = ratify(
         rt.alloc(),
         TableName::Unary,
         16,
         &[3; 16],
         &turns_in_order(),
-    )?;
-    // All have one input, so all decide it.
-    let outputs = [Some(Out::decided(3)); 16];
-    same(
-        &rt,
-        &(trace.entries.len(), trace.outputs.as_slice()),
-        &(TURNS, outputs.as_slice()),
-    );
-    // Each announces in one register, finds the proposal empty, stores it, and checks the 15 others.
-    are_done_from(&rt, trace.entries.as_slice(), 288);
-    Ok(())
+    )
+    .expect(&rt, "no trace");
+    // All have one input, so all decide it. Each announces in one register, finds the proposal empty, stores it, and checks
+    // the 15 others.
+    are_done_from(&rt, &trace, TURNS, Out::decided(3), 288);
 }

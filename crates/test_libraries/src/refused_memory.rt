@@ -1,13 +1,16 @@
 //! Calls that run out of memory: each allocation is refused in turn, and at last the same call has memory.
 
 use crate::answers::make;
-use crate::claims::{WON_AND_LOST, is_played, won_and_lost};
-use crate::compare::same;
+use crate::claims::{WON_AND_LOST, is_played, one_pair, won_and_lost};
+use crate::compare::{same, same_at};
 use crate::entries::{last_turn, late_input, shows};
 use crate::events::take_seven;
-use mb_claim::{Layout, Stage};
+use crate::scripts::is_read;
+use crate::{cells, shared_cells, shared_claims};
+use mb_claim::Stage;
 use mb_deciding::{Out, conciliate, ratify};
 use mb_quorum::TableName;
+use mb_script::Fault;
 use mb_world::{Note, Report, Setup, World};
 use std::alloc::Global;
 use std::process::Abort;
@@ -15,50 +18,40 @@ use std::test::Fail;
 use test_alloc::{FaultyHeap, Refuse, growths_refused};
 use test_support::check_report;
 
-// In each of these tests an allocator refuses one request, or all from one on, and the call returns that fault. With
-// memory it returns what it should.
-#[test]
-fn each_growth_of_ratify_refused(rt: HostRuntime) -> Result<(), Fail> {
-    let outputs = [Some(Out::decided(0)), Some(Out::undecided(0))];
-    let refused = growths_refused(&rt, |alloc| {
-        let returned = ratify(alloc, TableName::Unary, 2, &[0, 1], &[0, 0, 0, 0, 1, 1, 1]);
-        Ok(shows(&rt, returned, &late_input(), &outputs))
-    })?;
-    // The allocations are of the processes, the entries and the outputs.
-    assert!(rt; 3 <= refused);
-    Ok(())
-}
-
-#[test]
-fn each_growth_of_conciliate_refused(rt: HostRuntime) -> Result<(), Fail> {
-    let refused = growths_refused(&rt, |alloc| {
-        let returned = conciliate(alloc, 2, &[0], &[(0, 3); 5]);
-        Ok(shows(&rt, returned, &last_turn(), &[Some(Out::undecided(0))]))
-    })?;
-    // The allocations are of the processes, the entries and the outputs.
-    assert!(rt; 3 <= refused);
-    Ok(())
-}
-
-#[test]
-fn each_growth_of_play_refused(rt: HostRuntime) -> Result<(), Fail> {
-    let layout = Layout::new(2, 1, TableName::Bits)?;
-    let (entries, stages) = (won_and_lost(), [Stage::Won, Stage::Lost(0)]);
-    let refused = growths_refused(&rt, |alloc| {
-        Ok(is_played(&rt, alloc, &layout, &WON_AND_LOST, (0, &entries), &stages))
-    })?;
-    // The allocations are of the words, the claims, the entries and the stages.
-    assert!(rt; 4 <= refused);
-    Ok(())
-}
-
-/// The allocator of all lists of a world.
+/// The allocator of all lists of a call.
 type Alloc<'r> = &'r FaultyHeap<Global>;
 
+/// Whether the allocator serves a run of a ratifier.
+fn ratify_is_served(rt: &impl Abort, alloc: Alloc<'_>) -> bool {
+    let returned = ratify(alloc, TableName::Unary, 2, &[0, 1], &[0, 0, 0, 0, 1, 1, 1]);
+    let outputs = [Some(Out::decided(0)), Some(Out::undecided(0))];
+    shows(rt, returned, &late_input(), &outputs)
+}
+
+/// Whether the allocator serves a run of a conciliator.
+fn conciliate_is_served(rt: &impl Abort, alloc: Alloc<'_>) -> bool {
+    let returned = conciliate(alloc, 2, &[0], &[(0, 3); 5]);
+    shows(rt, returned, &last_turn(), &[Some(Out::undecided(0))])
+}
+
+/// Whether the allocator serves a run of claims.
+fn play_is_served(rt: &impl Abort, alloc: Alloc<'_>) -> bool {
+    let entries = won_and_lost();
+    let stages = [Stage::Won, Stage::Lost(0)];
+    is_played(
+        rt,
+        alloc,
+        &one_pair(rt, 2),
+        &WON_AND_LOST,
+        (0, &entries),
+        &stages,
+    )
+}
+
 /// Checks that by the report the only item was taken by the only consumer.
-fn tells_seven(rt: &impl Abort, report: Report<Alloc<'_>>) {
+fn tells_seven(rt: &impl Abort, report: &Report<Alloc<'_>>) {
     let told = check_report(
-        &report,
+        report,
         &[(&[7], false, &[])],
         &[(0, 0, &[Note::Took(7)], false)],
     );
@@ -74,11 +67,11 @@ fn report_is_served<'a>(
 ) -> bool {
     match world.report(alloc) {
         Ok(report) => {
-            tells_seven(rt, report);
+            tells_seven(rt, &report);
             true
         }
         Err(_) => {
-            tells_seven(rt, world.report(ample).expect(rt, "no report"));
+            tells_seven(rt, &world.report(ample).expect(rt, "no report"));
             false
         }
     }
@@ -96,13 +89,88 @@ fn world_is_served<'a>(rt: &impl Abort, alloc: Alloc<'a>, ample: Alloc<'a>) -> b
     }
 }
 
-#[test]
-fn each_growth_of_a_world_and_its_report_refused(rt: HostRuntime) -> Result<(), Fail> {
-    let ample = FaultyHeap::new(rt.alloc(), Refuse::Never);
-    let refused = growths_refused(&rt, |alloc| Ok(world_is_served(&rt, alloc, &ample)))?;
+/// A call whose allocations are refused.
+#[derive(Clone, Copy)]
+enum Tried {
+    Ratify,
+    Conciliate,
+    Play,
+    /// A world and its report.
+    World,
+    /// A pool of cells.
+    Pool,
+    /// Cells that threads share.
+    SharedCells,
+    /// Claims on words that threads share.
+    SharedClaims,
+    /// A script with so many events, or with this fault.
+    Script(&'static str, Result<usize, Fault>),
+}
+
+/// Whether the allocator serves the call. With memory the call returns what it should.
+fn is_served<'a>(rt: &impl Abort, alloc: Alloc<'a>, ample: Alloc<'a>, call: Tried) -> bool {
+    match call {
+        Tried::Ratify => ratify_is_served(rt, alloc),
+        Tried::Conciliate => conciliate_is_served(rt, alloc),
+        Tried::Play => play_is_served(rt, alloc),
+        Tried::World => world_is_served(rt, alloc, ample),
+        Tried::Pool => cells::is_served(rt, alloc),
+        Tried::SharedCells => shared_cells::is_served(rt, alloc),
+        Tried::SharedClaims => shared_claims::one_wins(rt, alloc),
+        Tried::Script(text, want) => is_read(rt, alloc, text, want),
+    }
+}
+
+/// No call here makes this many allocations.
+const MANY: u64 = 100;
+
+/// The calls, each with the fewest and the most allocations that it may make.
+static CALLS: [(Tried, u64, u64); 10] = [
+    // The processes, the entries and the outputs.
+    (Tried::Ratify, 3, MANY),
+    (Tried::Conciliate, 3, MANY),
+    // The words, the claims, the entries and the stages.
+    (Tried::Play, 4, MANY),
     // The world allocates the four lists of the pool, the words of the claims, the seats and the notes. The report
     // allocates the lane and its item, the diary and its note, and the cells of the lane that is read.
-    assert!(rt; 12 <= refused);
+    (Tried::World, 12, MANY),
+    // The heads, the links, the items and the lanes.
+    (Tried::Pool, 4, MANY),
+    // The words as they are at first, and the table's own.
+    (Tried::SharedCells, 2, MANY),
+    // The zeros, and the words.
+    (Tried::SharedClaims, 2, MANY),
+    // The list of events grows twice.
+    (
+        Tried::Script(
+            "setup 1 1 0 1 bits\npush 0\npush 0\npush 0\npush 0\npush 0\n",
+            Ok(5),
+        ),
+        2,
+        MANY,
+    ),
+    // Lines without events take no memory.
+    (Tried::Script("setup 1 1 0 1 bits\n", Ok(0)), 0, 0),
+    (
+        Tried::Script(
+            "setup 1 1 0 1 bits\npush 0 0 0 0 0 0 0 0 0 0 0 0 0 0\n",
+            Err(Fault::BadLine(2)),
+        ),
+        0,
+        0,
+    ),
+];
+
+// An allocator refuses one request of a call, or all from one on, and the call returns that fault. With memory it
+// returns what it should.
+#[test]
+fn each_growth_of_each_call_refused(rt: HostRuntime) -> Result<(), Fail> {
+    let ample = FaultyHeap::new(rt.alloc(), Refuse::Never);
+    for (call, least, most) in &CALLS {
+        let refused = growths_refused(&rt, |alloc| Ok(is_served(&rt, alloc, &ample, *call)))?;
+        let is_within = *least <= refused && refused <= *most;
+        same_at(&rt, &is_within, &true, &(refused, *least, *most));
+    }
     same(&rt, &ample.out(), &0);
     Ok(())
 }

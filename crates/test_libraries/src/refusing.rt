@@ -9,6 +9,11 @@ fn counts<B: Allocator>(rations: &FaultyHeap<B>) -> (u64, u64) {
     (rations.asked(), rations.out())
 }
 
+/// Whether the allocator refuses a box.
+fn refuses<B: Allocator>(rations: &FaultyHeap<B>) -> bool {
+    Box::new(rations, 8u64).is_err()
+}
+
 #[test]
 fn each_request_is_granted(rt: HostRuntime) {
     let rations = FaultyHeap::new(rt.alloc(), Refuse::Never);
@@ -29,8 +34,8 @@ fn each_request_is_granted(rt: HostRuntime) {
 fn all_from_one_on_are_refused(rt: HostRuntime) {
     let rations = FaultyHeap::new(rt.alloc(), Refuse::From(1));
     let first = Box::new(&rations, 7u64).expect(&rt, "no box");
-    let second = Box::new(&rations, 8u64).is_err();
-    let third = Box::new(&rations, 9u64).is_err();
+    let second = refuses(&rations);
+    let third = refuses(&rations);
     let held = counts(&rations);
     drop(first);
     same(
@@ -44,7 +49,7 @@ fn all_from_one_on_are_refused(rt: HostRuntime) {
 fn one_alone_is_refused(rt: HostRuntime) {
     let rations = FaultyHeap::new(rt.alloc(), Refuse::Only(1));
     let first = Box::new(&rations, 7u64).expect(&rt, "no box");
-    let second = Box::new(&rations, 8u64).is_err();
+    let second = refuses(&rations);
     let third = Box::new(&rations, 9u64).expect(&rt, "no box");
     let held = counts(&rations);
     drop((first, third));
@@ -60,7 +65,7 @@ fn one_alone_is_refused(rt: HostRuntime) {
 fn what_is_refused_below_is_not_out(rt: HostRuntime) {
     let below = FaultyHeap::new(rt.alloc(), Refuse::From(0));
     let rations = FaultyHeap::new(&below, Refuse::Never);
-    let refused = Box::new(&rations, 7u64).is_err();
+    let refused = refuses(&rations);
     same(
         &rt,
         &(refused, counts(&rations), counts(&below)),

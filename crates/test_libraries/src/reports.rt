@@ -20,29 +20,36 @@ fn is_found(
     same(rt, &check_report(report, &[lane], &[diary]), &found);
 }
 
+/// The notes of the only consumer.
+const TOOK: &[Note] = &[Note::Took(7)];
+
+/// The only lane.
+const LANE: LaneTold<'static> = (&[7], false, &[]);
+
+/// The diary of the only consumer.
+const DIARY: DiaryTold<'static> = (0, 0, TOOK, false);
+
+/// Other lanes and diaries, each with the first difference.
+static OTHERS: [(LaneTold<'static>, DiaryTold<'static>, Difference); 7] = [
+    ((&[8], false, &[]), DIARY, Difference::Put(0)),
+    ((&[7], true, &[]), DIARY, Difference::Ended(0)),
+    ((&[7], false, &[7]), DIARY, Difference::Left(0)),
+    (LANE, (1, 0, TOOK, false), Difference::Owner(0)),
+    (LANE, (0, 1, TOOK, false), Difference::Owner(0)),
+    (LANE, (0, 0, &[], false), Difference::Notes(0)),
+    (LANE, (0, 0, TOOK, true), Difference::Begun(0)),
+];
+
 /// Checks that each difference from a report is found. The report tells of one item, which the only consumer took.
-fn are_found(rt: &impl Abort, report: Report<Global>) {
-    let report = &report;
-    let lane: LaneTold<'_> = (&[7], false, &[]);
-    let took: &[Note] = &[Note::Took(7)];
-    let diary: DiaryTold<'_> = (0, 0, took, false);
-    is_found(rt, report, lane, diary, Ok(()));
-    let others: [(LaneTold<'_>, DiaryTold<'_>, Difference); 7] = [
-        ((&[8], false, &[]), diary, Difference::Put(0)),
-        ((&[7], true, &[]), diary, Difference::Ended(0)),
-        ((&[7], false, &[7]), diary, Difference::Left(0)),
-        (lane, (1, 0, took, false), Difference::Owner(0)),
-        (lane, (0, 1, took, false), Difference::Owner(0)),
-        (lane, (0, 0, &[], false), Difference::Notes(0)),
-        (lane, (0, 0, took, true), Difference::Begun(0)),
-    ];
-    for (lane, diary, difference) in others {
-        is_found(rt, report, lane, diary, Err(difference));
+fn are_found(rt: &impl Abort, report: &Report<Global>) {
+    is_found(rt, report, LANE, DIARY, Ok(()));
+    for (lane, diary, difference) in &OTHERS {
+        is_found(rt, report, *lane, *diary, Err(*difference));
     }
     same(rt, &check_report(report, &[], &[]), &Err(Difference::Lanes));
     same(
         rt,
-        &check_report(report, &[lane], &[]),
+        &check_report(report, &[LANE], &[]),
         &Err(Difference::Diaries),
     );
 }
@@ -51,5 +58,5 @@ fn are_found(rt: &impl Abort, report: Report<Global>) {
 fn each_difference_is_found(rt: HostRuntime) {
     let mut world = one_pair(&rt, 1, 1, 1);
     make(&rt, &mut world, &take_seven());
-    are_found(&rt, reported(&rt, world));
+    are_found(&rt, &reported(&rt, world));
 }

@@ -9,10 +9,8 @@ use mb_script::{
     split_word, table_named,
 };
 use mb_world::{Event, SetupFault};
-use std::alloc::{AllocError, Allocator, Global};
+use std::alloc::{Allocator, Global};
 use std::process::Abort;
-use std::test::Fail;
-use test_alloc::growths_refused;
 
 /// The script of a text.
 fn script<R: Abort + AllocGlobal>(rt: &R, text: &str) -> Script<Global> {
@@ -23,6 +21,13 @@ fn script<R: Abort + AllocGlobal>(rt: &R, text: &str) -> Script<Global> {
 fn events<A: Allocator + Clone + Drop>(alloc: A, text: &str) -> Result<usize, Fault> {
     let script = parse(alloc, text.as_bytes())?;
     Ok(script.events.len())
+}
+
+/// Checks that each text is refused for the fault beside it.
+fn are_refused<R: Abort + AllocGlobal>(rt: &R, rows: &[(&str, Fault)]) {
+    for (text, want) in rows {
+        same_at(rt, &events(rt.alloc(), *text), &Err(*want), text);
+    }
 }
 
 #[test]
@@ -52,49 +57,50 @@ fn a_script_is_read(rt: HostRuntime) {
 // Two consumers and one pair: a claim has at most 9 accesses, 8 more with a fast path and 1 more with a last object.
 #[test]
 fn the_last_word_is_a_shape(rt: HostRuntime) {
-    for (text, shape, most) in [
+    for (text, shape, most) in &[
         ("setup 1 2 1 1 bits", Shape::PLAIN, 9),
         ("setup 1 2 1 1 bits fast", FAST, 17),
         ("setup 1 2 1 1 bits last", LAST, 10),
         ("setup 1 2 1 1 bits fastlast", BOTH, 18),
     ] {
-        let layout = script(&rt, text).setup.layout();
+        let layout = script(&rt, *text).setup.layout();
         same_at(
             &rt,
             &(layout.shape(), layout.max_steps()),
-            &(shape, most),
-            &text,
+            &(*shape, *most),
+            text,
         );
     }
 }
 
 #[test]
 fn a_bad_shape_comes_before_a_bad_number(rt: HostRuntime) {
-    for (text, want) in [
-        ("setup 1 1 1 1 bits plain", Fault::BadLine(1)),
-        ("setup 1 1 1 1 bits lastfast", Fault::BadLine(1)),
-        ("setup 1 1 1 1 fast", Fault::BadLine(1)),
-        ("setup 1 1 1 1 bits fast ", Fault::BadLine(1)),
-        ("setup 1 1 1 1 bits fast last", Fault::BadLine(1)),
-        ("setup 1 1 1 1 bits fast fast fast", Fault::BadLine(1)),
-        ("setup 1 1 1 1 bits bits fast", Fault::BadLine(1)),
-        ("setup x 1 1 1 bits other", Fault::BadLine(1)),
-        ("setup x 1 1 1 edge fast", Fault::BadLine(1)),
-        ("setup x 1 1 1 bits fast last", Fault::BadLine(1)),
-        ("setup x 1 1 1 bits fast", Fault::BadNumber(1)),
-        ("setup 0 1 1 x bits last", Fault::BadNumber(1)),
-        (
-            "setup 0 1 1 1 bits fastlast",
-            Fault::BadSetup(1, SetupFault::BadProducers),
-        ),
-    ] {
-        same_at(&rt, &events(rt.alloc(), text), &Err(want), &text);
-    }
+    are_refused(
+        &rt,
+        &[
+            ("setup 1 1 1 1 bits plain", Fault::BadLine(1)),
+            ("setup 1 1 1 1 bits lastfast", Fault::BadLine(1)),
+            ("setup 1 1 1 1 fast", Fault::BadLine(1)),
+            ("setup 1 1 1 1 bits fast ", Fault::BadLine(1)),
+            ("setup 1 1 1 1 bits fast last", Fault::BadLine(1)),
+            ("setup 1 1 1 1 bits fast fast fast", Fault::BadLine(1)),
+            ("setup 1 1 1 1 bits bits fast", Fault::BadLine(1)),
+            ("setup x 1 1 1 bits other", Fault::BadLine(1)),
+            ("setup x 1 1 1 edge fast", Fault::BadLine(1)),
+            ("setup x 1 1 1 bits fast last", Fault::BadLine(1)),
+            ("setup x 1 1 1 bits fast", Fault::BadNumber(1)),
+            ("setup 0 1 1 x bits last", Fault::BadNumber(1)),
+            (
+                "setup 0 1 1 1 bits fastlast",
+                Fault::BadSetup(1, SetupFault::BadProducers),
+            ),
+        ],
+    );
 }
 
 #[test]
 fn the_last_line_needs_no_end(rt: HostRuntime) {
-    for (text, want) in [
+    for (text, want) in &[
         ("setup 1 1 0 1 bits", 0),
         ("setup 1 1 0 1 bits\n", 0),
         ("setup 1 1 0 1 bits\npush 0", 1),
@@ -103,115 +109,116 @@ fn the_last_line_needs_no_end(rt: HostRuntime) {
         ("setup 1 64 1 1 middle\nstep 63 0 0\n", 1),
         ("setup 1 1 1 1 middle fastlast\npush 0", 1),
     ] {
-        same_at(&rt, &events(rt.alloc(), text), &Ok(want), &text);
+        same_at(&rt, &events(rt.alloc(), *text), &Ok(*want), text);
     }
 }
 
 #[test]
 fn the_first_fault_decides(rt: HostRuntime) {
-    for (text, want) in [
-        ("", Fault::NoSetup),
-        ("\n", Fault::NoSetup),
-        (" setup 1 1 1 1 bits\n", Fault::NoSetup),
-        ("offer 0 1\n", Fault::NoSetup),
-        ("setups x  \n", Fault::NoSetup),
-        ("setup 1 1 1 1\n", Fault::BadLine(1)),
-        ("setup 1 1 1 1 bits \n", Fault::BadLine(1)),
-        ("setup 1 1 1 1 bits bits\n", Fault::BadLine(1)),
-        ("setup 1 1 1 1 bits\r\n", Fault::BadLine(1)),
-        ("setup 1 1 1 1 middles\n", Fault::BadLine(1)),
-        ("setup x 1 1 1 edge\n", Fault::BadLine(1)),
-        ("setup x 1 1 1 middle\n", Fault::BadNumber(1)),
-        ("setup 0 17 300 x bits\n", Fault::BadNumber(1)),
-        ("setup 1 1 01 1 bits\n", Fault::BadNumber(1)),
-        (
-            "setup 0 0 300 0 bits\npush\n",
-            Fault::BadSetup(1, SetupFault::BadProducers),
-        ),
-        (
-            "setup 1 65 300 0 bits\n",
-            Fault::BadSetup(1, SetupFault::BadConsumers),
-        ),
-        (
-            "setup 1 17 300 0 bits\n",
-            Fault::BadSetup(1, SetupFault::BadCells),
-        ),
-        (
-            "setup 1 1 257 0 bits\n",
-            Fault::BadSetup(1, SetupFault::BadCells),
-        ),
-        (
-            "setup 1 1 256 9 bits\n",
-            Fault::BadSetup(1, SetupFault::BadRounds),
-        ),
-        ("setup 1 1 1 1 bits\noffer 0\n", Fault::BadLine(2)),
-        ("setup 1 1 1 1 bits\npush  0\n", Fault::BadLine(2)),
-        ("setup 1 1 1 1 bits\npush 0 \n", Fault::BadLine(2)),
-        ("setup 1 1 1 1 bits\n\n", Fault::BadLine(2)),
-        (
-            "setup 1 1 1 1 bits\nsetup 1 1 1 1 bits\n",
-            Fault::BadLine(2),
-        ),
-        ("setup 1 1 1 1 bits\npull 0\n", Fault::BadLine(2)),
-        (
-            "setup 1 1 1 1 bits\npush 0 0 0 0 0 0 0 0 0 0\n",
-            Fault::BadLine(2),
-        ),
-        ("setup 1 1 0 1 bits\npush 00\n", Fault::BadNumber(2)),
-        (
-            "setup 1 1 1 1 bits\npush 18446744073709551616\n",
-            Fault::BadNumber(2),
-        ),
-        (
-            "setup 1 1 1 1 bits\npush 18446744073709551615\n",
-            Fault::NoLane(2),
-        ),
-        ("setup 1 1 1 1 bits\nstep 5 5 0\n", Fault::NoLane(2)),
-        ("setup 1 1 1 1 bits\nstep 0 1x 0\n", Fault::BadNumber(2)),
-        ("setup 1 1 1 1 bits\nstep 5 5 x\n", Fault::BadNumber(2)),
-        ("setup 1 16 0 1 bits\nstep 16 0 0\n", Fault::NoConsumer(2)),
-        ("setup 1 16 0 1 bits\nstep 16 1 0\n", Fault::NoLane(2)),
-        (
-            "setup 1 1 1 1 bits\npush 0\npush 1\npush\n",
-            Fault::NoLane(3),
-        ),
-        ("setup 1 1 1 1 bits\npush 1\npush\n", Fault::NoLane(2)),
-        ("setup 1 1 1 1 bits\npush\npush \u{80}\n", Fault::NotAscii),
-    ] {
-        same_at(&rt, &events(rt.alloc(), text), &Err(want), &text);
-    }
+    are_refused(
+        &rt,
+        &[
+            ("", Fault::NoSetup),
+            ("\n", Fault::NoSetup),
+            (" setup 1 1 1 1 bits\n", Fault::NoSetup),
+            ("offer 0 1\n", Fault::NoSetup),
+            ("setups x  \n", Fault::NoSetup),
+            ("setup 1 1 1 1\n", Fault::BadLine(1)),
+            ("setup 1 1 1 1 bits \n", Fault::BadLine(1)),
+            ("setup 1 1 1 1 bits bits\n", Fault::BadLine(1)),
+            ("setup 1 1 1 1 bits\r\n", Fault::BadLine(1)),
+            ("setup 1 1 1 1 middles\n", Fault::BadLine(1)),
+            ("setup x 1 1 1 edge\n", Fault::BadLine(1)),
+            ("setup x 1 1 1 middle\n", Fault::BadNumber(1)),
+            ("setup 0 17 300 x bits\n", Fault::BadNumber(1)),
+            ("setup 1 1 01 1 bits\n", Fault::BadNumber(1)),
+            (
+                "setup 0 0 300 0 bits\npush\n",
+                Fault::BadSetup(1, SetupFault::BadProducers),
+            ),
+            (
+                "setup 1 65 300 0 bits\n",
+                Fault::BadSetup(1, SetupFault::BadConsumers),
+            ),
+            (
+                "setup 1 17 300 0 bits\n",
+                Fault::BadSetup(1, SetupFault::BadCells),
+            ),
+            (
+                "setup 1 1 257 0 bits\n",
+                Fault::BadSetup(1, SetupFault::BadCells),
+            ),
+            (
+                "setup 1 1 256 9 bits\n",
+                Fault::BadSetup(1, SetupFault::BadRounds),
+            ),
+            ("setup 1 1 1 1 bits\noffer 0\n", Fault::BadLine(2)),
+            ("setup 1 1 1 1 bits\npush  0\n", Fault::BadLine(2)),
+            ("setup 1 1 1 1 bits\npush 0 \n", Fault::BadLine(2)),
+            ("setup 1 1 1 1 bits\n\n", Fault::BadLine(2)),
+            (
+                "setup 1 1 1 1 bits\nsetup 1 1 1 1 bits\n",
+                Fault::BadLine(2),
+            ),
+            ("setup 1 1 1 1 bits\npull 0\n", Fault::BadLine(2)),
+            (
+                "setup 1 1 1 1 bits\npush 0 0 0 0 0 0 0 0 0 0\n",
+                Fault::BadLine(2),
+            ),
+            ("setup 1 1 0 1 bits\npush 00\n", Fault::BadNumber(2)),
+            (
+                "setup 1 1 1 1 bits\npush 18446744073709551616\n",
+                Fault::BadNumber(2),
+            ),
+            (
+                "setup 1 1 1 1 bits\npush 18446744073709551615\n",
+                Fault::NoLane(2),
+            ),
+            ("setup 1 1 1 1 bits\nstep 5 5 0\n", Fault::NoLane(2)),
+            ("setup 1 1 1 1 bits\nstep 0 1x 0\n", Fault::BadNumber(2)),
+            ("setup 1 1 1 1 bits\nstep 5 5 x\n", Fault::BadNumber(2)),
+            ("setup 1 16 0 1 bits\nstep 16 0 0\n", Fault::NoConsumer(2)),
+            ("setup 1 16 0 1 bits\nstep 16 1 0\n", Fault::NoLane(2)),
+            (
+                "setup 1 1 1 1 bits\npush 0\npush 1\npush\n",
+                Fault::NoLane(3),
+            ),
+            ("setup 1 1 1 1 bits\npush 1\npush\n", Fault::NoLane(2)),
+            ("setup 1 1 1 1 bits\npush\npush \u{80}\n", Fault::NotAscii),
+        ],
+    );
 }
 
 /// A text of so many letters.
-fn letters(alloc: Global, amount: usize) -> Result<String, AllocError> {
-    let mut text = String::new(alloc);
+fn letters<R: Abort + AllocGlobal>(rt: &R, amount: usize) -> String {
+    let mut text = String::new(rt.alloc());
     for _ in 0..amount {
-        text.push_str("a")?;
+        text.push_str("a").expect(rt, "no text");
     }
-    Ok(text)
+    text
 }
 
 #[test]
 fn texts_have_a_limit(rt: HostRuntime) {
-    for (amount, want) in [(1_048_576, Fault::NoSetup), (1_048_577, Fault::TooLong)] {
-        let text = letters(rt.alloc(), amount).expect(&rt, "no text");
-        same_at(&rt, &events(rt.alloc(), &text), &Err(want), &amount);
+    for (amount, want) in &[(1_048_576, Fault::NoSetup), (1_048_577, Fault::TooLong)] {
+        let text = letters(&rt, *amount);
+        same_at(&rt, &events(rt.alloc(), &text), &Err(*want), amount);
     }
 }
 
 /// The text of `start`, 20,000 lines of a push, and `end`.
-fn with_pushes(alloc: Global, start: &str, end: &str) -> Result<String, AllocError> {
-    let mut text = start.to_string(alloc)?;
+fn with_pushes<R: Abort + AllocGlobal>(rt: &R, start: &str, end: &str) -> String {
+    let mut text = start.to_string(rt.alloc()).expect(rt, "no text");
     for _ in 0..20_000 {
-        text.push_str("push 0\n")?;
+        text.push_str("push 0\n").expect(rt, "no text");
     }
-    text.push_str(end)?;
-    Ok(text)
+    text.push_str(end).expect(rt, "no text");
+    text
 }
 
 #[test]
 fn events_have_a_limit(rt: HostRuntime) {
-    for (first, last, want) in [
+    for (first, last, want) in &[
         ("setup 1 1 1 1 bits\n", "", Ok(20_000)),
         ("setup 1 1 1 1 bits\n", "x\n", Err(Fault::TooManyEvents)),
         (
@@ -220,60 +227,38 @@ fn events_have_a_limit(rt: HostRuntime) {
             Err(Fault::BadLine(3)),
         ),
     ] {
-        let text = with_pushes(rt.alloc(), first, last).expect(&rt, "no text");
-        same(&rt, &events(rt.alloc(), &text), &want);
+        let text = with_pushes(&rt, *first, *last);
+        same(&rt, &events(rt.alloc(), &text), want);
     }
 }
 
-/// Refuses in turn each allocation of the reading of a text. With memory the text has this number of events, or this
-/// fault. Returns how many allocations there are.
-fn growths_of_reading<R: Abort + AllocGlobal>(
-    rt: &R,
+/// Whether the allocator serves the reading of a text, which has this number of events, or this fault.
+pub(crate) fn is_read<A: Allocator + Clone + Drop>(
+    rt: &impl Abort,
+    alloc: A,
     text: &str,
     want: Result<usize, Fault>,
-) -> Result<u64, Fail> {
-    growths_refused(rt, |alloc| {
-        let told = events(alloc, text);
-        if told == Err(Fault::NoMemory) {
-            return Ok(false);
-        }
-        same_at(rt, &told, &want, &text);
-        Ok(true)
-    })
-}
-
-#[test]
-fn each_growth_of_parse_refused(rt: HostRuntime) -> Result<(), Fail> {
-    let text = "setup 1 1 0 1 bits\npush 0\npush 0\npush 0\npush 0\npush 0\n";
-    let refused = growths_of_reading(&rt, text, Ok(5))?;
-    // The list of events grows twice.
-    assert!(rt; 2 <= refused);
-    Ok(())
-}
-
-#[test]
-fn a_line_without_events_takes_no_memory(rt: HostRuntime) -> Result<(), Fail> {
-    for (text, want) in [
-        ("setup 1 1 0 1 bits\n", Ok(0)),
-        (
-            "setup 1 1 0 1 bits\npush 0 0 0 0 0 0 0 0 0 0 0 0 0 0\n",
-            Err(Fault::BadLine(2)),
-        ),
-    ] {
-        same_at(&rt, &growths_of_reading(&rt, text, want)?, &0, &text);
+) -> bool {
+    let told = events(alloc, text);
+    if told == Err(Fault::NoMemory) {
+        return false;
     }
-    Ok(())
+    same_at(rt, &told, &want, &text);
+    true
 }
+
+/// Texts with their first line and what is behind it, if the line has an end.
+static LINES: [(&str, Option<(&str, &str)>); 4] = [
+    ("", None),
+    ("\n", Some(("", ""))),
+    ("a b", Some(("a b", ""))),
+    ("a\r\n\nb", Some(("a\r", "\nb"))),
+];
 
 #[test]
 fn lines_are_cut_off(rt: HostRuntime) {
-    for (text, want) in [
-        ("", None),
-        ("\n", Some(("", ""))),
-        ("a b", Some(("a b", ""))),
-        ("a\r\n\nb", Some(("a\r", "\nb"))),
-    ] {
-        assert!(rt; split_line(text) == want, "{text}");
+    for (text, want) in &LINES {
+        same_at(&rt, &split_line(*text), want, text);
     }
 }
 
@@ -301,32 +286,35 @@ fn has_few_words(line: &str, want: &[&str], empty: bool) -> bool {
     }
 }
 
+/// Lines with their words, and whether one of them is empty.
+static WORDS: [(&str, &[&str], bool); 5] = [
+    ("", &[""], true),
+    ("a b\tc", &["a", "b\tc"], false),
+    (" a  b", &["", "a", "", "b"], true),
+    ("a ", &["a", ""], true),
+    (
+        "1 2 3 4 5 6 7 8",
+        &["1", "2", "3", "4", "5", "6", "7", "8"],
+        false,
+    ),
+];
+
 #[test]
 fn words_are_cut_off(rt: HostRuntime) {
-    for (line, want, empty) in [
-        ("", [""].as_slice(), true),
-        ("a b\tc", ["a", "b\tc"].as_slice(), false),
-        (" a  b", ["", "a", "", "b"].as_slice(), true),
-        ("a ", ["a", ""].as_slice(), true),
-        (
-            "1 2 3 4 5 6 7 8",
-            ["1", "2", "3", "4", "5", "6", "7", "8"].as_slice(),
-            false,
-        ),
-    ] {
+    for (line, want, empty) in &WORDS {
         let told = (
-            has_words(line, want),
-            has_empty_word(line),
-            has_few_words(line, want, empty),
+            has_words(*line, *want),
+            has_empty_word(*line),
+            has_few_words(*line, *want, *empty),
         );
-        same_at(&rt, &told, &(true, empty, true), &line);
+        same_at(&rt, &told, &(true, *empty, true), line);
     }
     assert!(rt; LineWords::of_line("1 2 3 4 5 6 7 8 9").is_none());
 }
 
 #[test]
 fn numbers_are_decimal(rt: HostRuntime) {
-    for (word, want) in [
+    for (word, want) in &[
         ("0", Some(0)),
         ("9", Some(9)),
         ("10", Some(10)),
@@ -340,7 +328,7 @@ fn numbers_are_decimal(rt: HostRuntime) {
         ("1\r", None),
         ("", None),
     ] {
-        same_at(&rt, &number(word), &want, &word);
+        same_at(&rt, &number(*word), want, word);
     }
 }
 
@@ -354,40 +342,43 @@ fn has_numbers<R: Abort + AllocGlobal>(rt: &R, words: Option<&str>, want: Option
     }
 }
 
+/// Words with their numbers, if they are numbers.
+static NUMBERS: [(Option<&str>, Option<&[u64]>); 5] = [
+    (None, Some(&[])),
+    (Some("0"), Some(&[0])),
+    (Some("3 10 0"), Some(&[3, 10, 0])),
+    (Some("3 x 0"), None),
+    (Some("3 "), None),
+];
+
 #[test]
 fn lists_of_numbers_are_read(rt: HostRuntime) {
-    for (words, want) in [
-        (None, Some([].as_slice())),
-        (Some("0"), Some([0].as_slice())),
-        (Some("3 10 0"), Some([3, 10, 0].as_slice())),
-        (Some("3 x 0"), None),
-        (Some("3 "), None),
-    ] {
-        assert!(rt; has_numbers(&rt, words, want));
+    for (words, want) in &NUMBERS {
+        assert!(rt; has_numbers(&rt, *words, *want));
     }
 }
 
 #[test]
 fn tables_have_names(rt: HostRuntime) {
-    for (word, want) in [
+    for (word, want) in &[
         ("unary", Some(TableName::Unary)),
         ("bits", Some(TableName::Bits)),
         ("middle", Some(TableName::Middle)),
         ("middles", None),
     ] {
-        same_at(&rt, &table_named(word), &want, &word);
+        same_at(&rt, &table_named(*word), want, word);
     }
 }
 
 #[test]
 fn shapes_have_words(rt: HostRuntime) {
-    for (word, want) in [
+    for (word, want) in &[
         ("fast", Some(FAST)),
         ("last", Some(LAST)),
         ("fastlast", Some(BOTH)),
         ("plain", None),
         ("", None),
     ] {
-        same_at(&rt, &shape_of_word(word), &want, &word);
+        same_at(&rt, &shape_of_word(*word), want, word);
     }
 }

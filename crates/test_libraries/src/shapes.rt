@@ -1,11 +1,10 @@
 //! Layouts of each shape, and claims on their cells: worked examples.
 
-use crate::claims::{is_played, loaded, stored};
+use crate::claims::{loaded, one_pair, plays, steps_of, stored};
 use crate::compare::same;
 use mb_claim::{ClaimEntry, Layout, Shape, Stage};
 use mb_deciding::{Act, Reg};
 use mb_quorum::TableName;
-use std::test::Fail;
 
 /// A fast path alone.
 pub(crate) const FAST: Shape = Shape {
@@ -26,7 +25,7 @@ pub(crate) const BOTH: Shape = Shape {
 };
 
 /// Each shape.
-pub(crate) const SHAPES: [Shape; 4] = [Shape::PLAIN, FAST, LAST, BOTH];
+pub(crate) static SHAPES: [Shape; 4] = [Shape::PLAIN, FAST, LAST, BOTH];
 
 /// The stages if consumer 0 has won and consumer 1 has lost to it.
 const WON_AND_LOST: [Stage; 2] = [Stage::Won, Stage::Lost(0)];
@@ -44,16 +43,11 @@ fn exchanged(consumer: u32, object: u32, value: u64, found: u64) -> ClaimEntry {
     }
 }
 
-/// Fills the list with steps of two consumers in turns, with the random word 0.
-fn in_turns(steps: &mut [(u64, u64)]) {
-    for place in 0..steps.len() {
-        steps[place] = (place as u64 % 2, 0);
-    }
-}
-
 #[test]
-fn words_of_both_and_three_pairs(rt: HostRuntime) -> Result<(), Fail> {
-    let layout = Layout::new(2, 3, TableName::Bits)?.shaped(BOTH);
+fn words_of_both_and_three_pairs(rt: HostRuntime) {
+    let layout = Layout::new(2, 3, TableName::Bits)
+        .expect(&rt, "no layout")
+        .shaped(BOTH);
     // A cell has two ratifiers with three words each, the twelve words of three pairs, and one word.
     let words = layout.words(1);
     let addresses = (
@@ -67,58 +61,46 @@ fn words_of_both_and_three_pairs(rt: HostRuntime) -> Result<(), Fail> {
         &(layout.shape(), words, addresses, layout.max_steps()),
         &(BOTH, 19, (41, 51, 56), 36),
     );
-    Ok(())
 }
 
 // A pair has four words and at most nine accesses, a fast path six and eight, a last object one and one.
 #[test]
-fn words_and_most_accesses_of_each_shape(rt: HostRuntime) -> Result<(), Fail> {
-    let mut layout = Layout::new(2, 1, TableName::Bits)?;
+fn words_and_most_accesses_of_each_shape(rt: HostRuntime) {
+    let mut layout = one_pair(&rt, 2);
     same(&rt, &layout.shape(), &Shape::PLAIN);
     // Each layout is made from the one before, whose shape makes no difference.
-    for (shape, words, most) in [
+    for (shape, words, most) in &[
         (BOTH, 11, 18),
         (FAST, 10, 17),
         (LAST, 5, 10),
         (Shape::PLAIN, 4, 9),
     ] {
-        layout = layout.shaped(shape);
+        layout = layout.shaped(*shape);
         same(
             &rt,
             &(layout.shape(), layout.words(1), layout.max_steps()),
-            &(shape, words, most),
+            &(*shape, *words, *most),
         );
     }
-    Ok(())
 }
 
 #[test]
-fn one_consumer_takes_the_fast_path(rt: HostRuntime) -> Result<(), Fail> {
-    let layout = Layout::new(1, 1, TableName::Bits)?.shaped(FAST);
+fn one_consumer_takes_the_fast_path(rt: HostRuntime) {
+    let layout = one_pair(&rt, 1).shaped(FAST);
     let entries = [
         loaded(0, 0, Reg::Proposal, 0),
         stored(0, 0, Reg::Proposal, 1),
         ClaimEntry::Done { consumer: 0 },
     ];
     let steps = [(0, 0), (0, 0), (0, 0)];
-    assert!(rt;
-        is_played(
-            &rt,
-            rt.alloc(),
-            &layout,
-            &steps,
-            (0, &entries),
-            &[Stage::Won]
-        )
-    );
-    Ok(())
+    plays(&rt, &layout, &steps, (0, &entries), &[Stage::Won]);
 }
 
 // The second consumer announced its own number, so object 0 passes it on to object 1 with the winner's.
 #[test]
-fn one_after_the_other_on_a_fast_path(rt: HostRuntime) -> Result<(), Fail> {
-    let layout = Layout::new(2, 1, TableName::Bits)?.shaped(BOTH);
-    let steps = [0, 0, 0, 0, 1, 1, 1, 1, 1, 1, 1].map(|consumer| (consumer, 0));
+fn one_after_the_other_on_a_fast_path(rt: HostRuntime) {
+    let layout = one_pair(&rt, 2).shaped(BOTH);
+    let steps = steps_of([0, 0, 0, 0, 1, 1, 1, 1, 1, 1, 1]);
     let entries = [
         stored(0, 0, Reg::Quorum(0), 1),
         loaded(0, 0, Reg::Proposal, 0),
@@ -132,28 +114,17 @@ fn one_after_the_other_on_a_fast_path(rt: HostRuntime) -> Result<(), Fail> {
         stored(1, 1, Reg::Proposal, 1),
         loaded(1, 1, Reg::Quorum(1), 0),
     ];
-    assert!(rt;
-        is_played(
-            &rt,
-            rt.alloc(),
-            &layout,
-            &steps,
-            (0, &entries),
-            &WON_AND_LOST
-        )
-    );
-    Ok(())
+    plays(&rt, &layout, &steps, (0, &entries), &WON_AND_LOST);
 }
 
 // Both ratifiers of the fast path pass each consumer on with its own number.
 #[test]
-fn a_conciliator_comes_after_the_fast_path(rt: HostRuntime) -> Result<(), Fail> {
-    let layout = Layout::new(2, 1, TableName::Bits)?.shaped(FAST);
-    let mut steps = [(0, 0); 27];
-    in_turns(&mut steps[..16]);
-    for place in [19, 24, 25, 26] {
-        steps[place] = (1, 0);
-    }
+fn a_conciliator_comes_after_the_fast_path(rt: HostRuntime) {
+    let layout = one_pair(&rt, 2).shaped(FAST);
+    // They step in turns sixteen times, and then each makes a few steps in a row.
+    let steps = steps_of([
+        0, 1, 0, 1, 0, 1, 0, 1, 0, 1, 0, 1, 0, 1, 0, 1, 0, 0, 0, 1, 0, 0, 0, 0, 1, 1, 1,
+    ]);
     let entries = [
         loaded(0, 1, Reg::Quorum(1), 1),
         loaded(1, 1, Reg::Quorum(0), 1),
@@ -169,24 +140,14 @@ fn a_conciliator_comes_after_the_fast_path(rt: HostRuntime) -> Result<(), Fail> 
         loaded(1, 3, Reg::Proposal, 1),
         loaded(1, 3, Reg::Quorum(1), 0),
     ];
-    assert!(rt;
-        is_played(
-            &rt,
-            rt.alloc(),
-            &layout,
-            &steps,
-            (14, &entries),
-            &WON_AND_LOST
-        )
-    );
-    Ok(())
+    plays(&rt, &layout, &steps, (14, &entries), &WON_AND_LOST);
 }
 
 // With pairs alone both stay undecided after the first fourteen of these steps.
 #[test]
-fn a_last_object_decides(rt: HostRuntime) -> Result<(), Fail> {
-    let layout = Layout::new(2, 1, TableName::Bits)?.shaped(LAST);
-    let steps = [0, 1, 0, 0, 1, 1, 0, 1, 0, 1, 0, 0, 1, 1, 0, 1, 0].map(|consumer| (consumer, 0));
+fn a_last_object_decides(rt: HostRuntime) {
+    let layout = one_pair(&rt, 2).shaped(LAST);
+    let steps = steps_of([0, 1, 0, 0, 1, 1, 0, 1, 0, 1, 0, 0, 1, 1, 0, 1, 0]);
     let entries = [
         loaded(0, 1, Reg::Quorum(1), 1),
         stored(1, 1, Reg::Proposal, 2),
@@ -195,15 +156,5 @@ fn a_last_object_decides(rt: HostRuntime) -> Result<(), Fail> {
         exchanged(1, 2, 2, 1),
         ClaimEntry::Done { consumer: 0 },
     ];
-    assert!(rt;
-        is_played(
-            &rt,
-            rt.alloc(),
-            &layout,
-            &steps,
-            (11, &entries),
-            &WON_AND_LOST
-        )
-    );
-    Ok(())
+    plays(&rt, &layout, &steps, (11, &entries), &WON_AND_LOST);
 }

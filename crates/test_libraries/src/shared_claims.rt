@@ -1,28 +1,92 @@
 //! Claims on words that threads share: the worked examples, and threads that step their claims at one time.
-ghost use Rattle.std.specs.Prelude.{◌≡◌, ◌≢◌, ◌<◌, ◌≤◌, ℕ, [], All};
+ghost use Rattle.std.specs.Prelude.{◌≡◌, ◌≢◌, ◌<◌, ◌≤◌, ◌++◌, ◌∷◌, ℕ, [], All, None, length};
 ghost use Rattle.mb_claim.specs.declared.access.Stage.TheVariants.{Going};
 ghost use Rattle.mb_claim.specs.Vocabulary.{IsClaimIn, claim_stage, consumer_of, part_on};
+ghost use Rattle.mb_claim.specs.declared.layout.TheConstants.{MAX_LARGE_CELLS};
 ghost use Rattle.mb_shared_claims.specs.Vocabulary.{name_of};
 
-use crate::compare::same;
+use crate::claims::one_pair;
+use crate::compare::{same, same_at};
 use crate::shapes::BOTH;
-use mb_claim::laws::layouts_are_sound;
 use mb_claim::steps::{accesses_lengthen_one_part, claims_make_steps};
 use mb_claim::{Claim, ClaimOp, Layout, Shape, Stage};
 use mb_deciding::{Op, Reg};
-use mb_quorum::TableName;
 use mb_shared_claims::{AllGiven, ClaimHub, ClaimSeat, SharedClaims};
 use std::alloc::Allocator;
 use std::process::Abort;
-use std::test::Fail;
 use std::thread::{Threads, join, map_vec};
-use test_alloc::growths_refused;
 
 /// How many cells two threads claim.
 const CELLS: u32 = 100;
 
 /// How often 16 threads claim a cell.
 const ROUNDS: u32 = 200;
+
+/// A table of claims on so many cells of this layout, with its hub.
+fn new_table<A: Allocator + Clone + Drop>(
+    rt: &impl Abort,
+    alloc: A,
+    layout: Layout,
+    cells: u32,
+) -> (SharedClaims<A>, ClaimHub)
+    requires { cells ≤ MAX_LARGE_CELLS }
+    ensures layout { result.0.layout ≡ layout }
+    ensures cells { result.0.cells ≡ cells }
+    ensures hub { result.1 ≡ record { table = name_of result.0; roll = [] } }
+{
+    match SharedClaims::new(alloc, layout, cells) {
+        Ok(made) => made,
+        Err(_) => panic!(rt; "no table"),
+    }
+}
+
+/// The next seat at a table.
+fn new_seat<A: Allocator + Drop>(
+    rt: &impl Abort,
+    table: &SharedClaims<A>,
+    hub: &mut ClaimHub,
+) -> ClaimSeat
+    requires { hub.old.table ≡ name_of table.now }
+    ensures seat { result ≡ record {
+      table = hub.old.table;
+      consumer = length hub.old.roll;
+      part = [];
+    } }
+    ensures hub { hub.new ≡ record {
+      table = hub.old.table;
+      roll = hub.old.roll ++ None ∷ [];
+    } }
+{
+    match table.enroll(hub) {
+        Ok(seat) => seat,
+        Err(_) => panic!(rt; "no seat"),
+    }
+}
+
+/// Makes one step of a claim with the random word 0.
+fn step_once<A: Allocator + Drop>(
+    table: &SharedClaims<A>,
+    seat: &mut ClaimSeat,
+    claim: &mut Claim,
+    cell: u32,
+)
+    requires table { seat.old.table ≡ name_of table.now }
+    requires cell { cell < table.now.cells }
+    requires consumer { consumer_of claim.old ≡ seat.old.consumer }
+    requires standing { IsClaimIn table.now.layout claim.old
+        (part_on seat.old.consumer cell seat.old.part) }
+    requires going { claim_stage claim.old ≡ Going }
+    ensures table { seat.new.table ≡ seat.old.table }
+    ensures same { seat.new.consumer ≡ seat.old.consumer }
+    ensures consumer { consumer_of claim.new ≡ seat.new.consumer }
+    ensures standing { IsClaimIn table.now.layout claim.new
+        (part_on seat.new.consumer cell seat.new.part) }
+    ensures others { (k : ℕ) → k ≢ cell
+        → part_on seat.new.consumer k seat.new.part ≡ part_on seat.old.consumer k seat.old.part }
+{
+    accesses_lengthen_one_part();
+    table.step(seat, claim, cell, 0);
+}
 
 /// Makes `most` steps of a claim with the random word 0, or fewer if it ends before. Returns how many.
 fn step_on<A: Allocator + Drop>(
@@ -45,13 +109,12 @@ fn step_on<A: Allocator + Drop>(
     ensures others { (k : ℕ) → k ≢ cell
         → part_on seat.new.consumer k seat.new.part ≡ part_on seat.old.consumer k seat.old.part }
 {
-    accesses_lengthen_one_part();
     let mut made = 0u32;
     for turn in 0..most {
         if claim.stage() != Stage::Going {
             break;
         }
-        table.step(seat, claim, cell, 0);
+        step_once(table, seat, claim, cell);
         made = made.wrapping_add(1);
     }
     made
@@ -98,22 +161,10 @@ fn claimed_by_two<R: Abort + AllocGlobal + Threads + Sync>(
     rt: &R,
     shape: Shape,
 ) -> ([Stage; CELLS as usize], [Stage; CELLS as usize]) {
-    let layout = match Layout::new(2, 1, TableName::Bits) {
-        Ok(layout) => layout,
-        Err(_) => panic!(rt; "no layout"),
-    };
-    let (table, mut hub) = match SharedClaims::new(rt.alloc(), layout.shaped(shape), CELLS) {
-        Ok(made) => made,
-        Err(_) => panic!(rt; "no table"),
-    };
-    let first = match table.enroll(&mut hub) {
-        Ok(first) => first,
-        Err(_) => panic!(rt; "no first seat"),
-    };
-    let second = match table.enroll(&mut hub) {
-        Ok(second) => second,
-        Err(_) => panic!(rt; "no second seat"),
-    };
+    let layout = one_pair(rt, 2).shaped(shape);
+    let (table, mut hub) = new_table(rt, rt.alloc(), layout, CELLS);
+    let first = new_seat(rt, &table, &mut hub);
+    let second = new_seat(rt, &table, &mut hub);
     let (front, back) = join(
         rt,
         || -> (ClaimSeat, [Stage; CELLS as usize])
@@ -145,10 +196,7 @@ fn all_seats<A: Allocator + Drop, B: Allocator + Drop>(
 {
     let mut seats = Vec::new(alloc);
     for _ in 0..table.layout().consumers() {
-        let seat = match table.enroll(hub) {
-            Ok(seat) => seat,
-            Err(_) => panic!(rt; "no seat"),
-        };
+        let seat = new_seat(rt, table, hub);
         let Ok(()) = seats.push(seat) else {
             panic!(rt; "no list")
         };
@@ -158,14 +206,8 @@ fn all_seats<A: Allocator + Drop, B: Allocator + Drop>(
 
 /// Lets 16 threads claim one cell of this shape. Returns how each thread's claim ended.
 fn claimed_by_sixteen<R: Abort + AllocGlobal + Threads + Sync>(rt: &R, shape: Shape) -> Vec<Stage> {
-    let layout = match Layout::new(16, 1, TableName::Bits) {
-        Ok(layout) => layout,
-        Err(_) => panic!(rt; "no layout"),
-    };
-    let (table, mut hub) = match SharedClaims::new(rt.alloc(), layout.shaped(shape), 1) {
-        Ok(made) => made,
-        Err(_) => panic!(rt; "no table"),
-    };
+    let layout = one_pair(rt, 16).shaped(shape);
+    let (table, mut hub) = new_table(rt, rt.alloc(), layout, 1);
     let seats = all_seats(rt, &table, &mut hub, rt.alloc());
     let claim = |seat: ClaimSeat| -> Stage
         requires { (seat.table ≡ name_of table) × (table.cells ≡ 1) × (seat.part ≡ []) }
@@ -198,23 +240,14 @@ fn win_and_lose<A: Allocator + Drop>(
 
 /// Whether the allocator serves a table of one cell for two consumers. Then both numbers are given, the first consumer
 /// wins the cell and the second loses it.
-fn one_wins<A: Allocator + Clone + Drop>(rt: &impl Abort, alloc: A) -> bool {
-    let layout = match Layout::new(2, 1, TableName::Bits) {
-        Ok(layout) => layout,
-        Err(_) => panic!(rt; "no layout"),
-    };
+pub(crate) fn one_wins<A: Allocator + Clone + Drop>(rt: &impl Abort, alloc: A) -> bool {
+    let layout = one_pair(rt, 2);
     let (table, mut hub) = match SharedClaims::new(alloc, layout, 1) {
         Ok(made) => made,
         Err(_) => return false,
     };
-    let mut a = match table.enroll(&mut hub) {
-        Ok(a) => a,
-        Err(_) => panic!(rt; "no first seat"),
-    };
-    let mut b = match table.enroll(&mut hub) {
-        Ok(b) => b,
-        Err(_) => panic!(rt; "no second seat"),
-    };
+    let mut a = new_seat(rt, &table, &mut hub);
+    let mut b = new_seat(rt, &table, &mut hub);
     let is_refused = matches!(table.enroll(&mut hub), Err(AllGiven));
     let numbers = (a.consumer(), b.consumer());
     same(
@@ -262,22 +295,9 @@ fn comes_to_announce<A: Allocator + Drop>(
 // takes both seats in with their claims unfinished.
 #[test]
 fn another_goes_on_where_one_stopped(rt: HostRuntime) {
-    let layout = match Layout::new(2, 1, TableName::Bits) {
-        Ok(layout) => layout,
-        Err(_) => panic!(rt; "no layout"),
-    };
-    let (table, mut hub) = match SharedClaims::new(rt.alloc(), layout, 1) {
-        Ok(made) => made,
-        Err(_) => panic!(rt; "no table"),
-    };
-    let mut a = match table.enroll(&mut hub) {
-        Ok(a) => a,
-        Err(_) => panic!(rt; "no first seat"),
-    };
-    let mut b = match table.enroll(&mut hub) {
-        Ok(b) => b,
-        Err(_) => panic!(rt; "no second seat"),
-    };
+    let (table, mut hub) = new_table(&rt, rt.alloc(), one_pair(&rt, 2), 1);
+    let mut a = new_seat(&rt, &table, &mut hub);
+    let mut b = new_seat(&rt, &table, &mut hub);
     assert!(rt; matches!(table.enroll(&mut hub), Err(AllGiven)));
     comes_to_announce(&rt, &table, &mut a, 3);
     comes_to_announce(&rt, &table, &mut b, 1);
@@ -306,49 +326,33 @@ fn name_one_winner(ends: &[Stage]) -> bool {
     true
 }
 
-/// Whether all claims on a cell name one winner, so that none is undecided, and one of them has won it.
-fn have_one_winner(ends: &[Stage]) -> bool {
-    name_one_winner(ends) && !ends.contains(&Stage::Undecided) && ends.contains(&Stage::Won)
+/// Whether all claims on a cell of this shape name one winner, if any. With a last object none is undecided, and one of
+/// them has won it.
+fn is_won_once(shape: Shape, ends: &[Stage]) -> bool {
+    let is_decided = !ends.contains(&Stage::Undecided) && ends.contains(&Stage::Won);
+    name_one_winner(ends) && (!shape.last || is_decided)
 }
 
+// With a last object no claim is undecided.
 #[test]
-fn two_threads_claim_a_hundred_cells(rt: HostRuntime) {
-    let (mine, theirs) = claimed_by_two(&rt, Shape::PLAIN);
-    for cell in 0..CELLS as usize {
-        assert!(rt; name_one_winner(&[mine[cell], theirs[cell]]), "cell {cell}");
+fn two_threads_claim_a_hundred_cells_of_each_kind(rt: HostRuntime) {
+    for shape in &[Shape::PLAIN, BOTH] {
+        let (mine, theirs) = claimed_by_two(&rt, *shape);
+        for cell in 0..CELLS as usize {
+            let is_one = is_won_once(*shape, &[mine[cell], theirs[cell]]);
+            same_at(&rt, &is_one, &true, &(*shape, cell));
+        }
     }
 }
 
+// With a last object no claim is undecided.
 #[test]
-fn two_threads_claim_a_hundred_cells_with_a_last_object(rt: HostRuntime) {
-    let (mine, theirs) = claimed_by_two(&rt, BOTH);
-    for cell in 0..CELLS as usize {
-        assert!(rt; have_one_winner(&[mine[cell], theirs[cell]]), "cell {cell}");
+fn sixteen_threads_claim_one_cell_of_each_kind(rt: HostRuntime) {
+    for shape in &[Shape::PLAIN, BOTH] {
+        for _ in 0..ROUNDS {
+            let ends = claimed_by_sixteen(&rt, *shape);
+            let told = (ends.len(), is_won_once(*shape, ends.as_slice()));
+            same_at(&rt, &told, &(16, true), shape);
+        }
     }
-}
-
-#[test]
-fn sixteen_threads_claim_one_cell(rt: HostRuntime) {
-    for _ in 0..ROUNDS {
-        let ends = claimed_by_sixteen(&rt, Shape::PLAIN);
-        let told = (ends.len(), name_one_winner(ends.as_slice()));
-        same(&rt, &told, &(16, true));
-    }
-}
-
-#[test]
-fn sixteen_threads_claim_one_cell_with_a_last_object(rt: HostRuntime) {
-    for _ in 0..ROUNDS {
-        let ends = claimed_by_sixteen(&rt, BOTH);
-        let told = (ends.len(), have_one_winner(ends.as_slice()));
-        same(&rt, &told, &(16, true));
-    }
-}
-
-#[test]
-fn each_growth_of_new_refused(rt: HostRuntime) -> Result<(), Fail> {
-    let refused = growths_refused(&rt, |alloc| Ok(one_wins(&rt, alloc)))?;
-    // The allocations are of the zeros, and of the words.
-    assert!(rt; 2 <= refused);
-    Ok(())
 }

@@ -8,7 +8,6 @@ use mb_claim::{Claim, Layout, Shape, Stage};
 use mb_deciding::{Drawing, Memory, Op, Reg};
 use mb_quorum::TableName;
 use std::process::Abort;
-use std::test::Fail;
 
 /// How many words each object has here.
 const OBJECT: usize = 65;
@@ -160,7 +159,7 @@ fn play_twice(rt: &impl Abort, layout: &Layout, seed: u64) {
 
 // Layouts, shapes and budgets are drawn from one source that always begins alike.
 #[test]
-fn rows_of_accesses_are_those_of_steps(rt: HostRuntime) -> Result<(), Fail> {
+fn rows_of_accesses_are_those_of_steps(rt: HostRuntime) {
     let mut dice = 0x9E37_79B9_7F4A_7C15;
     for _ in 0..ROUNDS {
         dice = next_word(dice);
@@ -173,8 +172,10 @@ fn rows_of_accesses_are_those_of_steps(rt: HostRuntime) -> Result<(), Fail> {
             fast: dice & 2 != 0,
             last: dice & 4 != 0,
         };
-        let layout = Layout::new(1 + (dice >> 8) % 16, 1 + (dice >> 16) % 4, name)?;
+        let layout = Layout::new(1 + (dice >> 8) % 16, 1 + (dice >> 16) % 4, name).expect(
+            &rt,
+            "no layout",
+        );
         play_twice(&rt, &layout.shaped(shape), dice);
     }
-    Ok(())
 }

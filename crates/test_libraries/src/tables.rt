@@ -2,7 +2,6 @@
 
 use crate::compare::{same, same_at};
 use mb_quorum::{BadValues, Bits, Middle, Quorums, Table, TableName, Unary};
-use std::test::Fail;
 
 /// The write quorum and the read quorum of a value, through the trait.
 fn quorums<Q: Quorums>(table: &Q, v: u32) -> Option<(u64, u64)> {
@@ -32,43 +31,42 @@ fn named(name: TableName, m: u64, v: u32) -> Result<Shape, BadValues> {
 // A table that is made by its name has the registers, values and quorums of its kind.
 #[test]
 fn named_tables(rt: HostRuntime) {
-    let (unary, bits, middle) = (TableName::Unary, TableName::Bits, TableName::Middle);
-    for (name, m, v, want) in [
-        (unary, 3, 1, (3, 3, Some((2, 5)))),
-        (bits, 5, 4, (6, 5, Some((37, 26)))),
-        (middle, 5, 4, (4, 5, Some((10, 5)))),
+    for (name, m, v, want) in &[
+        (TableName::Unary, 3, 1, (3, 3, Some((2, 5)))),
+        (TableName::Bits, 5, 4, (6, 5, Some((37, 26)))),
+        (TableName::Middle, 5, 4, (4, 5, Some((10, 5)))),
     ] {
-        same(&rt, &named(name, m, v), &Ok(want));
+        same(&rt, &named(*name, *m, *v), &Ok(*want));
     }
 }
 
 #[test]
-fn unary_tables(rt: HostRuntime) -> Result<(), Fail> {
-    for (m, v, want) in [
+fn unary_tables(rt: HostRuntime) {
+    for (m, v, want) in &[
         (3, 1, (3, 3, Some((2, 5)))),
         (17, 16, (17, 17, Some((0x10000, 0xffff)))),
         (64, 63, (64, 64, Some((LAST, LAST - 1)))),
     ] {
-        same(&rt, &shape(&Unary::new(m)?, v), &want);
+        let table = Unary::new(*m).expect(&rt, "no table");
+        same(&rt, &shape(&table, *v), want);
     }
-    Ok(())
 }
 
 #[test]
-fn bit_tables(rt: HostRuntime) -> Result<(), Fail> {
-    for (m, v, want) in [
+fn bit_tables(rt: HostRuntime) {
+    for (m, v, want) in &[
         (5, 4, (6, 5, Some((37, 26)))),
         (1, 0, (0, 1, Some((0, 0)))),
         (64, 63, (12, 64, Some((0xaaa, 0x555)))),
     ] {
-        same(&rt, &shape(&Bits::new(m)?, v), &want);
+        let table = Bits::new(*m).expect(&rt, "no table");
+        same(&rt, &shape(&table, *v), want);
     }
-    Ok(())
 }
 
 #[test]
-fn middle_tables(rt: HostRuntime) -> Result<(), Fail> {
-    for (m, v, want) in [
+fn middle_tables(rt: HostRuntime) {
+    for (m, v, want) in &[
         (5, 4, (4, 5, Some((10, 5)))),
         (1, 0, (0, 1, Some((0, 0)))),
         (64, 63, (8, 64, Some((212, 43)))),
@@ -84,15 +82,15 @@ fn middle_tables(rt: HostRuntime) -> Result<(), Fail> {
         (6, 4, (4, 6, Some((10, 5)))),
         (6, 5, (4, 6, Some((12, 3)))),
     ] {
-        same(&rt, &shape(&Middle::new(m)?, v), &want);
+        let table = Middle::new(*m).expect(&rt, "no table");
+        same(&rt, &shape(&table, *v), want);
     }
-    Ok(())
 }
 
 // A table has the fewest registers that are enough. These numbers of values lie at the steps, where it gets one more.
 #[test]
-fn registers_of_middle_tables(rt: HostRuntime) -> Result<(), Fail> {
-    for (m, registers) in [
+fn registers_of_middle_tables(rt: HostRuntime) {
+    for (m, registers) in &[
         (1, 0),
         (2, 2),
         (3, 3),
@@ -107,14 +105,15 @@ fn registers_of_middle_tables(rt: HostRuntime) -> Result<(), Fail> {
         (36, 8),
         (64, 8),
     ] {
-        same_at(&rt, &Middle::new(m)?.registers(), &registers, &m);
+        let table = Middle::new(*m).expect(&rt, "no table");
+        same_at(&rt, &table.registers(), registers, m);
     }
-    Ok(())
 }
 
 #[test]
 fn too_few_and_too_many_values(rt: HostRuntime) {
-    for m in [0, 65] {
+    for m in &[0, 65] {
+        let m = *m;
         let faults = [
             Unary::new(m).err(),
             Bits::new(m).err(),

@@ -5,80 +5,72 @@ use mb_deciding::Fault;
 use mb_quorum::BadValues;
 use mb_shared_claims::AllGiven;
 use mb_world::SetupFault;
+use std::fmt::Display;
 use std::test::Fail;
 use test_support::check_display;
 
-#[test]
-fn text_of_bad_values(rt: HostRuntime) -> Result<(), Fail> {
-    check_display(&rt, &BadValues, "the number of values is out of range")
+/// Checks that each value is displayed as the text beside it.
+fn are_displayed<R: AllocGlobal, F: Display>(rt: &R, rows: &[(F, &str)]) -> Result<(), Fail> {
+    for (value, text) in rows {
+        check_display(rt, value, *text)?;
+    }
+    Ok(())
 }
 
-#[test]
-fn text_of_all_given(rt: HostRuntime) -> Result<(), Fail> {
-    check_display(&rt, &AllGiven, "all numbers were given")?;
-    check_display(&rt, &mb_shared_cells::AllGiven, "all numbers were given")
-}
-
-#[test]
-fn text_of_faults(rt: HostRuntime) -> Result<(), Fail> {
-    check_display(
-        &rt,
-        &Fault::BadInput(1),
+/// The texts of the faults of schedules.
+static FAULTS: [(Fault, &str); 4] = [
+    (
+        Fault::BadInput(1),
         "input 1 is not below the number of values",
-    )?;
-    check_display(
-        &rt,
-        &Fault::NoSuchProcess(20),
+    ),
+    (
+        Fault::NoSuchProcess(20),
         "turn 20 is of a process without an input",
-    )?;
-    check_display(
-        &rt,
-        &Fault::BadValues,
-        "the number of values is out of range",
-    )?;
-    check_display(&rt, &Fault::NoMemory, "out of memory")
-}
+    ),
+    (Fault::BadValues, "the number of values is out of range"),
+    (Fault::NoMemory, "out of memory"),
+];
 
-#[test]
-fn text_of_layouts_and_runs(rt: HostRuntime) -> Result<(), Fail> {
-    check_display(
-        &rt,
-        &BadLayout::BadConsumers,
+/// The texts of layouts that are refused.
+static LAYOUTS: [(BadLayout, &str); 2] = [
+    (
+        BadLayout::BadConsumers,
         "the number of consumers is out of range",
-    )?;
-    check_display(
-        &rt,
-        &BadLayout::BadRounds,
-        "the number of pairs is out of range",
-    )?;
-    check_display(
-        &rt,
-        &PlayFault::NoConsumer(7),
+    ),
+    (BadLayout::BadRounds, "the number of pairs is out of range"),
+];
+
+/// The texts of runs that are refused.
+static RUNS: [(PlayFault, &str); 2] = [
+    (
+        PlayFault::NoConsumer(7),
         "the step at place 7 is of no consumer of the layout",
-    )?;
-    check_display(&rt, &PlayFault::NoMemory, "out of memory")
-}
+    ),
+    (PlayFault::NoMemory, "out of memory"),
+];
 
-#[test]
-fn text_of_setups(rt: HostRuntime) -> Result<(), Fail> {
-    check_display(
-        &rt,
-        &SetupFault::BadProducers,
+/// The texts of setups that are refused.
+static SETUPS: [(SetupFault, &str); 4] = [
+    (
+        SetupFault::BadProducers,
         "the number of producers is out of range",
-    )?;
-    check_display(
-        &rt,
-        &SetupFault::BadConsumers,
+    ),
+    (
+        SetupFault::BadConsumers,
         "the number of consumers is out of range",
-    )?;
-    check_display(
-        &rt,
-        &SetupFault::BadCells,
-        "the number of cells is out of range",
-    )?;
-    check_display(
-        &rt,
-        &SetupFault::BadRounds,
-        "the number of pairs is out of range",
-    )
+    ),
+    (SetupFault::BadCells, "the number of cells is out of range"),
+    (SetupFault::BadRounds, "the number of pairs is out of range"),
+];
+
+// Bad values, numbers that were all given, faults of schedules, layouts, runs and setups.
+#[test]
+fn texts_of_refusals(rt: HostRuntime) -> Result<(), Fail> {
+    check_display(&rt, &BadValues, "the number of values is out of range")?;
+    check_display(&rt, &AllGiven, "all numbers were given")?;
+    check_display(&rt, &mb_shared_cells::AllGiven, "all numbers were given")?;
+    are_displayed(&rt, &FAULTS)?;
+    are_displayed(&rt, &LAYOUTS)?;
+    are_displayed(&rt, &RUNS)?;
+    are_displayed(&rt, &SETUPS)
 }

@@ -2,16 +2,15 @@
 
 use crate::compare::{same, same_at};
 use crate::shapes::BOTH;
-use mb_quorum::TableName;
+use mb_quorum::TableName::{self, Bits, Middle};
 use mb_world::{Report, Setup, SetupFault, World};
 use std::alloc::Global;
 use std::process::Abort;
-use std::test::Fail;
 use test_support::{DiaryTold, LaneTold, check_report};
 
 /// The bit table's world of so many producers, consumers and cells, with one pair for each cell.
 pub(crate) fn one_pair<R: Abort + AllocGlobal>(rt: &R, p: u64, c: u64, m: u64) -> World<Global> {
-    let setup = Setup::new(p, c, m, 1, TableName::Bits).expect(rt, "no setup");
+    let setup = Setup::new(p, c, m, 1, Bits).expect(rt, "no setup");
     World::new(rt.alloc(), setup).expect(rt, "no world")
 }
 
@@ -34,63 +33,67 @@ pub(crate) fn ends<R: Abort + AllocGlobal>(
 // Producers are looked at first, then consumers, cells and pairs.
 #[test]
 fn the_first_number_out_of_range_refuses(rt: HostRuntime) {
-    let (bits, middle) = (TableName::Bits, TableName::Middle);
-    for (p, c, m, k, name, want) in [
-        (0, 0, 300, 0, bits, SetupFault::BadProducers),
-        (1, 65, 300, 0, bits, SetupFault::BadConsumers),
-        (1, 65, 0, 1, middle, SetupFault::BadConsumers),
-        (1, 17, 300, 0, bits, SetupFault::BadCells),
-        (1, 1, 257, 0, bits, SetupFault::BadCells),
-        (1, 1, 257, 1, bits, SetupFault::BadCells),
-        (1, 1, 256, 9, bits, SetupFault::BadRounds),
+    for (p, c, m, k, name, want) in &[
+        (0, 0, 300, 0, Bits, SetupFault::BadProducers),
+        (1, 65, 300, 0, Bits, SetupFault::BadConsumers),
+        (1, 65, 0, 1, Middle, SetupFault::BadConsumers),
+        (1, 17, 300, 0, Bits, SetupFault::BadCells),
+        (1, 1, 257, 0, Bits, SetupFault::BadCells),
+        (1, 1, 257, 1, Bits, SetupFault::BadCells),
+        (1, 1, 256, 9, Bits, SetupFault::BadRounds),
     ] {
         same_at(
             &rt,
-            &Setup::new(p, c, m, k, name),
-            &Err(want),
+            &Setup::new(*p, *c, *m, *k, *name),
+            &Err(*want),
             &(p, c, m, k),
         );
     }
 }
+
+/// The most cells of a large setup.
+const MOST: u64 = 1 << 24;
+
+/// One more than the most cells.
+const ABOVE: u64 = MOST + 1;
 
 #[test]
 fn a_large_setup_is_refused_in_the_same_order(rt: HostRuntime) {
-    let bits = TableName::Bits;
-    let most = 1u64 << 24;
-    for (p, c, m, k, want) in [
-        (0, 0, most + 1, 0, SetupFault::BadProducers),
+    for (p, c, m, k, want) in &[
+        (0, 0, ABOVE, 0, SetupFault::BadProducers),
         (17, 1, 257, 1, SetupFault::BadProducers),
-        (1, 65, most + 1, 0, SetupFault::BadConsumers),
-        (1, 1, most + 1, 0, SetupFault::BadCells),
-        (1, 1, most + 1, 1, SetupFault::BadCells),
+        (1, 65, ABOVE, 0, SetupFault::BadConsumers),
+        (1, 1, ABOVE, 0, SetupFault::BadCells),
+        (1, 1, ABOVE, 1, SetupFault::BadCells),
         (1, 1, u64::MAX, 1, SetupFault::BadCells),
-        (1, 1, most, 9, SetupFault::BadRounds),
+        (1, 1, MOST, 9, SetupFault::BadRounds),
     ] {
         same_at(
             &rt,
-            &Setup::large(p, c, m, k, bits),
-            &Err(want),
+            &Setup::large(*p, *c, *m, *k, Bits),
+            &Err(*want),
             &(p, c, m, k),
         );
     }
 }
 
 #[test]
-fn a_large_setup_tells_its_numbers(rt: HostRuntime) -> Result<(), Fail> {
-    for cells in [0, 257, 1 << 24] {
-        let setup = Setup::large(1, 1, cells, 1, TableName::Bits)?;
+fn a_large_setup_tells_its_numbers(rt: HostRuntime) {
+    for cells in &[0, 257, MOST] {
+        let setup = Setup::large(1, 1, *cells, 1, Bits).expect(&rt, "no setup");
         let told = (setup.producers(), setup.consumers(), setup.cells());
-        same(&rt, &told, &(1, 1, cells));
+        same(&rt, &told, &(1, 1, *cells));
     }
-    let shaped = Setup::large(16, 64, 1 << 24, 8, TableName::Unary)?.shaped(BOTH);
+    let shaped = Setup::large(16, 64, MOST, 8, TableName::Unary)
+        .expect(&rt, "no setup")
+        .shaped(BOTH);
     let told = (shaped.consumers(), shaped.cells(), shaped.layout().shape());
-    same(&rt, &told, &(64, 1 << 24, BOTH));
-    Ok(())
+    same(&rt, &told, &(64, MOST, BOTH));
 }
 
 #[test]
-fn a_setup_tells_its_numbers(rt: HostRuntime) -> Result<(), Fail> {
-    let setup = Setup::new(16, 3, 256, 8, TableName::Bits)?;
+fn a_setup_tells_its_numbers(rt: HostRuntime) {
+    let setup = Setup::new(16, 3, 256, 8, Bits).expect(&rt, "no setup");
     let told = (
         setup.producers(),
         setup.consumers(),
@@ -98,12 +101,13 @@ fn a_setup_tells_its_numbers(rt: HostRuntime) -> Result<(), Fail> {
         setup.layout().consumers(),
     );
     same(&rt, &told, &(16, 3, 256, 3));
-    Ok(())
 }
 
 #[test]
-fn a_setup_is_shaped(rt: HostRuntime) -> Result<(), Fail> {
-    let setup = Setup::new(16, 2, 256, 1, TableName::Bits)?.shaped(BOTH);
+fn a_setup_is_shaped(rt: HostRuntime) {
+    let setup = Setup::new(16, 2, 256, 1, Bits)
+        .expect(&rt, "no setup")
+        .shaped(BOTH);
     let layout = setup.layout();
     let told = (
         (setup.producers(), setup.consumers(), setup.cells()),
@@ -111,7 +115,6 @@ fn a_setup_is_shaped(rt: HostRuntime) -> Result<(), Fail> {
     );
     // A claim has at most nine accesses in a pair, twice four in a fast path, and one in a last object.
     same(&rt, &told, &((16, 2, 256), (BOTH, 18)));
-    Ok(())
 }
 
 #[test]
