@@ -14,7 +14,7 @@ TOP = os.path.dirname(os.path.dirname(os.path.abspath(__file__)))
 # What is counted, and how many of it there may be.
 LIMITS = {
     "files over 400 lines": 1,
-    "functions over 40 lines": 2,
+    "functions over 40 lines": 3,
     "functions with more than 6 parameters": 6,
     "modules that import each other": 0,
     "lines of clauses over 100 columns": 10,

@@ -7,7 +7,7 @@ use std::fmt;
 pub const PAIRS: u64 = 4;
 
 /// What a loop does again and again.
-#[derive(Clone, Copy)]
+#[derive(Clone, Copy, PartialEq, Eq, Debug)]
 pub enum Loop {
     /// Makes the claims' words of `MAX_CELLS` cells, and nothing else.
     Words,
@@ -42,30 +42,6 @@ pub enum Loop {
     Events,
     /// Makes the report of a world with the most lanes, all its cells used, and a note at each place.
     Reports,
-}
-
-impl Loop {
-    /// The loop's name.
-    fn name(self) -> &'static str {
-        match self {
-            Loop::Words => "words",
-            Loop::Lone => "lone",
-            Loop::Contended => "contended",
-            Loop::Tables => "tables",
-            Loop::Shared => "shared",
-            Loop::Mail => "mail",
-            Loop::Mailboxes => "mailboxes",
-            Loop::Puts => "puts",
-            Loop::Mailbox => "mailbox",
-            Loop::Chacha => "chacha",
-            Loop::Relay => "relay",
-            Loop::Play => "play",
-            Loop::Ratify => "ratify",
-            Loop::Worlds => "worlds",
-            Loop::Events => "events",
-            Loop::Reports => "reports",
-        }
-    }
 }
 
 /// All loops. If no loop is named, they run in this order.
@@ -117,7 +93,7 @@ pub const SHAPES: [(&str, Shape); 3] = [
 ];
 
 /// A loop with its table, its consumers, the shape of its cells, and how often it runs.
-#[derive(Drop)]
+#[derive(Debug, Drop)]
 pub struct Choice {
     /// The loop.
     pub what: Loop,
@@ -139,11 +115,19 @@ impl Choice {
         let [what, name, consumers, times, more @ ..] = words else {
             return None;
         };
-        let (shape, cells) = shape_and_cells(more)?;
+        let (shape, cells) = match more {
+            [] => (Shape::PLAIN, u64::from(MAX_CELLS)),
+            [shape] => (shape_of(shape.as_str())?, u64::from(MAX_CELLS)),
+            [shape, cells] => (
+                shape_of(shape.as_str())?,
+                cells.as_str().parse::<u64>().ok()?,
+            ),
+            _ => return None,
+        };
         let what = loop_of(what.as_str())?;
         let name = name_of(name.as_str())?;
-        let layout = Layout::new(number_in(consumers)?, PAIRS, name).ok()?;
-        let times = number_in(times)?;
+        let layout = Layout::new(consumers.as_str().parse::<u64>().ok()?, PAIRS, name).ok()?;
+        let times = times.as_str().parse::<u64>().ok()?;
         Some(Choice {
             what,
             name,
@@ -168,41 +152,64 @@ impl Choice {
 
 impl fmt::Display for Choice {
     fn fmt<W: fmt::Write>(&self, f: &mut fmt::Formatter<W>) -> fmt::Result {
-        let what = self.what.name();
-        let name = table_in(self.name);
+        let what = match self.what {
+            Loop::Words => "words",
+            Loop::Lone => "lone",
+            Loop::Contended => "contended",
+            Loop::Tables => "tables",
+            Loop::Shared => "shared",
+            Loop::Mail => "mail",
+            Loop::Mailboxes => "mailboxes",
+            Loop::Puts => "puts",
+            Loop::Mailbox => "mailbox",
+            Loop::Chacha => "chacha",
+            Loop::Relay => "relay",
+            Loop::Play => "play",
+            Loop::Ratify => "ratify",
+            Loop::Worlds => "worlds",
+            Loop::Events => "events",
+            Loop::Reports => "reports",
+        };
+        let name = match self.name {
+            TableName::Unary => "unary",
+            TableName::Bits => "bits",
+            TableName::Middle => "middle",
+        };
         let consumers = self.layout.consumers();
         let times = self.times;
-        let shape = shape_in(self.layout.shape());
-        write!(f, "{what} {name} {consumers} {times}{shape}")?;
-        let cells = self.cells;
-        if cells == u64::from(MAX_CELLS) {
-            return Ok(());
+        write!(f, "{what} {name} {consumers} {times}")?;
+        for (name, shape) in SHAPES {
+            if self.layout.shape() == shape {
+                write!(f, " {name}")?;
+            }
         }
-        write!(f, " of {cells} cells")
+        let cells = self.cells;
+        if cells != u64::from(MAX_CELLS) {
+            write!(f, " of {cells} cells")?;
+        }
+        Ok(())
     }
 }
 
 /// The loop of this name, if there is one.
 fn loop_of(text: &str) -> Option<Loop> {
-    for what in LOOPS {
-        if text == what.name() {
-            return Some(what);
-        }
-    }
-    None
-}
-
-/// The number in this word, if it is one.
-fn number_in(word: &String) -> Option<u64> {
-    word.as_str().parse::<u64>().ok()
-}
-
-/// The shape and the number of cells in the last words.
-fn shape_and_cells(words: &[String]) -> Option<(Shape, u64)> {
-    match words {
-        [] => Some((Shape::PLAIN, u64::from(MAX_CELLS))),
-        [shape] => Some((shape_of(shape.as_str())?, u64::from(MAX_CELLS))),
-        [shape, cells] => Some((shape_of(shape.as_str())?, number_in(cells)?)),
+    match text {
+        "words" => Some(Loop::Words),
+        "lone" => Some(Loop::Lone),
+        "contended" => Some(Loop::Contended),
+        "tables" => Some(Loop::Tables),
+        "shared" => Some(Loop::Shared),
+        "mail" => Some(Loop::Mail),
+        "mailboxes" => Some(Loop::Mailboxes),
+        "puts" => Some(Loop::Puts),
+        "mailbox" => Some(Loop::Mailbox),
+        "chacha" => Some(Loop::Chacha),
+        "relay" => Some(Loop::Relay),
+        "play" => Some(Loop::Play),
+        "ratify" => Some(Loop::Ratify),
+        "worlds" => Some(Loop::Worlds),
+        "events" => Some(Loop::Events),
+        "reports" => Some(Loop::Reports),
         _ => None,
     }
 }
@@ -227,24 +234,5 @@ fn name_of(text: &str) -> Option<TableName> {
         "bits" => Some(TableName::Bits),
         "middle" => Some(TableName::Middle),
         _ => None,
-    }
-}
-
-/// The name of this quorum table.
-fn table_in(name: TableName) -> &'static str {
-    match name {
-        TableName::Unary => "unary",
-        TableName::Bits => "bits",
-        TableName::Middle => "middle",
-    }
-}
-
-/// What a line says of this shape after the times: its name, if it is not plain.
-fn shape_in(shape: Shape) -> &'static str {
-    match (shape.fast, shape.last) {
-        (false, false) => "",
-        (true, false) => " fast",
-        (false, true) => " last",
-        (true, true) => " fastlast",
     }
 }

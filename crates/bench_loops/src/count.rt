@@ -3,7 +3,7 @@ use mb_claim::Stage;
 use std::fmt;
 
 /// How much a loop did.
-#[derive(Clone, Copy)]
+#[derive(Clone, Copy, Debug)]
 pub struct Count {
     /// The accesses that claims made.
     pub accesses: u64,

@@ -15,7 +15,7 @@ use std::alloc::{AllocError, Allocator};
 use std::fmt;
 
 /// A consumer's result on an item.
-#[derive(Clone, Copy)]
+#[derive(Clone, Copy, Debug)]
 pub enum Note {
     /// The consumer took the item, and this is it.
     Took(u64),
@@ -26,7 +26,7 @@ pub enum Note {
 }
 
 /// The counts of all mailboxes together.
-#[derive(Clone, Copy)]
+#[derive(Clone, Copy, Debug)]
 pub struct Post {
     /// The items that producers put.
     pub items: u64,
@@ -70,16 +70,9 @@ pub fn mail<A: Allocator + Copy + Drop>(
         let mut words = ClaimWords::new(alloc, layout, MAX_CELLS)?;
         let mut pool = Pool::new(alloc, 1, MAX_CELLS)?;
         let first = time.wrapping_mul(u64::from(MAX_CELLS));
-        let read = match fill(alloc, &mut pool, first) {
-            Ok(items) => {
-                post.items = post.items.wrapping_add(items);
-                read_all(alloc, layout, &pool, &mut words, &mut source, &mut post)
-            }
-            Err(fault) => Err(fault),
-        };
-        drop(pool);
-        drop(words);
-        read?;
+        let items = fill(alloc, &mut pool, first)?;
+        post.items = post.items.wrapping_add(items);
+        read_all(alloc, layout, &pool, &mut words, &mut source, &mut post)?;
     }
     Ok(post)
 }

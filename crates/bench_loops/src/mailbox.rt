@@ -21,7 +21,11 @@ pub fn mailboxes_alone<A: Allocator + Copy + Drop>(
         return Ok(made);
     };
     for _ in 0..choice.times {
-        put_alone(alloc, setup.copy(), 0, 0)?;
+        let (mailbox, mut hub) = Mailbox::new(alloc, setup.copy())?;
+        let put = fill(alloc, &mailbox, &mut hub, 0, 0, false);
+        drop(mailbox);
+        drop(hub);
+        put?;
         made = made.wrapping_add(1);
     }
     Ok(made)
@@ -34,24 +38,13 @@ pub fn puts<A: Allocator + Copy + Drop>(alloc: A, choice: &Choice) -> Result<u64
         return Ok(items);
     };
     for time in 0..choice.times {
-        items = items.wrapping_add(put_alone(alloc, setup.copy(), choice.cells, time)?);
+        let (mailbox, mut hub) = Mailbox::new(alloc, setup.copy())?;
+        let put = fill(alloc, &mailbox, &mut hub, choice.cells, time, false);
+        drop(mailbox);
+        drop(hub);
+        items = items.wrapping_add(put?);
     }
     Ok(items)
-}
-
-/// Makes a mailbox with a producer, which puts so many items. Then all is dropped. Returns how many items were linked.
-#[inline(always)]
-fn put_alone<A: Allocator + Copy + Drop>(
-    alloc: A,
-    setup: Setup,
-    cells: u64,
-    time: u64,
-) -> Result<u64, AllocError> {
-    let (mailbox, mut hub) = Mailbox::new(alloc, setup)?;
-    let put = fill(alloc, &mailbox, &mut hub, cells, time, false);
-    drop(mailbox);
-    drop(hub);
-    put
 }
 
 /// Makes and fills `choice.times` mailboxes, one after the other. Each consumer polls each of them to its end.

@@ -34,22 +34,17 @@ const REFUSED: u8 = 2;
 
 fn main(rt: HostRuntime) -> io::Result<ExitCode> {
     let words = std::env::args(&rt)?.collect::<Vec<String>>(rt.alloc())?;
-    run_words(&rt, words.as_slice())
-}
-
-/// Runs what the command line asks for. The first word is the program's name.
-fn run_words<R: Print + Eprint + AllocGlobal>(rt: &R, words: &[String]) -> io::Result<ExitCode> {
-    let Some((_, words)) = words.split_first() else {
+    let Some((_, words)) = words.as_slice().split_first() else {
         return Ok(ExitCode::from(REFUSED));
     };
     if words.is_empty() {
-        run_all(rt)?;
+        run_all(&rt)?;
         return Ok(ExitCode::SUCCESS);
     }
     let Some(choice) = Choice::of(words) else {
         eprintln!(rt; "{USAGE}")?;
         return Ok(ExitCode::from(REFUSED));
     };
-    run(rt, &choice)?;
+    run(&rt, &choice)?;
     Ok(ExitCode::SUCCESS)
 }

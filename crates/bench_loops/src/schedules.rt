@@ -1,6 +1,4 @@
 //! Whole schedules: plays of claims on one cell, and ratifiers.
-ghost use Rattle.std.specs.Prelude.{◌<◌};
-
 use crate::source::Source;
 use mb_claim::laws::layouts_are_sound;
 use mb_claim::{Layout, play};
@@ -19,7 +17,7 @@ const TURNS: u64 = 100_000;
 const STEPS: u64 = 20;
 
 /// The counts of runs.
-#[derive(Clone, Copy)]
+#[derive(Clone, Copy, Debug)]
 pub struct Runs {
     /// The entries of all runs: one for each step or turn.
     pub entries: u64,
@@ -40,22 +38,6 @@ impl fmt::Display for Runs {
         let Runs { entries, ends } = self;
         write!(f, "{entries} entries, {ends} ends")
     }
-}
-
-/// So many random numbers below the bound.
-fn numbers<A: Allocator + Drop>(
-    alloc: A,
-    source: &mut Source,
-    count: u64,
-    bound: u64,
-) -> Result<Vec<u64, A>, AllocError>
-    requires { 0 < bound }
-{
-    let mut numbers = Vec::new(alloc);
-    for _ in 0..count {
-        numbers.push(source.below(bound))?;
-    }
-    Ok(numbers)
 }
 
 /// Makes `times` plays of one random schedule, in which all consumers claim one cell.
@@ -95,8 +77,14 @@ pub fn ratifiers<A: Allocator + Copy + Drop>(
     layouts_are_sound();
     let mut source = Source::new();
     let m = u64::from(layout.consumers());
-    let inputs = numbers(alloc, &mut source, PROCESSES, m)?;
-    let schedule = numbers(alloc, &mut source, TURNS, PROCESSES)?;
+    let mut inputs = Vec::new(alloc);
+    for _ in 0..PROCESSES {
+        inputs.push(source.below(m))?;
+    }
+    let mut schedule = Vec::new(alloc);
+    for _ in 0..TURNS {
+        schedule.push(source.below(PROCESSES))?;
+    }
     let mut runs = Runs {
         entries: 0,
         ends: 0,

@@ -9,7 +9,7 @@ use std::alloc::{AllocError, Allocator};
 use std::fmt;
 
 /// How many events were made, and how many items were taken by them.
-#[derive(Clone, Copy)]
+#[derive(Clone, Copy, Debug)]
 pub struct Deeds {
     pub events: u64,
     pub taken: u64,
@@ -60,26 +60,12 @@ pub fn reports<A: Allocator + Copy + Drop>(alloc: A, choice: &Choice) -> Result<
         events: 0,
         taken: 0,
     };
-    match world(alloc, choice, MAX_PRODUCERS)? {
-        Some(mut world) => {
-            live(&mut world, choice, MAX_PRODUCERS, &mut source, &mut deeds);
-            let told = notes_told(alloc, &world, choice.times);
-            drop(world);
-            told
-        }
-        None => Ok(0),
-    }
-}
-
-/// Makes `times` reports of this world. Returns how many notes they have.
-#[inline(always)]
-fn notes_told<A: Allocator + Copy + Drop>(
-    alloc: A,
-    world: &World<A>,
-    times: u64,
-) -> Result<u64, AllocError> {
     let mut told = 0u64;
-    for _ in 0..times {
+    let Some(mut world) = world(alloc, choice, MAX_PRODUCERS)? else {
+        return Ok(told);
+    };
+    live(&mut world, choice, MAX_PRODUCERS, &mut source, &mut deeds);
+    for _ in 0..choice.times {
         let report = world.report(alloc)?;
         for diary in &report.diaries {
             told = told.wrapping_add(diary.notes.len() as u64);

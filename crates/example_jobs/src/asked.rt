@@ -37,12 +37,6 @@ impl Asked {
         MAX_LANES.min(self.producers as usize)
     }
 
-    /// How many members the crew has: the producers, the workers, and a teller if `tells` holds.
-    pub fn members(&self, tells: bool) -> u64 {
-        let hands = self.producers.saturating_add(self.workers);
-        hands.saturating_add(u64::from(tells))
-    }
-
     /// The number of the first job of this producer, and the number after its last job.
     pub fn jobs_of(&self, producer: u64) -> (u64, u64) {
         let before = |n: u64| {

@@ -122,31 +122,23 @@ fn run_jobs(
     }
 }
 
-/// Makes the member of this number, with the next producer or consumer of the mailbox. The producers come first, then
-/// the workers, each with random words of its own, and then the teller.
-fn new_member<R: RandomSource + AllocGlobal>(
+/// Makes the next worker, with a consumer of the mailbox and random words of its own.
+fn new_worker<R: RandomSource + AllocGlobal>(
     rt: &R,
     mailbox: &Mailbox<Global>,
     hub: &mut Hub<Global>,
-    asked: &Asked,
+    seed: Option<u64>,
     number: u64,
 ) -> Result<Member>
     requires of { IsHubOf mailbox.now hub.old }
     ensures hub { OnOk result (IsHubOf mailbox.now hub.new) }
     ensures member { IfOk result (λ member. IsOf mailbox.now member) }
 {
-    let Some(worker) = number.checked_sub(asked.producers) else {
-        let producer = hub.producer(rt.alloc(), mailbox)?;
-        return Ok(Member::Producer(producer, asked.jobs_of(number)));
-    };
-    if worker >= asked.workers {
-        return Ok(Member::Teller);
-    }
-    let source = match asked.seed {
-        Some(seed) => ChaCha8Rng::seed_from_u64(seed.wrapping_add(worker)),
+    let consumer = hub.consumer(rt.alloc(), mailbox)?;
+    let source = match seed {
+        Some(seed) => ChaCha8Rng::seed_from_u64(seed.wrapping_add(number)),
         None => make_rng(rt)?,
     };
-    let consumer = hub.consumer(rt.alloc(), mailbox)?;
     Ok(Member::Worker(consumer, source))
 }
 
@@ -164,8 +156,15 @@ pub fn hire<R: RandomSource + AllocGlobal>(
     ensures crew { IfOk result (λ crew. All (IsOf mailbox.now) crew.items) }
 {
     let mut crew = Vec::new(rt.alloc());
-    for number in 0..asked.members(tells) {
-        crew.push(new_member(rt, mailbox, hub, asked, number)?)?;
+    for number in 0..asked.producers {
+        let producer = hub.producer(rt.alloc(), mailbox)?;
+        crew.push(Member::Producer(producer, asked.jobs_of(number)))?;
+    }
+    for worker in 0..asked.workers {
+        crew.push(new_worker(rt, mailbox, hub, asked.seed, worker)?)?;
+    }
+    if tells {
+        crew.push(Member::Teller)?;
     }
     Ok(crew)
 }

@@ -28,12 +28,13 @@ const THREADS: usize = 81;
 fn main(rt: HostRuntime) -> Result<ExitCode> {
     let words = std::env::args(&rt)?.collect::<Vec<String>>(rt.alloc())?;
     match asked_in(rt.alloc(), words.as_slice()) {
-        Ok(asked) => run(&rt, &asked, rt.stderr().is_terminal()),
+        Ok(asked) => run(&rt, &asked, rt.stderr().is_terminal())?,
         Err(error) => {
             error.print(&rt)?;
-            Ok(ExitCode::from(u8::from(error.use_stderr()) * 2))
+            return Ok(ExitCode::from(u8::from(error.use_stderr()) * 2));
         }
     }
+    Ok(ExitCode::SUCCESS)
 }
 
 /// Runs all jobs, and prints the board. If `tells` holds, a teller also prints once a second how many jobs were run.
@@ -41,8 +42,7 @@ fn run<R: RandomSource + AllocGlobal + Clock + Print + Eprint + Threads + Sync>(
     rt: &R,
     asked: &Asked,
     tells: bool,
-) -> Result<ExitCode> {
-    let board = Board::new(rt.alloc(), asked.jobs, asked.workers)?;
+) -> Result<()> {
     let setup = Setup::large(
         asked.producers,
         asked.workers,
@@ -51,6 +51,7 @@ fn run<R: RandomSource + AllocGlobal + Clock + Print + Eprint + Threads + Sync>(
         TableName::Bits,
     )?;
     let (mailbox, mut hub) = Mailbox::new(rt.alloc(), setup)?;
+    let board = Board::new(rt.alloc(), asked.jobs, asked.workers)?;
 
     // The members of the crew work, each in a thread of its own.
     let mut crew = crew::hire(rt, &mailbox, &mut hub, asked, tells)?;
@@ -71,7 +72,6 @@ fn run<R: RandomSource + AllocGlobal + Clock + Print + Eprint + Threads + Sync>(
             board.run(*job);
         }
     }
-    drop(report);
     println!(rt; "{board}")?;
-    Ok(ExitCode::SUCCESS)
+    Ok(())
 }

@@ -22,40 +22,6 @@ pub struct Options {
     pub progress: u64,
 }
 
-/// Each option, with its default, the least and the largest number that it takes, and its meaning.
-const OPTIONS: [(&str, &str, u64, u64, &str); 6] = [
-    ("jobs", "1000", 0, 1 << 32, "How many jobs there are"),
-    ("workers", "4", 1, 64, "How many workers run them"),
-    (
-        "producers",
-        "2",
-        1,
-        16,
-        "How many producers put the jobs of a round",
-    ),
-    (
-        "cells",
-        "64",
-        1,
-        1 << 24,
-        "How many jobs go into one round at most",
-    ),
-    (
-        "seed",
-        "0",
-        0,
-        u64::MAX,
-        "The seed of the workers' random words",
-    ),
-    (
-        "progress",
-        "0",
-        0,
-        u64::MAX,
-        "After how many jobs a line goes to standard error, if not 0",
-    ),
-];
-
 /// An option that takes a number.
 fn option<'a>(alloc: Global, name: &'a str, meaning: &'a str) -> Arg<'a> {
     Arg::new(alloc, name)
@@ -81,13 +47,48 @@ fn number<'a>(
 
 /// The command line, as clap needs it.
 fn command<'a>(alloc: Global) -> Result<Command<'a>, AllocError> {
-    let mut command = Command::new(alloc, "scheduler").about(
-        "Runs jobs that put further jobs, in rounds over mailboxes",
+    let jobs = number(alloc, "jobs", "1000", 0, 1 << 32, "How many jobs there are");
+    let workers = number(alloc, "workers", "4", 1, 64, "How many workers run them");
+    let producers = number(
+        alloc,
+        "producers",
+        "2",
+        1,
+        16,
+        "How many producers put the jobs of a round",
     );
-    for (name, default, low, high, meaning) in OPTIONS {
-        command = command.arg(number(alloc, name, default, low, high, meaning))?;
-    }
-    Ok(command)
+    let cells = number(
+        alloc,
+        "cells",
+        "64",
+        1,
+        1 << 24,
+        "How many jobs go into one round at most",
+    );
+    let seed = number(
+        alloc,
+        "seed",
+        "0",
+        0,
+        u64::MAX,
+        "The seed of the workers' random words",
+    );
+    let progress = number(
+        alloc,
+        "progress",
+        "0",
+        0,
+        u64::MAX,
+        "After how many jobs a line goes to standard error, if not 0",
+    );
+    Command::new(alloc, "scheduler")
+        .about("Runs jobs that put further jobs, in rounds over mailboxes")
+        .arg(jobs)?
+        .arg(workers)?
+        .arg(producers)?
+        .arg(cells)?
+        .arg(seed)?
+        .arg(progress)
 }
 
 /// The number given for an option. Each option has a default, so clap always has a number.

@@ -112,7 +112,6 @@ fn run_round<R: AllocGlobal + Threads + Wait + Sync>(
             }
         },
     );
-    drop(round);
     for worker in workers.iter_mut() {
         rounds.hand_in(worker.put()?)?;
         worker.forget();

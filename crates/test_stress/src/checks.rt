@@ -116,34 +116,30 @@ fn there_is_what_was_asked_for(rt: HostRuntime) -> Result<(), Fail> {
 
 /// What the check after a refusal finds. The only producer was given. It ended its lane if `ends`, and was taken in if
 /// `comes_in`.
-fn after_refusal<R: Abort + AllocGlobal>(rt: &R, ends: bool, comes_in: bool) -> Result<(), Fault> {
-    let setup = Setup::new(1, 1, 4, 1, TableName::Bits).expect(rt, "no setup");
-    let (mailbox, mut hub) = match Mailbox::new(rt.alloc(), setup) {
-        Ok(made) => made,
-        Err(_) => panic!(rt; "no mailbox"),
-    };
-    let mut producer = match hub.producer(rt.alloc(), &mailbox) {
-        Ok(producer) => producer,
-        Err(_) => panic!(rt; "no producer"),
-    };
+fn after_refusal<R: AllocGlobal>(
+    rt: &R,
+    ends: bool,
+    comes_in: bool,
+) -> Result<Result<(), Fault>, Fail> {
+    let setup = Setup::new(1, 1, 4, 1, TableName::Bits)?;
+    let (mailbox, mut hub) = Mailbox::new(rt.alloc(), setup)?;
+    let mut producer = hub.producer(rt.alloc(), &mailbox)?;
     if ends {
         producer.finish(&mailbox);
     }
     if comes_in {
         hub.take_producer(&mailbox, producer);
-    } else {
-        drop(producer);
     }
     let plan = plan_of(1, 1, 4, Stops::Nobody);
-    check_refused(rt.alloc(), &plan, mailbox, hub)
+    Ok(check_refused(rt.alloc(), &plan, mailbox, hub))
 }
 
 #[test]
 fn each_fault_after_a_refusal_is_found(rt: HostRuntime) -> Result<(), Fail> {
     let found = (
-        after_refusal(&rt, true, true),
-        after_refusal(&rt, false, true),
-        after_refusal(&rt, true, false),
+        after_refusal(&rt, true, true)?,
+        after_refusal(&rt, false, true)?,
+        after_refusal(&rt, true, false)?,
     );
     assert_eq!(rt; found, (Ok(()), Err(Fault::NotEnded), Err(Fault::NoReport)));
     Ok(())

@@ -43,9 +43,7 @@ fn numbers(words: &[String]) -> Option<(u64, u64, u64)> {
 
 fn main(rt: HostRuntime) -> io::Result<ExitCode> {
     let words = std::env::args(&rt)?.collect::<Vec<String>>(rt.alloc())?;
-    let asked = numbers(words.as_slice());
-    drop(words);
-    let Some((seed, runs, seconds)) = asked else {
+    let Some((seed, runs, seconds)) = numbers(words.as_slice()) else {
         eprintln!(rt; "usage: test_stress SEED RUNS SECONDS")?;
         return Ok(ExitCode::from(REFUSED));
     };

@@ -36,9 +36,8 @@ pub fn check_refused(
     requires { IsHubOf mailbox hub }
 {
     let left = count_left(alloc, &mailbox, &mut hub, plan.producers)?;
-    let report = match mailbox.gather(alloc, hub) {
-        Ok(report) => report,
-        Err(_) => return Err(Fault::NoReport),
+    let Ok(report) = mailbox.gather(alloc, hub) else {
+        return Err(Fault::NoReport);
     };
     for (p, lane) in report.lanes.iter().enumerate() {
         let given = (p as u64).saturating_add(left) < plan.producers;

@@ -97,19 +97,6 @@ pub fn check(plan: &Plan, report: &Report<Global>, worked: &Worked) -> Result<To
     })
 }
 
-/// Checks the report, and whether its items are settled. `is_whole` says whether each poll had a budget for a whole
-/// item. Returns the counts.
-fn check_both(
-    plan: &Plan,
-    report: &Report<Global>,
-    worked: &Worked,
-    is_whole: bool,
-) -> Result<Totals, Fault> {
-    let totals = check(plan, report, worked)?;
-    check_settled(plan.shape, is_whole, report)?;
-    Ok(totals)
-}
-
 /// Runs workers with these sources of random words on a new mailbox, and checks the report. If `work` is refused,
 /// checks what the mailbox is left with.
 fn run_with<W: Threads + Wait + Sync, R: Rng + Send + Drop>(
@@ -130,15 +117,14 @@ fn run_with<W: Threads + Wait + Sync, R: Rng + Send + Drop>(
     let setup = setup.shaped(plan.shape);
     let for_an_item = setup.layout().max_steps().saturating_add(2);
     let budget = if plan.whole { for_an_item } else { plan.budget };
+    let Ok((mailbox, mut hub)) = Mailbox::new(alloc, setup) else {
+        return Err(Fault::NoMemory);
+    };
     let gate = RandomGate {
         stops: plan.stops,
         seed: plan.gate_seed,
     };
     let items = lists_of(alloc, plan)?;
-    let (mailbox, mut hub) = match Mailbox::new(alloc, setup) {
-        Ok(made) => made,
-        Err(_) => return Err(Fault::NoMemory),
-    };
     let worked = match work(alloc, rt, &mailbox, &mut hub, items, budget, rngs, &gate) {
         Ok(worked) => worked,
         Err(fault) => {
@@ -146,10 +132,12 @@ fn run_with<W: Threads + Wait + Sync, R: Rng + Send + Drop>(
             return Err(Fault::Work(fault));
         }
     };
-    match mailbox.gather(alloc, hub) {
-        Ok(report) => check_both(plan, &report, &worked, for_an_item <= budget),
-        Err(_) => Err(Fault::NoReport),
-    }
+    let Ok(report) = mailbox.gather(alloc, hub) else {
+        return Err(Fault::NoReport);
+    };
+    let totals = check(plan, &report, &worked)?;
+    check_settled(plan.shape, for_an_item <= budget, &report)?;
+    Ok(totals)
 }
 
 /// Makes the run with this number and this seed, by its plan.

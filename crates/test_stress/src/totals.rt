@@ -38,27 +38,15 @@ impl Totals {
 
 impl fmt::Display for Totals {
     fn fmt<W: fmt::Write>(&self, f: &mut fmt::Formatter<W>) -> fmt::Result {
-        let Totals {
-            runs,
-            tally,
-            full,
-            stopped,
-        } = self;
-        let Tally {
-            put,
-            took,
-            left,
-            lost,
-            undecided,
-            under_way,
-        } = tally;
+        let tally = self.tally;
+        write!(f, "{} runs, {} items put, ", self.runs, tally.put)?;
+        write!(f, "{} took, {} left, ", tally.took, tally.left)?;
+        write!(f, "{} lost, {} undecided, ", tally.lost, tally.undecided)?;
+        write!(f, "{} claims under way, ", tally.under_way)?;
         write!(
             f,
-            "{runs} runs, {put} items put, {took} took, {left} left, {lost} lost, {undecided} undecided, "
-        )?;
-        write!(
-            f,
-            "{under_way} claims under way, {full} items without a cell, {stopped} workers stopped"
+            "{} items without a cell, {} workers stopped",
+            self.full, self.stopped
         )
     }
 }
