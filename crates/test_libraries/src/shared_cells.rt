@@ -124,7 +124,7 @@ fn one_lane_and_one_cell(rt: HostRuntime) {
     table.close(hub);
 }
 
-/// Whether the allocator serves a table of one lane and one cell, which then takes that item.
+/// Whether the allocator serves a table of one lane and one cell, in which an item is then put and read.
 pub(crate) fn is_served<A: Allocator + Clone + Drop>(rt: &impl Abort, alloc: A) -> bool {
     match SharedCells::new(alloc, 1, 1) {
         Ok((table, mut hub)) => {

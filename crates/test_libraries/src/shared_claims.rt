@@ -333,7 +333,7 @@ fn is_won_once(shape: Shape, ends: &[Stage]) -> bool {
     name_one_winner(ends) && (!shape.last || is_decided)
 }
 
-// With a last object no claim is undecided.
+// Plain cells, and cells with a fast path and a last object. With a last object no claim is undecided.
 #[test]
 fn two_threads_claim_a_hundred_cells_of_each_kind(rt: HostRuntime) {
     for shape in &[Shape::PLAIN, BOTH] {
@@ -345,7 +345,7 @@ fn two_threads_claim_a_hundred_cells_of_each_kind(rt: HostRuntime) {
     }
 }
 
-// With a last object no claim is undecided.
+// Plain cells, and cells with a fast path and a last object. With a last object no claim is undecided.
 #[test]
 fn sixteen_threads_claim_one_cell_of_each_kind(rt: HostRuntime) {
     for shape in &[Shape::PLAIN, BOTH] {

@@ -12,7 +12,8 @@ const SEVEN_TAKEN: &str = "lane 0 open put 7\nleft 0\ndiary 0 0 took 7\n";
 /// The same with another consumer, which has not polled.
 const OTHER_IDLE: &str = "lane 0 open put 7\nleft 0\ndiary 0 0 took 7\ndiary 1 0\n";
 
-/// The polls that are spent have a budget too small for the claim, which makes five accesses. The last one takes the item.
+/// All polls of a row have one budget. The first ones are spent, if any, and the last one takes the item. The claim makes
+/// five accesses.
 const SHORT_POLLS: &[Scene] = &[
     (
         [1, 1, 1],
@@ -71,7 +72,7 @@ fn a_budget_cuts_polls_short(rt: HostRuntime) {
     }
 }
 
-/// Eight polls are spent in all, some before another consumer is given and some after it. The claim has seven accesses.
+/// Eight polls are spent in all, before another consumer is given or after it. The claim has seven accesses.
 const PARTED_POLLS: &[Scene] = &[
     (
         [1, 2, 1],

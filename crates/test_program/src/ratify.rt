@@ -166,7 +166,7 @@ fn answered(
     (result, writer.device.taken)
 }
 
-/// A row of `DEVICES`. No script is that of the example, and no text is what the example writes.
+/// A row of `DEVICES`. `None` stands for the script of the example, or for what the example writes.
 type DeviceRow = (
     Option<&'static str>,
     bool,

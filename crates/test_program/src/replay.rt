@@ -131,7 +131,7 @@ fn a_report_has_its_text(rt: HostRuntime) {
     same(&rt, &is_made, &true);
 }
 
-/// A row of `DEVICES`. No script is that of the example, and no text is what the example writes.
+/// A row of `DEVICES`. `None` stands for the script of the example, or for what the example writes.
 type DeviceRow = (
     Option<&'static str>,
     bool,
