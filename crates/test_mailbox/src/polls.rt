@@ -12,8 +12,8 @@ const SEVEN_TAKEN: &str = "lane 0 open put 7\nleft 0\ndiary 0 0 took 7\n";
 /// The same with another consumer, which has not polled.
 const OTHER_IDLE: &str = "lane 0 open put 7\nleft 0\ndiary 0 0 took 7\ndiary 1 0\n";
 
-/// All polls of a row have one budget. The first ones are spent, if any, and the last one takes the item. The claim makes
-/// five accesses.
+/// All polls of a row have one budget. The first ones are spent, if any, and the last one takes the item. The claim
+/// makes five accesses.
 const SHORT_POLLS: &[Scene] = &[
     (
         [1, 1, 1],
