@@ -56,7 +56,7 @@ pub fn lines_lead_to_loads()
         (record { from = 0; to = 1 } ∷ []) [] → ⊥ }
 {}
 
-/// A title counts what it is of. The text of a picture begins and ends as SVG, and has no other title.
+/// A title counts what it is of. The text of a picture begins and ends as SVG, and its first title is its own.
 pub fn pictures_have_titles()
     ensures title { ratifier_title 1 2 4 ≡ codes "Ratifier: 1 turn, 2 processes, 4 values" }
     ensures replay { (script : Script)
