@@ -18,7 +18,7 @@ use Rattle.mailbox_draw.specs.declared.asked.Asked.{Asked}
 use Rattle.mailbox_draw.specs.declared.asked.Asked.TheVariants.{Replay, Ratify, Help, Unknown}
 use Rattle.mailbox_draw.specs.declared.asked.TheConstants.{USAGE}
 
--- the bytes are a replay script without fault, and the text is a picture with its title
+-- The bytes are a replay script without fault, and the text is a picture with its title. Nothing is said of its marks.
 pub record IsReplayPicture (bytes text : List ℕ) : Type 0 where
   pub script : replay.Script
   pub read : replay.script_of bytes ≡ Ok script
@@ -27,7 +27,7 @@ pub record IsReplayPicture (bytes text : List ℕ) : Type 0 where
   pub drawn : IsSvgOf title text
 
 -- The bytes are a ratifier script without fault, and the text is a picture whose title counts the turns of its trace,
--- its processes and its values.
+-- its processes and its values. Of the trace only its length counts, which is that of the turns.
 pub record IsRatifierPicture (bytes text : List ℕ) : Type 0 where
   pub script : ratify.Script
   pub read : ratify.script_of bytes ≡ Ok script
@@ -47,8 +47,8 @@ drawing_replay = record replaying { IsAnswer = IsReplayPicture }
 abbrev pub drawing_ratifier : Command RatifyFault
 drawing_ratifier = record ratifying { IsAnswer = IsRatifierPicture }
 
--- After this result the status is 0, or that of the fault. Then the fault's line was written, whole or not, and nothing
--- else.
+-- After this result the status is 0, or that of the fault. Then the fault's line was written and nothing else: whole, or
+-- a prefix if the writer failed, or nothing at all. If nothing was written, memory ran out, but no clause can say that.
 abbrev pub IsEnded : {X F E : Type 0} → (F → Failed) → IoModel E → E → E → Result X F → ℕ → Type 0
 IsEnded name errs errors errors' (Ok done) status = (status ≡ 0) × (errors' ≡ errors)
 IsEnded name errs errors errors' (Err fault) status =

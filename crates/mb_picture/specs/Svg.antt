@@ -34,6 +34,14 @@ svg_text attributes title inside =
     codes "<svg xmlns='http://www.w3.org/2000/svg' " ++ attributes ++ codes "<title id='title'>" ++ escaped_text title
     ++ codes "</title>\n" ++ inside ++ codes "</svg>\n"
 
--- the text is that of some picture of this title
+-- the attributes of a picture of this size
+abbrev pub attributes_of : ℕ → ℕ → List ℕ
+attributes_of width height =
+    codes "class='hz' width='" ++ decimal width ++ codes "' height='" ++ decimal height ++ codes "' viewBox='0 0 "
+    ++ decimal width ++ codes " " ++ decimal height ++ codes "' "
+    ++ codes "role='img' aria-labelledby='title desc'>\n"
+
+-- The text is that of some picture of this title. Of its size, and of what stands behind the title, nothing is said.
 abbrev pub IsSvgOf : List ℕ → List ℕ → Type 0
-IsSvgOf title text = (attributes inside : List ℕ) × (text ≡ svg_text attributes title inside)
+IsSvgOf title text =
+    (width height : ℕ) × (inside : List ℕ) × (text ≡ svg_text (attributes_of width height) title inside)

@@ -1,5 +1,7 @@
 //! The definitions by example. The functions compute nothing: their contracts are the examples.
 ghost use Rattle.std.specs.Prelude.{◌≡◌, [], ◌∷◌, ◌++◌, codes, Some, None};
+ghost use Rattle.mb_world.specs.WorldExamples.{two_by_two};
+ghost use Rattle.mb_script.specs.Vocabulary.{Script};
 ghost use Rattle.mb_picture.specs.declared.picture.Deed.TheVariants.{Load, Store, Exchange};
 ghost use Rattle.mb_picture.specs.declared.picture.Value.TheVariants.{Number};
 ghost use Rattle.mb_picture.specs.declared.picture.Word.TheVariants.{Counter, Item};
@@ -7,7 +9,7 @@ ghost use Rattle.mb_picture.specs.Diaries.{IsEmptyDiary};
 ghost use Rattle.mb_picture.specs.Escaped.{escaped, escaped_text, text_element};
 ghost use Rattle.mb_picture.specs.Led.{AreLinesAfter, IsLastStore, word_loaded, word_stored};
 ghost use Rattle.mb_picture.specs.LedExamples.{counter_load, mark_of, three_stores};
-ghost use Rattle.mb_picture.specs.Svg.{IsSvgOf, ratifier_title};
+ghost use Rattle.mb_picture.specs.Svg.{IsSvgOf, ratifier_title, replay_title};
 
 /// What XML would read as its own is written as a reference. No control byte is written.
 pub fn texts_are_escaped()
@@ -54,11 +56,20 @@ pub fn lines_lead_to_loads()
         (record { from = 0; to = 1 } ∷ []) [] → ⊥ }
 {}
 
-/// A title counts what it is of. The text of a picture begins and ends as SVG.
+/// A title counts what it is of. The text of a picture begins and ends as SVG, and its first title is its own.
 pub fn pictures_have_titles()
     ensures title { ratifier_title 1 2 4 ≡ codes "Ratifier: 1 turn, 2 processes, 4 values" }
-    ensures svg { IsSvgOf (codes "1<2") (codes "<svg xmlns='http://www.w3.org/2000/svg' >"
+    ensures replay { (script : Script)
+        → replay_title (record script { plan = record two_by_two { lanes = 1 }; events = [] })
+        ≡ codes "Replay: 0 events, 1 producer, 2 consumers, 2 cells" }
+    ensures svg { IsSvgOf (codes "1<2")
+        (codes "<svg xmlns='http://www.w3.org/2000/svg' class='hz' "
+        ++ codes "width='9' height='7' viewBox='0 0 9 7' role='img' aria-labelledby='title desc'>\n"
         ++ codes "<title id='title'>1&lt;2</title>\n</svg>\n") }
+    ensures other_title { IsSvgOf (codes "1<2")
+        (codes "<svg xmlns='http://www.w3.org/2000/svg' class='hz' "
+        ++ codes "width='9' height='7' viewBox='0 0 9 7' role='img' aria-labelledby='title desc'>\n"
+        ++ codes "<title id='title'>2</title>\n</svg>\n") → ⊥ }
     ensures nothing { IsSvgOf (codes "1<2") [] → ⊥ }
 {}
 

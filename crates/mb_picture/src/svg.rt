@@ -1,6 +1,6 @@
 //! A picture as SVG.
 ghost use Rattle.std.specs.Prelude.{◌≡◌, ◌++◌, IfOk, OnOk, string_bytes};
-ghost use Rattle.mb_picture.specs.Svg.{IsSvgOf, svg_text};
+ghost use Rattle.mb_picture.specs.Svg.{IsSvgOf, attributes_of, svg_text};
 
 mod legend;
 mod shapes;
@@ -206,7 +206,10 @@ fn push_attributes<A: Allocator>(
     text: &mut String<A>,
     width: usize,
     height: usize,
-) -> Result<(), NoMemory> {
+) -> Result<(), NoMemory>
+    ensures { OnOk result
+        (string_bytes text.new ≡ string_bytes text.old ++ attributes_of width height) }
+{
     write!(
         text,
         "class='hz' width='{width}' height='{height}' viewBox='0 0 {width} {height}' "
@@ -285,7 +288,7 @@ fn text_of<A: Allocator>(
     Ok(text)
 }
 
-/// The picture of this size as SVG, with this drawing.
+/// The picture of this size as SVG, with this drawing. The clause says neither size nor drawing.
 fn sized_svg_of<A: Allocator + Copy>(
     alloc: A,
     picture: &Picture<A>,
