@@ -36,7 +36,8 @@ class Begun:
     def __init__(self, command, beside=None):
         self.began, self.used = time.monotonic(), None
         self.out = tempfile.NamedTemporaryFile("r", errors="replace")
-        how = {"env": {**os.environ, "CI_BESIDE": beside}, "start_new_session": True} if beside else {}
+        # (a group of its own can be stopped, and in a session of its own `nice` would count for nothing)
+        how = {"env": {**os.environ, "CI_BESIDE": beside}, "preexec_fn": os.setpgrp} if beside else {}
         with open(self.out.name, "w", encoding="utf-8") as out:
             self.process = subprocess.Popen(command, shell=True, stdout=out, stderr=subprocess.STDOUT, **how)
 
