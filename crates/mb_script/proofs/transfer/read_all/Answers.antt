@@ -21,14 +21,18 @@ returns-in_default-clause-failed g c e = (
 
 -- a failed read added nothing to the count
 pub returns-in_default-clause-given : goal.returns-in_default-clause-given
-returns-in_default-clause-given g c =
-    let given = c.loop-piece.invariant.given in
-    (length c.loop-piece.text.items, c.loop-piece.invariant.limit, rw (c.in_default.ensures.gives_none refl) given)
+returns-in_default-clause-given g c = (
+  length c.loop-piece.text.items,
+  c.loop-piece.invariant.limit,
+  rw (c.in_default.ensures.gives_none refl) c.loop-piece.invariant.given,
+)
 
 pub returns-in_default-clause-given_failed : goal.returns-in_default-clause-given_failed
-returns-in_default-clause-given_failed g c e =
-    let given = c.loop-piece.invariant.given in
-    (length c.loop-piece.text.items, omega arith, rw (c.in_default.ensures.gives_none refl) given)
+returns-in_default-clause-given_failed g c e = (
+  length c.loop-piece.text.items,
+  omega arith,
+  rw (c.in_default.ensures.gives_none refl) c.loop-piece.invariant.given,
+)
 
 -- the read that failed is the first one that did
 pub returns-in_default-clause-fault : goal.returns-in_default-clause-fault
