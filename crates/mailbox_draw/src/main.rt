@@ -4,6 +4,7 @@
 #![tactic(auto)]
 
 mod asked;
+mod examples;
 mod program;
 mod svg;
 
