@@ -2,11 +2,10 @@
 ghost use Rattle.std.specs.Prelude.{ℕ, ◌≡◌, ◌≢◌, ◌↔◌, ◌⊎◌, ◌≤◌, IfErr, IfOk, None, Some, length};
 ghost use Rattle.rand_chacha.specs.ChaCha.{of_seed};
 ghost use Rattle.mb_quorum.specs.declared.table.TableName.{TableName};
-ghost use Rattle.mb_world.specs.Setups.{plan_in, shaped_plan};
-ghost use Rattle.mb_mailbox.specs.Imports.{consumer_count};
+ghost use Rattle.mb_world.specs.Vocabulary.{plan_in, shaped_plan};
+ghost use Rattle.mb_mailbox.specs.Vocabulary.{consumer_count, new_producer, plan_at};
 ghost use Rattle.mb_mailbox.specs.Hubs.{IsNewConsumer, hub_empty};
-ghost use Rattle.mb_mailbox.specs.Hubs.{new_producer, with_consumer, with_producer};
-ghost use Rattle.mb_mailbox.specs.Mailboxes.{plan_at};
+ghost use Rattle.mb_mailbox.specs.Hubs.{with_consumer, with_producer};
 ghost use Rattle.hazbultra.specs.Calls.{ConsumerMade, HubGave, HubGaveConsumer, HubMade};
 ghost use Rattle.hazbultra.specs.Calls.{HubWent, IsHub, ProducerMade, table_numbered};
 ghost use Rattle.hazbultra.specs.Refusals.{refusal_of};

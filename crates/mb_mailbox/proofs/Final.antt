@@ -1,9 +1,8 @@
 -- What a run of workers comes to. It follows from the numbers given, from the ends of the workers, and from what the
 -- hub has taken in.
-use Rattle.std.proofs.Common.{◌≡◌, ℕ, suc, Bool, true, ◌+◌, ◌-◌, ◌^◌, ◌≤◌, List, [], ◌∷◌, length, map, min, refl, sym, ap, ◌∙◌, subst, false, arith, ◌<◌}
+use Rattle.std.proofs.Common.{◌≡◌, ℕ, suc, Bool, true, ◌+◌, ◌-◌, ◌^◌, ◌≤◌, List, [], ◌∷◌, length, map, min, refl, sym, ap, ◌∙◌, subst, false, arith, ◌<◌, Vec, Some, slice_get, All, sum_by}
 use Rattle.std.specs.Int.{from_bool}
-use Rattle.std.specs.Prelude.{Vec, Some, slice_get}
-use Rattle.std.specs.List.{All, AllZip, sum_by}
+use Rattle.std.specs.List.{AllZip}
 use Rattle.std.proofs.lemmas.List.{append-nil, length-map, map-append}
 use Rattle.std.proofs.lemmas.Simd.{map-map}
 use Rattle.std.proofs.lemmas.List.Elements.{All-cons, All-head, All-tail}
@@ -12,27 +11,11 @@ use Rattle.mb_shared_cells.specs.Vocabulary.{IsRollOf}
 use Rattle.mb_shared_cells.specs.declared.views.Roll.{Roll}
 use Rattle.mb_cells.specs.declared.size.PoolSize.{PoolSize}
 use Rattle.mb_world.specs.Reporting.{values_put}
-use Rattle.mb_mailbox.specs.Imports.{History, Stream}
-use Rattle.mb_mailbox.specs.Called.{IsCalled, WerePolled}
-use Rattle.mb_mailbox.specs.Consumers.{ConsumerView, IsConsumerOf}
-use Rattle.mb_mailbox.specs.Given.{AreAllGiven, AreGiven, ArePollJobs, ArePutJobs}
-use Rattle.mb_mailbox.specs.Hubs.{HubView, IsHub, IsHubOf}
-use Rattle.mb_mailbox.specs.Jobs.{HasReadToEnd, IsOnLanes, IsPollEnd, IsPutEnd, ends_met}
-use Rattle.mb_mailbox.specs.Mailboxes.{MailboxView}
-use Rattle.mb_mailbox.specs.Producers.{IsProducerOf, ProducerView}
+use Rattle.mb_mailbox.specs.Vocabulary.{History, Stream, IsCalled, WerePolled, ConsumerView, IsConsumerOf, AreAllGiven, AreGiven, ArePollJobs, ArePutJobs, HubView, IsHub, IsHubOf}
+use Rattle.mb_mailbox.specs.Vocabulary.{HasReadToEnd, IsOnLanes, IsPollEnd, IsPutEnd, ends_met, MailboxView, IsProducerOf, ProducerView, AreEndsAt, AreEndsOf, AreOf, count_stopped}
+use Rattle.mb_mailbox.specs.Vocabulary.{with_taken, notes_on, AreCutByCells, AreStoppedPuts, ConsumerEnd, HaveMetEnds, IsRunOf, IsWorked, ProducerEnd, WereTakenIn, WereTakenInEarly}
+use Rattle.mb_mailbox.specs.Vocabulary.{lists_in, Who, Worked, PollDone, PollJob, PutDone, PutJob, WorkerResults, WorkerInputs, WorkerBuffers}
 use Rattle.mb_mailbox.specs.Rooms.{HasRoom}
-use Rattle.mb_mailbox.specs.Runs.{AreEndsAt, AreEndsOf, AreOf, count_stopped, with_taken}
-use Rattle.mb_mailbox.specs.Steps.{notes_on}
-use Rattle.mb_mailbox.specs.Worked.{AreCutByCells, AreStoppedPuts, ConsumerEnd, HaveMetEnds, IsRunOf, IsWorked, ProducerEnd, WereTakenIn, WereTakenInEarly, lists_in}
-use Rattle.mb_mailbox.specs.declared.gate.Who.{Who}
-use Rattle.mb_mailbox.specs.declared.crew.Worked.{Worked}
-use Rattle.mb_mailbox.specs.declared.crew.jobs.PollDone.{PollDone}
-use Rattle.mb_mailbox.specs.declared.crew.jobs.PollJob.{PollJob}
-use Rattle.mb_mailbox.specs.declared.crew.jobs.PutDone.{PutDone}
-use Rattle.mb_mailbox.specs.declared.crew.jobs.PutJob.{PutJob}
-use Rattle.mb_mailbox.specs.declared.crew.room.WorkerResults.{WorkerResults}
-use Rattle.mb_mailbox.specs.declared.crew.room.WorkerInputs.{WorkerInputs}
-use Rattle.mb_mailbox.specs.declared.crew.room.WorkerBuffers.{WorkerBuffers}
 use Rattle.mb_mailbox.proofs.Noted.{all_noted}
 use Rattle.mb_mailbox.proofs.Runs.{producer_end, lanes_of, consumer_end, consumer_ends, nums, run_beyond, run_cut, run_ends}
 use Rattle.mb_mailbox.proofs.Runs.{run_met, run_of, run_only, run_passes, run_poll_stops, run_polled, run_stops, run_unread}

@@ -1,6 +1,5 @@
 -- A consumer that holds a claim moves on by one access.
-use Rattle.std.proofs.Common.{◌≡◌, ◌≢◌, ℕ, ◌<◌, ◌≤◌, List, [], ◌∷◌, ◌++◌, length, reverse, cond, refl, sym, ap, ◌∙◌, subst, inl, ⊎_elim, arith}
-use Rattle.std.specs.Prelude.{Some, None, nat_eq, slice_get, sum_by}
+use Rattle.std.proofs.Common.{◌≡◌, ◌≢◌, ℕ, ◌<◌, ◌≤◌, List, [], ◌∷◌, ◌++◌, length, reverse, cond, refl, sym, ap, ◌∙◌, subst, inl, ⊎_elim, arith, Some, None, nat_eq, slice_get, sum_by}
 use Rattle.std.proofs.lemmas.Bool.{cases_eq, ne_eqb, eq-eqb}
 use Rattle.std.proofs.lemmas.List.{length-reverse, reverse-append}
 use Rattle.std.proofs.lemmas.Option.{slice_get_within}
@@ -8,15 +7,13 @@ use Rattle.mb_world.proofs.Tracks.{past_item, read-cases, read-more}
 use Rattle.mb_claim.specs.declared.access.ClaimOp.{ClaimOp}
 use Rattle.mb_claim.specs.declared.access.Stage.TheVariants as stage
 use Rattle.mb_cells.specs.declared.cursor.Cursor.TheVariants.{Past}
-use Rattle.mb_mailbox.specs.Imports.{Claim, ClaimAccess, Claims, EndsAs, Fits, Gave, Has, HasStageIn, IsClaimIn, IsClaimPrefix, IsOnceEach, Item, Link}
-use Rattle.mb_mailbox.specs.Imports.{Lost, Note, ObjectTurn, Parts, PoolAccess, Stage, TableSize, Took, Undecided, access_of, cells_met, claim_stage}
-use Rattle.mb_mailbox.specs.Imports.{claims_in, consumer_of, load, note_of, part_on, place_past, with_load}
-use Rattle.mb_mailbox.specs.Consumers.{AreEnds, ConsumerView, ConsumerIsAt, ConsumerIsBefore, IsConsumer, StandsOn, parts_of}
-use Rattle.mb_mailbox.specs.Moves.{HasLoads, HasPlace, HasTurns, reads_with_item, moved_to}
-use Rattle.mb_world.specs.Places.{place_after}
+use Rattle.mb_mailbox.specs.Vocabulary.{Claim, ClaimAccess, Claims, EndsAs, Fits, Gave, Has, HasStageIn, IsClaimIn, IsClaimPrefix, IsOnceEach, Item, Link, Lost, Note, ObjectTurn, Parts}
+use Rattle.mb_mailbox.specs.Vocabulary.{PoolAccess, Stage, TableSize, Took, Undecided, access_of, cells_met, claim_stage, claims_in, consumer_of, load, note_of, part_on, place_past}
+use Rattle.mb_mailbox.specs.Vocabulary.{with_load, AreEnds, ConsumerView, ConsumerIsAt, ConsumerIsBefore, IsConsumer, StandsOn, parts_of, HasLoads, HasPlace, HasTurns, reads_with_item}
+use Rattle.mb_mailbox.specs.Vocabulary.{moved_to, Laws}
+use Rattle.mb_world.specs.Vocabulary.{place_after}
 use Rattle.mb_world.specs.declared.place.Place.{Place}
 use Rattle.mb_world.specs.declared.place.Place.TheVariants.{At, Before}
-use Rattle.mb_mailbox.specs.Laws.{Laws}
 use Rattle.mb_mailbox.proofs.KnownLoads.{Known}
 use Rattle.mb_mailbox.proofs.Lists.{get_some, some_same}
 use Rattle.mb_mailbox.proofs.Moving.{holds, loads_known}

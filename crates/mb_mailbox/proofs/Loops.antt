@@ -65,6 +65,20 @@ module _ {X : Type 0} (f : X → ConsumerView) (h : HubView) where
       is ∙ ap (with_taken_consumer (f x)) e ∙ sym (taken_consumers_snoc (map f xs) (f x) h)
       ∙ ap (λ (l : List ConsumerView). with_taken_consumers l h) (sym (map-append f xs (x ∷ [])))
 
+-- ---- what is done and what is to come
+-- one more is done, and one less is to come
+pub left_more : (was now before after all : ℕ) → was + before ≡ all → now ≡ was + 1
+    → after + 1 ≡ before → now + after ≡ all
+left_more was now before after all e one step = omega (arith, e, one, step)
+
+-- if none is to come, all are done
+pub left_none : (done left all : ℕ) → done + left ≡ all → left ≡ 0 → done ≡ all
+left_none done left all e none = omega (arith, e, none)
+
+-- the room stays
+pub room_still : (all was now : ℕ) → all ≤ was → now ≡ was → all ≤ now
+room_still all was now few same = omega (arith, few, same)
+
 -- ---- a sum that stays at its bound
 -- a sum that stops at its bound is still so with one more
 pub full_more : {X : Type 0} (f : X → ℕ) (most was now : ℕ) (xs : List X) (x : X) → was ≡ min most (sum_by f xs)

@@ -7,22 +7,11 @@ use Rattle.std.proofs.lemmas.List.Sums.{sum_by-cons}
 use Rattle.std.proofs.lemmas.List.Elements.{All-cons, All-head, All-tail}
 use Rattle.mb_cells.specs.Vocabulary.{HasFoundNone}
 use Rattle.mb_shared_cells.specs.Vocabulary.{CellsName}
-use Rattle.mb_mailbox.specs.Imports.{Stream}
-use Rattle.mb_mailbox.specs.Called.{WasPassed, WerePassed, WerePolled}
-use Rattle.mb_mailbox.specs.Calls.{ArePassed}
-use Rattle.mb_mailbox.specs.Consumers.{ConsumerView}
-use Rattle.mb_mailbox.specs.Given.{ArePollJobs, ArePutJobs}
-use Rattle.mb_mailbox.specs.Hubs.{HubView, IsHub, new_producer, put_list_of}
-use Rattle.mb_mailbox.specs.Jobs.{HasReadEnds, HasReadToEnd, IsFront, IsOnLanes, IsPollEnd, IsPutEnd, IsStopBefore, IsStoppedPoll, accesses_made, ends_met}
-use Rattle.mb_mailbox.specs.Mailboxes.{MailboxView}
-use Rattle.mb_mailbox.specs.Producers.{FoundNoCell, ProducerView, is_over}
-use Rattle.mb_mailbox.specs.Worked.{AreCutByCells, AreStoppedPolls, AreStoppedPuts, ConsumerEnd, HasMetEnd, HasMetEnds, HaveMetEnds, IsRunOf, IsStoppedPut, ProducerEnd, ended_list, items_behind, items_beyond, lists_in}
-use Rattle.mb_mailbox.specs.declared.gate.Who.{Who}
+use Rattle.mb_mailbox.specs.Vocabulary.{Stream, WasPassed, WerePassed, WerePolled, ArePassed, ConsumerView, ArePollJobs, ArePutJobs, HubView, IsHub, new_producer, put_list_of, HasReadEnds}
+use Rattle.mb_mailbox.specs.Vocabulary.{HasReadToEnd, IsFront, IsOnLanes, IsPollEnd, IsPutEnd, IsStopBefore, IsStoppedPoll, accesses_made, ends_met, MailboxView, FoundNoCell, ProducerView}
+use Rattle.mb_mailbox.specs.Vocabulary.{is_over, AreCutByCells, AreStoppedPolls, AreStoppedPuts, ConsumerEnd, HasMetEnd, HasMetEnds, HaveMetEnds, IsRunOf, IsStoppedPut, ProducerEnd}
+use Rattle.mb_mailbox.specs.Vocabulary.{ended_list, items_behind, items_beyond, lists_in, Who, PollDone, PollJob, PutDone, PutJob}
 use Rattle.mb_mailbox.specs.declared.gate.Who.TheVariants as who
-use Rattle.mb_mailbox.specs.declared.crew.jobs.PollDone.{PollDone}
-use Rattle.mb_mailbox.specs.declared.crew.jobs.PollJob.{PollJob}
-use Rattle.mb_mailbox.specs.declared.crew.jobs.PutDone.{PutDone}
-use Rattle.mb_mailbox.specs.declared.crew.jobs.PutJob.{PutJob}
 use Rattle.mb_mailbox.proofs.HubRuns.{CountFrom, after, run_claimed, run_ledgers, run_parts, run_puts, run_readers}
 use Rattle.mb_mailbox.proofs.Zips.{zip_length}
 

@@ -7,20 +7,15 @@ use Rattle.mb_world.proofs.Diaries.{values_length}
 use Rattle.mb_claim.specs.declared.access.Stage.TheVariants as stage
 use Rattle.mb_cells.specs.declared.answer.Look.TheVariants as look
 use Rattle.mb_shared_cells.specs.Vocabulary.{LookMakes}
-use Rattle.mb_mailbox.specs.Imports.{Claim, ClaimAccess, Cursor, END, HasMet, History, Note, Has, Load, ReaderSeatView, Reader, Stage, cells_met, claims_in}
-use Rattle.mb_mailbox.specs.Imports.{has_ended, linked_cells, load, look_of, part, place_past, word_of}
-use Rattle.mb_mailbox.specs.declared.consumer.Poll.{Poll}
+use Rattle.mb_mailbox.specs.Vocabulary.{Claim, ClaimAccess, Cursor, END, HasMet, History, Note, Has, Load, ReaderSeatView, Reader, Stage, cells_met, claims_in, has_ended, linked_cells, load}
+use Rattle.mb_mailbox.specs.Vocabulary.{look_of, part, place_past, word_of, Poll, ConsumerView, IsConsumer, parts_of, stage_answer, Laws, HasLoads, HasPlace, moved_to, AnswerTells}
+use Rattle.mb_mailbox.specs.Vocabulary.{HasLoadedEnd, HasNoteOnEach, HasReadWhole, notes_on}
 use Rattle.mb_mailbox.specs.declared.consumer.Poll.TheVariants as poll
 use Rattle.mb_world.specs.declared.place.Place.TheVariants.{Before}
-use Rattle.mb_mailbox.specs.Consumers.{ConsumerView, IsConsumer, parts_of}
-use Rattle.mb_mailbox.specs.ConsumerStep.{stage_answer}
-use Rattle.mb_mailbox.specs.Laws.{Laws}
-use Rattle.mb_mailbox.specs.Moves.{HasLoads, HasPlace, moved_to}
 use Rattle.mb_world.specs.Places.{place_after}
 use Rattle.mb_world.specs.declared.place.Place.{Place}
 use Rattle.mb_cells.specs.declared.cursor.Cursor.TheVariants.{Past}
 use Rattle.mb_mailbox.proofs.Lists.{set_here}
-use Rattle.mb_mailbox.specs.Steps.{AnswerTells, HasLoadedEnd, HasNoteOnEach, HasReadWhole, notes_on}
 use Rattle.mb_mailbox.proofs.Moving.{before}
 use Rattle.mb_mailbox.proofs.Standings.{same_length}
 

@@ -29,3 +29,4 @@ pub mod ReportedRuns
 pub mod Filling
 pub mod GatheringExamples
 pub mod WorkExamples
+pub mod Vocabulary

@@ -1,29 +1,23 @@
 -- The report of a run, from what its workers left to the hub.
 use Rattle.std.proofs.Common.{◌≡◌, ◌+◌, ◌*◌, ◌++◌, ◌<◌, ◌≤◌, ℕ, zero, suc, List, [], ◌∷◌, Option, Some, None, inl, inr, length, map, slice_get, false, refl, sym, ap, ◌∙◌, subst, arith}
-use Rattle.std.specs.Prelude.{IsSomeAnd, MatchOption}
-use Rattle.std.specs.List.{All, AllZip, range_with_len}
+use Rattle.std.proofs.Common.{IsSomeAnd, MatchOption, All}
+use Rattle.std.specs.List.{AllZip, range_with_len}
 use Rattle.std.proofs.lemmas.List.FromFn.{length-map-range_with_len}
 use Rattle.std.proofs.lemmas.Option.{slice_get-map, slice_get_within}
 use Rattle.std.proofs.lemmas.Slice.Zip.{AllZip-left}
-use Rattle.mb_world.specs.Report.{LaneView, ReportView}
-use Rattle.mb_world.specs.Headline.{IsHonest}
-use Rattle.mb_world.specs.Plan.{consumers_of, size_of}
-use Rattle.mb_world.specs.Reporting.{IsReportOf}
-use Rattle.mb_world.specs.Sound.{AreSound}
+use Rattle.mb_world.specs.Vocabulary.{LaneView, ReportView, IsHonest, consumers_of, size_of, IsReportOf, AreSound}
 use Rattle.mb_world.specs.Imports.{PoolSize}
-use Rattle.mb_mailbox.specs.Imports.{CellsName, consumer_count}
+use Rattle.mb_mailbox.specs.Vocabulary.{CellsName, consumer_count, HubView, IsHubOf, MailboxView, plan_at, IsFront, AreCutByCells, AreStoppedPolls, AreStoppedPuts, HasNoteAtEach, IsWorked}
+use Rattle.mb_mailbox.specs.Vocabulary.{ProducerEnd, ended_list}
 use Rattle.mb_mailbox.specs.Gathering.{FullTakesAll, IsGathered, IsReportIn, count_missing, kept_at, lane_in, put_count}
 use Rattle.mb_mailbox.specs.declared.gather.GatherFault.{GatherFault}
 use Rattle.mb_mailbox.specs.declared.gather.GatherFault.TheVariants.{Missing, NoMemory}
 use Rattle.mb_mailbox.specs.declared.gate.Who.{Who}
 use Rattle.mb_mailbox.specs.declared.crew.Worked.{Worked}
-use Rattle.mb_mailbox.specs.Hubs.{HubView, IsHubOf, hub_empty}
-use Rattle.mb_mailbox.specs.Mailboxes.{MailboxView, plan_at}
-use Rattle.mb_mailbox.specs.Jobs.{IsFront}
+use Rattle.mb_mailbox.specs.Hubs.{hub_empty}
 use Rattle.mb_mailbox.specs.ReportedRuns.{IsReportedRun}
-use Rattle.mb_mailbox.specs.Worked.{AreCutByCells, AreStoppedPolls, AreStoppedPuts, AsksTooMany, HasNoteAtEach, IsWorked, ProducerEnd, ended_list}
-use Rattle.mb_program.specs.Running.{AreFew, HasNotedAll, IsLaneOf, IsRunReport, item_lists, items_of, plan_asked, terms_asked}
-use Rattle.mb_program.specs.declared.options.Options.{Options}
+use Rattle.mb_mailbox.specs.Worked.{AsksTooMany}
+use Rattle.mb_program.specs.Vocabulary.{AreFew, HasNotedAll, IsLaneOf, IsRunReport, item_lists, items_of, plan_asked, terms_asked, Options}
 use Rattle.mb_program.proofs.RunLanes.{found_none, front_whole, front_within, sum_short}
 use Rattle.mb_program.proofs.RunNotes.{notes_told, same_some}
 

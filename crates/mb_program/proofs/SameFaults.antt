@@ -1,10 +1,9 @@
 -- Clap refuses words for the same reasons, if the parsers of some arguments are changed for ones
 -- that accept the same values.
-use Rattle.std.proofs.Common.{◌≡◌, ◌∙◌, refl, ap, ap₂, Bool, cond, not, ℕ, zero, suc, List, [], ◌∷◌, map, Option, Some, None}
-use Rattle.std.specs.Prelude.{◌&&◌, ◌||◌, drop, encode_utf8, is_some, length, option_map, slice_get}
+use Rattle.std.proofs.Common.{◌≡◌, ◌∙◌, refl, ap, ap₂, Bool, cond, not, ℕ, zero, suc, List, [], ◌∷◌, map, Option, Some, None, ◌&&◌, ◌||◌, drop, encode_utf8, is_some, length, option_map}
+use Rattle.std.proofs.Common.{slice_get, bytes_eq, chars}
 use Rattle.std.specs.List.{list_any}
 use Rattle.std.specs.Option.{option_map_or}
-use Rattle.std.specs.Str.{bytes_eq, chars}
 use Rattle.clap.specs.Facts.{explicit_source, unwrap_or_range}
 use Rattle.clap.specs.Faults.{action_fault, bundle_step_fault, check_fault, count_fault, default_fault, defaults_fault, flag_word_fault, flags_fault}
 use Rattle.clap.specs.Faults.{level_fault, long_fault, option_fault, other_fault, positional_fault, react_fault, repeat_fault, set_fault, settle_fault}

@@ -12,16 +12,13 @@ use Rattle.std.proofs.lemmas.Slice.Eq.{bytes_eq-Decides}
 use Rattle.std.proofs.lemmas.List.Splits.{join_with_byte-slice_split}
 use Rattle.mb_quorum.specs.declared.table.TableName.{TableName}
 use Rattle.mb_quorum.specs.declared.table.TableName.TheVariants.{Unary, Bits, Middle}
-use Rattle.mb_program.specs.declared.fault.RatifyFault.{RatifyFault}
+use Rattle.mb_program.specs.Vocabulary.{RatifyFault, Gives, Script, view, line_words, head_of, list_of, three_lines, script_of, HasSpelling, script_words, script_lines}
 use Rattle.mb_program.specs.declared.fault.RatifyFault.TheVariants.{TooLong, NotAscii, BadLine, BadNumber}
 use Rattle.mb_program.specs.declared.script.RatifyScript as code
 use Rattle.mb_script.specs.declared.transfer.TheConstants.{MAX_SCRIPT_LEN}
 use Rattle.mb_script.specs.Vocabulary.{◌>>=◌, table_name, table_named, IsWord, IsWordLine, lines_of, words_in_line, has_empty, number_of, numbers_of}
 use Rattle.mb_script.proofs.ReadAgain.{table_word}
 use Rattle.mb_script.proofs.ReadBack.{table_takes}
-use Rattle.mb_program.specs.Steps.{Gives}
-use Rattle.mb_program.specs.RatifyScript.{Script, view, line_words, head_of, list_of, three_lines, script_of}
-use Rattle.mb_program.specs.Spelling.{HasSpelling, script_words, script_lines}
 
 -- the laws of mb_script of words, numbers and ASCII, on which the reading stands
 pub record TextLaws : Type 0 where

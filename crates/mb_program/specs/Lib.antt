@@ -11,3 +11,4 @@ pub mod Refusal
 pub mod Spelling
 pub mod Steps
 pub mod TraceText
+pub mod Vocabulary

@@ -53,18 +53,19 @@ fn ratify_fault_text<A: Allocator>(alloc: A, fault: RatifyFault) -> Result<Strin
     ensures { IfOk result (λ text. string_bytes text ≡ fault_line (Ratify fault)) }
 {
     let mut text = String::new(alloc);
-    match fault {
-        RatifyFault::TooLong => text.push_str("fault 1 TooLong\n")?,
-        RatifyFault::NotAscii => text.push_str("fault 2 NotAscii\n")?,
-        RatifyFault::BadLine(line) => write!(text, "fault 3 BadLine {line}\n")?,
-        RatifyFault::BadNumber(line) => write!(text, "fault 4 BadNumber {line}\n")?,
-        RatifyFault::BadValues => text.push_str("fault 5 BadValues\n")?,
-        RatifyFault::BadInput(place) => write!(text, "fault 6 BadInput {place}\n")?,
-        RatifyFault::NoSuchProcess(place) => write!(text, "fault 7 NoSuchProcess {place}\n")?,
-        RatifyFault::NoMemory => text.push_str("fault 8 NoMemory\n")?,
-        RatifyFault::ReadFault => text.push_str("fault 9 ReadFault\n")?,
-        RatifyFault::WriteFault => text.push_str("fault 10 WriteFault\n")?,
-    }
+    let pushed = match fault {
+        RatifyFault::TooLong => text.push_str("fault 1 TooLong\n"),
+        RatifyFault::NotAscii => text.push_str("fault 2 NotAscii\n"),
+        RatifyFault::BadLine(line) => write!(text, "fault 3 BadLine {line}\n"),
+        RatifyFault::BadNumber(line) => write!(text, "fault 4 BadNumber {line}\n"),
+        RatifyFault::BadValues => text.push_str("fault 5 BadValues\n"),
+        RatifyFault::BadInput(place) => write!(text, "fault 6 BadInput {place}\n"),
+        RatifyFault::NoSuchProcess(place) => write!(text, "fault 7 NoSuchProcess {place}\n"),
+        RatifyFault::NoMemory => text.push_str("fault 8 NoMemory\n"),
+        RatifyFault::ReadFault => text.push_str("fault 9 ReadFault\n"),
+        RatifyFault::WriteFault => text.push_str("fault 10 WriteFault\n"),
+    };
+    pushed?;
     Ok(text)
 }
 
@@ -73,24 +74,25 @@ fn replay_fault_text<A: Allocator>(alloc: A, fault: Fault) -> Result<String<A>, 
     ensures { IfOk result (λ text. string_bytes text ≡ fault_line (Replay fault)) }
 {
     let mut text = String::new(alloc);
-    match fault {
-        Fault::TooLong => text.push_str("fault 1 TooLong\n")?,
-        Fault::NotAscii => text.push_str("fault 2 NotAscii\n")?,
-        Fault::BadLine(line) => write!(text, "fault 3 BadLine {line}\n")?,
-        Fault::BadNumber(line) => write!(text, "fault 4 BadNumber {line}\n")?,
-        Fault::NoSetup => text.push_str("fault 5 NoSetup\n")?,
+    let pushed = match fault {
+        Fault::TooLong => text.push_str("fault 1 TooLong\n"),
+        Fault::NotAscii => text.push_str("fault 2 NotAscii\n"),
+        Fault::BadLine(line) => write!(text, "fault 3 BadLine {line}\n"),
+        Fault::BadNumber(line) => write!(text, "fault 4 BadNumber {line}\n"),
+        Fault::NoSetup => text.push_str("fault 5 NoSetup\n"),
         Fault::BadSetup(line, why) => {
             write!(text, "fault 6 BadSetup {line} ")?;
             push_setup_fault(&mut text, why)?;
-            text.push_str("\n")?;
+            text.push_str("\n")
         }
-        Fault::NoLane(line) => write!(text, "fault 7 NoLane {line}\n")?,
-        Fault::NoConsumer(line) => write!(text, "fault 8 NoConsumer {line}\n")?,
-        Fault::TooManyEvents => text.push_str("fault 9 TooManyEvents\n")?,
-        Fault::NoMemory => text.push_str("fault 10 NoMemory\n")?,
-        Fault::ReadFault => text.push_str("fault 11 ReadFault\n")?,
-        Fault::WriteFault => text.push_str("fault 12 WriteFault\n")?,
-    }
+        Fault::NoLane(line) => write!(text, "fault 7 NoLane {line}\n"),
+        Fault::NoConsumer(line) => write!(text, "fault 8 NoConsumer {line}\n"),
+        Fault::TooManyEvents => text.push_str("fault 9 TooManyEvents\n"),
+        Fault::NoMemory => text.push_str("fault 10 NoMemory\n"),
+        Fault::ReadFault => text.push_str("fault 11 ReadFault\n"),
+        Fault::WriteFault => text.push_str("fault 12 WriteFault\n"),
+    };
+    pushed?;
     Ok(text)
 }
 
@@ -99,16 +101,17 @@ fn run_fault_text<A: Allocator>(alloc: A, fault: RunFault) -> Result<String<A>, 
     ensures { IfOk result (λ text. string_bytes text ≡ fault_line (Run fault)) }
 {
     let mut text = String::new(alloc);
-    match fault {
+    let pushed = match fault {
         RunFault::BadSetup(why) => {
             text.push_str("fault 1 BadSetup ")?;
             push_setup_fault(&mut text, why)?;
-            text.push_str("\n")?;
+            text.push_str("\n")
         }
-        RunFault::NoMemory => text.push_str("fault 2 NoMemory\n")?,
-        RunFault::NoThread => text.push_str("fault 3 NoThread\n")?,
-        RunFault::WriteFault => text.push_str("fault 4 WriteFault\n")?,
-    }
+        RunFault::NoMemory => text.push_str("fault 2 NoMemory\n"),
+        RunFault::NoThread => text.push_str("fault 3 NoThread\n"),
+        RunFault::WriteFault => text.push_str("fault 4 WriteFault\n"),
+    };
+    pushed?;
     Ok(text)
 }
 

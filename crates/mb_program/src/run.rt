@@ -7,9 +7,7 @@ ghost use Rattle.mb_mailbox.specs.Worked.{lists_in};
 ghost use Rattle.mb_mailbox.specs.declared.crew.WorkFault.TheVariants as work;
 ghost use Rattle.mb_program.specs.declared.fault.RunFault.TheVariants as run;
 ghost use Rattle.mb_program.specs.declared.fault.RunFault.TheVariants.{BadSetup, WriteFault};
-ghost use Rattle.mb_program.specs.Running.{AreFew, IsRun, IsRunReport, item_lists, items_of};
-ghost use Rattle.mb_program.specs.Running.{plan_asked, setup_refused};
-ghost use Rattle.mb_program.specs.Source.{source_from};
+ghost use Rattle.mb_program.specs.Vocabulary.{AreFew, IsRun, IsRunReport, item_lists, items_of, plan_asked, setup_refused, source_from};
 
 use crate::fault::{NoMemory, RunFault};
 use crate::options::Options;

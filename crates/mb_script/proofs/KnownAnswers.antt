@@ -1,9 +1,8 @@
 -- In the replay of a script each lane and each consumer is there.
-use Rattle.std.proofs.Common.{◌≡◌, ℕ, ◌-◌, ◌<◌, Bool, true, false, nat_eq, List, [], ◌∷◌, Option, Some, None, inl, inr, sym, subst, arith}
-use Rattle.std.specs.Prelude.{if◌then◌else◌}
+use Rattle.std.proofs.Common.{◌≡◌, ℕ, ◌-◌, ◌<◌, Bool, true, false, nat_eq, List, [], ◌∷◌, Option, Some, None, inl, inr, sym, subst, arith, if◌then◌else◌}
 use Rattle.std.specs.List.{AllByRecursion}
 use Rattle.mb_quorum.specs.declared.table.TableName.{TableName}
-use Rattle.mb_quorum.specs.Tables.{table_of}
+use Rattle.mb_quorum.specs.Vocabulary.{table_of}
 use Rattle.mb_cells.specs.declared.access.PoolAct.{PoolAct}
 use Rattle.mb_cells.specs.declared.access.PoolAct.TheVariants.{FetchAdd, Load, Store}
 use Rattle.mb_cells.specs.declared.access.TheConstants.{END}
@@ -15,12 +14,9 @@ use Rattle.mb_world.specs.declared.event.Answer.{Answer}
 use Rattle.mb_world.specs.declared.event.Answer.TheVariants as answer
 use Rattle.mb_world.specs.declared.event.Event.{Event}
 use Rattle.mb_world.specs.declared.event.Event.TheVariants as event
-use Rattle.mb_world.specs.Plan.{Plan, consumers_of}
-use Rattle.mb_world.specs.Replay.{HasAnswer, IsRefused, IsReplay, AnswerNames, answer_to, with_access}
-use Rattle.mb_world.specs.World.{ToCells, ToClaims, WorldAccess, WorldHistory}
-use Rattle.mb_script.specs.Replaying.{IsAnswer, IsOfWorld}
-use Rattle.mb_script.specs.Scripts.{Script}
-use Rattle.mb_script.specs.Spelling.{IsEventOf, Sizes, script_in}
+use Rattle.mb_world.specs.Vocabulary.{Plan, consumers_of, HasAnswer, IsRefused, IsReplay, AnswerNames, answer_to, with_access, ToCells, WorldAccess, WorldHistory}
+use Rattle.mb_world.specs.World.{ToClaims}
+use Rattle.mb_script.specs.Vocabulary.{IsAnswer, IsOfWorld, Script, IsEventOf, Sizes, script_in}
 use Rattle.mb_script.proofs.ReadBack.{script_takes}
 
 -- ---- the answer to an access names it

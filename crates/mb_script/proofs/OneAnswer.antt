@@ -1,11 +1,9 @@
 -- A script has one answer, by the laws of tables and of worlds.
-use Rattle.std.proofs.Common.{◌≡◌, ℕ, ◌<◌, ◌≤◌, Bool, true, false, ◌||◌, nat_lt, List, [], ◌++◌, Option, Some, None, Ok, refl, sym, ap₂, ◌∙◌, subst, arith}
-use Rattle.std.specs.Prelude.{if◌then◌else◌}
+use Rattle.std.proofs.Common.{◌≡◌, ℕ, ◌<◌, ◌≤◌, Bool, true, false, ◌||◌, nat_lt, List, [], ◌++◌, Option, Some, None, Ok, refl, sym, ap₂, ◌∙◌, subst, arith, if◌then◌else◌}
 use Rattle.std.proofs.lemmas.Bool.{ltb-false}
 use Rattle.mb_quorum.specs.declared.table.TableName.{TableName}
 use Rattle.mb_quorum.specs.declared.values.TheConstants.{MAX_VALUES}
-use Rattle.mb_quorum.specs.Tables.{table_of}
-use Rattle.mb_quorum.specs.Quorum.{IsQuorumTable}
+use Rattle.mb_quorum.specs.Vocabulary.{table_of, IsQuorumTable}
 use Rattle.mb_cells.specs.declared.access.TheConstants.{END}
 use Rattle.mb_claim.specs.declared.layout.TheConstants.{MAX_CELLS, MAX_PAIRS}
 use Rattle.mb_world.specs.declared.event.Answer.{Answer}
@@ -13,18 +11,9 @@ use Rattle.mb_world.specs.declared.event.Event.{Event}
 use Rattle.mb_world.specs.declared.setup.SetupFault.{SetupFault}
 use Rattle.mb_world.specs.declared.setup.SetupFault.TheVariants.{BadProducers, BadConsumers, BadCells, BadRounds}
 use Rattle.mb_world.specs.declared.setup.TheConstants.{MAX_PRODUCERS}
-use Rattle.mb_world.specs.Plan.{Histories, Plan}
-use Rattle.mb_world.specs.Replay.{IsReplay}
-use Rattle.mb_world.specs.Report.{ReportView}
-use Rattle.mb_world.specs.Reporting.{IsReportOf}
+use Rattle.mb_world.specs.Vocabulary.{Histories, Plan, IsReplay, ReportView, IsReportOf, AreSound, WorldHistory, histories_of, IsWorldLawful}
 use Rattle.mb_world.specs.Setups.{setup_refusal}
-use Rattle.mb_world.specs.Sound.{AreSound}
-use Rattle.mb_world.specs.World.{WorldHistory, histories_of}
-use Rattle.mb_world.specs.Worlds.{IsWorldLawful}
-use Rattle.mb_script.specs.ReplayText.{IsReplayText}
-use Rattle.mb_script.specs.ReportText.{report_text}
-use Rattle.mb_script.specs.Scripts.{Script, script_of}
-use Rattle.mb_script.specs.Transcript.{transcript_text}
+use Rattle.mb_script.specs.Vocabulary.{IsReplayText, report_text, Script, script_of, transcript_text}
 use Rattle.mb_script.proofs.ReadBack.{script_takes}
 
 -- ---- the laws of the crates below, one name for each

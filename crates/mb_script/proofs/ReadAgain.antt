@@ -14,14 +14,9 @@ use Rattle.mb_world.specs.declared.setup.SetupFault.{SetupFault}
 use Rattle.mb_world.specs.Plan.{Plan, consumers_of}
 use Rattle.mb_claim.specs.declared.shape.Shape.{Shape}
 use Rattle.mb_world.specs.Setups.{setup_refusal, shaped_plan}
-use Rattle.mb_script.specs.declared.script.TheConstants.{MAX_EVENTS}
-use Rattle.mb_script.specs.declared.transfer.TheConstants.{MAX_SCRIPT_LEN}
-use Rattle.mb_script.specs.Scripts.{made_from, one_number, two_numbers, three_numbers, sizes_of, setup_of, event_of, placed, event_at, events_of, lines_script, script_of}
-use Rattle.mb_script.specs.Spelling.{IsEventOf, IsScript, Sizes, event_words, made_for, script_in, script_lines, setup_words}
-use Rattle.mb_script.specs.Steps.{◌>>=◌}
-use Rattle.mb_script.specs.Shapes.{shape_named, shape_with, shape_words, words_with}
-use Rattle.mb_script.specs.Tables.{table_name}
-use Rattle.mb_script.specs.Text.{IsWord, IsWordLine, has_empty, lines_of, words_in_line}
+use Rattle.mb_script.specs.Vocabulary.{MAX_EVENTS, MAX_SCRIPT_LEN, made_from, one_number, two_numbers, three_numbers, sizes_of, setup_of, event_of, placed, event_at, events_of, lines_script}
+use Rattle.mb_script.specs.Vocabulary.{script_of, IsEventOf, IsScript, Sizes, event_words, made_for, script_in, script_lines, setup_words, ◌>>=◌, shape_named, shape_with, shape_words}
+use Rattle.mb_script.specs.Vocabulary.{words_with, table_name, IsWord, IsWordLine, has_empty, lines_of, words_in_line}
 use Rattle.mb_script.proofs.Spelled.{ascii_lines, decimal_word, none_empty, number_again, words_ascii, words_join}
 
 -- ---- the first line

@@ -1,12 +1,8 @@
 -- Bytes that were read as a replay script spell that script.
-use Rattle.std.proofs.Common.{◌≡◌, ℕ, suc, ◌+◌, ◌<◌, ◌≤◌, ◌^◌, Bool, true, false, cond, nat_lt, List, [], ◌∷◌, length, codes, map, Option, Some, None}
-use Rattle.std.proofs.Common.{Result, Ok, Err, refl, ap, sym, ◌∙◌, subst, arith}
-use Rattle.std.specs.Prelude.{IfOk}
+use Rattle.std.proofs.Common.{◌≡◌, ℕ, suc, ◌+◌, ◌<◌, ◌≤◌, ◌^◌, Bool, true, false, cond, nat_lt, List, [], ◌∷◌, length, codes, map, Option, Some, None, Result, Ok, Err, refl, ap, sym, ◌∙◌}
+use Rattle.std.proofs.Common.{subst, arith, IfOk, ok_or, decimal, bytes_eq}
 use Rattle.std.specs.Char.{is_ascii}
-use Rattle.std.specs.Option.{ok_or}
 use Rattle.std.specs.List.{AllByRecursion, join_with_byte, list_all}
-use Rattle.std.specs.Fmt.{decimal}
-use Rattle.std.specs.Str.{bytes_eq}
 use Rattle.std.proofs.lemmas.Bool.{ltb-true}
 use Rattle.std.proofs.lemmas.Bool.Decides.{nat_tests}
 use Rattle.std.proofs.lemmas.Slice.Eq.{bytes_eq-Decides}
@@ -16,23 +12,16 @@ use Rattle.mb_quorum.specs.declared.table.TableName.TheVariants.{Unary, Bits, Mi
 use Rattle.mb_world.specs.declared.event.Event.{Event}
 use Rattle.mb_world.specs.declared.event.Event.TheVariants.{Offer, Push, Finish, Step}
 use Rattle.mb_world.specs.declared.setup.SetupFault.{SetupFault}
-use Rattle.mb_world.specs.Plan.{Plan}
+use Rattle.mb_world.specs.Vocabulary.{Plan}
 use Rattle.mb_claim.specs.Rows.{plain}
 use Rattle.mb_claim.specs.declared.shape.Shape.{Shape}
 use Rattle.mb_world.specs.Setups.{setup_refusal}
-use Rattle.mb_script.specs.declared.fault.Fault.{Fault}
+use Rattle.mb_script.specs.Vocabulary.{Fault, MAX_EVENTS, MAX_SCRIPT_LEN, Gives, Made, Script, made_from, view, number_at, one_number, two_numbers, three_numbers, made_of, sizes_of}
+use Rattle.mb_script.specs.Vocabulary.{setup_of, event_of, lane_of, consumer_in, has_consumer, placed, event_at, events_of, script_with, lines_script, script_of, IsEventOf, Spells, Sizes}
+use Rattle.mb_script.specs.Vocabulary.{event_words, made_for, script_in, setup_words, ◌>>=◌, shape_named, shape_with, shape_words, table_name, table_named, has_empty, lines_of}
+use Rattle.mb_script.specs.Vocabulary.{words_in_line}
 use Rattle.mb_script.specs.declared.fault.Fault.TheVariants.{TooLong, NotAscii, BadLine, NoSetup, NoLane, NoConsumer, TooManyEvents}
-use Rattle.mb_script.specs.declared.script.TheConstants.{MAX_EVENTS}
-use Rattle.mb_script.specs.declared.transfer.TheConstants.{MAX_SCRIPT_LEN}
 use Rattle.mb_script.specs.declared.script.Script as code
-use Rattle.mb_script.specs.Faults.{Gives}
-use Rattle.mb_script.specs.Scripts.{Made, Script, made_from, view, number_at, one_number, two_numbers, three_numbers, made_of, sizes_of, setup_of}
-use Rattle.mb_script.specs.Scripts.{event_of, lane_of, consumer_in, has_consumer, placed, event_at, events_of, script_with, lines_script, script_of}
-use Rattle.mb_script.specs.Spelling.{IsEventOf, Spells, Sizes, event_words, made_for, script_in, setup_words}
-use Rattle.mb_script.specs.Steps.{◌>>=◌}
-use Rattle.mb_script.specs.Shapes.{shape_named, shape_with, shape_words}
-use Rattle.mb_script.specs.Tables.{table_name, table_named}
-use Rattle.mb_script.specs.Text.{has_empty, lines_of, words_in_line}
 use Rattle.mb_script.proofs.Bound.{avoided, bind_ok, ok_is, passed, some_from}
 use Rattle.mb_script.proofs.ReadAgain.{consumers_are, plan_for}
 use Rattle.mb_script.proofs.Spelled.{number_takes}

@@ -28,3 +28,11 @@ pub use Rattle.mb_script.specs.Spelling.{IsEventOf, IsScript, Sizes, Spells, eve
 pub use Rattle.mb_script.specs.FirstFault.{first_word_in, line_of}
 pub use Rattle.mb_script.specs.ReplayText.{IsReplayText}
 pub use Rattle.mb_script.specs.Replaying.{IsAnswer, fault_of, replaying}
+pub use Rattle.mb_script.specs.declared.fault.Fault.{Fault}
+pub use Rattle.mb_script.specs.declared.script.TheConstants.{MAX_EVENTS}
+pub use Rattle.mb_script.specs.declared.transfer.TheConstants.{MAX_SCRIPT_LEN}
+pub use Rattle.mb_script.specs.Replaying.{IsOfWorld}
+pub use Rattle.mb_script.specs.Scripts.{Made, event_at, event_of, events_of, lines_script, made_from, made_of, number_at, one_number, placed, script_of, script_with, setup_of, sizes_of}
+pub use Rattle.mb_script.specs.Scripts.{three_numbers, two_numbers}
+pub use Rattle.mb_script.specs.Shapes.{words_with}
+pub use Rattle.mb_script.specs.Spelling.{made_for}

@@ -14,10 +14,8 @@ use Rattle.mb_cells.specs.declared.access.Process.TheVariants.{Producer, Reader}
 use Rattle.mb_cells.specs.declared.access.TheConstants.{END}
 use Rattle.mb_cells.specs.declared.access.Word.{Word}
 use Rattle.mb_cells.specs.declared.size.PoolSize.{PoolSize}
-use Rattle.mb_shared_cells.specs.Rule.{FitsView, HasProcess, IsCellsState, IsEnrolled, IsHub, KeepsCells, KnowsTaken, Seating, StandsAt, roster_of}
-use Rattle.mb_shared_cells.specs.Views.{IsRollOf, PartList, SeatState, empty_roll, hub_after_draw, hub_after_split, newcomer, roll_at, roll_with_lane, roll_with_reader}
-use Rattle.mb_shared_cells.specs.declared.views.Roll.{Roll}
-use Rattle.mb_shared_cells.specs.declared.views.View.{View}
+use Rattle.mb_shared_cells.specs.Vocabulary.{FitsView, HasProcess, IsCellsState, IsEnrolled, IsHub, KeepsCells, KnowsTaken, Seating, StandsAt, roster_of, IsRollOf, PartList, SeatState}
+use Rattle.mb_shared_cells.specs.Vocabulary.{empty_roll, hub_after_draw, hub_after_split, newcomer, roll_at, roll_with_lane, roll_with_reader, Roll, View}
 use Rattle.mb_shared_cells.specs.declared.views.View.TheVariants.{Hub, HubDraws, Member}
 use Rattle.mb_shared_cells.proofs.Seatings.{Spares, fits_still, moved, moved-else, moved-here, roll_enrolled, stands_longer, stands_then, with_lane-has, with_reader-has}
 use Rattle.mb_shared_cells.proofs.ViewLists.{all_set, all_snoc, at_within, longer_had, longer_none}

@@ -18,9 +18,7 @@ use Rattle.mb_cells.specs.declared.lane.Lane.{Lane}
 use Rattle.mb_cells.specs.declared.lane.LaneStage.{LaneStage}
 use Rattle.mb_cells.specs.declared.lane.LaneStage.TheVariants as stage
 use Rattle.mb_cells.specs.declared.size.PoolSize.{PoolSize}
-use Rattle.mb_shared_cells.specs.Calls.{FinishBy, FinishMakes, LaneMakes, OfferBy, OfferMakes, PushMakes}
-use Rattle.mb_shared_cells.specs.Shown.{LaneSeatView}
-use Rattle.mb_shared_cells.specs.Views.{IsAccessAfter}
+use Rattle.mb_shared_cells.specs.Vocabulary.{FinishBy, FinishMakes, LaneMakes, OfferBy, OfferMakes, PushMakes, LaneSeatView, IsAccessAfter}
 
 -- the laws of the cells on which this file stands
 pub record PutLaws : Type 0 where

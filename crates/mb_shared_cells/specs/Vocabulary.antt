@@ -7,3 +7,7 @@ pub use Rattle.mb_shared_cells.specs.Rule.{IsTableState, KnowsTaken, Seating, St
 pub use Rattle.mb_shared_cells.specs.Shown.{CellHubView, CellsName, HasHistory, LaneSeatView, ReaderSeatView}
 pub use Rattle.mb_shared_cells.specs.Calls.{FinishBy, FinishMakes, ItemMakes, LaneMakes, LookMakes}
 pub use Rattle.mb_shared_cells.specs.Calls.{OfferBy, OfferMakes, PushBy, PushMakes, ReaderMakes}
+pub use Rattle.mb_shared_cells.specs.declared.views.Roll.{Roll}
+pub use Rattle.mb_shared_cells.specs.declared.views.View.{View}
+pub use Rattle.mb_shared_cells.specs.Views.{SeatState, hub_after_draw, hub_after_split, newcomer}
+pub use Rattle.mb_shared_cells.specs.Rule.{KeepsCells}

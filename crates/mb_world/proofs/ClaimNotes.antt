@@ -10,17 +10,9 @@ use Rattle.mb_claim.specs.OneClaim.{claim_stage}
 use Rattle.mb_cells.specs.declared.cursor.Cursor.TheVariants.{Past}
 use Rattle.mb_world.specs.declared.event.Answer.TheVariants as answer
 use Rattle.mb_world.specs.declared.event.Event.TheVariants as event
-use Rattle.mb_world.specs.declared.report.Note.{Note}
-use Rattle.mb_world.specs.declared.place.Place.{Place}
+use Rattle.mb_world.specs.Vocabulary.{Note, Place, Stage, consumers_of, plan_in, WorldHistory, note_of, IsWorldAfter, WorldState, place_after, EventAdds, HasPlace, with_note_if, with_place}
+use Rattle.mb_world.specs.Vocabulary.{with_words}
 use Rattle.mb_world.specs.declared.place.Place.TheVariants.{At, Before}
-use Rattle.mb_world.specs.Imports.{Stage}
-use Rattle.mb_world.specs.Plan.{consumers_of}
-use Rattle.mb_world.specs.Setups.{plan_in}
-use Rattle.mb_world.specs.World.{WorldHistory}
-use Rattle.mb_world.specs.ConsumerPath.{note_of}
-use Rattle.mb_world.specs.WorldState.{IsWorldAfter, WorldState}
-use Rattle.mb_world.specs.Places.{place_after}
-use Rattle.mb_world.specs.EventSteps.{EventAdds, HasPlace, with_note_if, with_place, with_words}
 use Rattle.mb_world.proofs.NewWorlds.{position_within}
 
 -- a claim that ends with a note leaves its cell

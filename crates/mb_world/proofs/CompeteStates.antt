@@ -1,34 +1,22 @@
 -- What a step of a consumer's claim makes of the state of a world.
-use Rattle.std.proofs.Common.{◌≡◌, ◌↔◌, ◌⊎◌, ℕ, ◌+◌, ◌*◌, ◌<◌, List, ◌∷◌, length, Option, Some, None, refl, sym, ◌∙◌, ap, subst, inl, inr}
-use Rattle.std.specs.Prelude.{slice_get, slice_set}
+use Rattle.std.proofs.Common.{◌≡◌, ◌↔◌, ◌⊎◌, ℕ, ◌+◌, ◌*◌, ◌<◌, List, ◌∷◌, length, Option, Some, None, refl, sym, ◌∙◌, ap, subst, inl, inr, slice_get, slice_set}
 use Rattle.std.proofs.lemmas.Bool.{cases_eq}
 use Rattle.mb_claim.specs.declared.access.Stage.TheVariants as stage
 use Rattle.mb_claim.specs.declared.claim.Claim.{Claim}
-use Rattle.mb_claim.specs.History.{part_on}
-use Rattle.mb_claim.specs.OneClaim.{IsClaimIn, IsClaimOn, claim_access, claim_stage, consumer_of}
-use Rattle.mb_claim.specs.States.{IsMemoryOf}
+use Rattle.mb_claim.specs.Vocabulary.{part_on, IsClaimIn, IsClaimOn, claim_access, claim_stage, consumer_of, IsMemoryOf}
 use Rattle.mb_cells.specs.declared.cursor.Cursor.TheVariants.{Past}
 use Rattle.mb_world.specs.declared.event.Answer.TheVariants as answer
 use Rattle.mb_world.specs.declared.event.Event.TheVariants as event
-use Rattle.mb_world.specs.declared.report.Note.{Note}
+use Rattle.mb_world.specs.Vocabulary.{Note, Place, ClaimAccess, IsClaimPrefix, ObjectTurn, Stage, claim_part, consumers_of, layout_of, WorldAccess, WorldHistory, claim_accesses, lane_part}
+use Rattle.mb_world.specs.Vocabulary.{ConsumerPath, claim_step, ends, goes, note_of, ConsumerAdds, IsTrueTo, IsPlaceAt, IsWorldAfter, WorldState, place_after, EventAdds, with_note_if}
+use Rattle.mb_world.specs.Vocabulary.{with_place, StepKnown}
 use Rattle.mb_world.specs.declared.report.Note.TheVariants.{Lost, Undecided}
-use Rattle.mb_world.specs.declared.place.Place.{Place}
 use Rattle.mb_world.specs.declared.place.Place.TheVariants.{At, Before}
-use Rattle.mb_world.specs.Imports.{ClaimAccess, IsClaimPrefix, ObjectTurn, Stage, claim_part}
-use Rattle.mb_world.specs.Plan.{consumers_of}
-use Rattle.mb_world.specs.Setups.{layout_of}
-use Rattle.mb_world.specs.World.{WorldAccess, WorldHistory, claim_accesses, lane_part}
-use Rattle.mb_world.specs.ConsumerPath.{ConsumerPath, claim_step, ends, goes, note_of}
 use Rattle.mb_world.specs.ConsumerPath as path
-use Rattle.mb_world.specs.Worlds.{ConsumerAdds, IsTrueTo}
-use Rattle.mb_world.specs.WorldState.{IsPlaceAt, IsWorldAfter, WorldState}
-use Rattle.mb_world.specs.Places.{place_after}
-use Rattle.mb_world.specs.EventSteps.{EventAdds, with_note_if, with_place}
 use Rattle.mb_world.proofs.Claimed.{part-own}
 use Rattle.mb_world.proofs.HeldStates.{AtCell, at_cell, below, part_is, prefix, unread}
 use Rattle.mb_world.proofs.StateEnds.{Ends, going_open, lost_end, step_keeps, undecided_end, won_open}
 use Rattle.mb_world.proofs.StateSteps.{AreNotes, notes_count, notes_kept, notes_set, own_place, plan, places_count, places_set, state_after}
-use Rattle.mb_world.specs.StepKnown.{StepKnown}
 
 module _ (s : WorldState) (h : WorldHistory) (is : IsWorldAfter h s) (c p : ℕ) (cs : c < consumers_of (plan s h is))
     (ps : p < (plan s h is).lanes) (known : StepKnown s h c p) (k : ℕ) (claim : Claim)

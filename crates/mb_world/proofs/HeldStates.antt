@@ -5,19 +5,12 @@ use Rattle.mb_claim.specs.declared.access.Stage.TheVariants as stage
 use Rattle.mb_claim.specs.declared.claim.Claim.{Claim}
 use Rattle.mb_claim.specs.OneClaim.{IsClaimIn, IsClaimOn, claim_stage, consumer_of}
 use Rattle.mb_claim.specs.History.{part_on}
-use Rattle.mb_world.specs.declared.report.Note.{Note}
+use Rattle.mb_world.specs.Vocabulary.{Note, IsClaimPrefix, IsOnceEach, Item, ObjectTurn, Stage, Word, claim_part, has_cell, is_of_lane, linked_cells, consumers_of, layout_of, WorldHistory}
+use Rattle.mb_world.specs.Vocabulary.{claim_accesses, lane_part, pool_accesses, ConsumerPath, finds, goes, note_of, IsOnPath, IsPlaceAt, IsWorldAfter, WorldState, StepKnown}
 use Rattle.mb_world.specs.declared.place.Place.TheVariants.{At}
-use Rattle.mb_world.specs.Imports.{IsClaimPrefix, IsOnceEach, Item, ObjectTurn, Stage, Word, claim_part, has_cell, is_of_lane, linked_cells}
-use Rattle.mb_world.specs.Plan.{consumers_of}
-use Rattle.mb_world.specs.Setups.{layout_of}
-use Rattle.mb_world.specs.World.{WorldHistory, claim_accesses, lane_part, pool_accesses}
-use Rattle.mb_world.specs.ConsumerPath.{ConsumerPath, finds, goes, note_of}
-use Rattle.mb_world.specs.Worlds.{IsOnPath}
-use Rattle.mb_world.specs.WorldState.{IsPlaceAt, IsWorldAfter, WorldState}
 use Rattle.mb_world.proofs.Cells.{has_cell-true}
 use Rattle.mb_world.proofs.StateEnds.{HasItem}
 use Rattle.mb_world.proofs.StateSteps.{plan, place_here}
-use Rattle.mb_world.specs.StepKnown.{StepKnown}
 use Rattle.mb_world.proofs.WorldClaims.{met_once, on_lane, tracks}
 use Rattle.mb_world.proofs.WorldDiaries.{held_is}
 use Rattle.mb_world.proofs.WorldPool.{read_there}

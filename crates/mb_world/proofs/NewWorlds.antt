@@ -7,19 +7,9 @@ use Rattle.std.proofs.lemmas.List.{length-replicate}
 use Rattle.mb_claim.specs.States.{IsMemoryOf}
 use Rattle.mb_claim.specs.declared.access.Stage.TheVariants as stage
 use Rattle.mb_cells.specs.State.{IsAfter, PoolState, cell_count, lane_count}
-use Rattle.mb_world.specs.declared.report.Note.{Note}
+use Rattle.mb_world.specs.Vocabulary.{Note, Place, Setup, IsClaimPrefix, Stage, consumers_of, layout_of, plan_in, EndsAs, parts_of, histories_of, begins, IsWorldLawful, AreAtHeads}
+use Rattle.mb_world.specs.Vocabulary.{IsPlaceAt, IsWorldAfter}
 use Rattle.mb_world.specs.declared.report.Note.TheVariants.{Took, Lost, Undecided}
-use Rattle.mb_world.specs.declared.place.Place.{Place}
-use Rattle.mb_world.specs.declared.setup.Setup.{Setup}
-use Rattle.mb_world.specs.Imports.{IsClaimPrefix, Stage}
-use Rattle.mb_world.specs.Plan.{consumers_of}
-use Rattle.mb_world.specs.Setups.{layout_of, plan_in}
-use Rattle.mb_world.specs.Fitting.{EndsAs, parts_of}
-use Rattle.mb_world.specs.World.{histories_of}
-use Rattle.mb_world.specs.ConsumerPath.{begins}
-use Rattle.mb_world.specs.Worlds.{IsWorldLawful}
-use Rattle.mb_world.specs.Places.{AreAtHeads}
-use Rattle.mb_world.specs.WorldState.{IsPlaceAt, IsWorldAfter}
 
 -- in a list of equal elements this element stands at each position
 get-replicate : {X : Type 0} (n i : ℕ) (x : X) → i < n → slice_get (replicate n x) i ≡ Some x

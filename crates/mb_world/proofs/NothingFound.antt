@@ -6,21 +6,13 @@ use Rattle.std.proofs.lemmas.List.{append_assoc}
 use Rattle.mb_cells.specs.declared.answer.Look.TheVariants as look
 use Rattle.mb_cells.specs.Memory.{value_in}
 use Rattle.mb_cells.specs.Reading.{look_of}
-use Rattle.mb_world.specs.declared.event.Answer.{Answer}
+use Rattle.mb_world.specs.Vocabulary.{Answer, Note, END, IsStart, Load, ObjectTurn, has_ended, linked_cells, place_past, Plan, consumers_of, IsBy, WorldAccess, WorldHistory, is_on}
+use Rattle.mb_world.specs.Vocabulary.{lane_part, pool_accesses, ConsumerPath, link_load, IsWorldLawful, HasAnswer, AnswerNames, answer_to, HasNothing, WorldKnown}
 use Rattle.mb_world.specs.declared.event.Answer.TheVariants as answer
 use Rattle.mb_world.specs.declared.event.Event.TheVariants as event
-use Rattle.mb_world.specs.declared.report.Note.{Note}
-use Rattle.mb_world.specs.Imports.{END, IsStart, Load, ObjectTurn, has_ended, linked_cells, place_past}
-use Rattle.mb_world.specs.Plan.{Plan, consumers_of}
-use Rattle.mb_world.specs.World.{IsBy, WorldAccess, WorldHistory, is_on, lane_part, pool_accesses}
-use Rattle.mb_world.specs.ConsumerPath.{ConsumerPath, link_load}
-use Rattle.mb_world.specs.Worlds.{IsWorldLawful}
-use Rattle.mb_world.specs.Replay.{HasAnswer, AnswerNames, answer_to}
-use Rattle.mb_world.specs.Waiting.{HasNothing}
 use Rattle.mb_world.proofs.ConsumerSteps.{linked_same, one_lane_of}
 use Rattle.mb_world.proofs.LastAccess.{CameFrom, Leads, PathEnd, came_from, ended, found, path_end, took, waited, went}
 use Rattle.mb_world.proofs.WorldClaims.{met_all}
-use Rattle.mb_world.specs.WorldKnown.{WorldKnown}
 
 -- only the value 0 tells that nothing is there yet
 nothing_told : (v : ℕ) → look_of v ≡ look.Nothing → v ≡ 0

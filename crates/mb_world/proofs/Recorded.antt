@@ -6,19 +6,11 @@ use Rattle.std.proofs.lemmas.Option.{slice_get-get_or}
 use Rattle.mb_claim.specs.declared.access.Stage.TheVariants as stage
 use Rattle.mb_claim.specs.Claiming.{HasStage}
 use Rattle.mb_claim.specs.Winner.{StageNames}
-use Rattle.mb_world.specs.declared.report.Note.{Note}
+use Rattle.mb_world.specs.Vocabulary.{Note, Stage, linked_cells, Histories, Plan, consumers_of, DiaryView, ReportView, is_begun, items_left, items_put, note, notes, items_where, HasCompeted}
+use Rattle.mb_world.specs.Vocabulary.{EndsAs, parts_of, IsDiaryOf, IsReportOf, is_taken, HasMetEnd, Known}
 use Rattle.mb_world.specs.declared.report.Note.TheVariants.{Took, Lost, Undecided}
-use Rattle.mb_world.specs.Imports.{Stage, linked_cells}
-use Rattle.mb_world.specs.Plan.{Histories, Plan, consumers_of}
-use Rattle.mb_world.specs.Report.{DiaryView, ReportView, is_begun, items_left, items_put, note, notes}
-use Rattle.mb_world.specs.Assignment.{items_where}
-use Rattle.mb_world.specs.Agreement.{HasCompeted}
-use Rattle.mb_world.specs.Fitting.{EndsAs, parts_of}
-use Rattle.mb_world.specs.Reporting.{IsDiaryOf, IsReportOf, is_taken}
-use Rattle.mb_world.specs.Headline.{HasMetEnd}
 use Rattle.mb_world.proofs.Assigned.{AreNotesRight, winner_named}
 use Rattle.mb_world.proofs.Diaries.{begun_within, competes_at, met_at, note_at, placed, value_of, within}
-use Rattle.mb_world.specs.Known.{Known}
 use Rattle.mb_world.proofs.LaneEnds.{ends_noted}
 use Rattle.mb_world.proofs.Positions.{at_one}
 use Rattle.mb_world.proofs.ReportPositions.{IsInside, begun_is, diary_none, inside, left_is, no_lane, note_in, notes_is, put_is}

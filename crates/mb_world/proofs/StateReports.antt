@@ -1,7 +1,6 @@
 -- What the state of a world tells is the report of each history that leaves the world.
 use Rattle.std.proofs.Common.{◌≡◌, ◌≢◌, ◌↔◌, ℕ, suc, ◌+◌, ◌*◌, ◌<◌, ◌≤◌, ◌++◌, Bool, true, false, not, List, [], ◌∷◌, length, Option, Some, None, refl, sym, ◌∙◌, ap, subst, inl, inr, arith}
-use Rattle.std.specs.Prelude.{reverse, slice_get}
-use Rattle.std.specs.List.{filter_map}
+use Rattle.std.proofs.Common.{reverse, slice_get, filter_map}
 use Rattle.std.specs.Option.{option_map_or}
 use Rattle.std.proofs.lemmas.Bool.{lt-ltb}
 use Rattle.std.proofs.lemmas.List.{append-nil, append_assoc, length-reverse, reverse-append}
@@ -9,25 +8,13 @@ use Rattle.std.proofs.lemmas.List.Elements.{filter_map-append}
 use Rattle.std.proofs.Math.Nat.{mul-le-mul_right}
 use Rattle.mb_claim.specs.declared.access.Stage.TheVariants as stage
 use Rattle.mb_claim.specs.declared.layout.Layout.{Layout}
-use Rattle.mb_cells.specs.State.{item_in}
-use Rattle.mb_world.specs.declared.report.Note.{Note}
+use Rattle.mb_cells.specs.Vocabulary.{item_in}
+use Rattle.mb_world.specs.Vocabulary.{Note, Place, Has, IsClaimPrefix, IsOnceEach, ObjectTurn, claim_part, linked_cells, Plan, consumers_of, DiaryView, LaneView, ReportView, diary, note}
+use Rattle.mb_world.specs.Vocabulary.{notes, items_where, EndsAs, parts_of, IsDiaryOf, IsReportOf, is_taken, is_took, lane_view, plan_in, AreSound, WorldHistory, claim_accesses}
+use Rattle.mb_world.specs.Vocabulary.{histories_of, lane_part, pool_accesses, has_begun, IsOnPath, IsPlaceAfter, IsPlaceAt, IsWorldAfter, WorldState, has_begun_at, AreDiariesTold}
+use Rattle.mb_world.specs.Vocabulary.{AreLanesTold, IsDiaryTold, IsLaneTold, IsWalked, begun_on, is_taken_on, note_on, note_there, WorldKnown}
 use Rattle.mb_world.specs.declared.report.Note.TheVariants.{Took, Lost, Undecided}
-use Rattle.mb_world.specs.declared.place.Place.{Place}
 use Rattle.mb_world.specs.declared.place.Place.TheVariants.{At, Before}
-use Rattle.mb_world.specs.Imports.{Has, IsClaimPrefix, IsOnceEach, ObjectTurn, claim_part, linked_cells}
-use Rattle.mb_world.specs.Plan.{Plan, consumers_of}
-use Rattle.mb_world.specs.Report.{DiaryView, LaneView, ReportView, diary, note, notes}
-use Rattle.mb_world.specs.Assignment.{items_where}
-use Rattle.mb_world.specs.Fitting.{EndsAs, parts_of}
-use Rattle.mb_world.specs.Reporting.{IsDiaryOf, IsReportOf, is_taken, is_took, lane_view}
-use Rattle.mb_world.specs.Setups.{plan_in}
-use Rattle.mb_world.specs.Sound.{AreSound}
-use Rattle.mb_world.specs.World.{WorldHistory, claim_accesses, histories_of, lane_part, pool_accesses}
-use Rattle.mb_world.specs.ConsumerPath.{has_begun}
-use Rattle.mb_world.specs.Worlds.{IsOnPath}
-use Rattle.mb_world.specs.WorldState.{IsPlaceAfter, IsPlaceAt, IsWorldAfter, WorldState}
-use Rattle.mb_world.specs.Places.{has_begun_at}
-use Rattle.mb_world.specs.StateReport.{AreDiariesTold, AreLanesTold, IsDiaryTold, IsLaneTold, IsWalked, begun_on, is_taken_on, note_on, note_there}
 use Rattle.mb_world.proofs.Cells.{has_cell-true}
 use Rattle.mb_world.proofs.PathDiaries.{ends_length}
 use Rattle.mb_world.proofs.Positions.{HasPosition, at_has, has_at, reverse_at}
@@ -35,7 +22,6 @@ use Rattle.mb_world.proofs.StateNotes.{any_below-same, items_chosen, none_noted,
 use Rattle.mb_world.proofs.Tracks.{AreEnds, EndsIn, closed, ends_more, ends_some}
 use Rattle.mb_world.proofs.WorldClaims.{end_here, met_all, on_lane, tracks}
 use Rattle.mb_world.proofs.WorldDiaries.{diary_is, ended_within, no_other}
-use Rattle.mb_world.specs.WorldKnown.{WorldKnown}
 use mathlib.Core.List.{reverse-cons}
 
 -- ---- lists of cells

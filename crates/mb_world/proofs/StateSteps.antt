@@ -5,19 +5,8 @@ use Rattle.std.proofs.lemmas.Bool.{cases_eq}
 use Rattle.std.proofs.lemmas.List.{length-set}
 use Rattle.mb_claim.specs.States.{IsMemoryOf}
 use Rattle.mb_cells.specs.State.{IsAfter}
-use Rattle.mb_world.specs.declared.event.Answer.{Answer}
-use Rattle.mb_world.specs.declared.event.Event.{Event}
-use Rattle.mb_world.specs.declared.report.Note.{Note}
-use Rattle.mb_world.specs.declared.place.Place.{Place}
-use Rattle.mb_world.specs.Imports.{ObjectTurn}
-use Rattle.mb_world.specs.Plan.{Plan, consumers_of}
-use Rattle.mb_world.specs.Setups.{layout_of, plan_in}
-use Rattle.mb_world.specs.World.{WorldAccess, WorldHistory, claim_accesses, lane_part, pool_accesses}
-use Rattle.mb_world.specs.ConsumerPath.{ConsumerPath}
-use Rattle.mb_world.specs.Worlds.{ConsumerAdds}
-use Rattle.mb_world.specs.WorldState.{IsNoteAfter, IsPlaceAfter, IsPlaceAt, WorldIsSound, IsWorldAfter, WorldState}
-use Rattle.mb_world.specs.Replay.{with_access}
-use Rattle.mb_world.specs.EventSteps.{EventAdds}
+use Rattle.mb_world.specs.Vocabulary.{Answer, Event, Note, Place, ObjectTurn, Plan, consumers_of, layout_of, plan_in, WorldAccess, WorldHistory, claim_accesses, lane_part, pool_accesses}
+use Rattle.mb_world.specs.Vocabulary.{ConsumerPath, ConsumerAdds, IsNoteAfter, IsPlaceAfter, IsPlaceAt, WorldIsSound, IsWorldAfter, WorldState, with_access, EventAdds}
 use Rattle.mb_world.proofs.StateEnds.{Ends}
 use Rattle.mb_world.proofs.Grids.{HasAll, all_kept, all_set}
 

@@ -11,18 +11,12 @@ use Rattle.mb_world.specs.declared.event.Answer.TheVariants as answer
 use Rattle.mb_world.specs.declared.event.Event.TheVariants as event
 use Rattle.mb_world.specs.declared.report.Note.TheVariants.{Took}
 use Rattle.mb_world.specs.declared.place.Place.TheVariants.{At, Before}
-use Rattle.mb_world.specs.Imports.{IsClaimPrefix, Item, MayRead, Reader, claim_part, part}
-use Rattle.mb_world.specs.Plan.{consumers_of}
-use Rattle.mb_world.specs.World.{WorldAccess, WorldHistory, claim_accesses, lane_part, pool_accesses}
-use Rattle.mb_world.specs.ConsumerPath.{ConsumerPath, takes}
-use Rattle.mb_world.specs.Worlds.{ConsumerAdds}
-use Rattle.mb_world.specs.WorldState.{IsWorldAfter, WorldState}
-use Rattle.mb_world.specs.EventSteps.{EventAdds, with_note, with_place}
+use Rattle.mb_world.specs.Vocabulary.{IsClaimPrefix, Item, MayRead, Reader, claim_part, part, consumers_of, WorldAccess, WorldHistory, claim_accesses, lane_part, pool_accesses, ConsumerPath}
+use Rattle.mb_world.specs.Vocabulary.{takes, ConsumerAdds, IsWorldAfter, WorldState, EventAdds, with_note, with_place, StepKnown}
 use Rattle.mb_world.proofs.HeldStates.{AtCell, at_cell, below, part_is, prefix, unread}
 use Rattle.mb_world.proofs.LoadStates.{adds, given, load_adds, loaded}
 use Rattle.mb_world.proofs.StateEnds.{HasItem, item_loads, load_keeps, this_load, won_end}
 use Rattle.mb_world.proofs.StateSteps.{AreNotes, notes_set, own_place, plan, places_set}
-use Rattle.mb_world.specs.StepKnown.{StepKnown}
 
 module _ (s : WorldState) (h : WorldHistory) (is : IsWorldAfter h s) (c p : ℕ) (cs : c < consumers_of (plan s h is))
     (ps : p < (plan s h is).lanes) (known : StepKnown s h c p) (k : ℕ) (claim : Claim)

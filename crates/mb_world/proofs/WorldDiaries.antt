@@ -3,15 +3,9 @@ use Rattle.std.proofs.Common.{◌≡◌, ◌≢◌, ◌↔◌, ℕ, ◌<◌, tru
 use Rattle.std.specs.Prelude.{filter, reverse, slice_get}
 use Rattle.std.proofs.lemmas.List.{length-reverse}
 use Rattle.mb_claim.specs.declared.access.Stage.TheVariants as stage
-use Rattle.mb_world.specs.declared.report.Note.{Note}
+use Rattle.mb_world.specs.Vocabulary.{Note, Gave, Has, History, IsClaimPrefix, IsOnceEach, Item, ObjectTurn, Word, claim_part, has_cell, is_of_lane, linked_cells, Plan, EndsAs, parts_of}
+use Rattle.mb_world.specs.Vocabulary.{IsDiaryOf, WorldHistory, claim_accesses, histories_of, lane_part, pool_accesses, ConsumerPath, diary_at, has_begun, IsOnPath, IsWorldLawful, WorldKnown}
 use Rattle.mb_world.specs.declared.report.Note.TheVariants.{Took, Lost, Undecided}
-use Rattle.mb_world.specs.Imports.{Gave, Has, History, IsClaimPrefix, IsOnceEach, Item, ObjectTurn, Word, claim_part, has_cell, is_of_lane, linked_cells}
-use Rattle.mb_world.specs.Plan.{Plan}
-use Rattle.mb_world.specs.Fitting.{EndsAs, parts_of}
-use Rattle.mb_world.specs.Reporting.{IsDiaryOf}
-use Rattle.mb_world.specs.World.{WorldHistory, claim_accesses, histories_of, lane_part, pool_accesses}
-use Rattle.mb_world.specs.ConsumerPath.{ConsumerPath, diary_at, has_begun}
-use Rattle.mb_world.specs.Worlds.{IsOnPath, IsWorldLawful}
 use Rattle.mb_world.proofs.Cells.{has_cell-true}
 use Rattle.mb_world.proofs.LaneParts.{Has-filter}
 use Rattle.mb_world.proofs.Loads.{gave-gift}
@@ -20,7 +14,6 @@ use Rattle.mb_world.proofs.PathLoads.{path_gave}
 use Rattle.mb_world.proofs.Positions.{HasPosition, at_has, at_reverse, reverse_at}
 use Rattle.mb_world.proofs.Tracks.{EndsIn, Tracks, closed}
 use Rattle.mb_world.proofs.WorldClaims.{end_here, met_all, met_once, on_lane, steps_there, tracks}
-use Rattle.mb_world.specs.WorldKnown.{WorldKnown}
 use Rattle.mb_world.proofs.WorldPool.{load_lane, loads, loads_on, of_lane, on_word, read_there}
 
 -- a cell among those whose claims have ended is one of those met, at the same position

@@ -25,3 +25,4 @@ pub mod Known
 pub mod WorldKnown
 pub mod EventKnown
 pub mod StepKnown
+pub mod Vocabulary

@@ -2,37 +2,20 @@
 //! the laws of claims and of cells that they use. Their proofs are in `proofs/laws/`, one folder for each. They use the
 //! lemmas of `proofs/`.
 ghost use Rattle.std.specs.Prelude.{ℕ, ◌+◌, ◌^◌, ◌≡◌, ◌≢◌, ◌↔◌, ◌<◌, List, [], ◌∷◌, ◌++◌, Option, Some, true, false, reverse, slice_get};
-ghost use Rattle.mb_world.specs.Report.{ReportView, note};
-ghost use Rattle.mb_world.specs.Assignment.{Assignment};
-ghost use Rattle.mb_world.specs.Agreement.{AgreesWith, AreAllTaken, HasCompeted, IsLeftBesideBegun, IsSettled};
-ghost use Rattle.mb_world.specs.Plan.{HasLastObject, Histories, Plan, consumers_of};
-ghost use Rattle.mb_world.specs.Fitting.{cells_met, parts_of};
-ghost use Rattle.mb_world.specs.Sound.{AreSound};
-ghost use Rattle.mb_world.specs.Reporting.{HasMetAll, IsDiaryOf, IsReportOf};
-ghost use Rattle.mb_world.specs.Headline.{IsHonest};
-ghost use Rattle.mb_world.specs.Imports.{Claims, IsQuorumTable, ObjectTurn, claim_part, linked_cells};
-ghost use Rattle.mb_world.specs.declared.report.Note.{Note};
+ghost use Rattle.mb_world.specs.Vocabulary.{ReportView, note, Assignment, AgreesWith, AreAllTaken, HasCompeted, IsLeftBesideBegun, IsSettled, HasLastObject, Histories, Plan, consumers_of};
+ghost use Rattle.mb_world.specs.Vocabulary.{cells_met, parts_of, AreSound, HasMetAll, IsDiaryOf, IsReportOf, IsHonest, Claims, IsQuorumTable, ObjectTurn, claim_part, linked_cells, Note};
+ghost use Rattle.mb_world.specs.Vocabulary.{Setup, plan_in, shape_in, shaped_plan, ConsumerPath, diary_at, Answer, Event, EventKnown, IsAccessOf, HasAnswer, IsRefused, IsRefusedOrMade};
+ghost use Rattle.mb_world.specs.Vocabulary.{IsReplay, WorldAccess, WorldHistory, claim_accesses, histories_of, lane_part, pool_accesses, HasFoundNone, HasPending, has_ended, HasNothing};
+ghost use Rattle.mb_world.specs.Vocabulary.{IsWorldLawful};
 ghost use Rattle.mb_world.specs.declared.report.Note.TheVariants.{Undecided};
-ghost use Rattle.mb_world.specs.declared.setup.Setup.{Setup};
-ghost use Rattle.mb_world.specs.Setups.{plan_in, shape_in, shaped_plan};
 ghost use Rattle.mb_claim.specs.declared.shape.Shape.{Shape};
 ghost use Rattle.mb_quorum.specs.declared.table.TableName.{TableName};
-ghost use Rattle.mb_world.specs.ConsumerPath.{ConsumerPath, diary_at};
 ghost use Rattle.mb_cells.specs.declared.answer.Finish.TheVariants as finish;
 ghost use Rattle.mb_cells.specs.declared.answer.Look.TheVariants as look;
 ghost use Rattle.mb_cells.specs.declared.answer.Offer.TheVariants as offer;
 ghost use Rattle.mb_cells.specs.declared.answer.Push.TheVariants as push;
-ghost use Rattle.mb_world.specs.declared.event.Answer.{Answer};
 ghost use Rattle.mb_world.specs.declared.event.Answer.TheVariants as answer;
-ghost use Rattle.mb_world.specs.declared.event.Event.{Event};
 ghost use Rattle.mb_world.specs.declared.event.Event.TheVariants as event;
-ghost use Rattle.mb_world.specs.EventKnown.{EventKnown};
-ghost use Rattle.mb_world.specs.Replay.{IsAccessOf, HasAnswer, IsRefused, IsRefusedOrMade, IsReplay};
-ghost use Rattle.mb_world.specs.World.{WorldAccess, WorldHistory, claim_accesses, histories_of, lane_part};
-ghost use Rattle.mb_world.specs.World.{pool_accesses};
-ghost use Rattle.mb_world.specs.Imports.{HasFoundNone, HasPending, has_ended};
-ghost use Rattle.mb_world.specs.Waiting.{HasNothing};
-ghost use Rattle.mb_world.specs.Worlds.{IsWorldLawful};
 
 use crate::known::{sound_histories_are_known, worlds_are_known};
 use mb_cells::laws::{

@@ -7,11 +7,8 @@ ghost use Rattle.mb_claim.specs.declared.access.Stage.TheVariants as stage;
 ghost use Rattle.mb_claim.specs.Vocabulary.{most_accesses, shape_of};
 ghost use Rattle.mb_cells.specs.declared.cursor.Cursor.TheVariants.{Past};
 ghost use Rattle.mb_shared_cells.specs.Vocabulary.{ItemMakes};
-ghost use Rattle.mb_mailbox.specs.Imports.{Gave, Stream, Took, claim_stage};
-ghost use Rattle.mb_mailbox.specs.Consumers.{ConsumerView, IsConsumer, IsConsumerOf};
-ghost use Rattle.mb_mailbox.specs.NoteLists.{HasAllRoom, HasRoom, NotesGrow};
-ghost use Rattle.mb_mailbox.specs.Pursuits.{IsPursuit, consumer_with, holding};
-ghost use Rattle.mb_mailbox.specs.Steps.{AreSteps};
+ghost use Rattle.mb_mailbox.specs.Vocabulary.{Gave, Stream, Took, claim_stage, ConsumerView, IsConsumer, IsConsumerOf, HasAllRoom, NotesGrow, IsPursuit, consumer_with, holding, AreSteps};
+ghost use Rattle.mb_mailbox.specs.NoteLists.{HasRoom};
 ghost use Rattle.mb_mailbox.specs.declared.consumer.Poll.TheVariants as poll;
 ghost use Rattle.mb_world.specs.declared.place.Place.TheVariants.{Before};
 

@@ -26,3 +26,25 @@ returns-clause-all_given g c = (
         c.consumers_left.ensures,
       )) a)),
 )
+
+pub returns-clause-nothing_given : goal.returns-clause-nothing_given
+returns-clause-nothing_given g c = λ a. absurd (⊎_elim
+    (λ e. c.work_with.ensures.all_given e) (λ e. c.work_with.ensures.bad_budget e) a)
+
+pub returns-clause-worked : goal.returns-clause-worked
+returns-clause-worked g c = c.work_with.ensures.worked
+
+pub returns-clause-called : goal.returns-clause-called
+returns-clause-called g c = c.work_with.ensures.called
+
+pub returns-clause-no_thread : goal.returns-clause-no_thread
+returns-clause-no_thread g c = c.work_with.ensures.no_thread
+
+pub returns-clause-some_thread : goal.returns-clause-some_thread
+returns-clause-some_thread g c = c.work_with.ensures.some_thread
+
+pub returns-clause-no_memory : goal.returns-clause-no_memory
+returns-clause-no_memory g c = c.work_with.ensures.no_memory
+
+pub returns-clause-of : goal.returns-clause-of
+returns-clause-of g c = c.work_with.ensures.of

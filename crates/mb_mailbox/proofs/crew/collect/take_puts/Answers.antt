@@ -1,10 +1,14 @@
-use Rattle.std.proofs.Common.{ℕ, ◌^◌, ◌+◌, ◌-◌, ap, min, refl, subst, ◌∙◌}
+use Rattle.std.proofs.Common.{ℕ, ◌≡◌, ◌^◌, ◌+◌, ◌-◌, ◌<◌, ◌∙◌}
+use Rattle.std.proofs.Common.{List, ap, false, length, map, min, refl, subst, sym}
 use Rattle.std.specs.Int.{from_bool}
-use Rattle.std.specs.List.{All}
+use Rattle.std.specs.List.{All, sum_by}
+use Rattle.std.proofs.lemmas.List.{nil_from_length}
 use Rattle.std.proofs.lemmas.List.Elements.{All-head, All-rest}
 use Rattle.mb_mailbox.specs.Producers.{IsProducerOf}
+use Rattle.mb_mailbox.specs.HubRuns.{with_taken_producers}
+use Rattle.mb_mailbox.specs.declared.crew.jobs.PutDone.{PutDone}
 use Rattle.mb_mailbox.proofs.Loops.{full_more, on_more, some_seen, told_more, took_producer_more}
-use Rattle.mb_mailbox.proofs.Zips.{next_seen}
+use Rattle.mb_mailbox.proofs.Zips.{all_seen, next_seen}
 use Rattle.mb_mailbox.proofs.crew.collect.take_puts.Goals as goal
 
 pub take_producer-requires-clause-producer : goal.take_producer-requires-clause-producer
@@ -30,3 +34,26 @@ loop-end-preserved g c = record {
       c.loop-end.invariant.hub c.take_producer.ensures.hub;
   all_of = c.take_producer.ensures.of;
 }
+
+-- the iterator is empty, so all ends were yielded
+pub returns : goal.returns
+returns g c =
+    let none = nil_from_length c.loop-end.end-iterator.rest.items
+    (sym c.loop-end.end-iterator.rest.ok.0 ∙ c.in-None.ensures.steps.0) in
+    let all = all_seen c.loop-end.yielded c.loop-end.end-iterator.rest.items c.args.ends.items
+    c.loop-end.invariant.rest none in
+    let i = c.loop-end.invariant in
+    record {
+      full = subst
+          (λ (l : List (PutDone _)). c.loop-end.full ≡ min (2 ^ 64 - 1) (sum_by (λ d. d.full) l))
+          all i.full;
+      stopped = subst
+          (λ (l : List (PutDone _)). c.loop-end.stopped
+          ≡ min (2 ^ 64 - 1) (sum_by (λ d. from_bool d.stopped) l)) all i.stopped;
+      on = λ o. subst (All (λ d. d.aborted ≡ false)) all (i.on o);
+      told = λ a. i.told (subst (All (λ d. d.aborted ≡ false)) (sym all) a);
+      aborted = λ o. subst (λ (l : List (PutDone _)). 0 < length l) all (i.aborted o);
+      hub = i.hub ∙ ap (λ (l : List (PutDone _)). with_taken_producers
+          (map (λ d. d.producer) l) c.args.hub.now) all;
+      of = i.all_of;
+    }

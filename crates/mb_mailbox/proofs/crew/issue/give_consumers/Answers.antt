@@ -1,9 +1,8 @@
 use Rattle.std.proofs.Common.{arith, ap, sym, ◌∙◌, ◌++◌, length, None, [], ◌∷◌}
-use Rattle.std.proofs.lemmas.Grind.{common_steps}
 use Rattle.std.proofs.lemmas.List.{length-append, map-append, nil_from_length}
 use Rattle.mb_mailbox.specs.Hubs.{HubView, with_consumer}
 use Rattle.mb_mailbox.proofs.HubRuns.{consumers_snoc}
-use Rattle.mb_mailbox.proofs.Loops.{new_number, poll_jobs_more}
+use Rattle.mb_mailbox.proofs.Loops.{left_more, new_number, poll_jobs_more, room_still}
 use Rattle.mb_mailbox.proofs.Zips.{all_seen, next_seen}
 use Rattle.mb_mailbox.proofs.crew.issue.give_consumers.Goals as goal
 
@@ -19,8 +18,8 @@ loop-rng-preserved g c =
       rest = next_seen _ _ _ _ _ i.rest c.in-Some.ensures.steps.0;
       sources = rw c.push_reserved.ensures.items
           (map-append (λ j. j.rng) c.loop-rng.jobs.items _ ∙ ap (λ l. l ++ c.in-Some.rng ∷ []) i.sources);
-      left = grind (arith, common_steps);
-      room = grind (arith, common_steps);
+      left = left_more _ _ _ _ _ i.left c.push_reserved.ensures.len c.in-Some.ensures.steps.1;
+      room = room_still _ _ _ i.room c.push_reserved.ensures.capacity;
       jobs = rw c.push_reserved.ensures.items
           (poll_jobs_more c.args.mailbox.now (length c.args.hub.now.ledgers)
           (length c.loop-rng.hub.ledgers) c.loop-rng.jobs.items _

@@ -1,10 +1,10 @@
-use Rattle.std.proofs.Common.{arith, subst, sym, ◌∙◌}
+use Rattle.std.proofs.Common.{subst, sym, ◌∙◌}
 use Rattle.std.specs.List.{All, AllZip}
 use Rattle.std.proofs.lemmas.List.{nil_from_length}
-use Rattle.std.proofs.lemmas.Grind.{common_steps}
 use Rattle.std.proofs.lemmas.List.Elements.{All-head, All-rest}
 use Rattle.mb_mailbox.specs.Begun.{PollPromises}
 use Rattle.mb_mailbox.specs.Consumers.{IsConsumerOf}
+use Rattle.mb_mailbox.proofs.Loops.{left_more, room_still}
 use Rattle.mb_mailbox.proofs.Zips.{all_seen, next_seen, zip_more}
 use Rattle.mb_mailbox.proofs.crew.spawn.start_polls.Goals as goal
 
@@ -13,8 +13,9 @@ loop-job-preserved g c = record {
   rest = next_seen _ _ _ _ _ c.loop-job.invariant.rest c.in-Some.ensures.steps.0;
   all_of = All-rest (λ j. IsConsumerOf c.args.mailbox.now j.consumer) c.in-Some.job _ _
       c.in-Some.ensures.steps.0 c.loop-job.invariant.all_of;
-  left = grind (arith, common_steps);
-  room = grind (arith, common_steps);
+  left = left_more _ _ _ _ _ c.loop-job.invariant.left c.push_reserved.ensures.len
+      c.in-Some.ensures.steps.1;
+  room = room_still _ _ _ c.loop-job.invariant.room c.push_reserved.ensures.capacity;
   promised = rw c.push_reserved.ensures.items
       (zip_more (PollPromises g.G.Gate.may_stop g.G.Gate.may_pass g.R.Rng.stream c.args.gate.now
       c.args.lanes.from c.args.lanes.end c.args.lanes.budget) c.loop-job.yielded

@@ -1,5 +1,4 @@
-use Rattle.std.proofs.Common.{◌≡◌, ◌≢◌, ℕ, zero, suc, ◌<◌, ◌≤◌, Bool, true, false, List, [], ◌∷◌, ◌++◌, refl, sym, ◌∙◌, subst, inl, arith}
-use Rattle.std.specs.Prelude.{Some, reverse, slice_get}
+use Rattle.std.proofs.Common.{◌≡◌, ◌≢◌, ℕ, zero, suc, ◌<◌, ◌≤◌, Bool, true, false, List, [], ◌∷◌, ◌++◌, refl, sym, ◌∙◌, subst, inl, arith, Some, reverse, slice_get}
 use Rattle.std.proofs.lemmas.Option.{slice_get_within}
 use Rattle.mb_claim.specs.Rows.{fast_row, last_row, pairs_of, row_of}
 use Rattle.mb_claim.specs.Vocabulary.{pair_count, shape_of}
@@ -9,15 +8,10 @@ use Rattle.mb_deciding.specs.declared.object.Kind.TheVariants.{Ratifier}
 use Rattle.mb_deciding.specs.Vocabulary.{spread}
 use Rattle.mb_cells.specs.Vocabulary.{IsPoolLawful, fetch, part}
 use Rattle.mb_cells.specs.declared.access.Process.TheVariants.{Producer}
-use Rattle.mb_world.specs.Fitting.{parts_of as parts_in}
+use Rattle.mb_world.specs.Vocabulary.{parts_of as parts_in, Histories, consumers_of, size_of, notes, HasMetAll, IsReportOf, AreSound}
 use Rattle.mb_world.specs.PartSteps.{no_parts}
-use Rattle.mb_world.specs.Plan.{Histories, consumers_of, size_of}
-use Rattle.mb_world.specs.Report.{notes}
-use Rattle.mb_world.specs.Reporting.{HasMetAll, IsReportOf}
-use Rattle.mb_world.specs.Sound.{AreSound}
-use Rattle.mb_mailbox.specs.Imports.{Claim, Fits, Has, IsClaimIn, IsClaimPrefix, ObjectTurn, Parts, Undecided, cells_met, claim_stage, consumer_count, consumer_of, linked_cells}
-use Rattle.mb_mailbox.specs.Hubs.{HubView}
-use Rattle.mb_mailbox.specs.Mailboxes.{MailboxView, plan_at}
+use Rattle.mb_mailbox.specs.Vocabulary.{Claim, Fits, Has, IsClaimIn, IsClaimPrefix, ObjectTurn, Parts, Undecided, cells_met, claim_stage, consumer_count, consumer_of, linked_cells, HubView}
+use Rattle.mb_mailbox.specs.Vocabulary.{MailboxView, plan_at}
 use Rattle.mb_mailbox.proofs.Counted.{at_start, counted, is_noted}
 use Rattle.mb_mailbox.proofs.Lists.{some_same}
 use Rattle.mb_mailbox.proofs.Reported.{diary_told, report_is}
