@@ -127,7 +127,8 @@ module _ (u : ObjectSetup) (schedule : List (ℕ × ℕ)) (state : CourseState) 
 
   -- with an access of a process that has not ended, the run is that of the longer schedule
   pub course_accessed :
-      IsTableFor u.kind u.table → (words : ObjectMemory) (p word : ℕ) (next : Next) (act : Act) → p < length state.places
+      IsTableFor u.kind u.table
+      → (words : ObjectMemory) (p word : ℕ) (next : Next) (act : Act) → p < length state.places
       → (HasEnded (object_in u) p past → ⊥)
       → IsObjectLawful (object_in u) (record { process = p; turn = record { act = act; word = word } } ∷ past)
       → IsMemory words (record { process = p; turn = record { act = act; word = word } } ∷ past)

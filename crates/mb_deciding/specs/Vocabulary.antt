@@ -1,25 +1,19 @@
 -- The definitions that the crates above use in clauses and proofs. Types they take from `specs.declared`, since another
 -- crate cannot name a type that a module here passes on.
-pub use Rattle.mb_deciding.specs.History.{is_same_reg, reg_of_act, loaded_by, stored_by, value_after, value_in}
-pub use Rattle.mb_deciding.specs.History.{ReadsLast, IsMemoryTrue, IsSameOp, IsActInWords, IsInWords, AreInWords}
-pub use Rattle.mb_deciding.specs.History.{turn_by, part, acts, Has}
+pub use Rattle.mb_deciding.specs.History.{is_same_reg, reg_of_act, loaded_by, stored_by, value_after, value_in, ReadsLast, IsMemoryTrue, IsSameOp, IsActInWords}
+pub use Rattle.mb_deciding.specs.History.{IsInWords, AreInWords, turn_by, part, acts, Has}
 pub use Rattle.mb_deciding.specs.ConciliatorPaths.{StoresOn, IsMissing, IsDrawn, IsPut, IsConciliatorPath}
-pub use Rattle.mb_deciding.specs.RatifierPaths.{acts_below, stores_below, zeros_below, announcement, Prefers}
-pub use Rattle.mb_deciding.specs.RatifierPaths.{ReadsClear, ReadsOne, IsRatifierPath}
+pub use Rattle.mb_deciding.specs.RatifierPaths.{acts_below, stores_below, zeros_below, announcement, Prefers, ReadsClear, ReadsOne, IsRatifierPath}
 pub use Rattle.mb_deciding.specs.LastPaths.{IsLastPath}
-pub use Rattle.mb_deciding.specs.OneObject.{Object, object_of, ratifier_of, conciliator_of, ObjectIsSound, ObjectSetup}
-pub use Rattle.mb_deciding.specs.OneObject.{setup_of, object_in}
-pub use Rattle.mb_deciding.specs.Objects.{answer, IsPath, IsPrefix, IsOpen, IsObjectLawful, HasOutput, IsAnnounced}
-pub use Rattle.mb_deciding.specs.Objects.{CanHold, largest_quorum, most_turns}
-pub use Rattle.mb_deciding.specs.Deciding.{IsValid, IsCoherent, IsAccepted, IsContested, ChecksKeepOut, stores_in}
-pub use Rattle.mb_deciding.specs.Deciding.{IsFirstMover, IsDeciding, IsRatifying}
-pub use Rattle.mb_deciding.specs.Place.{IsLeast, IsRest, IsRatifierPlace, HasLimits, IsConciliatorPlace, IsPlace}
-pub use Rattle.mb_deciding.specs.Place.{IsInRatifier, IsInConciliator, PcIsAt, IsRatifierOp, IsConciliatorOp, IsLastOp}
-pub use Rattle.mb_deciding.specs.Place.{IsOpAt}
-pub use Rattle.mb_deciding.specs.Place.{act_of, reg_of, HasReg, CanFind, IsReached, IsNext, seen_by, turn_after}
+pub use Rattle.mb_deciding.specs.OneObject.{Object, object_of, ratifier_of, conciliator_of, ObjectIsSound, ObjectSetup, setup_of, object_in}
+pub use Rattle.mb_deciding.specs.Objects.{answer, IsPath, IsPrefix, IsOpen, IsObjectLawful, HasOutput, IsAnnounced, CanHold, largest_quorum, most_turns}
+pub use Rattle.mb_deciding.specs.Deciding.{IsValid, IsCoherent, IsAccepted, IsContested, ChecksKeepOut, stores_in, IsFirstMover, IsDeciding, IsRatifying}
+pub use Rattle.mb_deciding.specs.Place.{IsLeast, IsRest, IsRatifierPlace, HasLimits, IsConciliatorPlace, IsPlace, IsInRatifier, IsInConciliator, PcIsAt}
+pub use Rattle.mb_deciding.specs.Place.{IsRatifierOp, IsConciliatorOp, IsLastOp, IsOpAt, act_of, reg_of, HasReg, CanFind, IsReached, IsNext, seen_by}
+pub use Rattle.mb_deciding.specs.Place.{turn_after}
 pub use Rattle.mb_deciding.specs.OneStep.{next_from, IsStep}
 pub use Rattle.mb_deciding.specs.Bounds.{turns_left, turns_after}
-pub use Rattle.mb_deciding.specs.Trace.{process_of, with_entry, history_from, history_of, plain_schedule, HasEnded}
-pub use Rattle.mb_deciding.specs.Trace.{IsOutputOf, IsEntryAfter, AreEntriesOf, IsTrace}
+pub use Rattle.mb_deciding.specs.Trace.{process_of, with_entry, history_from, history_of, plain_schedule, HasEnded, IsOutputOf, IsEntryAfter, AreEntriesOf}
+pub use Rattle.mb_deciding.specs.Trace.{IsTrace}
 pub use Rattle.mb_deciding.specs.Spread.{spread}
 pub use Rattle.mb_deciding.specs.Refusals.{first_from, refusal_in, refusal_of, RefusesOnlyFor}

@@ -6,6 +6,13 @@ use crate::memory::{Drawing, Memory};
 use crate::object::Out;
 use mb_quorum::Quorums;
 
+/// The odds that a process stores, after a load of 0: `limit` in `modulus`.
+#[derive(Clone, Copy)]
+struct Odds {
+    limit: u64,
+    modulus: u64,
+}
+
 impl ConciliatorPlace {
     ghost use Rattle.std.specs.Prelude.{◌≡◌, ◌<◌, ◌≤◌, ◌+◌, false, ℕ, None};
     ghost use Rattle.mb_quorum.specs.Vocabulary.{QuorumTable};
@@ -45,7 +52,7 @@ impl ConciliatorPlace {
                 input,
                 limit,
                 modulus,
-            } => self.drawn(values, input, limit, modulus, seen, word),
+            } => self.drawn(values, input, Odds { limit, modulus }, seen, word),
             Self::Put { input } => self.put(input),
             Self::Look { input } => Self::looked(values, input, seen),
         }
@@ -79,7 +86,7 @@ impl ConciliatorPlace {
                 modulus,
             } => {
                 let seen = memory.perform(object, Op::Load(Reg::Value));
-                self.drawn(values, input, limit, modulus, seen, word)
+                self.drawn(values, input, Odds { limit, modulus }, seen, word)
             }
             Self::Put { input } => {
                 memory.perform(object, Op::Store(Reg::Value, u64::from(input) + 1));
@@ -131,7 +138,7 @@ impl ConciliatorPlace {
                 limit,
                 modulus,
             };
-            if let Some(out) = place.drawn(values, input, limit, modulus, seen, word) {
+            if let Some(out) = place.drawn(values, input, Odds { limit, modulus }, seen, word) {
                 return Next::Out(out);
             }
             let Self::Draw { limit: next, .. } = place else {
@@ -191,38 +198,29 @@ impl ConciliatorPlace {
 
     /// What follows the load of a process that has not stored.
     #[inline(always)]
-    fn drawn(
-        &mut self,
-        values: u32,
-        input: u32,
-        limit: u64,
-        modulus: u64,
-        seen: u64,
-        word: u64,
-    ) -> Option<Out>
-        requires { IsConciliatorPlace values (Draw input limit modulus) }
+    fn drawn(&mut self, values: u32, input: u32, odds: Odds, seen: u64, word: u64) -> Option<Out>
+        requires { IsConciliatorPlace values (Draw input odds.limit odds.modulus) }
         ensures fits { (t : QuorumTable) → t.values ≡ values
             → IsNext t (next_from result (InConciliator self.new)) }
         ensures fewer { (t : QuorumTable)
             → turns_after t (next_from result (InConciliator self.new))
-            < turns_left t (InConciliator (Draw input limit modulus)) }
+            < turns_left t (InConciliator (Draw input odds.limit odds.modulus)) }
         ensures reached { (t : QuorumTable) → t.values ≡ values
-            → ConciliatorReaches t (Draw input limit modulus) seen word
+            → ConciliatorReaches t (Draw input odds.limit odds.modulus) seen word
             (next_from result (InConciliator self.new)) }
         ensures same { (i l m : ℕ) → result ≡ None → self.new ≡ Draw i l m
-            → (i ≡ input) × (m ≡ modulus) }
+            → (i ≡ input) × (m ≡ odds.modulus) }
     {
         if seen != 0 {
             Some(Self::met(values, input, seen))
-        } else if word & (modulus - 1) < limit {
+        } else if word & (odds.modulus - 1) < odds.limit {
             *self = Self::Put { input };
             None
         } else {
-            let limit = limit * 2;
             *self = Self::Draw {
                 input,
-                limit,
-                modulus,
+                limit: odds.limit * 2,
+                modulus: odds.modulus,
             };
             None
         }
