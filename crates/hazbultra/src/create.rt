@@ -4,13 +4,10 @@ ghost use Rattle.rand_chacha.specs.ChaCha.{of_seed};
 ghost use Rattle.mb_quorum.specs.declared.table.TableName.{TableName};
 ghost use Rattle.mb_world.specs.Vocabulary.{plan_in, shaped_plan};
 ghost use Rattle.mb_mailbox.specs.Vocabulary.{consumer_count, new_producer, plan_at};
-ghost use Rattle.mb_mailbox.specs.Hubs.{IsNewConsumer, hub_empty};
-ghost use Rattle.mb_mailbox.specs.Hubs.{with_consumer, with_producer};
-ghost use Rattle.hazbultra.specs.Calls.{ConsumerMade, HubGave, HubGaveConsumer, HubMade};
-ghost use Rattle.hazbultra.specs.Calls.{HubWent, IsHub, ProducerMade, table_numbered};
+ghost use Rattle.mb_mailbox.specs.Hubs.{IsNewConsumer, hub_empty, with_consumer, with_producer};
+ghost use Rattle.hazbultra.specs.Calls.{ConsumerMade, HubGave, HubGaveConsumer, HubMade, HubWent, IsHub, ProducerMade, table_numbered};
 ghost use Rattle.hazbultra.specs.Refusals.{refusal_of};
-ghost use Rattle.hazbultra.specs.declared.codes.TheConstants.{ALL_GIVEN, BAD_HANDLE};
-ghost use Rattle.hazbultra.specs.declared.codes.TheConstants.{DONE, NO_MEMORY};
+ghost use Rattle.hazbultra.specs.declared.codes.TheConstants.{ALL_GIVEN, BAD_HANDLE, DONE, NO_MEMORY};
 
 use crate::boundary::SetupIn;
 use crate::codes::{

@@ -1,17 +1,14 @@
 -- `into_box`: what the parts own is what `from_raw` asks for, and its box is the result.
-use Rattle.hazbultra.proofs.Steps.{◌≡◌, refl, sym, subst, ap, List, [], ◌∷◌, ◌++◌, T, Ura, Body, Fn}
-use Rattle.hazbultra.proofs.Steps.{assign, copy, place, return, rv_opd, seq, inst_fn, Val, WT}
-use Rattle.hazbultra.proofs.Steps.{has_ty, vptr, SProp, ent, id⊢, flft, fsep, ftrue, ◌⊑◌, Fun, fact}
-use Rattle.hazbultra.proofs.Steps.{tables, tables_of, Memory, Routine, Tables, WpFn, WpFn-mono}
-use Rattle.hazbultra.proofs.Steps.{fm_of, Logic, Item, ⋆, at_ret, ‵, raw, ◌⊛◌, some, later, ◌$◌}
-use Rattle.hazbultra.proofs.Steps.{◌∵◌, !, qed, by, move, drop, use1, join, split, split3, pick}
-use Rattle.hazbultra.proofs.Steps.{rewrite, fsplit, fjoin, feq_i, suffices, await, done, sub, whole}
-use Rattle.hazbultra.proofs.Steps.{and_then, blocks, enter, exec, first, fld, no_more, of_opd}
-use Rattle.hazbultra.proofs.Steps.{returns, stop, alloc_all, env, free_all, get, get_in, lands_last}
-use Rattle.hazbultra.proofs.Steps.{look_at, pass_all, sets, no, RattleType, block_ptr, plain, heard}
-use Rattle.hazbultra.proofs.Steps.{nothing, only, calls_at_last, Clauses, Ended, triple_of}
-use Rattle.hazbultra.proofs.Steps.{Contract, Triple, entered, Stays, ends_at, says, stay_dropped}
-use Rattle.hazbultra.proofs.Steps.{walk_Meets, walk_of, Goes-blank, token, box_owns, B, Bx, D, P, R}
+use Rattle.hazbultra.proofs.Steps.{◌≡◌, refl, sym, subst, ap, List, [], ◌∷◌, ◌++◌, T, Ura, Body, Fn, assign, copy}
+use Rattle.hazbultra.proofs.Steps.{place, return, rv_opd, seq, inst_fn, Val, WT, has_ty, vptr, SProp, ent, id⊢, flft}
+use Rattle.hazbultra.proofs.Steps.{fsep, ftrue, ◌⊑◌, Fun, fact, tables, tables_of, Memory, Routine, Tables, WpFn}
+use Rattle.hazbultra.proofs.Steps.{WpFn-mono, fm_of, Logic, Item, ⋆, at_ret, ‵, raw, ◌⊛◌, some, later, ◌$◌, ◌∵◌, !, qed}
+use Rattle.hazbultra.proofs.Steps.{by, move, drop, use1, join, split, split3, pick, rewrite, fsplit, fjoin, feq_i}
+use Rattle.hazbultra.proofs.Steps.{suffices, await, done, sub, whole, and_then, blocks, enter, exec, first, fld}
+use Rattle.hazbultra.proofs.Steps.{no_more, of_opd, returns, stop, alloc_all, env, free_all, get, get_in, lands_last}
+use Rattle.hazbultra.proofs.Steps.{look_at, pass_all, sets, no, RattleType, block_ptr, plain, heard, nothing, only}
+use Rattle.hazbultra.proofs.Steps.{calls_at_last, Clauses, Ended, triple_of, Contract, Triple, entered, Stays, ends_at}
+use Rattle.hazbultra.proofs.Steps.{says, stay_dropped, walk_Meets, walk_of, Goes-blank, token, box_owns, B, Bx, D, P, R}
 use Rattle.hazbultra.proofs.Steps.{args, box_ty, box_typed, word, box_in, box_out}
 use Rattle.hazbultra.specs.contracts.handle.block.parts.Parts as parts
 use Rattle.hazbultra.specs.contracts.handle.block.parts.Parts.into_box as f

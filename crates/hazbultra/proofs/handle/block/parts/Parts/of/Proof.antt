@@ -1,20 +1,16 @@
 -- `of`: `into_raw_with_allocator` gives the pointer, the allocator and what the box owned, and the
 -- parts own it.
-use Rattle.hazbultra.proofs.Steps.{◌≡◌, refl, sym, subst, ap, ◌∙◌, List, [], ◌∷◌, ◌++◌, Ura, Args}
-use Rattle.hazbultra.proofs.Steps.{Dict, Fn, a_type, dcons, dnil, inst_fn, bare, Val, of_list}
-use Rattle.hazbultra.proofs.Steps.{vstruct, SProp, ent, fst∗, id⊢, never, flft, fsep, ftrue, ◌⊑◌}
-use Rattle.hazbultra.proofs.Steps.{Fun, fact, tables, tables_of, Memory, Routine, Tables, WpFn}
-use Rattle.hazbultra.proofs.Steps.{WpFn-mono, fm_of, Logic, sem, Item, ⋆, ‵, raw, ◌⊛◌, some, later}
-use Rattle.hazbultra.proofs.Steps.{◌$◌, ◌∵◌, !, qed, by, move, drop, use1, join, split, split3}
-use Rattle.hazbultra.proofs.Steps.{pick, rewrite, fsplit, fjoin, fpick, feq_l, suffices, await}
-use Rattle.hazbultra.proofs.Steps.{done, agg, sub, whole, and_then, enter, fld, no_more, of_opd}
-use Rattle.hazbultra.proofs.Steps.{returns, stop, alloc_all, free_all, get, get_in, lands_as}
-use Rattle.hazbultra.proofs.Steps.{look_at, pass_all, sets, no, bounded, RattleType, Ptr, RawPtr}
-use Rattle.hazbultra.proofs.Steps.{block_ptr, in_a_block, null_ptr, ptr_val, plain, heard, nothing}
-use Rattle.hazbultra.proofs.Steps.{only, Tuple, calls_at, Clauses, Ended, triple_of, Contract}
-use Rattle.hazbultra.proofs.Steps.{Triple, entered, Stays, ends_at, says, stay_dropped, walk_Meets}
-use Rattle.hazbultra.proofs.Steps.{walk_of, Goes-blank, handle_tells, token, box_owns, B, Bx, D, P}
-use Rattle.hazbultra.proofs.Steps.{R, box_typed, word, τ, box_in, box_out}
+use Rattle.hazbultra.proofs.Steps.{◌≡◌, refl, sym, subst, ap, ◌∙◌, List, [], ◌∷◌, ◌++◌, Ura, Args, Dict, Fn, a_type}
+use Rattle.hazbultra.proofs.Steps.{dcons, dnil, inst_fn, bare, Val, of_list, vstruct, SProp, ent, fst∗, id⊢, never}
+use Rattle.hazbultra.proofs.Steps.{flft, fsep, ftrue, ◌⊑◌, Fun, fact, tables, tables_of, Memory, Routine, Tables, WpFn}
+use Rattle.hazbultra.proofs.Steps.{WpFn-mono, fm_of, Logic, sem, Item, ⋆, ‵, raw, ◌⊛◌, some, later, ◌$◌, ◌∵◌, !, qed}
+use Rattle.hazbultra.proofs.Steps.{by, move, drop, use1, join, split, split3, pick, rewrite, fsplit, fjoin, fpick}
+use Rattle.hazbultra.proofs.Steps.{feq_l, suffices, await, done, agg, sub, whole, and_then, enter, fld, no_more, of_opd}
+use Rattle.hazbultra.proofs.Steps.{returns, stop, alloc_all, free_all, get, get_in, lands_as, look_at, pass_all, sets}
+use Rattle.hazbultra.proofs.Steps.{no, bounded, RattleType, Ptr, RawPtr, block_ptr, in_a_block, null_ptr, ptr_val}
+use Rattle.hazbultra.proofs.Steps.{plain, heard, nothing, only, Tuple, calls_at, Clauses, Ended, triple_of, Contract}
+use Rattle.hazbultra.proofs.Steps.{Triple, entered, Stays, ends_at, says, stay_dropped, walk_Meets, walk_of, Goes-blank}
+use Rattle.hazbultra.proofs.Steps.{handle_tells, token, box_owns, B, Bx, D, P, R, box_typed, word, τ, box_in, box_out}
 use Rattle.hazbultra.specs.contracts.handle.block.parts.Parts as parts
 use Rattle.hazbultra.specs.contracts.handle.block.parts.Parts.of as f
 use Rattle.hazbultra.specs.contracts.handle.block.parts.Parts.of.Key.{name as f_name}
