@@ -45,6 +45,11 @@ fn number<'a>(
         .default_value(default)
 }
 
+/// An option that takes any number.
+fn any_number<'a>(alloc: Global, name: &'a str, default: &'a str, meaning: &'a str) -> Arg<'a> {
+    number(alloc, name, default, 0, u64::MAX, meaning)
+}
+
 /// The command line, as clap needs it.
 fn command<'a>(alloc: Global) -> Result<Command<'a>, AllocError> {
     let jobs = number(alloc, "jobs", "1000", 0, 1 << 32, "How many jobs there are");
@@ -65,20 +70,11 @@ fn command<'a>(alloc: Global) -> Result<Command<'a>, AllocError> {
         1 << 24,
         "How many jobs go into one round at most",
     );
-    let seed = number(
-        alloc,
-        "seed",
-        "0",
-        0,
-        u64::MAX,
-        "The seed of the workers' random words",
-    );
-    let progress = number(
+    let seed = any_number(alloc, "seed", "0", "The seed of the workers' random words");
+    let progress = any_number(
         alloc,
         "progress",
         "0",
-        0,
-        u64::MAX,
         "After how many jobs a line goes to standard error, if not 0",
     );
     Command::new(alloc, "scheduler")
