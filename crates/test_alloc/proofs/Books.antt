@@ -78,7 +78,9 @@ module _ {M : Type 1} {𝓤 : Ura M} (𝓛 : Logic 𝓤) (at_mem : Memory → SP
     pub Refuses-gives : (v : Val) → ent 𝓤 (Refuses.post at_refuses v) (H.⇛ (Refused v))
     Refuses-gives v =
         qed 𝓛 (raw (Refuses.post at_refuses v) ∷ []) ∵ updating ! $
-        use1 𝓛 (later (some (λ (y : Bool). ((‵ (flft κ q) ⊛ ‵ ftrue) ⊛ ‵ (bool.own_val y (v ∷ []))) ⊛ some (λ (ws : Unit {0} × Unit {0}). ‵ (fsep ftrue ftrue) ⊛ ‵ ftrue)))) (id⊢ 𝓤 _) $ await ! tt $ pick ! (λ y.
+        use1 𝓛 (later (some (λ (y : Bool). ((‵ (flft κ q) ⊛ ‵ ftrue) ⊛ ‵ (bool.own_val y (v ∷ []))) ⊛
+        some (λ (ws : Unit {0} × Unit {0}). ‵ (fsep ftrue ftrue) ⊛ ‵ ftrue))))
+        (id⊢ 𝓤 _) $ await ! tt $ pick ! (λ y.
         split ! $ split ! $ move ! (1 ∷ []) $ feq_l !
         (λ e. split ! $ at_once ! $ show ! (λ (z : Bool). guard 𝓤 (v ≡ vbool z) (A.lft κ q)) y $
         check ! (ap only e) $ keep ! (0 ∷ []) $ done !))
@@ -86,13 +88,17 @@ module _ {M : Type 1} {𝓤 : Ura M} (𝓛 : Logic 𝓤) (at_mem : Memory → SP
     pub Gives-gives : (v : Val) → ent 𝓤 (Gives.post at_gives v) (H.⇛ (guard 𝓤 (v ≡ vunit) (A.lft κ q)))
     Gives-gives v =
         qed 𝓛 (raw (Gives.post at_gives v) ∷ []) ∵ updating ! $
-        use1 𝓛 (later (some (λ (u : Unit {0}). ((‵ (flft κ q) ⊛ ‵ ftrue) ⊛ ‵ (unit.own_val u (v ∷ []))) ⊛ some (λ (ws : Unit {0} × Unit {0}). ‵ (fsep ftrue ftrue) ⊛ ‵ ftrue)))) (id⊢ 𝓤 _) $ await ! tt $ pick ! (λ u.
+        use1 𝓛 (later (some (λ (u : Unit {0}). ((‵ (flft κ q) ⊛ ‵ ftrue) ⊛ ‵ (unit.own_val u (v ∷ []))) ⊛
+        some (λ (ws : Unit {0} × Unit {0}). ‵ (fsep ftrue ftrue) ⊛ ‵ ftrue))))
+        (id⊢ 𝓤 _) $ await ! tt $ pick ! (λ u.
         split ! $ split ! $ move ! (1 ∷ []) $ feq_l !
         (λ e. split ! $ at_once ! $ check ! (ap only e) $ keep ! (0 ∷ []) $ done !))
 
     pub TakesBack-gives : (v : Val) → ent 𝓤 (TakesBack.post at_takes_back v) (H.⇛ (guard 𝓤 (v ≡ vunit) (A.lft κ q)))
     TakesBack-gives v =
         qed 𝓛 (raw (TakesBack.post at_takes_back v) ∷ []) ∵ updating ! $
-        use1 𝓛 (later (some (λ (u : Unit {0}). ((‵ (flft κ q) ⊛ ‵ ftrue) ⊛ ‵ (unit.own_val u (v ∷ []))) ⊛ some (λ (ws : Unit {0} × Unit {0}). ‵ (fsep ftrue ftrue) ⊛ ‵ ftrue)))) (id⊢ 𝓤 _) $ await ! tt $ pick ! (λ u.
+        use1 𝓛 (later (some (λ (u : Unit {0}). ((‵ (flft κ q) ⊛ ‵ ftrue) ⊛ ‵ (unit.own_val u (v ∷ []))) ⊛
+        some (λ (ws : Unit {0} × Unit {0}). ‵ (fsep ftrue ftrue) ⊛ ‵ ftrue))))
+        (id⊢ 𝓤 _) $ await ! tt $ pick ! (λ u.
         split ! $ split ! $ move ! (1 ∷ []) $ feq_l !
         (λ e. split ! $ at_once ! $ check ! (ap only e) $ keep ! (0 ∷ []) $ done !))

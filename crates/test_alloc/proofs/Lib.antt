@@ -1,2 +1,5 @@
 mod Imports
+mod Statements
+mod Contracts
+mod Walking
 mod Books

@@ -1,50 +1,19 @@
 -- `allocate` of a faulty heap returns `Err` if the book refuses. Else it returns what the inner allocator returns, and
 -- counts a block if there is one. Assumes `Logic`.
 use Rattle.std.proofs.Common.{◌≡◌, ℕ, ◌+◌, ◌^◌, ◌<◌, Bool, true, false, List, [], ◌∷◌, Ok, Err, refl, sym, subst, w64, Bor}
-use seplogic.Ra.Ura.{Ura}
-use mir.Syntax.{Ty, Args, Fn, a_type, ty_unit, dnil, dcons}
-use mir.Val.{Val, vbool, vint, vptr, vunit, has_ty, WT}
-use mir.MapTy.{inst_fn}
-use lib.Dec.{T}
-use base.Logic.{SProp, ent, sep, id⊢}
-use base.Fml.{Lft, Share, ftrue, flft}
-use prog.Memory.{Memory, size, align, capped, up}
-use prog.Routine.{Routine}
-use prog.Wp.{Env, Wp, WpFn, Tables, after_seq, at_return}
-use types.Logic.{Logic, sem}
-use contract.BorrowLft.{◌⊑◌, ⊑_trans}
-use contract.Monad.{Fun, fact}
 use contract.Running.{tables, tables_of}
-use sound.WpLaws.{fm_of, WpFn-mono}
-use types.Kit.{‵, raw, ◌⊛◌, some, later, given, at_ret, any_q, Post as After, ◌$◌, ◌∵◌, !, qed, by, move, keep, use0, use1, use2, split, join, pick, learn, fsplit, fjoin, suffices, await, done}
-use types.Match.{vrt}
-use types.Part.{agg, whole}
-use types.Run.{stop, fld, addr, lit, of_opd, no_more, and_then, first, branches, switches_on, skips, exec, returns, returns_within, enter}
-use types.ByLocal.{alloc_all, pass_all, free_all, look_at, get, get_tag, through, sets, lands_as, lands_last, env}
-use denote.Builtin.{usize, RefOf}
-use denote.Exit.{yes}
-use denote.Opens.{shr_dup, unhide}
-use denote.Param.{bounded, param}
-use denote.Plain.{uint_vals, uint_Tells}
-use denote.RattleType.{owns}
-use denote.RawPtr.{block_ptr}
-use denote.Ref.{shr_vals}
-use denote.Signature.{Slot, plain, types_at}
-use denote.Steps.{heard, nothing}
-use denote.Triple.Call.{calls_at, calls_at_last}
-use denote.Triple.Clauses.{Ended, Clauses}
-use denote.Triple.Spec.{triple_of}
-use denote.Triple.Statement.{Triple}
-use denote.Triple.Table.{entered, cited}
-use denote.Triple.Walked.{Stays, stay_dropped, walk_of, ends_at, walked, Goes-dropped, walk_Meets}
 use Rattle.std.proofs.alloc.Calls.{Al, α, seen, Answer, answer_val, Answer-typed, Answer-Ok, Answer-err, takes_key, Takes, at_takes, Answered, Takes-goes, Takes-gives, answers}
 use Rattle.std.proofs.alloc.Shapes.{after, front, arm_body}
+use Rattle.test_alloc.proofs.Statements.{Ura, Ty, Args, Fn, a_type, ty_unit, dnil, dcons, Val, vbool, vint, vptr, vunit, has_ty, WT, inst_fn, T, SProp, ent, sep, id⊢, Lft, Share, ftrue}
+use Rattle.test_alloc.proofs.Statements.{flft, Memory, size, align, capped, up, Routine, Env, Wp, WpFn, Tables, after_seq, at_return, Logic, sem, ◌⊑◌, ⊑_trans, Fun, fact, fm_of, WpFn-mono}
+use Rattle.test_alloc.proofs.Contracts.{usize, RefOf, yes, bounded, param, uint_vals, uint_Tells, owns, block_ptr, shr_vals, Slot, plain, types_at, Ended, Clauses, triple_of, Triple}
+use Rattle.test_alloc.proofs.Contracts.{entered, cited, Stays, stay_dropped, walk_of, ends_at, walked, Goes-dropped, walk_Meets}
+use Rattle.test_alloc.proofs.Walking.{‵, raw, ◌⊛◌, some, later, given, at_ret, any_q, After, ◌$◌, ◌∵◌, !, qed, by, move, keep, use0, use1, use2, split, join, pick, learn, fsplit, fjoin}
+use Rattle.test_alloc.proofs.Walking.{suffices, await, done, vrt, agg, whole, stop, fld, addr, lit, of_opd, no_more, and_then, first, branches, switches_on, skips, exec, returns}
+use Rattle.test_alloc.proofs.Walking.{returns_within, enter, alloc_all, pass_all, free_all, look_at, get, get_tag, through, sets, lands_as, lands_last, env, shr_dup, unhide, heard, nothing}
+use Rattle.test_alloc.proofs.Walking.{calls_at, calls_at_last}
 use Rattle.test_alloc.proofs.Books.{seen_book, Refuses, at_refuses, Refuses-goes, Refuses-gives, Gives, at_gives, Gives-goes, Gives-gives}
-use Rattle.test_alloc.proofs.counters.Counters.TheLaws as book_laws
-use Rattle.test_alloc.proofs.counters.Counters.refuses.Symbol as asked
-use Rattle.test_alloc.proofs.counters.Counters.refuses.Met as asked_met
-use Rattle.test_alloc.proofs.counters.Counters.gives.Symbol as told
-use Rattle.test_alloc.proofs.counters.Counters.gives.Met as told_met
+use Rattle.test_alloc.proofs.counters.Counters as book
 use Rattle.test_alloc.specs.contracts.counters.Counters as book_row
 use Rattle.test_alloc.specs.contracts.faulty.FaultyHeap as row
 use Rattle.test_alloc.specs.contracts.faulty.FaultyHeapAllocator.allocate as F
@@ -75,8 +44,8 @@ module _ (Z : Al) where
 module _ (Z : Al) {M : Type 1} {𝓤 : Ura M} (𝓛 : Logic 𝓤) (at_mem : Memory → SProp 𝓤)
     (run : Routine → Fun 𝓤) (𝓣 : Tables 𝓤 𝓛.H)
     (inner : Triple 𝓤 (𝓣.C (takes_key Z)) (Takes Z 𝓛 at_mem run))
-    (asks : Triple 𝓤 (𝓣.C asked.name) (Refuses 𝓛 at_mem run))
-    (tells : Triple 𝓤 (𝓣.C told.name) (Gives 𝓛 at_mem run)) where
+    (asks : Triple 𝓤 (𝓣.C book.refuses.Symbol.name) (Refuses 𝓛 at_mem run))
+    (tells : Triple 𝓤 (𝓣.C book.gives.Symbol.name) (Gives 𝓛 at_mem run)) where
   open 𝓛 use {H, A}
 
   abbrev held : Clauses 𝓤 (ended Z)
@@ -130,7 +99,9 @@ module _ (Z : Al) {M : Type 1} {𝓤 : Ura M} (𝓛 : Logic 𝓤) (at_mem : Memo
         split ! $ split ! $ move ! (2 ∷ []) $ fsplit ! $ fsplit ! $ move ! (1 ∷ []) $ unhide ! $
         fsplit ! $ fsplit ! $ use1 𝓛 (‵ (seen Z κ₁ p h)) (id⊢ 𝓤 _) $ move ! (1 ∷ []) $ fsplit !
         $ keep ! (0 ∷ 6 ∷ 2 ∷ 7 ∷ []) $
-        use1 𝓛 (‵ (seen_book κ₁ c r.now.book)) (id⊢ 𝓤 _) $ shr_dup ! book_row.the_row book_laws.the_row_laws.shr_laws r.now.book c.0 c.1 κ₁ $ move ! (0 ∷ 2 ∷ []) $
+        use1 𝓛 (‵ (seen_book κ₁ c r.now.book)) (id⊢ 𝓤 _) $
+        shr_dup ! book_row.the_row book.TheLaws.the_row_laws.shr_laws r.now.book c.0 c.1 κ₁ $
+        move ! (0 ∷ 2 ∷ []) $
         enter ! 𝓣.C 𝓣.Λ (here Z) vs _ $ alloc_all ! (λ l.
         let En : Env 𝓤 H = env (here Z).locals l in
         let Then : After 𝓤 H = any_q (after_seq 𝓤 H
@@ -142,7 +113,9 @@ module _ (Z : Al) {M : Type 1} {𝓤 : Ura M} (𝓛 : Logic 𝓤) (at_mem : Memo
         (Refuses-goes 𝓛 at_mem run κ₁ q₁ c r.now.book) $
         calls_at ! (fm_of 𝓤 H 𝓛.laws 𝓣) (Refuses 𝓛 at_mem run) asks
         (at_refuses 𝓛 at_mem run κ₁ q₁ c r.now.book) (and_then ! (get ! refl) (no_more !)) (λ u.
-        use1 𝓛 (later (some (λ (z : Bool). given (u ≡ vbool z) (‵ (flft κ₁ q₁))))) (Refuses-gives 𝓛 at_mem run κ₁ q₁ c r.now.book u) $ await ! tt $ pick ! (λ z. learn ! (λ eu. lands_as ! eu refl (tt, tt) $
+        use1 𝓛 (later (some (λ (z : Bool). given (u ≡ vbool z) (‵ (flft κ₁ q₁)))))
+        (Refuses-gives 𝓛 at_mem run κ₁ q₁ c r.now.book u) $
+        await ! tt $ pick ! (λ z. learn ! (λ eu. lands_as ! eu refl (tt, tt) $
         first ! $ branches ! (get ! refl)
         (λ t. sets ! (agg ! (no_more !)) refl (tt, tt) $
         sets ! (agg ! (and_then ! (lit ! tt) (and_then ! (get ! refl) (no_more !)))) refl (Answer-typed false 0 0) $
@@ -155,7 +128,8 @@ module _ (Z : Al) {M : Type 1} {𝓤 : Ura M} (𝓛 : Logic 𝓤) (at_mem : Memo
         calls_at ! (fm_of 𝓤 H 𝓛.laws 𝓣) (Takes Z 𝓛 at_mem run) inner y
         (and_then ! (get ! refl) (and_then ! (get ! refl)
         (and_then ! (get ! refl) (no_more !)))) (λ v.
-        use1 𝓛 (later (raw (Answered Z 𝓛 at_mem run h τ v) ⊛ ‵ (flft κ₁ q₁))) (Takes-gives Z 𝓛 at_mem run κ₁ q₁ p h n a τ v) $ await ! tt $ split ! $
+        use1 𝓛 (later (raw (Answered Z 𝓛 at_mem run h τ v) ⊛ ‵ (flft κ₁ q₁)))
+        (Takes-gives Z 𝓛 at_mem run κ₁ q₁ p h n a τ v) $ await ! tt $ split ! $
         answers Z ! at_mem run h τ v
         (λ b o e. fjoin ! $ lands_as ! e refl (Answer-typed true b o) $
         first ! $ switches_on ! (get_tag ! (vrt ! refl (fld ! refl (stop !))) (whole !)) $ exec !
@@ -165,7 +139,8 @@ module _ (Z : Al) {M : Type 1} {𝓤 : Ura M} (𝓛 : Logic 𝓤) (at_mem : Memo
         (Gives-goes 𝓛 at_mem run κ₁ q₁ c r.now.book) $
         calls_at_last ! (fm_of 𝓤 H 𝓛.laws 𝓣) (Gives 𝓛 at_mem run) tells
         (at_gives 𝓛 at_mem run κ₁ q₁ c r.now.book) (and_then ! (get ! refl) (no_more !)) (λ w.
-        use1 𝓛 (later (given (w ≡ vunit) (‵ (flft κ₁ q₁)))) (Gives-gives 𝓛 at_mem run κ₁ q₁ c r.now.book w) $ await ! tt $ learn ! (λ ew.
+        use1 𝓛 (later (given (w ≡ vunit) (‵ (flft κ₁ q₁))))
+        (Gives-gives 𝓛 at_mem run κ₁ q₁ c r.now.book w) $ await ! tt $ learn ! (λ ew.
         lands_last ! refl (subst (λ (x : Val). T (has_ty ty_unit x) × WT x) (sym ew) (tt, tt)) $
         exec ! 𝓣.C 𝓣.Λ En (after 6 (here Z).body) (at_ret En Post) $
         sets ! (of_opd ! (get ! refl)) refl (Answer-typed true b o) $ returns ! (look_at ! 0 refl) $
@@ -200,8 +175,8 @@ allocate_spec 𝓤 𝓛 𝓜 𝓡 wired Y L g d d' met _ =
     (λ κs. (shr_vals, (uint_vals w64, (uint_vals w64, tt))))
     (λ κs. ((λ r vs s. s.0), (uint_Tells w64, (uint_Tells w64, tt))))
     (λ κs qs bounds a τ are. walk Z 𝓛 𝓜.mem 𝓡.returns 𝓣 (met.allocate d')
-    (cited 𝓤 𝓛.H _ 𝓜 𝓡 𝓡.env asked.name (𝓡.env asked.name) refl
-    (asked_met.met 𝓤 𝓛 𝓜 𝓡 (code.calls-test_alloc::counters::Counters::refuses 𝓡.env wired)))
-    (cited 𝓤 𝓛.H _ 𝓜 𝓡 𝓡.env told.name (𝓡.env told.name) refl
-    (told_met.met 𝓤 𝓛 𝓜 𝓡 (code.calls-test_alloc::counters::Counters::gives 𝓡.env wired)))
+    (cited 𝓤 𝓛.H _ 𝓜 𝓡 𝓡.env book.refuses.Symbol.name (𝓡.env book.refuses.Symbol.name) refl
+    (book.refuses.Met.met 𝓤 𝓛 𝓜 𝓡 (code.calls-test_alloc::counters::Counters::refuses 𝓡.env wired)))
+    (cited 𝓤 𝓛.H _ 𝓜 𝓡 𝓡.env book.gives.Symbol.name (𝓡.env book.gives.Symbol.name) refl
+    (book.gives.Met.met 𝓤 𝓛 𝓜 𝓡 (code.calls-test_alloc::counters::Counters::gives 𝓡.env wired)))
     κs.0 κs.1.0 qs.0 qs.1.0 bounds.0 a.0 a.1.0 a.1.1.0 τ are.1.0.1 are.1.1.0.1)))

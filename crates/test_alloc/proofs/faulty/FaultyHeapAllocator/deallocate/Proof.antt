@@ -1,42 +1,16 @@
 -- `deallocate` of a faulty heap counts a block as given back, and gives it to the inner allocator. Assumes `Logic`.
 use Rattle.std.proofs.Common.{◌≡◌, ℕ, ◌+◌, ◌^◌, ◌<◌, List, [], ◌∷◌, refl, w64, Bor}
-use seplogic.Ra.Ura.{Ura}
-use mir.Syntax.{Ty, Args, Fn, a_type, dnil, dcons}
-use mir.Val.{Val, vint, vptr, vunit}
-use mir.MapTy.{inst_fn}
-use base.Logic.{SProp, ent, id⊢, never_e}
-use base.Fml.{Lft, Share, ffalse, froom, fsep, ftrue, flft}
-use prog.Memory.{Memory, size, align, capped, up}
-use prog.Routine.{Routine}
-use prog.Wp.{WpFn, Tables}
-use types.Logic.{Logic}
-use contract.BorrowLft.{◌⊑◌, ⊑_trans}
-use contract.Monad.{Fun, fact}
 use contract.Running.{tables, tables_of}
-use sound.WpLaws.{fm_of, WpFn-mono}
-use types.Kit.{Item, ‵, raw, ◌⊛◌, later, given, ◌$◌, ◌∵◌, !, qed, by, move, keep, use1, use2, split, split3, join, learn, fsplit, fjoin, feq_i, suffices, await, done}
-use types.Run.{stop, fld, addr, of_opd, unit_lit, no_more, and_then, returns, enter}
-use types.ByLocal.{alloc_all, pass_all, free_all, look_at, get, through, sets, lands_as}
-use denote.Builtin.{usize, RawPtr, RefOf}
-use denote.Exit.{yes}
-use denote.Opens.{unhide}
-use denote.Param.{bounded, param}
-use denote.Plain.{uint_vals, uint_Tells}
-use denote.RattleType.{owns}
-use denote.RawPtr.{Ptr, block_ptr, null_ptr, ptr_val, rawptr_vals, rawptr_Tells}
-use denote.Ref.{shr_vals}
-use denote.Signature.{Slot, plain, types_at}
-use denote.Steps.{heard, nothing}
-use denote.Triple.Call.{calls_at}
-use denote.Triple.Clauses.{Ended, Clauses}
-use denote.Triple.Spec.{triple_of}
-use denote.Triple.Statement.{Triple}
-use denote.Triple.Table.{entered, cited}
-use denote.Triple.Walked.{Stays, stay_dropped, walk_of, ends_at, walked, Goes-dropped, walk_Meets}
 use Rattle.std.proofs.alloc.Calls.{Al, α, seen, token, gives_key, Gives, at_gives, Gives-goes, Gives-Gives}
+use Rattle.test_alloc.proofs.Statements.{Ura, Ty, Args, Fn, a_type, dnil, dcons, Val, vint, vptr, vunit, inst_fn, SProp, ent, id⊢, never_e, Lft, Share, ffalse, froom, fsep, ftrue, flft}
+use Rattle.test_alloc.proofs.Statements.{Memory, size, align, capped, up, Routine, WpFn, Tables, Logic, ◌⊑◌, ⊑_trans, Fun, fact, fm_of, WpFn-mono}
+use Rattle.test_alloc.proofs.Contracts.{usize, RawPtr, RefOf, yes, bounded, param, uint_vals, uint_Tells, owns, Ptr, block_ptr, null_ptr, ptr_val, rawptr_vals, rawptr_Tells, shr_vals, Slot}
+use Rattle.test_alloc.proofs.Contracts.{plain, types_at, Ended, Clauses, triple_of, Triple, entered, cited, Stays, stay_dropped, walk_of, ends_at, walked, Goes-dropped, walk_Meets}
+use Rattle.test_alloc.proofs.Walking.{Item, ‵, raw, ◌⊛◌, later, given, ◌$◌, ◌∵◌, !, qed, by, move, keep, use1, use2, split, split3, join, learn, fsplit, fjoin, feq_i, suffices, await, done}
+use Rattle.test_alloc.proofs.Walking.{stop, fld, addr, of_opd, unit_lit, no_more, and_then, returns, enter, alloc_all, pass_all, free_all, look_at, get, through, sets, lands_as, unhide}
+use Rattle.test_alloc.proofs.Walking.{heard, nothing, calls_at}
 use Rattle.test_alloc.proofs.Books.{TakesBack, at_takes_back, TakesBack-goes, TakesBack-gives}
-use Rattle.test_alloc.proofs.counters.Counters.takes_back.Symbol as told
-use Rattle.test_alloc.proofs.counters.Counters.takes_back.Met as told_met
+use Rattle.test_alloc.proofs.counters.Counters as book
 use Rattle.test_alloc.specs.contracts.faulty.FaultyHeap as row
 use Rattle.test_alloc.specs.contracts.faulty.FaultyHeapAllocator.deallocate as F
 use Rattle.test_alloc.specs.contracts.faulty.FaultyHeapAllocator.deallocate.Key as key
@@ -69,7 +43,7 @@ module _ (Z : Al) where
 module _ (Z : Al) {M : Type 1} {𝓤 : Ura M} (𝓛 : Logic 𝓤) (at_mem : Memory → SProp 𝓤)
     (run : Routine → Fun 𝓤) (𝓣 : Tables 𝓤 𝓛.H)
     (inner : Triple 𝓤 (𝓣.C (gives_key Z)) (Gives Z 𝓛 at_mem run))
-    (tells : Triple 𝓤 (𝓣.C told.name) (TakesBack 𝓛 at_mem run)) where
+    (tells : Triple 𝓤 (𝓣.C book.takes_back.Symbol.name) (TakesBack 𝓛 at_mem run)) where
   open 𝓛 use {H}
 
   abbrev held : Clauses 𝓤 (ended Z)
@@ -135,14 +109,19 @@ module _ (Z : Al) {M : Type 1} {𝓤 : Ura M} (𝓛 : Logic 𝓤) (at_mem : Memo
         calls_at ! (fm_of 𝓤 H 𝓛.laws 𝓣) (TakesBack 𝓛 at_mem run) tells
         (at_takes_back 𝓛 at_mem run κ₁ q₁ c r.now.book) (and_then ! (get ! refl) (no_more !))
         (λ u.
-        use1 𝓛 (later (given (u ≡ vunit) (‵ (flft κ₁ q₁)))) (TakesBack-gives 𝓛 at_mem run κ₁ q₁ c r.now.book u) $ await ! tt $ learn ! (λ eu. lands_as ! eu refl (tt, tt) $
+        use1 𝓛 (later (given (u ≡ vunit) (‵ (flft κ₁ q₁))))
+        (TakesBack-gives 𝓛 at_mem run κ₁ q₁ c r.now.book u) $
+        await ! tt $ learn ! (λ eu. lands_as ! eu refl (tt, tt) $
         move ! (1 ∷ []) $ sets ! (addr ! (through ! refl (fld ! refl (stop !)))) refl (tt, tt) $
         join ! $ move ! (2 ∷ []) $ fsplit ! $ move ! (1 ∷ 2 ∷ []) $ join ! $ move ! (1 ∷ 0 ∷ []) $ join ! $
-        use1 𝓛 (raw ((Gives Z 𝓛 at_mem run).pre y)) (Gives-goes Z 𝓛 at_mem run κ₁ q₁ p h (⊑_trans κ₁ κ₂ Z.row.lives inn le) b o n a τ said.0 said.1 fn fa) $
+        use1 𝓛 (raw ((Gives Z 𝓛 at_mem run).pre y))
+        (Gives-goes Z 𝓛 at_mem run κ₁ q₁ p h (⊑_trans κ₁ κ₂ Z.row.lives inn le)
+        b o n a τ said.0 said.1 fn fa) $
         calls_at ! (fm_of 𝓤 H 𝓛.laws 𝓣) (Gives Z 𝓛 at_mem run) inner y
         (and_then ! (get ! refl) (and_then ! (get ! refl)
         (and_then ! (get ! refl) (and_then ! (get ! refl) (no_more !))))) (λ v.
-        use1 𝓛 (later (given (v ≡ vunit) (‵ (flft κ₁ q₁)))) (Gives-Gives Z 𝓛 at_mem run κ₁ q₁ p h b o n a τ v) $ await ! tt $ learn ! (λ e.
+        use1 𝓛 (later (given (v ≡ vunit) (‵ (flft κ₁ q₁))))
+        (Gives-Gives Z 𝓛 at_mem run κ₁ q₁ p h b o n a τ v) $ await ! tt $ learn ! (λ e.
         lands_as ! e refl (tt, tt) $ sets ! (of_opd ! (unit_lit !)) refl (tt, tt) $ returns !
         (look_at ! 0 refl) $ free_all ! refl $
         suffices ! _ (ends_at 𝓛 (ended Z) (stayed Z) held (bound x) vunit tt
@@ -170,6 +149,6 @@ deallocate_spec 𝓤 𝓛 𝓜 𝓡 wired Y L g d d' met _ =
     (λ κs. (shr_vals, (rawptr_vals, (uint_vals w64, (uint_vals w64, tt)))))
     (λ κs. ((λ r vs s. s.0), (rawptr_Tells, (uint_Tells w64, (uint_Tells w64, tt)))))
     (λ κs qs bounds a τ are. walk Z 𝓛 𝓜.mem 𝓡.returns 𝓣 (met.deallocate d')
-    (cited 𝓤 𝓛.H _ 𝓜 𝓡 𝓡.env told.name (𝓡.env told.name) refl
-    (told_met.met 𝓤 𝓛 𝓜 𝓡 (code.calls-test_alloc::counters::Counters::takes_back 𝓡.env wired)))
+    (cited 𝓤 𝓛.H _ 𝓜 𝓡 𝓡.env book.takes_back.Symbol.name (𝓡.env book.takes_back.Symbol.name) refl
+    (book.takes_back.Met.met 𝓤 𝓛 𝓜 𝓡 (code.calls-test_alloc::counters::Counters::takes_back 𝓡.env wired)))
     κs.0 κs.1.0 qs.0 qs.1.0 bounds.0 a.0 a.1.1.0 a.1.1.1.0 τ are.1.1.0.1 are.1.1.1.0.1 a.1.0)))
