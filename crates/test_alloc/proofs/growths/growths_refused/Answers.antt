@@ -1,4 +1,4 @@
-use Rattle.std.proofs.Common.{ℕ, false, rules}
+use Rattle.std.proofs.Common.{false, rules}
 use Rattle.test_alloc.specs.Trials.{MaySay}
 use Rattle.test_alloc.specs.declared.counters.Refuse.TheVariants.{From, Only}
 use Rattle.test_alloc.proofs.Imports.{below_next}
