@@ -1,5 +1,5 @@
 -- What the state of a world tells is the report of each history that leaves the world.
-use Rattle.std.proofs.Common.{◌≡◌, ◌≢◌, ℕ, ◌+◌, ◌*◌, ◌<◌, ◌++◌, Bool, false, not, List, [], length, Option, Some, None, refl, sym, ◌∙◌, ap, subst, arith, reverse, slice_get, filter_map}
+use Rattle.std.proofs.Common.{◌≡◌, ◌≢◌, ℕ, ◌*◌, ◌<◌, ◌++◌, Bool, false, not, List, [], length, Option, Some, None, refl, sym, ◌∙◌, ap, subst, arith, reverse, slice_get, filter_map}
 use Rattle.std.specs.Option.{option_map_or}
 use Rattle.std.proofs.lemmas.Bool.{lt-ltb}
 use Rattle.std.proofs.lemmas.List.{append-nil, length-reverse, reverse-append}
