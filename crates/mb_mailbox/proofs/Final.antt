@@ -3,18 +3,17 @@
 use Rattle.std.proofs.Common.{◌≡◌, ℕ, suc, Bool, true, ◌+◌, ◌-◌, ◌^◌, ◌≤◌, List, [], ◌∷◌, length, map, min, refl, sym, ap, ◌∙◌, subst, false, arith, ◌<◌, Vec, Some, slice_get, All, sum_by}
 use Rattle.std.specs.Int.{from_bool}
 use Rattle.std.specs.List.{AllZip}
-use Rattle.std.proofs.lemmas.List.{append-nil, length-map, map-append}
+use Rattle.std.proofs.lemmas.List.{append-nil, length-map, map-append, Elements.{All-cons, All-head, All-tail}, Sums.{sum_by-cons}}
 use Rattle.std.proofs.lemmas.Simd.{map-map}
-use Rattle.std.proofs.lemmas.List.Elements.{All-cons, All-head, All-tail}
-use Rattle.std.proofs.lemmas.List.Sums.{sum_by-cons}
 use Rattle.mb_shared_cells.specs.Vocabulary.{IsRollOf}
 use Rattle.mb_shared_cells.specs.declared.views.Roll.{Roll}
-use Rattle.mb_cells.specs.declared.size.PoolSize.{PoolSize}
 use Rattle.mb_world.specs.Reporting.{values_put}
-use Rattle.mb_mailbox.specs.Vocabulary.{History, Stream, IsCalled, WerePolled, ConsumerView, IsConsumerOf, AreAllGiven, AreGiven, ArePollJobs, ArePutJobs, HubView, IsHub, IsHubOf}
-use Rattle.mb_mailbox.specs.Vocabulary.{HasReadToEnd, IsOnLanes, IsPollEnd, IsPutEnd, ends_met, MailboxView, IsProducerOf, ProducerView, AreEndsAt, AreEndsOf, AreOf, count_stopped}
-use Rattle.mb_mailbox.specs.Vocabulary.{with_taken, notes_on, AreCutByCells, AreStoppedPuts, ConsumerEnd, HaveMetEnds, IsRunOf, IsWorked, ProducerEnd, WereTakenIn, WereTakenInEarly}
-use Rattle.mb_mailbox.specs.Vocabulary.{lists_in, Who, Worked, PollDone, PollJob, PutDone, PutJob, WorkerResults, WorkerInputs, WorkerBuffers}
+use Rattle.mb_mailbox.specs.Imports.{History, PoolSize, Stream}
+use Rattle.mb_mailbox.specs.ConsumerWords.{ConsumerView, IsConsumerOf, notes_on}
+use Rattle.mb_mailbox.specs.Vocabulary.{IsCalled, WerePolled, AreAllGiven, AreGiven, ArePollJobs, ArePutJobs, HubView, IsHub, IsHubOf, HasReadToEnd, IsOnLanes, IsPollEnd, IsPutEnd, ends_met}
+use Rattle.mb_mailbox.specs.Vocabulary.{MailboxView, IsProducerOf, ProducerView, AreEndsAt, AreEndsOf, AreOf, count_stopped, with_taken, AreCutByCells, AreStoppedPuts, ConsumerEnd, HaveMetEnds}
+use Rattle.mb_mailbox.specs.Vocabulary.{IsRunOf, IsWorked, ProducerEnd, WereTakenIn, WereTakenInEarly, lists_in, Who, Worked, PollDone, PollJob, PutDone, PutJob, WorkerResults, WorkerInputs}
+use Rattle.mb_mailbox.specs.Vocabulary.{WorkerBuffers}
 use Rattle.mb_mailbox.specs.Rooms.{HasRoom}
 use Rattle.mb_mailbox.proofs.Noted.{all_noted}
 use Rattle.mb_mailbox.proofs.Runs.{producer_end, lanes_of, consumer_end, consumer_ends, nums, run_beyond, run_cut, run_ends}
@@ -242,7 +241,8 @@ module _ {R Z : Type 0} (m : MailboxView) (may_stop may_pass : Who → ℕ → T
     module _ (w : Worked) (full : w.full ≡ min (2 ^ 64 - 1) (sum_by (λ (d : PutDone Z). d.full) ends.puts.items))
         (stopped : w.stopped ≡ min (2 ^ 64 - 1) (count_stopped ends))
         (puts_on : All (λ (d : PutDone Z). d.aborted ≡ false) ends.puts.items)
-        (polls_on : All (λ (d : PollDone Z). d.aborted ≡ false) ends.polls.items) (small : length items + sources < 2 ^ 64)
+        (polls_on : All (λ (d : PollDone Z). d.aborted ≡ false) ends.polls.items) (small : length items +
+        sources < 2 ^ 64)
         (later : IsHub now) (of : IsHubOf m now)
         (pool : History) (roll : IsRollOf now.cells.table.size now.cells.roll pool)
         (first : from ≡ length h.puts) (last : end ≡ length h.puts + length items)

@@ -7,10 +7,9 @@ use Rattle.mb_world.proofs.Tracks.{past_item, read-cases, read-more}
 use Rattle.mb_claim.specs.declared.access.ClaimOp.{ClaimOp}
 use Rattle.mb_claim.specs.declared.access.Stage.TheVariants as stage
 use Rattle.mb_cells.specs.declared.cursor.Cursor.TheVariants.{Past}
-use Rattle.mb_mailbox.specs.Vocabulary.{Claim, ClaimAccess, Claims, EndsAs, Fits, Gave, Has, HasStageIn, IsClaimIn, IsClaimPrefix, IsOnceEach, Item, Link, Lost, Note, ObjectTurn, Parts}
-use Rattle.mb_mailbox.specs.Vocabulary.{PoolAccess, Stage, TableSize, Took, Undecided, access_of, cells_met, claim_stage, claims_in, consumer_of, load, note_of, part_on, place_past}
-use Rattle.mb_mailbox.specs.Vocabulary.{with_load, AreEnds, ConsumerView, ConsumerIsAt, ConsumerIsBefore, IsConsumer, StandsOn, parts_of, HasLoads, HasPlace, HasTurns, reads_with_item}
-use Rattle.mb_mailbox.specs.Vocabulary.{moved_to, Laws}
+use Rattle.mb_mailbox.specs.Imports.{Claim, ClaimAccess, Claims, EndsAs, Fits, Gave, Has, HasStageIn, IsClaimIn, IsClaimPrefix, IsOnceEach, Item, Link, Lost, Note, ObjectTurn, Parts, PoolAccess}
+use Rattle.mb_mailbox.specs.Imports.{Stage, TableSize, Took, Undecided, access_of, cells_met, claim_stage, claims_in, consumer_of, load, note_of, part_on, place_past, with_load}
+use Rattle.mb_mailbox.specs.ConsumerWords.{AreEnds, ConsumerView, ConsumerIsAt, ConsumerIsBefore, IsConsumer, StandsOn, parts_of, HasLoads, HasPlace, HasTurns, reads_with_item, moved_to, Laws}
 use Rattle.mb_world.specs.Vocabulary.{place_after}
 use Rattle.mb_world.specs.declared.place.Place.{Place}
 use Rattle.mb_world.specs.declared.place.Place.TheVariants.{At, Before}

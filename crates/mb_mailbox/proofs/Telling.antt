@@ -7,9 +7,9 @@ use Rattle.mb_world.proofs.Diaries.{values_length}
 use Rattle.mb_claim.specs.declared.access.Stage.TheVariants as stage
 use Rattle.mb_cells.specs.declared.answer.Look.TheVariants as look
 use Rattle.mb_shared_cells.specs.Vocabulary.{LookMakes}
-use Rattle.mb_mailbox.specs.Vocabulary.{Claim, ClaimAccess, Cursor, END, HasMet, History, Note, Has, Load, ReaderSeatView, Reader, Stage, cells_met, claims_in, has_ended, linked_cells, load}
-use Rattle.mb_mailbox.specs.Vocabulary.{look_of, part, place_past, word_of, Poll, ConsumerView, IsConsumer, parts_of, stage_answer, Laws, HasLoads, HasPlace, moved_to, AnswerTells}
-use Rattle.mb_mailbox.specs.Vocabulary.{HasLoadedEnd, HasNoteOnEach, HasReadWhole, notes_on}
+use Rattle.mb_mailbox.specs.Imports.{Claim, ClaimAccess, Cursor, END, HasMet, History, Note, Has, Load, ReaderSeatView, Reader, Stage, cells_met, claims_in, has_ended, linked_cells, load, look_of}
+use Rattle.mb_mailbox.specs.Imports.{part, place_past, word_of}
+use Rattle.mb_mailbox.specs.ConsumerWords.{Poll, ConsumerView, IsConsumer, parts_of, stage_answer, Laws, HasLoads, HasPlace, moved_to, AnswerTells, HasLoadedEnd, HasNoteOnEach, HasReadWhole, notes_on}
 use Rattle.mb_mailbox.specs.declared.consumer.Poll.TheVariants as poll
 use Rattle.mb_world.specs.declared.place.Place.TheVariants.{Before}
 use Rattle.mb_world.specs.Places.{place_after}

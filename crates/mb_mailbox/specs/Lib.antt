@@ -29,4 +29,5 @@ pub mod ReportedRuns
 pub mod Filling
 pub mod GatheringExamples
 pub mod WorkExamples
+pub mod ConsumerWords
 pub mod Vocabulary

@@ -1,6 +1,7 @@
 -- A poll that keeps the claim of its lane in a variable, while the place there is out of date.
 use Rattle.std.specs.Prelude.{ℕ, ◌≡◌, ◌≢◌, ◌+◌, ◌≤◌, List, slice_set}
 use Rattle.mb_mailbox.specs.Imports.{Claim, ReaderSeatView, SeatView, Stream, claim_stage, note_of}
+use Rattle.mb_mailbox.specs.declared.consumer.ConsumerFields.{ConsumerFields}
 use Rattle.mb_mailbox.specs.declared.consumer.Poll.{Poll}
 use Rattle.mb_mailbox.specs.declared.consumer.Poll.TheVariants as poll
 use Rattle.mb_world.specs.declared.place.Place.{Place}
@@ -17,6 +18,10 @@ use Rattle.mb_mailbox.specs.Steps.{AreSteps, HasNoteOnEach, outcome}
 abbrev pub consumer_with : ReaderSeatView → SeatView → List Place → NotesView → ConsumerView
 consumer_with reader seat places notes =
     record { reader = reader; seat = seat; places = places; notes = notes.lists }
+
+-- the consumer with these fields
+abbrev pub with_fields : {Z : Type 0} → ConsumerFields Z → ConsumerView
+with_fields f = consumer_with f.reader f.seat f.places.items f.notes
 
 -- the consumer at cell k of lane p with this claim there
 abbrev pub holding : ℕ → ℕ → Claim → ConsumerView → ConsumerView

@@ -33,13 +33,20 @@ pub enum Poll {
     NoLane,
 }
 
-/// A consumer: its two seats, its place on each lane, and its notes there.
+/// The fields of a consumer: its two seats, its place on each lane, and its notes there. During a poll a place may be
+/// out of date. Then these are not the fields of a consumer.
 #[derive(Drop)]
-pub struct Consumer<A: Allocator + Drop> {
+pub(crate) struct ConsumerFields<A: Allocator + Drop> {
     pub(crate) reader: ReaderSeat,
     pub(crate) seat: ClaimSeat,
     pub(crate) places: ArrayVec<Place, 16>,
     pub(crate) notes: Notes<A>,
+}
+
+/// A consumer: fields that fit each other.
+#[derive(Drop)]
+pub struct Consumer<A: Allocator + Drop> {
+    pub(crate) fields: ConsumerFields<A>,
 }
 
 impl<A: Allocator + Drop> Model for Consumer<A> {
@@ -49,19 +56,19 @@ impl<A: Allocator + Drop> Model for Consumer<A> {
     ghost Value = { ConsumerView };
 
     ghost view = { λ c. record {
-      reader = c.reader;
-      seat = c.seat;
-      places = c.places.items;
-      notes = c.notes.lists;
+      reader = c.fields.reader;
+      seat = c.fields.seat;
+      places = c.fields.places.items;
+      notes = c.fields.notes.lists;
     } };
 
     ghost invariant = { λ c. IsConsumer (record {
-      reader = c.reader;
-      seat = c.seat;
-      places = c.places.items;
-      notes = c.notes.lists;
+      reader = c.fields.reader;
+      seat = c.fields.seat;
+      places = c.fields.places.items;
+      notes = c.fields.notes.lists;
     })
-        × HasAllRoom c.reader.table.size.cells c.notes };
+        × HasAllRoom c.fields.reader.table.size.cells c.fields.notes };
 }
 
 impl<A: Allocator + Drop> Consumer<A> {
@@ -78,7 +85,7 @@ impl<A: Allocator + Drop> Consumer<A> {
         ensures claims { IsLawfulPart (claims_at self.now.seat.table) self.now.seat.consumer
             self.now.seat.part }
     {
-        self.reader.has_history();
-        self.seat.has_history();
+        self.fields.reader.has_history();
+        self.fields.seat.has_history();
     }
 }

@@ -27,9 +27,9 @@ use crate::mailbox::Mailbox;
 use collect::{WorkTotals, take_all};
 use ends::ends_tell_notes;
 use issue::give;
-use jobs::Lanes;
+use jobs::{Lanes, Shared};
 use rand_core::Rng;
-use room::{WorkerBuffers, WorkerInputs, WorkerResults, room_for_jobs, room_for_workers};
+use room::{RunMemory, WorkerResults, memory_for_run};
 use std::alloc::Allocator;
 use std::error::Error;
 use std::fmt;
@@ -140,15 +140,15 @@ pub fn work<
     if budget == 0 {
         return Err(WorkFault::BadBudget);
     }
-    let Ok(jobs) = room_for_jobs(&alloc, items.len(), rngs.len()) else {
+    let Ok(memory) = memory_for_run(alloc, items.len(), rngs.len()) else {
         return Err(WorkFault::NoMemory);
     };
-    let Ok(room) = room_for_workers(&alloc, items.len(), rngs.len()) else {
-        return Err(WorkFault::NoMemory);
+    let load = Workload {
+        items,
+        budget,
+        rngs,
     };
-    work_with(
-        alloc, rt, mailbox, hub, items, budget, rngs, gate, jobs, room,
-    )
+    work_with(rt, mailbox, hub, load, gate, memory)
 }
 
 /// How many lanes were not given yet.
@@ -208,6 +208,14 @@ fn next_lanes(given: usize, lists: usize, budget: u64) -> Lanes
     }
 }
 
+/// What a run is to do: the lists that its producers put, and the sources and the budget of its consumers.
+#[derive(Drop)]
+struct Workload<R: Drop, A: Allocator + Drop> {
+    items: Vec<Vec<u64, A>, A>,
+    budget: u64,
+    rngs: Vec<R, A>,
+}
+
 /// The rest of [`work`], after numbers and budget were tested and room was taken for all the run's lists.
 fn work_with<
     A: Allocator + Clone + Drop + Send + Sync,
@@ -215,41 +223,47 @@ fn work_with<
     R: Rng + Send + Drop,
     G: Gate,
 >(
-    alloc: A,
     rt: &W,
     mailbox: &Mailbox<A>,
     hub: &mut Hub<A>,
-    items: Vec<Vec<u64, A>, A>,
-    budget: u64,
-    rngs: Vec<R, A>,
+    load: Workload<R, A>,
     gate: &G,
-    mut jobs: WorkerInputs<R, A>,
-    room: WorkerBuffers<G, R, A>,
+    memory: RunMemory<G, R, A>,
 ) -> Result<Worked, WorkFault>
     requires of { IsHubOf mailbox.now hub.old }
-    requires lanes { length hub.old.puts + vec_len items ≤ mailbox.now.cells.size.lanes }
-    requires consumers { length hub.old.ledgers + vec_len rngs ≤ consumer_count
+    requires lanes { length hub.old.puts + vec_len load.items ≤ mailbox.now.cells.size.lanes }
+    requires consumers { length hub.old.ledgers + vec_len load.rngs ≤ consumer_count
         mailbox.now.claims.layout }
-    requires able { 0 < budget }
-    requires jobs { HasJobRoom (vec_len items) (vec_len rngs) jobs }
-    requires room { HasRoom (vec_len items) (vec_len rngs) room }
+    requires able { 0 < load.budget }
+    requires jobs { HasJobRoom (vec_len load.items) (vec_len load.rngs) memory.jobs }
+    requires room { HasRoom (vec_len load.items) (vec_len load.rngs) memory.room }
     ensures all_given { result ≢ Err AllGiven }
     ensures bad_budget { result ≢ Err BadBudget }
     ensures worked { IfOk result (λ w.
-        IsWorked (G.may_stop gate.now) budget (lists_in items.items) (vec_len rngs) w hub.old
-        hub.new) }
-    ensures called { IfOk result (λ w. IsCalled (G.may_stop gate.now) (G.may_pass gate.now) budget
-        (lists_in items.items) (map R.stream rngs.items) w hub.old hub.new) }
+        IsWorked (G.may_stop gate.now) load.budget (lists_in load.items.items) (vec_len load.rngs)
+        w hub.old hub.new) }
+    ensures called { IfOk result (λ w. IsCalled (G.may_stop gate.now) (G.may_pass gate.now)
+        load.budget (lists_in load.items.items) (map R.stream load.rngs.items) w hub.old hub.new) }
     ensures no_thread { result ≡ Err NoThread
-        → WereTakenIn (lists_in items.items) (vec_len rngs) hub.old hub.new }
-    ensures some_thread { result ≡ Err NoThread → 0 < vec_len items + vec_len rngs }
+        → WereTakenIn (lists_in load.items.items) (vec_len load.rngs) hub.old hub.new }
+    ensures some_thread { result ≡ Err NoThread → 0 < vec_len load.items + vec_len load.rngs }
     ensures no_memory { result ≡ Err NoMemory
-        → WereTakenInEarly (lists_in items.items) (vec_len rngs) hub.old hub.new }
+        → WereTakenInEarly (lists_in load.items.items) (vec_len load.rngs) hub.old hub.new }
     ensures of { IsHubOf mailbox.now hub.new }
 {
     hub.has_history();
     lanes_are_few(mailbox);
     consumers_are_few(mailbox);
+    let Workload {
+        items,
+        budget,
+        rngs,
+    } = load;
+    let RunMemory {
+        alloc,
+        mut jobs,
+        room,
+    } = memory;
     let lanes = next_lanes(lanes_given(hub), items.len(), budget);
     if !give(&alloc, mailbox, hub, items, rngs, &mut jobs) {
         let ends = end_all(mailbox, jobs, room);
@@ -257,7 +271,13 @@ fn work_with<
         return Err(WorkFault::NoMemory);
     }
     let running = AtomicBool::new(true);
-    let ends = run(rt, mailbox, jobs, lanes, gate, &running, room);
+    let shared = Shared {
+        mailbox,
+        lanes,
+        gate,
+        running: &running,
+    };
+    let ends = run(rt, &shared, jobs, room);
     match settle(mailbox, hub, ends) {
         Ok(worked) => {
             ends_tell_notes();

@@ -2,7 +2,7 @@
 ghost use Rattle.std.specs.Prelude.{◌≤◌};
 ghost use Rattle.mb_mailbox.specs.NewConsumers.{AreHeads};
 
-use crate::consumer::Consumer;
+use crate::consumer::{Consumer, ConsumerFields};
 use crate::mailbox::Mailbox;
 use crate::notes::Notes;
 use crate::producer::Producer;
@@ -164,12 +164,12 @@ impl<A: Allocator + Drop> Hub<A> {
         ensures hub { self.new ≡ with_taken_consumer consumer self.old }
         ensures of { IsHubOf mailbox.now self.new }
     {
-        let Consumer {
+        let ConsumerFields {
             reader,
             seat,
             places,
             mut notes,
-        } = consumer;
+        } = consumer.fields;
         let number = seat.consumer();
         notes.trim();
         mailbox.cells.take_reader(&mut self.cells, reader);
@@ -213,10 +213,12 @@ impl<A: Allocator + Clone + Drop> Hub<A> {
         let reader = mailbox.cells.enroll_reader(&mut self.cells);
         self.ledgers.push_reserved(None);
         Ok(Consumer {
-            reader,
-            seat,
-            places: before_heads(mailbox.lanes),
-            notes,
+            fields: ConsumerFields {
+                reader,
+                seat,
+                places: before_heads(mailbox.lanes),
+                notes,
+            },
         })
     }
 }

@@ -4,9 +4,10 @@ ghost use Rattle.std.specs.Prelude.{ℕ, ◌≡◌, ◌≢◌, ◌+◌, ◌<◌,
 ghost use Rattle.mb_claim.specs.declared.access.ClaimOp.{ClaimOp};
 ghost use Rattle.mb_claim.specs.declared.access.Stage.TheVariants as stage;
 ghost use Rattle.mb_cells.specs.declared.cursor.Cursor.TheVariants.{Past};
-ghost use Rattle.mb_mailbox.specs.Vocabulary.{Claim, Cursor, END, Gave, IsAccessAfter, Item, MayRead, Note, Took, access_of, claim_stage, consumer_of, load, note_of, part_on, word_of};
-ghost use Rattle.mb_mailbox.specs.Vocabulary.{ReaderSeatView, ToCells, ToClaims, claims_at, look_of, ConsumerView, IsConsumer, parts_of, ConsumerStep, link_answer, stage_answer, Laws};
-ghost use Rattle.mb_mailbox.specs.Vocabulary.{HasLoads, HasPlace, HasTurns, reads_with_item, reads_with_link, moved_to, AnswerTells, HasNoteOnEach};
+ghost use Rattle.mb_mailbox.specs.Imports.{Claim, Cursor, END, Gave, IsAccessAfter, Item, MayRead, Note, Took, access_of, claim_stage, consumer_of, load, note_of, part_on, word_of, ReaderSeatView};
+ghost use Rattle.mb_mailbox.specs.Imports.{ToCells, ToClaims, claims_at, look_of};
+ghost use Rattle.mb_mailbox.specs.ConsumerWords.{ConsumerView, IsConsumer, parts_of, ConsumerStep, link_answer, stage_answer, Laws, HasLoads, HasPlace, HasTurns, reads_with_item, reads_with_link};
+ghost use Rattle.mb_mailbox.specs.ConsumerWords.{moved_to, AnswerTells, HasNoteOnEach};
 ghost use Rattle.mb_world.specs.Places.{place_after};
 ghost use Rattle.mb_mailbox.specs.declared.consumer.Poll.TheVariants as poll;
 ghost use Rattle.mb_shared_cells.specs.Vocabulary.{LookMakes};

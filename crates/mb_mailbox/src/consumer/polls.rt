@@ -47,7 +47,7 @@ impl<A: Allocator + Drop> Consumer<A> {
         ensures told { result ≢ NoLane → AnswerTells lane (outcome result) self.old self.new }
         ensures of { IsConsumerOf mailbox.now self.new }
     {
-        if lane >= self.places.len() as u64 {
+        if lane >= self.fields.places.len() as u64 {
             return Poll::NoLane;
         }
         if budget == 0 {
@@ -57,28 +57,23 @@ impl<A: Allocator + Drop> Consumer<A> {
         places_tell_steps();
         answers_tell_lanes();
         looks_tell_links();
-        self.reader.has_history();
+        self.fields.reader.has_history();
         let lane = lane as u32;
-        let Consumer {
-            reader,
-            seat,
-            places,
-            notes,
-        } = self;
-        let at = match place_at(places, lane as usize) {
+        let Consumer { fields } = self;
+        let at = match place_at(&fields.places, lane as usize) {
             Place::Before(at) => at,
             Place::At { cell, claim } => {
                 let held = PendingClaim { lane, cell, claim };
-                return run_claim(places, notes, reader, seat, mailbox, held, budget, rng);
+                return run_claim(fields, mailbox, held, budget, rng);
             }
         };
-        let cell = match mailbox.cells.look(reader, at) {
+        let cell = match mailbox.cells.look(&mut fields.reader, at) {
             Look::Nothing => return Poll::Nothing,
             Look::Ended => return Poll::Ended,
             Look::Cell(cell) => cell,
         };
-        let claim = Claim::new(mailbox.claims.layout(), seat.consumer());
+        let claim = Claim::new(mailbox.claims.layout(), fields.seat.consumer());
         let held = PendingClaim { lane, cell, claim };
-        run_claim(places, notes, reader, seat, mailbox, held, budget - 1, rng)
+        run_claim(fields, mailbox, held, budget - 1, rng)
     }
 }

@@ -4,23 +4,20 @@
 ghost use Rattle.std.specs.Prelude.{ℕ, ◌≡◌, ◌≢◌, ◌<◌, ◌≤◌, None, Some, slice_set, true};
 ghost use Rattle.arrayvec.specs.ArrayVec.{array_vec_len};
 ghost use Rattle.mb_claim.specs.declared.access.Stage.TheVariants as stage;
-ghost use Rattle.mb_claim.specs.Vocabulary.{most_accesses, shape_of};
 ghost use Rattle.mb_cells.specs.declared.cursor.Cursor.TheVariants.{Past};
-ghost use Rattle.mb_shared_cells.specs.Vocabulary.{ItemMakes};
-ghost use Rattle.mb_mailbox.specs.Vocabulary.{Gave, Stream, Took, claim_stage, ConsumerView, IsConsumer, IsConsumerOf, HasAllRoom, NotesGrow, IsPursuit, consumer_with, holding, AreSteps};
-ghost use Rattle.mb_mailbox.specs.NoteLists.{HasRoom};
+ghost use Rattle.mb_mailbox.specs.Imports.{Gave, ItemMakes, Stream, Took, claim_stage, most_accesses, shape_of};
+ghost use Rattle.mb_mailbox.specs.ConsumerWords.{ConsumerView, IsConsumer, IsConsumerOf, HasAllRoom, HasRoom, NotesGrow, IsPursuit, with_fields, holding, AreSteps};
 ghost use Rattle.mb_mailbox.specs.declared.consumer.Poll.TheVariants as poll;
 ghost use Rattle.mb_world.specs.declared.place.Place.TheVariants.{Before};
 
-use super::Poll;
 use super::moves::{consumers_move_on, places_tell_steps};
 use super::places::{leave, stay};
+use super::{ConsumerFields, Poll};
 use crate::mailbox::Mailbox;
 use crate::notes::Notes;
 use arrayvec::ArrayVec;
 use mb_claim::{Claim, Stage};
 use mb_shared_cells::ReaderSeat;
-use mb_shared_claims::ClaimSeat;
 use mb_world::{Note, Place};
 use rand_core::Rng;
 use std::alloc::Allocator;
@@ -58,34 +55,27 @@ pub(super) struct PendingClaim {
 
 /// Goes on with a claim that is held. It goes to the claim's end, to the item if the claim is won, or until it has
 /// made this many accesses. It takes the consumer's fields, not the consumer. From the first access to the last the
-/// place is out of date, so the fields are not those of a consumer.
+/// place is out of date.
 #[inline(always)]
 pub(super) fn run_claim<A: Allocator + Drop, B: Allocator + Drop, R: Rng>(
-    places: &mut ArrayVec<Place, 16>,
-    notes: &mut Notes<A>,
-    reader: &mut ReaderSeat,
-    seat: &mut ClaimSeat,
+    fields: &mut ConsumerFields<A>,
     mailbox: &Mailbox<B>,
     held: PendingClaim,
     most: u64,
     rng: &mut R,
 ) -> Poll
-    requires held { IsConsumer (holding held.lane held.cell held.claim
-        (consumer_with reader.old seat.old places.old.items notes.old)) }
+    requires held { IsConsumer (holding held.lane held.cell held.claim (with_fields fields.old)) }
     requires won { claim_stage held.claim ≡ stage.Won → 0 < most }
-    requires of { IsConsumerOf mailbox.now
-        (consumer_with reader.old seat.old places.old.items notes.old) }
-    requires lane { held.lane < array_vec_len places.old }
-    requires wide { HasAllRoom reader.old.table.size.cells notes.old }
+    requires of { IsConsumerOf mailbox.now (with_fields fields.old) }
+    requires lane { held.lane < array_vec_len fields.old.places }
+    requires wide { HasAllRoom fields.old.reader.table.size.cells fields.old.notes }
 
     // If the accesses before came to no answer, the poll is these accesses and those made here.
     ensures pursued { (from : ConsumerView) (n : ℕ) (t : Stream)
         → AreSteps held.lane n None t (R.stream rng.old) from
-        (holding held.lane held.cell held.claim
-        (consumer_with reader.old seat.old places.old.items notes.old))
-        → IsPursuit held.lane n most result t (R.stream rng.new) from
-        (consumer_with reader.new seat.new places.new.items notes.new) }
-    ensures wide { HasAllRoom reader.new.table.size.cells notes.new }
+        (holding held.lane held.cell held.claim (with_fields fields.old))
+        → IsPursuit held.lane n most result t (R.stream rng.new) from (with_fields fields.new) }
+    ensures wide { HasAllRoom fields.new.reader.table.size.cells fields.new.notes }
 
     // A claim ends after no more accesses than its layout allows. If its cell has a last object, the claim is decided
     // then.
@@ -94,6 +84,12 @@ pub(super) fn run_claim<A: Allocator + Drop, B: Allocator + Drop, R: Rng>(
 {
     consumers_move_on();
     places_tell_steps();
+    let ConsumerFields {
+        reader,
+        seat,
+        places,
+        notes,
+    } = fields;
     reader.has_history();
     let PendingClaim {
         lane,

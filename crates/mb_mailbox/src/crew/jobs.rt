@@ -4,10 +4,12 @@ ghost use Rattle.mb_mailbox.specs.Producers.{is_over};
 
 use crate::consumer::Consumer;
 use crate::gate::Gate;
+use crate::mailbox::Mailbox;
 use crate::producer::Producer;
 use rand_core::Rng;
 use std::alloc::Allocator;
 use std::snapshot::Snapshot;
+use std::sync::atomic::AtomicBool;
 use std::thread::Promise;
 
 /// The lanes from `from` on and below `end`, and how many accesses a poll of one of them makes at most.
@@ -19,6 +21,16 @@ pub(crate) struct Lanes {
     pub(crate) ghost ordered: { from ≤ end },
     pub(crate) ghost few: { end ≤ 16 },
     pub(crate) ghost able: { 0 < budget },
+}
+
+/// What all workers of a run share: the mailbox, the lanes, the gate, and a word that becomes false when a thread could
+/// not be started.
+#[derive(Drop)]
+pub(crate) struct Shared<'s, A: Allocator + Drop, G: Gate> {
+    pub(crate) mailbox: &'s Mailbox<A>,
+    pub(crate) lanes: Lanes,
+    pub(crate) gate: &'s G,
+    pub(crate) running: &'s AtomicBool,
 }
 
 /// A producer that has put nothing and has not ended its lane, and the list that it is to put.

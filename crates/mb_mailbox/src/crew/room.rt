@@ -30,8 +30,30 @@ pub(crate) struct WorkerResults<A: Allocator + Drop> {
     pub(crate) polls: Vec<PollDone<A>, A>,
 }
 
+/// The memory of a run: its allocator, and room for the jobs, for the workers and for their ends.
+#[derive(Drop)]
+pub(crate) struct RunMemory<G: Gate, R: Rng + Drop, A: Allocator + Drop> {
+    pub(crate) alloc: A,
+    pub(crate) jobs: WorkerInputs<R, A>,
+    pub(crate) room: WorkerBuffers<G, R, A>,
+}
+
+/// Takes room for the jobs, workers and ends of this many producers and consumers.
+pub(super) fn memory_for_run<G: Gate, R: Rng + Drop, A: Allocator + Clone + Drop>(
+    alloc: A,
+    puts: usize,
+    polls: usize,
+) -> Result<RunMemory<G, R, A>, AllocError>
+    ensures jobs { IfOk result (λ m. HasJobRoom puts polls m.jobs) }
+    ensures room { IfOk result (λ m. HasRoom puts polls m.room) }
+{
+    let jobs = room_for_jobs(&alloc, puts, polls)?;
+    let room = room_for_workers(&alloc, puts, polls)?;
+    Ok(RunMemory { alloc, jobs, room })
+}
+
 /// Takes room for this many jobs.
-pub(super) fn room_for_jobs<R: Drop, A: Allocator + Clone + Drop>(
+fn room_for_jobs<R: Drop, A: Allocator + Clone + Drop>(
     alloc: &A,
     puts: usize,
     polls: usize,
@@ -45,7 +67,7 @@ pub(super) fn room_for_jobs<R: Drop, A: Allocator + Clone + Drop>(
 }
 
 /// Takes room for this many workers and their ends.
-pub(super) fn room_for_workers<G: Gate, R: Rng + Drop, A: Allocator + Clone + Drop>(
+fn room_for_workers<G: Gate, R: Rng + Drop, A: Allocator + Clone + Drop>(
     alloc: &A,
     puts: usize,
     polls: usize,

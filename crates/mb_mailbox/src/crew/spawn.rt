@@ -6,28 +6,28 @@ ghost use Rattle.mb_mailbox.specs.Jobs.{IsPollEnd, IsPutEnd};
 ghost use Rattle.mb_mailbox.specs.Begun.{PollPromises, PutPromises};
 ghost use Rattle.mb_mailbox.specs.Producers.{IsProducerOf};
 
-use super::jobs::{Lanes, PollDone, PollJob, Polls, PutDone, PutJob, Puts};
+use super::jobs::{PollDone, PollJob, Polls, PutDone, PutJob, Puts, Shared};
 use super::worker::{PollWorker, PutWorker, Worker};
 use super::workers::{poll_lanes, put_list};
 use crate::gate::Gate;
-use crate::mailbox::Mailbox;
 use rand_core::Rng;
 use std::alloc::Allocator;
 use std::snapshot::Snapshot;
-use std::sync::atomic::{AtomicBool, Ordering};
+use std::sync::atomic::Ordering;
 use std::thread::Scope;
 
 /// Starts a producer's thread. If no thread can be made, all workers are made to stop, and this one ends here.
 fn start_put<'s, E: 's, A: Allocator + Drop + Send + Sync + 's, G: Gate + 's>(
     scope: &Scope<'s, E>,
-    mailbox: &'s Mailbox<A>,
+    shared: &Shared<'s, A, G>,
     job: PutJob<A>,
-    gate: &'s G,
-    running: &'s AtomicBool,
 ) -> PutWorker<G, A>
-    requires of { IsProducerOf mailbox.now job.producer }
-    ensures { PutPromises G.may_stop G.may_pass gate.now job result }
+    requires of { IsProducerOf shared.now.mailbox.now job.producer }
+    ensures { PutPromises G.may_stop G.may_pass shared.now.gate.now job result }
 {
+    let mailbox = shared.mailbox;
+    let gate = shared.gate;
+    let running = shared.running;
     let promise = Puts {
         job: Snapshot::of(&job),
         gate: Snapshot::of(gate),
@@ -51,20 +51,19 @@ fn start_put<'s, E: 's, A: Allocator + Drop + Send + Sync + 's, G: Gate + 's>(
 /// Starts a thread for each job, in order. `begun` has room for all.
 pub(super) fn start_puts<'s, E: 's, A: Allocator + Drop + Send + Sync + 's, G: Gate + 's>(
     scope: &Scope<'s, E>,
-    mailbox: &'s Mailbox<A>,
+    shared: &Shared<'s, A, G>,
     jobs: Vec<PutJob<A>, A>,
-    gate: &'s G,
-    running: &'s AtomicBool,
     mut begun: Vec<PutWorker<G, A>, A>,
 ) -> Vec<PutWorker<G, A>, A>
-    requires of { All (λ j. IsProducerOf mailbox.now j.producer) jobs.items }
+    requires of { All (λ j. IsProducerOf shared.now.mailbox.now j.producer) jobs.items }
     requires none { begun.items ≡ [] }
     requires room { vec_len jobs ≤ vec_capacity begun }
-    ensures promised { AllZip (PutPromises G.may_stop G.may_pass gate.now) jobs.items result.items }
+    ensures promised { AllZip (PutPromises G.may_stop G.may_pass shared.now.gate.now) jobs.items
+        result.items }
     ensures count { vec_len result ≡ vec_len jobs }
 {
     for job in jobs {
-        begun.push_reserved(start_put(scope, mailbox, job, gate, running));
+        begun.push_reserved(start_put(scope, shared, job));
     }
     begun
 }
@@ -76,19 +75,16 @@ fn start_poll<
     A: Allocator + Drop + Send + Sync + 's,
     R: Rng + Send + Drop + 's,
     G: Gate + 's,
->(
-    scope: &Scope<'s, E>,
-    mailbox: &'s Mailbox<A>,
-    job: PollJob<R, A>,
-    lanes: Lanes,
-    gate: &'s G,
-    running: &'s AtomicBool,
-) -> PollWorker<G, R, A>
-    requires of { IsConsumerOf mailbox.now job.consumer }
-    requires few { lanes.end ≤ mailbox.now.cells.size.lanes }
-    ensures { PollPromises G.may_stop G.may_pass R.stream gate.now lanes.from lanes.end lanes.budget
-        job result }
+>(scope: &Scope<'s, E>, shared: &Shared<'s, A, G>, job: PollJob<R, A>) -> PollWorker<G, R, A>
+    requires of { IsConsumerOf shared.now.mailbox.now job.consumer }
+    requires few { shared.now.lanes.end ≤ shared.now.mailbox.now.cells.size.lanes }
+    ensures { PollPromises G.may_stop G.may_pass R.stream shared.now.gate.now shared.now.lanes.from
+        shared.now.lanes.end shared.now.lanes.budget job result }
 {
+    let mailbox = shared.mailbox;
+    let lanes = shared.lanes;
+    let gate = shared.gate;
+    let running = shared.running;
     let promise = Polls {
         consumer: Snapshot::of(&job.consumer),
         rng: Snapshot::of(&job.rng),
@@ -125,25 +121,22 @@ pub(super) fn start_polls<
     G: Gate + 's,
 >(
     scope: &Scope<'s, E>,
-    mailbox: &'s Mailbox<A>,
+    shared: &Shared<'s, A, G>,
     jobs: Vec<PollJob<R, A>, A>,
-    lanes: Lanes,
-    gate: &'s G,
-    running: &'s AtomicBool,
     mut begun: Vec<PollWorker<G, R, A>, A>,
     producers: &Vec<PutWorker<G, A>, A>,
 ) -> Vec<PollWorker<G, R, A>, A>
-    requires of { All (λ j. IsConsumerOf mailbox.now j.consumer) jobs.items }
-    requires few { lanes.end ≤ mailbox.now.cells.size.lanes }
+    requires of { All (λ j. IsConsumerOf shared.now.mailbox.now j.consumer) jobs.items }
+    requires few { shared.now.lanes.end ≤ shared.now.mailbox.now.cells.size.lanes }
     requires none { begun.items ≡ [] }
     requires room { vec_len jobs ≤ vec_capacity begun }
-    requires after { vec_len producers.now ≡ lanes.end - lanes.from }
-    ensures { AllZip (PollPromises G.may_stop G.may_pass R.stream gate.now lanes.from lanes.end
-        lanes.budget)
-        jobs.items result.items }
+    requires after { vec_len producers.now ≡ shared.now.lanes.end - shared.now.lanes.from }
+    ensures { AllZip (PollPromises G.may_stop G.may_pass R.stream shared.now.gate.now
+        shared.now.lanes.from shared.now.lanes.end shared.now.lanes.budget) jobs.items
+        result.items }
 {
     for job in jobs {
-        begun.push_reserved(start_poll(scope, mailbox, job, lanes, gate, running));
+        begun.push_reserved(start_poll(scope, shared, job));
     }
     begun
 }

@@ -6,7 +6,7 @@ ghost use Rattle.mb_mailbox.specs.Producers.{IsProducerOf};
 ghost use Rattle.mb_mailbox.specs.Rooms.{HasRoom};
 ghost use Rattle.mb_mailbox.specs.Runs.{AreEndsOf, AreOf};
 
-use super::jobs::{Lanes, PollDone, PollJob, PutDone, PutJob};
+use super::jobs::{PollDone, PollJob, PutDone, PutJob, Shared};
 use super::join::join_all;
 use super::room::{WorkerBuffers, WorkerInputs, WorkerResults};
 use super::spawn::{start_polls, start_puts};
@@ -16,7 +16,6 @@ use crate::mailbox::Mailbox;
 use rand_core::Rng;
 use std::alloc::Allocator;
 use std::sync::Wait;
-use std::sync::atomic::AtomicBool;
 use std::thread;
 use std::thread::{Scope, Threads};
 
@@ -31,19 +30,16 @@ fn run_in<
 >(
     scope: &Scope<'s, E>,
     rt: &W,
-    mailbox: &'s Mailbox<A>,
+    shared: &Shared<'s, A, G>,
     jobs: WorkerInputs<R, A>,
-    lanes: Lanes,
-    gate: &'s G,
-    running: &'s AtomicBool,
     room: WorkerBuffers<G, R, A>,
 ) -> WorkerResults<A>
-    requires of { AreOf mailbox.now jobs }
-    requires few { lanes.end ≤ mailbox.now.cells.size.lanes }
-    requires lanes { vec_len jobs.puts ≡ lanes.end - lanes.from }
+    requires of { AreOf shared.now.mailbox.now jobs }
+    requires few { shared.now.lanes.end ≤ shared.now.mailbox.now.cells.size.lanes }
+    requires lanes { vec_len jobs.puts ≡ shared.now.lanes.end - shared.now.lanes.from }
     requires room { HasRoom (vec_len jobs.puts) (vec_len jobs.polls) room }
-    ensures { AreEndsOf (G.may_stop gate.now) (G.may_pass gate.now) R.stream lanes.from lanes.end
-        lanes.budget jobs result }
+    ensures { AreEndsOf (G.may_stop shared.now.gate.now) (G.may_pass shared.now.gate.now) R.stream
+        shared.now.lanes.from shared.now.lanes.end shared.now.lanes.budget jobs result }
 {
     let WorkerInputs { puts, polls } = jobs;
     let WorkerBuffers {
@@ -54,17 +50,15 @@ fn run_in<
             polls: poll_ends,
         },
     } = room;
-    let putting = start_puts(scope, mailbox, puts, gate, running, put_room);
-    let polling = start_polls(
-        scope, mailbox, polls, lanes, gate, running, poll_room, &putting,
-    );
+    let putting = start_puts(scope, shared, puts, put_room);
+    let polling = start_polls(scope, shared, polls, poll_room, &putting);
     WorkerResults {
         puts: join_all(rt, putting, put_ends),
         polls: join_all(rt, polling, poll_ends),
     }
 }
 
-/// Runs one thread for each job and joins all. `running` becomes false when a thread could not be made.
+/// Runs one thread for each job and joins all.
 pub(super) fn run<
     A: Allocator + Drop + Send + Sync,
     W: Threads + Wait + Sync,
@@ -72,20 +66,21 @@ pub(super) fn run<
     G: Gate,
 >(
     rt: &W,
-    mailbox: &Mailbox<A>,
+    shared: &Shared<'_, A, G>,
     jobs: WorkerInputs<R, A>,
-    lanes: Lanes,
-    gate: &G,
-    running: &AtomicBool,
     room: WorkerBuffers<G, R, A>,
 ) -> WorkerResults<A>
-    requires of { AreOf mailbox.now jobs }
-    requires few { lanes.end ≤ mailbox.now.cells.size.lanes }
-    requires lanes { vec_len jobs.puts ≡ lanes.end - lanes.from }
+    requires of { AreOf shared.now.mailbox.now jobs }
+    requires few { shared.now.lanes.end ≤ shared.now.mailbox.now.cells.size.lanes }
+    requires lanes { vec_len jobs.puts ≡ shared.now.lanes.end - shared.now.lanes.from }
     requires room { HasRoom (vec_len jobs.puts) (vec_len jobs.polls) room }
-    ensures { AreEndsOf (G.may_stop gate.now) (G.may_pass gate.now) R.stream lanes.from lanes.end
-        lanes.budget jobs result }
+    ensures { AreEndsOf (G.may_stop shared.now.gate.now) (G.may_pass shared.now.gate.now) R.stream
+        shared.now.lanes.from shared.now.lanes.end shared.now.lanes.budget jobs result }
 {
+    let mailbox = shared.mailbox;
+    let lanes = shared.lanes;
+    let gate = shared.gate;
+    let running = shared.running;
     thread::scope(
         thread::scope_env(),
         rt,
@@ -96,7 +91,15 @@ pub(super) fn run<
             requires room { HasRoom (vec_len jobs.puts) (vec_len jobs.polls) room }
             ensures { AreEndsOf (G.may_stop gate.entry.now) (G.may_pass gate.entry.now) R.stream
                 lanes.from lanes.end lanes.budget jobs result }
-        { run_in(scope, rt, mailbox, jobs, lanes, gate, running, room) },
+        {
+            let shared = Shared {
+                mailbox,
+                lanes,
+                gate,
+                running,
+            };
+            run_in(scope, rt, &shared, jobs, room)
+        },
     )
 }
 

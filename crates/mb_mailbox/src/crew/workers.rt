@@ -241,7 +241,7 @@ pub(super) fn poll_lanes<A: Allocator + Drop, B: Allocator + Drop, R: Rng + Drop
         mut consumer,
         mut rng,
     } = job;
-    let who = Who::Consumer(consumer.seat.consumer());
+    let who = Who::Consumer(consumer.fields.seat.consumer());
     let mut ended = [false; 16];
     let mut at = from;
     let mut idle = 0;
@@ -269,17 +269,11 @@ pub(super) fn poll_lanes<A: Allocator + Drop, B: Allocator + Drop, R: Rng + Drop
         at = lane + 1;
     }
     // The gate refused a call, or call 2^64 - 2 was made. The last call may have read the last lane to its end.
-    match next_lane(&ended, at, from, end) {
-        None => PollDone {
-            consumer,
-            stopped: false,
-            aborted: false,
-        },
-        Some(_) => PollDone {
-            consumer,
-            stopped: true,
-            aborted: false,
-        },
+    let stopped = next_lane(&ended, at, from, end).is_some();
+    PollDone {
+        consumer,
+        stopped,
+        aborted: false,
     }
 }
 

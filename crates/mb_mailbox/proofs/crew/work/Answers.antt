@@ -4,14 +4,10 @@ use Rattle.mb_mailbox.specs.Worked.{lists_in}
 use Rattle.std.specs.Prelude.{vec_len}
 use Rattle.mb_mailbox.proofs.crew.work.Goals as goal
 
--- if room for the jobs or for the workers is refused, nothing was given
+-- if room is refused, nothing was given
 pub returns-in_default-clause-no_memory : goal.returns-in_default-clause-no_memory
 returns-in_default-clause-no_memory g c = λ e. nothing_taken (lists_in c.args.items.items)
     (vec_len c.args.rngs) c.args.hub.now
-
-pub returns-in_default-room_for_workers-clause-no_memory : goal.returns-in_default-room_for_workers-clause-no_memory
-returns-in_default-room_for_workers-clause-no_memory g c = λ e. nothing_taken
-    (lists_in c.args.items.items) (vec_len c.args.rngs) c.args.hub.now
 
 pub returns-clause-all_given : goal.returns-clause-all_given
 returns-clause-all_given g c = (

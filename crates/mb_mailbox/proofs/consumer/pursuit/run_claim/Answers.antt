@@ -23,14 +23,15 @@ use Rattle.mb_mailbox.proofs.consumer.pursuit.run_claim.Goals as goal
 module _ (g : Over) (c : After-has_history g) where
   -- `base` is a consumer of these fields, whose place may be out of date. `with_claim` is the consumer with the claim
   abbrev base : ConsumerView
-  base = consumer_with c.args.reader.now c.args.seat.now c.args.places.now.items c.args.notes.now
+  base = consumer_with c.args.fields.now.reader c.args.fields.now.seat c.args.fields.now.places.items
+      c.args.fields.now.notes
 
   abbrev with_claim : ConsumerView
   with_claim = holding c.args.held.lane c.args.held.cell c.args.held.claim base
 
   -- the claim may go on from these fields
-  start : Start c.args.mailbox.now c.args.held.lane c.args.held.cell c.args.held.claim c.args.reader.now
-      c.args.seat.now c.args.places.now.items c.args.notes.now
+  start : Start c.args.mailbox.now c.args.held.lane c.args.held.cell c.args.held.claim c.args.fields.now.reader
+      c.args.fields.now.seat c.args.fields.now.places.items c.args.fields.now.notes
   start = record {
     held = c.requires.held;
     of = c.requires.of;
@@ -41,38 +42,40 @@ module _ (g : Over) (c : After-has_history g) where
 
   -- the consumer stands at the claim
   stands : HasPlace c.args.held.lane (At c.args.held.cell c.args.held.claim) with_claim
-  stands = here c.args.mailbox.now c.args.held.lane c.args.held.cell c.args.held.claim c.args.reader.now
-      c.args.seat.now c.args.places.now.items c.args.notes.now start
+  stands = here c.args.mailbox.now c.args.held.lane c.args.held.cell c.args.held.claim c.args.fields.now.reader
+      c.args.fields.now.seat c.args.fields.now.places.items c.args.fields.now.notes start
 
   -- the consumer's loads gave it the cell
-  given : Gave c.args.held.cell c.args.reader.now.part
+  given : Gave c.args.held.cell c.args.fields.now.reader.part
   given = c.consumers_move_on.ensures.given with_claim c.args.held.lane c.args.held.cell c.args.held.claim
       start.held start.loads stands
 
   -- there is room for the claim's note
-  has_room : HasRoom c.args.held.lane c.args.notes.now
-  has_room = start_room c.args.mailbox.now c.args.held.lane c.args.held.cell c.args.held.claim c.args.reader.now
-      c.args.seat.now c.args.places.now.items c.args.notes.now start
+  has_room : HasRoom c.args.held.lane c.args.fields.now.notes
+  has_room = start_room c.args.mailbox.now c.args.held.lane c.args.held.cell c.args.held.claim
+      c.args.fields.now.reader
+      c.args.fields.now.seat c.args.fields.now.places.items c.args.fields.now.notes start
       (c.consumers_move_on.ensures.room with_claim c.args.held.lane c.args.held.cell c.args.held.claim
       start.held start.loads stands)
 
   -- the lane has some place
-  was_there : (place : Place) × (slice_get c.args.places.now.items c.args.held.lane ≡ Some place)
-  was_there = there c.args.mailbox.now c.args.held.lane c.args.held.cell c.args.held.claim c.args.reader.now
-      c.args.seat.now c.args.places.now.items c.args.notes.now start
+  was_there : (place : Place) × (slice_get c.args.fields.now.places.items c.args.held.lane ≡ Some place)
+  was_there = there c.args.mailbox.now c.args.held.lane c.args.held.cell c.args.held.claim c.args.fields.now.reader
+      c.args.fields.now.seat c.args.fields.now.places.items c.args.fields.now.notes start
 
   -- if the claim is won, the load of the item ends the poll
   takes : (v : ℕ) (claim : Claim) (seat : SeatView) (reader : ReaderSeatView) (places : List Place)
       (notes : List (List Note)) (made n all : ℕ) (t u : Stream) (from : ConsumerView)
       → all ≡ made + n → claim_stage claim ≡ stage.Won
       → HasCompeted c.args.held.lane c.args.held.cell all claim t u from with_claim seat
-      → ItemMakes c.args.reader.now c.args.held.cell v reader
-      → places ≡ slice_set c.args.places.now.items c.args.held.lane (Before (Past c.args.held.cell))
-      → notes ≡ with_note c.args.held.lane (Some (Took v)) c.args.notes.now.lists → made + 1 ≤ c.args.most
+      → ItemMakes c.args.fields.now.reader c.args.held.cell v reader
+      → places ≡ slice_set c.args.fields.now.places.items c.args.held.lane (Before (Past c.args.held.cell))
+      → notes ≡ with_note c.args.held.lane (Some (Took v)) c.args.fields.now.notes.lists → made + 1 ≤ c.args.most
       → IsPursuit c.args.held.lane n c.args.most (poll.Took v) t u from (at_views reader seat places notes)
   takes v claim seat reader places notes made n all t u from count won so makes e f few =
       let mid = moved_to c.args.held.lane (At c.args.held.cell claim) None base.reader.part seat.part with_claim in
-      let is = mid_consumer base c.args.held.lane c.args.held.cell c.args.held.claim v claim seat reader places notes t
+      let is = mid_consumer base c.args.held.lane c.args.held.cell c.args.held.claim v claim seat reader places
+      notes t
       u from all was_there.0 was_there.1 won so makes e f in
       let at = mid_at base c.args.held.lane c.args.held.cell c.args.held.claim v claim seat reader places notes t u
       from all was_there.0 was_there.1 won so makes e f in
@@ -90,11 +93,13 @@ few_made g c all = subst (λ z. z ≤ most_accesses c.args.mailbox.now.claims.la
 
 -- after accesses of the claim
 module _ (g : Over) (c : After-run-made g) (start : Start c.args.mailbox.now c.args.held.lane c.args.held.cell
-    c.args.held.claim c.args.reader.now c.args.seat.now c.args.places.now.items c.args.notes.now) where
+    c.args.held.claim c.args.fields.now.reader c.args.fields.now.seat c.args.fields.now.places.items
+    c.args.fields.now.notes) where
   -- the consumer with the claim
   abbrev held : ConsumerView
   held = holding c.args.held.lane c.args.held.cell c.args.held.claim
-      (consumer_with c.args.reader.now c.args.seat.now c.args.places.now.items c.args.notes.now)
+      (consumer_with c.args.fields.now.reader c.args.fields.now.seat c.args.fields.now.places.items
+      c.args.fields.now.notes)
 
   -- accesses that led to the start of these lead on
   ran_on : (made : ℕ) → c.run-made.result ≡ made → (from : ConsumerView) (n : ℕ) (t : Stream)
@@ -103,13 +108,19 @@ module _ (g : Over) (c : After-run-made g) (start : Start c.args.mailbox.now c.a
       (g.R.Rng.stream c.run-made.new.rng) from held c.run-made.new.seat
   ran_on made all from n t m =
       let own = c.consumers_move_on.ensures.own held c.args.held.lane c.args.held.cell c.args.held.claim start.held
-      (here c.args.mailbox.now c.args.held.lane c.args.held.cell c.args.held.claim c.args.reader.now c.args.seat.now
-      c.args.places.now.items c.args.notes.now start) in
+      (here c.args.mailbox.now c.args.held.lane c.args.held.cell c.args.held.claim c.args.fields.now.reader
+      c.args.fields.now.seat
+      c.args.fields.now.places.items c.args.fields.now.notes start) in
       subst (λ z. HasCompeted c.args.held.lane c.args.held.cell (z + n) c.run-made.new.claim t
       (g.R.Rng.stream c.run-made.new.rng) from held c.run-made.new.seat) all
-      (ran c.args.mailbox.now c.args.held.lane c.args.held.cell c.args.held.claim c.args.reader.now c.args.seat.now
-      c.args.places.now.items c.args.notes.now start c.consumers_move_on.ensures.competes
-      c.places_tell_steps.ensures.competes (record { cells = c.mailbox.inside.cells; claims = c.mailbox.inside.claims })
+      (ran c.args.mailbox.now c.args.held.lane c.args.held.cell c.args.held.claim c.args.fields.now.reader
+      c.args.fields.now.seat
+      c.args.fields.now.places.items c.args.fields.now.notes start c.consumers_move_on.ensures.competes
+      c.places_tell_steps.ensures.competes (record {
+        cells = c.mailbox.inside.cells;
+        claims =
+            c.mailbox.inside.claims;
+      })
       c.mailbox.view_is own from n t (g.R.Rng.stream c.args.rng.now) m c.run-made.result c.run-made.new.claim
       c.run-made.new.seat (g.R.Rng.stream c.run-made.new.rng) c.run-made.ensures.steps)
 
@@ -125,29 +136,37 @@ pub returns-in-Won-clause-pursued : goal.returns-in-Won-clause-pursued
 returns-in-Won-clause-pursued g c =
     let at = (goal.at.returns-in-Won-clause-pursued g c).After-has_history in
     let won = sym c.stage.ensures ∙ c.in-Won.is in
-    λ from n t m. takes g at c.take.result c.args.held.claim c.args.seat.now c.take.new.reader
+    λ from n t m. takes g at c.take.result c.args.held.claim c.args.fields.now.seat c.take.new.reader
     c.take.new.places.items c.take.new.notes.lists 0 n n t (g.R.Rng.stream c.args.rng.now) from (omega arith) won
-    (begun c.args.mailbox.now c.args.held.lane c.args.held.cell c.args.held.claim c.args.reader.now c.args.seat.now
-    c.args.places.now.items c.args.notes.now (start g at) from n t (g.R.Rng.stream c.args.rng.now) m)
+    (begun c.args.mailbox.now c.args.held.lane c.args.held.cell c.args.held.claim c.args.fields.now.reader
+    c.args.fields.now.seat
+    c.args.fields.now.places.items c.args.fields.now.notes (start g at) from n t (g.R.Rng.stream c.args.rng.now) m)
     c.take.ensures.makes c.take.ensures.place c.take.ensures.notes.lists (omega (arith, c.requires.won won))
 
 pub returns-in-Won-clause-wide : goal.returns-in-Won-clause-wide
 returns-in-Won-clause-wide g c =
     subst (λ (r : ReaderSeatView). r.table.size.cells ≤ c.take.new.notes.room) (sym c.take.ensures.makes.1)
-    (room_stays c.args.held.lane c.args.reader.now.table.size.cells (Some (Took c.take.result)) c.args.notes.now
+    (room_stays c.args.held.lane c.args.fields.now.reader.table.size.cells (Some (Took c.take.result))
+    c.args.fields.now.notes
     c.take.new.notes c.take.ensures.notes c.requires.wide)
 
 pub run-made-requires : goal.run-made-requires
 run-made-requires g c =
     let at = (goal.at.run-made-requires g c).After-has_history in
-    let z : TableSize = record { layout = c.args.mailbox.now.claims.layout; cells = c.args.mailbox.now.claims.cells } in
-    let turns = c.consumers_move_on.ensures.turns (with_claim g at) c.args.held.lane c.args.held.cell c.args.held.claim
+    let z : TableSize = record {
+      layout = c.args.mailbox.now.claims.layout;
+      cells =
+          c.args.mailbox.now.claims.cells;
+    } in
+    let turns = c.consumers_move_on.ensures.turns (with_claim g at) c.args.held.lane c.args.held.cell
+    c.args.held.claim
     c.requires.held (stands g at) z
-    (table c.args.mailbox.now c.args.held.lane c.args.held.cell c.args.held.claim c.args.reader.now c.args.seat.now
-    c.args.places.now.items c.args.notes.now (start g at)) in
+    (table c.args.mailbox.now c.args.held.lane c.args.held.cell c.args.held.claim c.args.fields.now.reader
+    c.args.fields.now.seat
+    c.args.fields.now.places.items c.args.fields.now.notes (start g at)) in
     let low = c.consumers_move_on.ensures.within (with_claim g at) c.args.held.lane c.args.held.cell
     c.args.held.claim c.requires.held c.has_history.ensures (stands g at) in
-    let cells : c.args.reader.now.table.size.cells ≡ c.mailbox.inside.claims.cells =
+    let cells : c.args.fields.now.reader.table.size.cells ≡ c.mailbox.inside.claims.cells =
     ap (λ (n : CellsName). n.size.cells) (c.requires.of.cells
     ∙ sym (ap (λ (v : MailboxView). v.cells) c.mailbox.view_is)) ∙ sym c.mailbox.invariant.0.cells in
     record {
@@ -156,7 +175,8 @@ run-made-requires g c =
       consumer = c.consumers_move_on.ensures.own (with_claim g at) c.args.held.lane c.args.held.cell c.args.held.claim
           c.requires.held (stands g at);
       standing = subst (λ (y : MailboxView). IsClaimIn y.claims.layout c.args.held.claim
-          (part_on c.args.seat.now.consumer c.args.held.cell c.args.seat.now.part)) (sym c.mailbox.view_is) turns;
+          (part_on c.args.fields.now.seat.consumer c.args.held.cell c.args.fields.now.seat.part)) (sym
+          c.mailbox.view_is) turns;
     }
 
 pub take-requires-then-made-most : goal.take-requires-then-made-most
@@ -179,8 +199,10 @@ returns-then-made-most g c =
       decided = λ last e. cc;
       wide = subst (λ (r : ReaderSeatView). r.table.size.cells ≤ c.take-then-made-most.new.notes.room)
           (sym c.take-then-made-most.ensures.makes.1)
-          (room_stays c.args.held.lane c.args.reader.now.table.size.cells (Some (Took c.take-then-made-most.result))
-          c.args.notes.now c.take-then-made-most.new.notes c.take-then-made-most.ensures.notes c.requires.wide);
+          (room_stays c.args.held.lane c.args.fields.now.reader.table.size.cells (Some (Took
+          c.take-then-made-most.result))
+          c.args.fields.now.notes c.take-then-made-most.new.notes c.take-then-made-most.ensures.notes
+          c.requires.wide);
     }
 
 pub returns-in-Going : goal.returns-in-Going
@@ -233,7 +255,8 @@ returns-in-Lost g c =
           c.leave.ensures.place c.leave.ensures.notes.lists;
       few = λ e. cc;
       decided = λ last e. cc;
-      wide = room_stays c.args.held.lane c.args.reader.now.table.size.cells (Some (Lost c.in-Lost.w)) c.args.notes.now
+      wide = room_stays c.args.held.lane c.args.fields.now.reader.table.size.cells (Some (Lost c.in-Lost.w))
+          c.args.fields.now.notes
           c.leave.new.notes c.leave.ensures.notes c.requires.wide;
     }
 
@@ -259,6 +282,7 @@ returns-in-Undecided g c =
       decided = λ last e. absurd (subst (λ (y : MailboxView). (shape_of y.claims.layout).last ≡ true
           → claim_stage c.run-made.new.claim ≢ stage.Undecided) c.mailbox.view_is c.run-made.ensures.decided last
           undecided);
-      wide = room_stays c.args.held.lane c.args.reader.now.table.size.cells (Some Undecided) c.args.notes.now
+      wide = room_stays c.args.held.lane c.args.fields.now.reader.table.size.cells (Some Undecided)
+          c.args.fields.now.notes
           c.leave-in-Undecided.new.notes c.leave-in-Undecided.ensures.notes c.requires.wide;
     }

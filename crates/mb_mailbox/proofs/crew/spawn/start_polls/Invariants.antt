@@ -9,9 +9,9 @@ use Rattle.mb_mailbox.proofs.crew.spawn.start_polls.Given as goal
 abbrev pub invariant-loop-job : goal.invariant-loop-job
 invariant-loop-job g l = record {
   rest : l.yielded ++ into_iter_items l.job-iterator ≡ l.fn.jobs.items;
-  all_of : All (λ j. IsConsumerOf l.mailbox j.consumer) (into_iter_items l.job-iterator);
+  all_of : All (λ j. IsConsumerOf l.shared.mailbox.now j.consumer) (into_iter_items l.job-iterator);
   left : vec_len l.begun + into_iter_len l.job-iterator ≡ vec_len l.fn.jobs;
   room : vec_len l.fn.jobs ≤ vec_capacity l.begun;
-  promised : AllZip (PollPromises g.G.Gate.may_stop g.G.Gate.may_pass g.R.Rng.stream l.gate
-      l.fn.lanes.from l.fn.lanes.end l.fn.lanes.budget) l.yielded l.begun.items;
+  promised : AllZip (PollPromises g.G.Gate.may_stop g.G.Gate.may_pass g.R.Rng.stream l.shared.gate.now
+      l.shared.lanes.from l.shared.lanes.end l.shared.lanes.budget) l.yielded l.begun.items;
 }

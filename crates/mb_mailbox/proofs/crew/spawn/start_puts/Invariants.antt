@@ -9,8 +9,8 @@ use Rattle.mb_mailbox.proofs.crew.spawn.start_puts.Given as goal
 abbrev pub invariant-loop-job : goal.invariant-loop-job
 invariant-loop-job g l = record {
   rest : l.yielded ++ into_iter_items l.job-iterator ≡ l.fn.jobs.items;
-  all_of : All (λ j. IsProducerOf l.mailbox j.producer) (into_iter_items l.job-iterator);
+  all_of : All (λ j. IsProducerOf l.shared.mailbox.now j.producer) (into_iter_items l.job-iterator);
   left : vec_len l.begun + into_iter_len l.job-iterator ≡ vec_len l.fn.jobs;
   room : vec_len l.fn.jobs ≤ vec_capacity l.begun;
-  promised : AllZip (PutPromises g.G.Gate.may_stop g.G.Gate.may_pass l.gate) l.yielded l.begun.items;
+  promised : AllZip (PutPromises g.G.Gate.may_stop g.G.Gate.may_pass l.shared.gate.now) l.yielded l.begun.items;
 }

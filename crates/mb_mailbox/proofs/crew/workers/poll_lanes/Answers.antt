@@ -1,4 +1,5 @@
-use Rattle.std.proofs.Common.{⊎_elim, inl, inr, rules, ◌≡◌, ◌∙◌, ◌-◌, ℕ, Bool, List, [], ◌∷◌, arith, false, refl, subst}
+use Rattle.std.proofs.Common.{⊎_elim, inl, inr, rules, ◌≡◌, ◌∙◌, ◌-◌, ◌<◌, ◌≤◌, ℕ, Bool, List, [], ◌∷◌, None, Option, Some, arith, false, refl, subst, sym, true}
+use Rattle.std.specs.Prelude.{IfNone, IfSome, is_some}
 use Rattle.mb_mailbox.specs.Jobs.{IsStopBefore}
 use Rattle.mb_mailbox.specs.declared.gate.Who.TheVariants as who
 use Rattle.mb_mailbox.proofs.Called.{called_more, none_called}
@@ -13,6 +14,15 @@ use Rattle.mb_mailbox.proofs.crew.workers.poll_lanes.Goals.{else-loop-call-test,
 abbrev sixteen : List Bool
 sixteen = false ∷ false ∷ false ∷ false ∷ false ∷ false ∷ false ∷ false ∷ false ∷ false ∷ false
     ∷ false ∷ false ∷ false ∷ false ∷ false ∷ []
+
+-- what holds if there is none, and if there is one
+none_left : {P : Type 0} (o : Option ℕ) → is_some o ≡ false → IfNone o P → P
+none_left None e h = h
+none_left (Some x) e h = absurd (cc)
+
+left_of : {P Q : ℕ → Type 0} (o : Option ℕ) → is_some o ≡ true → IfSome o P → IfSome o Q → (x : ℕ) × P x × Q x
+left_of None e h i = absurd (cc)
+left_of (Some x) e h i = (x, h, i)
 
 pub loop-call-init : goal.loop-call-init
 loop-call-init g c = record {
@@ -64,7 +74,7 @@ loop-call-preserved g c =
           c.in-Some.ensures.some.0 c.poll_lane-poll.ensures.polled (search rules);
     }
 
--- all lanes have ended: at a turn of the loop, and by `returns-in-None` after it
+-- all lanes have ended at a turn of the loop
 pub returns-in_default : goal.returns-in_default
 returns-in_default g c = record {
   same = c.loop-call.invariant.same;
@@ -99,41 +109,7 @@ returns-in_default g c = record {
   };
 }
 
-pub returns-in-None : goal.returns-in-None
-returns-in-None g c = record {
-  same = c.loop-call.invariant.same;
-  read = λ f p low high. c.loop-call.invariant.read p
-      (within c.loop-call.ended p (omega (
-        arith,
-        high,
-        c.args.lanes.few,
-        c.loop-call-test.array_long,
-      )) (c.in-None.ensures.none p low high));
-  ends = λ f none.
-      let met = c.loop-call.invariant.ends none in
-      let all = marks_all c.loop-call.ended c.args.lanes.from c.args.lanes.end c.loop-call.invariant.marks
-      (λ p low high. within c.loop-call.ended p
-      (omega (arith, high, c.args.lanes.few, c.loop-call-test.array_long))
-      (c.in-None.ensures.none p low high)) in
-      omega (arith, met, all);
-  marked = λ none. record {
-    marks = c.loop-call.ended;
-    within = c.loop-call.invariant.marks;
-    read = c.loop-call.invariant.read;
-    once = c.loop-call.invariant.ends none;
-  };
-  stop = λ t o none. absurd (cc);
-  unread = λ t o none. absurd (cc);
-  only = λ o. c.loop-call.invariant.only;
-  polled = λ o. record {
-    calls = c.loop-call.call - 1;
-    left = g.R.Rng.stream c.loop-call.rng;
-    called = c.loop-call.invariant.called;
-    stop = λ t. absurd (cc);
-  };
-}
-
--- a lane has not ended: the consumer was stopped
+-- after the loop: if a lane has not ended, the consumer was stopped
 pub returns : goal.returns
 returns g c =
     let i = c.loop-call.invariant in
@@ -144,10 +120,17 @@ returns g c =
       | else-loop-call-test w ↦ inr (omega (arith, w.loop-call-test.false, c.loop-call.auto.call))
       | then-loop-call-test+in-Some+else-not-load+then-not-enter w ↦ inl (search rules)
     ] in
+    let ended = λ (f : c.is_some-stopped.result ≡ false) (p : ℕ) (low : c.args.lanes.from ≤ p)
+    (high : p < c.args.lanes.end). within c.loop-call.ended p
+    (omega (arith, high, c.args.lanes.few, c.loop-call-test.array_long))
+    (none_left c.next_lane-2.result (sym c.is_some-stopped.ensures ∙ f) c.next_lane-2.ensures.none p low high) in
     record {
       same = i.same;
-      read = λ f. absurd (cc);
-      ends = λ f none. absurd (cc);
+      read = λ f p low high. i.read p (ended f p low high);
+      ends = λ f none.
+          let met = i.ends none in
+          let all = marks_all c.loop-call.ended c.args.lanes.from c.args.lanes.end i.marks (ended f) in
+          omega (arith, met, all);
       marked = λ none. record { marks = c.loop-call.ended; within = i.marks; read = i.read; once = i.ends none };
       stop = λ t o none. record {
         call = c.loop-call.call;
@@ -158,10 +141,10 @@ returns g c =
       };
       unread = λ t o none.
           let met = i.ends none in
-          let low = c.in-Some-next_lane.ensures.low in
-          let some = c.in-Some-next_lane.ensures.some in
-          let fewer = marks_fewer c.loop-call.ended c.args.lanes.from c.args.lanes.end
-          c.in-Some-next_lane.field-0 i.marks some.1 low some.0 in
+          let left = left_of c.next_lane-2.result (sym c.is_some-stopped.ensures ∙ t) c.next_lane-2.ensures.some
+          c.next_lane-2.ensures.low in
+          let fewer = marks_fewer c.loop-call.ended c.args.lanes.from c.args.lanes.end left.0 i.marks
+          left.1.1 left.2 left.1.0 in
           omega (arith, met, fewer);
       only = λ o. i.only;
       polled = λ o. record {

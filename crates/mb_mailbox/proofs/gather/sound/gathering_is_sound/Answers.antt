@@ -10,8 +10,8 @@ use Rattle.mb_cells.specs.Vocabulary.{IsPoolLawful, fetch, part}
 use Rattle.mb_cells.specs.declared.access.Process.TheVariants.{Producer}
 use Rattle.mb_world.specs.Vocabulary.{parts_of as parts_in, Histories, consumers_of, size_of, notes, HasMetAll, IsReportOf, AreSound}
 use Rattle.mb_world.specs.PartSteps.{no_parts}
-use Rattle.mb_mailbox.specs.Vocabulary.{Claim, Fits, Has, IsClaimIn, IsClaimPrefix, ObjectTurn, Parts, Undecided, cells_met, claim_stage, consumer_count, consumer_of, linked_cells, HubView}
-use Rattle.mb_mailbox.specs.Vocabulary.{MailboxView, plan_at}
+use Rattle.mb_mailbox.specs.Imports.{Claim, Fits, Has, IsClaimIn, IsClaimPrefix, ObjectTurn, Parts, Undecided, cells_met, claim_stage, consumer_count, consumer_of, linked_cells}
+use Rattle.mb_mailbox.specs.Vocabulary.{HubView, MailboxView, plan_at}
 use Rattle.mb_mailbox.proofs.Counted.{at_start, counted, is_noted}
 use Rattle.mb_mailbox.proofs.Lists.{some_same}
 use Rattle.mb_mailbox.proofs.Reported.{diary_told, report_is}

@@ -22,8 +22,8 @@ invariant_of-self g c =
       puts = c.self.inside.puts.items;
       ledgers = ledgers_in c.self.inside.ledgers.items;
     } in
-    let s = at_views c.consumer.inside.reader c.consumer.inside.seat c.consumer.inside.places.items
-    c.consumer.inside.notes.lists in
+    let s = at_views c.consumer.inside.fields.reader c.consumer.inside.fields.seat c.consumer.inside.fields.places.items
+    c.consumer.inside.fields.notes.lists in
     let table : h.cells.table ≡ c.mailbox.inside.cells =
     ap (λ (v : HubView). v.cells.table) c.self.view_is ∙ c.requires.hub.cells
     ∙ sym (ap (λ (m : MailboxView). m.cells) c.mailbox.view_is) in
@@ -73,8 +73,8 @@ returns-clause-hub g c =
       puts = c.self.inside.puts.items;
       ledgers = ledgers_in c.self.inside.ledgers.items;
     } in
-    let s = at_views c.consumer.inside.reader c.consumer.inside.seat c.consumer.inside.places.items
-    c.consumer.inside.notes.lists in
+    let s = at_views c.consumer.inside.fields.reader c.consumer.inside.fields.seat c.consumer.inside.fields.places.items
+    c.consumer.inside.fields.notes.lists in
     let table : h.cells.table ≡ c.mailbox.inside.cells =
     ap (λ (v : HubView). v.cells.table) c.self.view_is ∙ c.requires.hub.cells
     ∙ sym (ap (λ (m : MailboxView). m.cells) c.mailbox.view_is) in
@@ -114,8 +114,8 @@ returns-clause-was_out g c =
       puts = c.self.inside.puts.items;
       ledgers = ledgers_in c.self.inside.ledgers.items;
     } in
-    let s = at_views c.consumer.inside.reader c.consumer.inside.seat c.consumer.inside.places.items
-    c.consumer.inside.notes.lists in
+    let s = at_views c.consumer.inside.fields.reader c.consumer.inside.fields.seat c.consumer.inside.fields.places.items
+    c.consumer.inside.fields.notes.lists in
     subst (λ (z : HubView × ConsumerView). slice_get z.0.ledgers z.1.seat.consumer ≡ Some None)
     (λ j. (c.self.view_is j, c.consumer.view_is j))
     (seat_is_out h s.seat.consumer c.self.invariant.0 c.take_in.ensures.was_out)
