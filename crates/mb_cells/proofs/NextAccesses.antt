@@ -78,7 +78,7 @@ stores_only cells p lane done w v x prefix =
       | inr end_is ↦ inr (ap stage_finish_refusal x.stage ∙ end_is.0, (end_is.1.0 ∙ sym link, end_is.1.1))
     ]
 
--- nothing but a fetch-add or a store comes next
+-- on a lane path nothing but a fetch-add or a store comes next
 pub kinds_only : (cells p : ℕ) (lane : Lane) (done : History) (a : PoolAccess) → IsLaneAfter cells p lane done
     → IsLanePrefix cells p (a ∷ done)
     → IsFetchOrStore p a

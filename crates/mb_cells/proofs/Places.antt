@@ -31,7 +31,8 @@ in_refusal cells p es (Some e) [] done b f h =
     record { entries = es; phase = Full e; at = record { below = b; fits = f; is = h } }
 in_refusal cells p es (Some e) (x ∷ later) done b f h = in_groups cells p es later done b (cc)
 
--- what was done on the way to these, and perhaps the end mark, stands at a place
+-- what was done on the way to groups, perhaps a fetch-add that found no cell, and perhaps the end mark, stands at a
+-- place
 in_ending : (cells p : ℕ) (es : List Entry) (r : Option Entry) (ended : Bool) (later done : History)
     → AllCellsBelow cells es → FindsNoCell cells r
     → later ++ done ≡ ending p (place_after p es) ended (refusal p r (groups p es)) → IsSomewhere cells p done

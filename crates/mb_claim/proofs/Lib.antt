@@ -39,7 +39,7 @@ pub mod MostSteps
 pub mod FastPath
 pub mod PassedRatifiers
 pub mod LastObjects
--- Runs
+-- Plays
 pub mod PlaySteps
 pub mod OnePlay
 -- Examples

@@ -15,7 +15,7 @@ use Rattle.mb_claim.proofs.KindLaws.{AreDeciding}
 use Rattle.mb_claim.proofs.Lists.{not_empty, get_at}
 use Rattle.mb_claim.proofs.Turns.{reads_seen}
 use Rattle.mb_claim.proofs.CellFamily.{competes, family}
-use Rattle.mb_claim.proofs.PassedObjects.{Here, family_at}
+use Rattle.mb_claim.proofs.PassedObjects.{LawfulObject, family_at}
 
 -- ---- a part from the object on which a claim stands
 -- whole paths through the objects before, and then a part of the objects after, are a part of all
@@ -141,7 +141,7 @@ pub record AreStepping (t : QuorumTable) : Type 0 where
       → IsObjectLawful (object_of t kind inputs) (record { process = p; turn = turn } ∷ h)
 
 module _ (t : QuorumTable) (law : AreDeciding t) (stepping : AreStepping t) (kind : Kind) (hs : ℕ → List Access)
-    (c o w : ℕ) (turns : List Turn) (at : Here t kind hs c o w turns)
+    (c o w : ℕ) (turns : List Turn) (at : LawfulObject t kind hs c o w turns)
     (pc : Pc) (op : Op) (word : ℕ) (small : IsInWords (turn_after op word (hs o))) (place : PcIsAt t kind w pc turns)
     (is : IsOpAt t pc op) where
   -- the turn goes on along a path of its process
@@ -176,7 +176,7 @@ module _ (t : QuorumTable) (law : AreDeciding t) (stepping : AreStepping t) (kin
 stands_here :
     (cs : Claims) → AreDeciding cs.table → (h : List ClaimAccess) (c k object : ℕ) (pc : Pc)
     → IsClaimLawful cs h → (p : HasPlace cs c k object pc h)
-    → Here cs.table p.1.kind (λ o. object_history k o h) c object p.1.input p.1.turns
+    → LawfulObject cs.table p.1.kind (λ o. object_history k o h) c object p.1.input p.1.turns
 stands_here cs law h c k object pc lawful p =
     let row : Claims = claims_of cs.table (p.1.before ++ p.1.kind ∷ p.1.after) cs.cells in
     let lawful' : IsClaimLawful row h =

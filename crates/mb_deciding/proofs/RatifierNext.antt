@@ -50,7 +50,7 @@ prefers_follow t v u begin (inl h) =
 prefers_follow t v u begin (inr h) =
     subst (λ made. AllFollow t v made) (sym h) (refl, stores_follow t v t.registers (omega arith))
 
--- each act still follows those before it with one more act among them, if a test adds it and it follows all before it
+-- the same of acts in two pieces: the act that a test adds comes after both, and follows all of them
 check_cond :
     (t : QuorumTable) (v : ℕ) (b : Bool) (x : Act) (xs ys : List Act) → (b ≡ true → Follows t v x (xs ++ ys))
     → AllFollow t v (xs ++ ys) → AllFollow t v (cond b (x ∷ xs) xs ++ ys)

@@ -164,13 +164,13 @@ pub struct Line {
 pub struct Frame {
     /// The number of its column.
     pub column: usize,
-    /// The row in which the claim begins.
+    /// The row in which the box begins. That of a claim begins with the load that found the cell.
     pub first: usize,
     /// The last row that the box has so far.
     pub last: usize,
-    /// Whether the claim has ended there.
+    /// Whether the box has ended there. That of a won claim ends with the load of the item.
     pub ended: bool,
-    /// How the result of the claim looks.
+    /// How the result of the claim, or of the process's use, looks. It is plain until there is one.
     pub tone: Tone,
 }
 

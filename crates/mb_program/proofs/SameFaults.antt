@@ -29,7 +29,7 @@ any_swapped s p same [] = refl
 any_swapped s p same (a ∷ c) = ap₂ (λ x y. x || y) (same a) (any_swapped s p same c)
 
 -- Each lemma from here on says of a function of clap that it finds the same faults, over the other parsers and over
--- those before the change. The lemma is named after that function, with `same` for `fault`.
+-- those before the change. Most are named after that function, with `same` for `fault`.
 module _ (s : Swap) (same : ReadsSame s) where
   -- an argument with its parser changed
   abbrev f : Rule → Rule
@@ -263,7 +263,8 @@ module _ (s : Swap) (same : ReadsSame s) where
         (not (top.subcommand_negates_reqs && has_subcommand) && x))
         (any_swapped s (λ a. a.required && not (is_given a.id rows)) (λ a. refl) top.rules)
 
-    -- a command refuses words for its own arguments for the same reasons
+    -- ---- all faults of the command
+    -- the command has the same faults: of the walk, or else `below` (of its subcommand), or else after the walk
     pub level_fault_same : (names : Names) (h : Held) (words : List Text) (has_subcommand : Bool)
         (below : Kinds)
         → level_fault other names h words has_subcommand below

@@ -10,7 +10,7 @@ use Rattle.mb_world.specs.Setups.{setup_refusal}
 use Rattle.mb_script.specs.declared.fault.Fault.{Fault}
 use Rattle.mb_script.specs.declared.fault.Fault.TheVariants.{BadLine, BadNumber, BadSetup}
 use Rattle.mb_script.specs.FirstFault.{line_of}
-use Rattle.mb_script.specs.Scripts.{Made, made_from, number_at, one_number, two_numbers, three_numbers, made_of, sizes_of, setup_of, event_of, lane_of, consumer_in, has_consumer, placed, event_at}
+use Rattle.mb_script.specs.Scripts.{SetupLine, made_from, number_at, one_number, two_numbers, three_numbers, made_of, sizes_of, setup_of, event_of, lane_of, consumer_in, has_consumer, placed, event_at}
 use Rattle.mb_script.specs.Steps.{◌>>=◌}
 use Rattle.mb_script.specs.Shapes.{shape_named}
 use Rattle.mb_script.specs.Tables.{table_named}
@@ -110,7 +110,7 @@ at_line plan n line =
 
 -- ---- faults of the first line
 -- what holds of each fault of a setup holds of each fault of what the first line makes
-for_made : (P : Fault → Type 0) (o : Option SetupFault) (made : Made)
+for_made : (P : Fault → Type 0) (o : Option SetupFault) (made : SetupLine)
     → ((f : SetupFault) → P (BadSetup 1 f)) → For P (made_of o made)
 for_made P None made bad = tt
 for_made P (Some fault) made bad = bad fault

@@ -11,7 +11,7 @@ use Rattle.mb_script.specs.declared.fault.Fault.TheVariants.{TooLong, NotAscii, 
 use Rattle.mb_script.specs.declared.script.TheConstants.{MAX_EVENTS}
 use Rattle.mb_script.specs.declared.transfer.TheConstants.{MAX_SCRIPT_LEN}
 use Rattle.mb_script.specs.FirstFault.{line_of}
-use Rattle.mb_script.specs.Scripts.{Made, Script, setup_of, event_at, events_of, script_with, lines_script, script_of}
+use Rattle.mb_script.specs.Scripts.{SetupLine, Script, setup_of, event_at, events_of, script_with, lines_script, script_of}
 use Rattle.mb_script.specs.Steps.{◌>>=◌}
 use Rattle.mb_script.specs.Text.{lines_of, words_in_line}
 use Rattle.mb_script.specs.Spelling.{Spells}
@@ -93,30 +93,30 @@ events_same plan n (suc k) m (line ∷ lines) bs e low is about count same =
     subst (λ (t : List (List ℕ)). events_of plan n t ≡ Err e) (sym h.1) further
 
 -- if the events of one script have the fault that the events of another have, the first script has it, too
-events_step : (made : Made) (r s : Result (List Event) Fault) (e : Fault)
+events_step : (made : SetupLine) (r s : Result (List Event) Fault) (e : Fault)
     → (r >>= (λ es. Ok (script_with made es))) ≡ Err e
     → (r ≡ Err e → s ≡ Err e) → (s >>= (λ es. Ok (script_with made es))) ≡ Err e
 events_step made (Ok ys) s e is on = absurd (cc)
 events_step made (Err d) s e is on = rw (on (ap (λ (f : Fault). Err f) (err_is d e is))) refl
 
 -- scripts with the same first line have the same fault, if their events have
-setup_step : (r : Result Made Fault) (f g : Made → Result (List Event) Fault) (e : Fault)
-    → (r >>= (λ made. f made >>= (λ es. Ok (script_with made es)))) ≡ Err e → ((x : Made) → f x ≡ Err e → g x ≡ Err e)
+setup_step : (r : Result SetupLine Fault) (f g : SetupLine → Result (List Event) Fault) (e : Fault)
+    → (r >>= (λ made. f made >>= (λ es. Ok (script_with made es)))) ≡ Err e → ((x : SetupLine) → f x ≡ Err e → g x ≡ Err e)
     → (r >>= (λ made. g made >>= (λ es. Ok (script_with made es)))) ≡ Err e
 setup_step (Err d) f g e is on = is
 setup_step (Ok x) f g e is on = events_step x (f x) (g x) e is (on x)
 
 -- a fault of a line after the first is about line 1 or a later one
-least_behind : (made : Made) (r : Result (List Event) Fault) (m : ℕ) (e : Fault)
+least_behind : (made : SetupLine) (r : Result (List Event) Fault) (m : ℕ) (e : Fault)
     → (r >>= (λ es. Ok (script_with made es))) ≡ Err e → (r ≡ Err e → 2 ≤ m) → 1 ≤ m
 least_behind made (Ok ys) m e is on = absurd (cc)
 least_behind made (Err d) m e is on =
     let more = on (ap (λ (f : Fault). Err f) (err_is d e is)) in omega (arith, more)
 
 -- a fault of a script's lines is about line 1 or a later one
-setup_least : (r : Result Made Fault) (f : Made → Result (List Event) Fault) (m : ℕ) (e : Fault)
+setup_least : (r : Result SetupLine Fault) (f : SetupLine → Result (List Event) Fault) (m : ℕ) (e : Fault)
     → At 1 r → line_of e ≡ Some m
-    → (r >>= (λ made. f made >>= (λ es. Ok (script_with made es)))) ≡ Err e → ((x : Made) → f x ≡ Err e → 2 ≤ m) → 1 ≤ m
+    → (r >>= (λ made. f made >>= (λ es. Ok (script_with made es)))) ≡ Err e → ((x : SetupLine) → f x ≡ Err e → 2 ≤ m) → 1 ≤ m
 setup_least (Err d) f m e at about is on =
     let same = one_line d e 1 m at (err_is d e is) about in omega (arith, same)
 setup_least (Ok x) f m e at about is on = least_behind x (f x) m e is (on x)
@@ -186,7 +186,7 @@ events_before plan n (suc k) m (line ∷ lines) e low is about count =
     (λ fails. events_before plan (suc n) k m lines e low fails about (omega (arith, count)))
 
 -- if events with a fault are replaced by events without one, the script has no fault
-events_well : (made : Made) (r s : Result (List Event) Fault) (e : Fault)
+events_well : (made : SetupLine) (r s : Result (List Event) Fault) (e : Fault)
     → (r >>= (λ es. Ok (script_with made es))) ≡ Err e
     → (r ≡ Err e → (es : List Event) × (s ≡ Ok es)) → (t : Script) × ((s >>= (λ es. Ok (script_with made es))) ≡ Ok t)
 events_well made (Ok ys) s e is on = absurd (cc)
@@ -194,10 +194,10 @@ events_well made (Err d) s e is on =
     let so = on (ap (λ (f : Fault). Err f) (err_is d e is)) in (script_with made so.0, rw (so.1) refl)
 
 -- a script with the same first line, and events without a fault, has no fault
-setup_well : (r : Result Made Fault) (f g : Made → Result (List Event) Fault) (e : Fault) (m : ℕ)
+setup_well : (r : Result SetupLine Fault) (f g : SetupLine → Result (List Event) Fault) (e : Fault) (m : ℕ)
     → At 1 r → line_of e ≡ Some m
     → 1 < m → (r >>= (λ made. f made >>= (λ es. Ok (script_with made es)))) ≡ Err e
-    → ((x : Made) → f x ≡ Err e → (es : List Event) × (g x ≡ Ok es))
+    → ((x : SetupLine) → f x ≡ Err e → (es : List Event) × (g x ≡ Ok es))
     → (t : Script) × ((r >>= (λ made. g made >>= (λ es. Ok (script_with made es)))) ≡ Ok t)
 setup_well (Err d) f g e m at about more is on =
     let same = one_line d e 1 m at (err_is d e is) about in absurd (omega (arith, same, more))

@@ -10,7 +10,7 @@ use Rattle.mb_script.specs.declared.fault.Fault.{Fault}
 use Rattle.mb_script.specs.declared.fault.Fault.TheVariants.{BadLine, NoSetup}
 use Rattle.mb_script.specs.declared.transfer.TheConstants.{MAX_SCRIPT_LEN}
 use Rattle.mb_script.specs.FirstFault.{first_of, first_word_in}
-use Rattle.mb_script.specs.Scripts.{Made, sizes_of, setup_of, events_of, script_with, lines_script, script_of}
+use Rattle.mb_script.specs.Scripts.{SetupLine, sizes_of, setup_of, events_of, script_with, lines_script, script_of}
 use Rattle.mb_script.specs.Steps.{◌>>=◌}
 use Rattle.mb_script.specs.Text.{has_empty, lines_of, words_in_line}
 use Rattle.mb_script.proofs.AboutLines.{For, for_cond, for_sizes}
@@ -24,14 +24,14 @@ not_behind ws =
     (for_sizes (λ e. e ≢ NoSetup) ws (λ e. cc) (λ e. cc) (λ f e. cc))
 
 -- the lines after the first are no reason for NoSetup
-never_behind : (made : Made) (r : Result (List Event) Fault) → r ≢ Err NoSetup
+never_behind : (made : SetupLine) (r : Result (List Event) Fault) → r ≢ Err NoSetup
     → (r >>= (λ es. Ok (script_with made es))) ≢ Err NoSetup
 never_behind made (Ok ys) never = λ is. cc
 never_behind made (Err d) never = λ is. never (ap (λ (f : Fault). Err f) (err_is d NoSetup is))
 
 -- if neither the first line of a script nor the others have the fault NoSetup, the script does not have it
-never_step : (r : Result Made Fault) (f : Made → Result (List Event) Fault) → For (λ e. e ≢ NoSetup) r
-    → ((x : Made) → f x ≢ Err NoSetup) → (r >>= (λ made. f made >>= (λ es. Ok (script_with made es)))) ≢ Err NoSetup
+never_step : (r : Result SetupLine Fault) (f : SetupLine → Result (List Event) Fault) → For (λ e. e ≢ NoSetup) r
+    → ((x : SetupLine) → f x ≢ Err NoSetup) → (r >>= (λ made. f made >>= (λ es. Ok (script_with made es)))) ≢ Err NoSetup
 never_step (Err d) f first behind = λ is. first (err_is d NoSetup is)
 never_step (Ok x) f first behind = λ is. never_behind x (f x) (behind x) is
 

@@ -13,7 +13,7 @@ use Rattle.mb_script.specs.declared.fault.Fault.TheVariants.{BadLine, TooManyEve
 use Rattle.mb_script.specs.declared.script.TheConstants.{MAX_EVENTS}
 use Rattle.mb_script.specs.Faults.{Gives}
 use Rattle.mb_script.specs.Steps.{◌>>=◌}
-use Rattle.mb_script.specs.Scripts.{Made, one_number, two_numbers, three_numbers, event_of, event_at, events_of, sizes_of, setup_of}
+use Rattle.mb_script.specs.Scripts.{SetupLine, one_number, two_numbers, three_numbers, event_of, event_at, events_of, sizes_of, setup_of}
 use Rattle.mb_script.specs.Tables.{table_named}
 use Rattle.mb_script.specs.Text.{words_in_line, has_empty}
 
@@ -58,7 +58,7 @@ bad_event plan n line bad = bad_by plan n line _ refl bad
 
 -- if what comes after a table's name is bad, the line is bad, whether the name is a table's or not
 bad_either : (o : Option TableName)
-    → ◌≡◌ {A = Result Made Fault} (ok_or o (BadLine 1) >>= (λ t. Err (BadLine 1))) (Err (BadLine 1))
+    → ◌≡◌ {A = Result SetupLine Fault} (ok_or o (BadLine 1) >>= (λ t. Err (BadLine 1))) (Err (BadLine 1))
 bad_either None = refl
 bad_either (Some t) = refl
 

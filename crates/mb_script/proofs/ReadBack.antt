@@ -6,7 +6,7 @@ use Rattle.mb_world.specs.declared.setup.SetupFault.{SetupFault}
 use Rattle.mb_claim.specs.Rows.{plain}
 use Rattle.mb_claim.specs.declared.shape.Shape.{Shape}
 use Rattle.mb_world.specs.Setups.{setup_refusal}
-use Rattle.mb_script.specs.Vocabulary.{Fault, Made, made_from, number_at, one_number, two_numbers, three_numbers, made_of, sizes_of, setup_of, Sizes, made_for, setup_words, ◌>>=◌, shape_named}
+use Rattle.mb_script.specs.Vocabulary.{Fault, SetupLine, made_from, number_at, one_number, two_numbers, three_numbers, made_of, sizes_of, setup_of, Sizes, made_for, setup_words, ◌>>=◌, shape_named}
 use Rattle.mb_script.specs.Vocabulary.{shape_with, shape_words, table_name, table_named, has_empty}
 use Rattle.mb_script.specs.declared.fault.Fault.TheVariants.{BadLine, NoSetup}
 use Rattle.mb_script.proofs.Bound.{avoided, bind_ok, ok_is, passed, some_from}
@@ -118,36 +118,36 @@ three_takes n (a ∷ b ∷ c ∷ []) x e =
 
 -- ---- the first line
 -- the six definitions from here on say what is left to be read after each step of `sizes_of`, the last step first
-abbrev with_pairs : ℕ → ℕ → ℕ → Shape → TableName → ℕ → Result Made Fault
+abbrev with_pairs : ℕ → ℕ → ℕ → Shape → TableName → ℕ → Result SetupLine Fault
 with_pairs p c m f t k = made_of (setup_refusal p c m k) (made_from f p c m k t)
 
-abbrev with_cells : ℕ → ℕ → List ℕ → Shape → TableName → ℕ → Result Made Fault
+abbrev with_cells : ℕ → ℕ → List ℕ → Shape → TableName → ℕ → Result SetupLine Fault
 with_cells p c pairs f t m = number_at 1 pairs >>= with_pairs p c m f t
 
-abbrev with_consumers : ℕ → List ℕ → List ℕ → Shape → TableName → ℕ → Result Made Fault
+abbrev with_consumers : ℕ → List ℕ → List ℕ → Shape → TableName → ℕ → Result SetupLine Fault
 with_consumers p cells pairs f t c = number_at 1 cells >>= with_cells p c pairs f t
 
-abbrev with_producers : List ℕ → List ℕ → List ℕ → Shape → TableName → ℕ → Result Made Fault
+abbrev with_producers : List ℕ → List ℕ → List ℕ → Shape → TableName → ℕ → Result SetupLine Fault
 with_producers consumers cells pairs f t p = number_at 1 consumers >>= with_consumers p cells pairs f t
 
-abbrev with_shape : List ℕ → List ℕ → List ℕ → List ℕ → TableName → Shape → Result Made Fault
+abbrev with_shape : List ℕ → List ℕ → List ℕ → List ℕ → TableName → Shape → Result SetupLine Fault
 with_shape producers consumers cells pairs t f = number_at 1 producers >>= with_producers consumers cells pairs f t
 
-abbrev with_table : List ℕ → List ℕ → List ℕ → List ℕ → List (List ℕ) → TableName → Result Made Fault
+abbrev with_table : List ℕ → List ℕ → List ℕ → List ℕ → List (List ℕ) → TableName → Result SetupLine Fault
 with_table producers consumers cells pairs shape t =
     ok_or (shape_named shape) (BadLine 1) >>= with_shape producers consumers cells pairs t
 
 -- if a setup was made, it was not refused
-made_takes : (o : Option SetupFault) (x y : Made) → made_of o x ≡ Ok y → (o ≡ None) × (x ≡ y)
+made_takes : (o : Option SetupFault) (x y : SetupLine) → made_of o x ≡ Ok y → (o ≡ None) × (x ≡ y)
 made_takes None x y e = (refl, ok_is x y e)
 made_takes (Some f) x y e = absurd (cc)
 
 -- these sizes are not refused, and this is what they make
-abbrev pub Sized : Made → Sizes → Type 0
+abbrev pub Sized : SetupLine → Sizes → Type 0
 Sized made z = (setup_refusal z.producers z.consumers z.cells z.pairs ≡ None) × (made_for z ≡ made)
 
 -- words after `setup` that were read without a fault spell sizes
-sizes_take : (ws : List (List ℕ)) (made : Made) → sizes_of ws ≡ Ok made
+sizes_take : (ws : List (List ℕ)) (made : SetupLine) → sizes_of ws ≡ Ok made
     → (z : Sizes) × (codes "setup" ∷ ws ≡ setup_words z) × Sized made z
 unfolding sizes_of
 sizes_take [] made e = absurd (cc)
@@ -183,7 +183,7 @@ sizes_take (producers ∷ consumers ∷ cells ∷ pairs ∷ name ∷ shape) made
     (z, whole, sized)
 
 -- a first line that was read without a fault spells sizes
-pub setup_take : (ws : List (List ℕ)) (made : Made) → setup_of ws ≡ Ok made → (z : Sizes)
+pub setup_take : (ws : List (List ℕ)) (made : SetupLine) → setup_of ws ≡ Ok made → (z : Sizes)
     × (ws ≡ setup_words z) × Sized made z
 unfolding setup_of
 setup_take [] made e = absurd (cc)

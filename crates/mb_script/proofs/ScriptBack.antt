@@ -8,7 +8,7 @@ use Rattle.std.proofs.lemmas.Slice.Eq.{bytes_eq-Decides}
 use Rattle.std.proofs.lemmas.List.Splits.{join_with_byte-slice_split}
 use Rattle.mb_world.specs.declared.event.Event.{Event, TheVariants.Offer, TheVariants.Push, TheVariants.Finish, TheVariants.Step}
 use Rattle.mb_world.specs.Vocabulary.{Plan}
-use Rattle.mb_script.specs.Vocabulary.{Fault, MAX_EVENTS, MAX_SCRIPT_LEN, Gives, Made, Script, view, one_number, two_numbers, three_numbers, setup_of, event_of, lane_of, consumer_in, has_consumer}
+use Rattle.mb_script.specs.Vocabulary.{Fault, MAX_EVENTS, MAX_SCRIPT_LEN, Gives, SetupLine, Script, view, one_number, two_numbers, three_numbers, setup_of, event_of, lane_of, consumer_in, has_consumer}
 use Rattle.mb_script.specs.Vocabulary.{placed, event_at, events_of, script_with, lines_script, script_of, IsEventOf, Spells, Sizes, event_words, made_for, script_in, setup_words, ◌>>=◌, has_empty}
 use Rattle.mb_script.specs.Vocabulary.{lines_of, words_in_line}
 use Rattle.mb_script.specs.declared.fault.Fault.TheVariants.{TooLong, NotAscii, BadLine, NoLane, NoConsumer, TooManyEvents}
@@ -137,21 +137,21 @@ events_take z n (line ∷ lines) events read =
     (line_before _ _ _ _ first.0 rest.0, (first.1, rest.1), λ h. omega (arith, few))
 
 -- if sizes make this, it is with the events the script of those sizes and events
-script_is : (z : Sizes) (made : Made) (events : List Event) → made_for z ≡ made
+script_is : (z : Sizes) (made : SetupLine) (events : List Event) → made_for z ≡ made
     → script_with made events ≡ script_in z events
-script_is z made events e = ap (λ (m : Made). script_with m events) (sym e)
+script_is z made events e = ap (λ (m : SetupLine). script_with m events) (sym e)
 
 -- lines that were read as a script spell it
 pub lines_take : (lines : List (List ℕ)) (s : Script) → lines_script lines ≡ Ok s → Spells lines s
 unfolding lines_script
 lines_take [] s read = absurd (cc)
 lines_take (line ∷ lines) s read =
-    let further = λ (m : Made). events_of m.plan 2 lines >>= (λ events. Ok (script_with m events)) in
+    let further = λ (m : SetupLine). events_of m.plan 2 lines >>= (λ events. Ok (script_with m events)) in
     let a = bind_ok (setup_of (words_in_line line)) further s read in
     let b = bind_ok (events_of a.0.plan 2 lines) (λ events. Ok (script_with a.0 events)) s a.2 in
     let set = setup_take (words_in_line line) a.0 a.1 in
     let z = set.0 in
-    let plan : a.0.plan ≡ plan_for z = ap (λ (m : Made). m.plan) (sym set.2.1) in
+    let plan : a.0.plan ≡ plan_for z = ap (λ (m : SetupLine). m.plan) (sym set.2.1) in
     let events = events_take z 2 lines b.0 (subst (λ (p : Plan). events_of p 2 lines ≡ Ok b.0) plan b.1) in
     let first : line ≡ join_with_byte 32 (setup_words z) =
     sym (join_with_byte-slice_split 32 line) ∙ ap (join_with_byte 32) set.1 in

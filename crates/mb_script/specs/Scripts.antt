@@ -22,18 +22,18 @@ use Rattle.mb_script.specs.Text.{lines_of, words_in_line, has_empty, number_of}
 
 -- what a first line makes: what a world is made of, how many pairs of deciding objects each cell has, and what it has
 -- beside them
-pub record Made : Type 0 where
+pub record SetupLine : Type 0 where
   -- the plan of the world, the number of pairs of each cell, and the shape of the cells
   pub plan : Plan
   pub pairs : ℕ
   pub shape : Shape
 
 -- what a setup of the code makes, as plain data
-abbrev pub made_in : Setup → Made
+abbrev pub made_in : Setup → SetupLine
 made_in setup = record { plan = plan_in setup; pairs = pairs_in setup; shape = shape_in setup }
 
 -- what these numbers make, over the quorum table of this name, with cells of this shape
-abbrev pub made_from : Shape → ℕ → ℕ → ℕ → ℕ → TableName → Made
+abbrev pub made_from : Shape → ℕ → ℕ → ℕ → ℕ → TableName → SetupLine
 made_from shape p c m k t = record { plan = shaped_plan shape p c m k t; pairs = k; shape = shape }
 
 -- a script: what its first line makes, and its events, in their order
@@ -46,7 +46,7 @@ pub record Script : Type 0 where
   pub events : List Event
 
 -- the script of what a first line makes, and of these events
-abbrev pub script_with : Made → List Event → Script
+abbrev pub script_with : SetupLine → List Event → Script
 script_with made events = record {
   plan = made.plan;
   pairs = made.pairs;
@@ -81,13 +81,13 @@ three_numbers n words = Err (BadLine n)
 
 -- ---- the first line: `setup`, four numbers, a table's name, and the shape of cells that have more than pairs
 -- what a setup makes, or the fault of line 1, if there is a reason to refuse the setup
-abbrev pub made_of : Option SetupFault → Made → Result Made Fault
+abbrev pub made_of : Option SetupFault → SetupLine → Result SetupLine Fault
 made_of None made = Ok made
 made_of (Some fault) made = Err (BadSetup 1 fault)
 
 -- what the words after `setup` make, or a fault: first of their count, the table and the shape, then of the first bad
 -- number, and last of the ranges
-unfoldable pub sizes_of : List (List ℕ) → Result Made Fault
+unfoldable pub sizes_of : List (List ℕ) → Result SetupLine Fault
 sizes_of (producers ∷ consumers ∷ cells ∷ pairs ∷ name ∷ shape) = do
   t ← ok_or (table_named name) (BadLine 1)
   f ← ok_or (shape_named shape) (BadLine 1)
@@ -100,7 +100,7 @@ sizes_of words = Err (BadLine 1)
 
 -- what the words of the first line make, or their first fault. If the first word is not `setup`, no other fault of the
 -- line counts
-unfoldable pub setup_of : List (List ℕ) → Result Made Fault
+unfoldable pub setup_of : List (List ℕ) → Result SetupLine Fault
 setup_of [] = Err NoSetup
 setup_of (key ∷ words) =
     if bytes_eq key (codes "setup")

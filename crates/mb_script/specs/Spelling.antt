@@ -8,7 +8,7 @@ use Rattle.mb_world.specs.declared.event.Event.TheVariants.{Offer, Push, Finish,
 use Rattle.mb_claim.specs.declared.shape.Shape.{Shape}
 use Rattle.mb_world.specs.Setups.{setup_refusal}
 use Rattle.mb_script.specs.declared.script.TheConstants.{MAX_EVENTS}
-use Rattle.mb_script.specs.Scripts.{Made, Script, made_from, script_with}
+use Rattle.mb_script.specs.Scripts.{SetupLine, Script, made_from, script_with}
 use Rattle.mb_script.specs.Shapes.{shape_words}
 use Rattle.mb_script.specs.Tables.{table_name}
 
@@ -58,7 +58,7 @@ pub record IsScript (z : Sizes) (events : List Event) : Type 0 where
   pub few : length events ≤ MAX_EVENTS
 
 -- what the first line makes of these sizes
-abbrev pub made_for : Sizes → Made
+abbrev pub made_for : Sizes → SetupLine
 made_for z = made_from z.shape z.producers z.consumers z.cells z.pairs z.table
 
 -- the script that the lines of these sizes and events say

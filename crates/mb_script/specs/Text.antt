@@ -38,11 +38,11 @@ numbers_of [] = Some []
 numbers_of (w ∷ ws) =
     option_and_then (λ n. option_and_then (λ ns. Some (n ∷ ns)) (numbers_of ws)) (number_of w)
 
--- a word that may stand between two spaces of a line: some bytes of ASCII, none of them a space
+-- a word that is not empty, is ASCII and has no space. An LF, which no line has, is not ruled out here
 abbrev pub IsWord : List ℕ → Type 0
 IsWord w = AllByRecursion (λ b. (b == 32) ≡ false) w × ((length w == 0) ≡ false) × (list_all is_ascii w ≡ true)
 
--- words that may stand on one line: at least one word, and each may stand between two spaces
+-- the words of one line: at least one, and each is such a word
 abbrev pub IsWordLine : List (List ℕ) → Type 0
 IsWordLine [] = ⊥
 IsWordLine (w ∷ ws) = AllByRecursion IsWord (w ∷ ws)

@@ -185,7 +185,7 @@ module _ (plan : Plan) (h : WorldHistory) (lawful : IsWorldLawful plan h)
   fits_cells (ToCells b) by_c true_to = (true_to.0, subst (ProcessFits plan.lanes) (sym by_c) tt, lawful.cells_fit)
   fits_cells (ToClaims b) by_c true_to = lawful.cells_fit
 
-  -- the accesses to the claims are of words
+  -- values and random words of the accesses to the claims are below 2^64
   fits_claims : (b : WorldAccess) → IsTrueTo b h → claim.AreInWords (claim_accesses (b ∷ h))
   fits_claims (ToCells b) true_to = lawful.claims_fit
   fits_claims (ToClaims b) true_to = (true_to.0, lawful.claims_fit)

@@ -39,7 +39,7 @@ second_same : (w u : Word) (v x : ℕ) → stored w v ≡ stored u x → v ≡ x
 second_same w u v x e = ap stored_value e
 
 module _ (plan : Plan) (h : WorldHistory) (known : EventKnown plan h) (p : ℕ) where
-  -- a producer's access is in front of its part
+  -- if an access of the producer comes next in a lawful world, it goes on with the producer's lane path
   own_front : (a : PoolAccess) → a.process ≡ Producer p → IsWorldLawful plan (ToCells a ∷ h)
       → IsLanePrefix plan.claims.cells p (a ∷ part (Producer p) (pool_accesses h))
   own_front a own lawful =

@@ -75,7 +75,7 @@ static WINNERS: [(bool, [&[Note]; 3], Option<Flaw>); 11] = [
     (true, [&[], &[Lost(1)], &[]], OTHER_WINNER),
     // Losers name one winner.
     (true, [&[Lost(1)], &[Lost(2)], &[Undecided]], OTHER_WINNER),
-    // The winner that they name competed, and there is such a consumer.
+    // The winner that losers name competed. In the first row it did not. In the second there is no such consumer.
     (true, [&[Lost(1)], &[], &[]], OTHER_WINNER),
     (true, [&[Lost(3)], &[], &[]], OTHER_WINNER),
     // If the item was taken, the winner that they name is the taker.
@@ -98,7 +98,7 @@ const OTHER_LEFT: Option<Flaw> = Some(Flaw::OtherLeft);
 /// What is left of the items 5, 6 and 7 if 5 was taken, and the flaw.
 static LEFT: [(&[u64], Option<Flaw>); 8] = [
     (&[6, 7], None),
-    // The items left are in their order.
+    // The items left are items of the lane, in their order.
     (&[7, 6], OTHER_LEFT),
     (&[6, 8], OTHER_LEFT),
     // They are all items that nobody took, and no more.

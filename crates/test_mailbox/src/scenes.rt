@@ -13,7 +13,7 @@ use std::process::Abort;
 use test_support::Zeros;
 
 /// The answer of a call: a word, and the number after it.
-type Told<'a> = (&'a str, Option<u64>);
+type Answered<'a> = (&'a str, Option<u64>);
 
 /// Makes the calls of these lines. Checks that each has the answer that its line has after the colon.
 ///
@@ -54,7 +54,7 @@ pub(crate) fn plays_in<R: Abort + AllocGlobal>(rt: &R, setup: Setup, lines: &str
 }
 
 /// The word and the number that stand in a line after its colon and a space.
-fn told_by(text: &str) -> Told<'_> {
+fn told_by(text: &str) -> Answered<'_> {
     let (_, rest) = split_word(text);
     match rest {
         Some(rest) => match split_word(rest) {
@@ -90,7 +90,7 @@ fn make<'a, A: Allocator + Copy + Drop>(
     alloc: A,
     words: &mut Zeros,
     call: &str,
-) -> Told<'a> {
+) -> Answered<'a> {
     let (name, rest) = split_word(call);
     let (place, second, third) = three_numbers(rest);
     match name {
@@ -107,7 +107,7 @@ fn make<'a, A: Allocator + Copy + Drop>(
 }
 
 /// The word for the answer of a hub that was asked for a producer or a consumer. Those below are for other calls.
-fn given<'a>(told: Result<(), HubFault>) -> Told<'a> {
+fn given<'a>(told: Result<(), HubFault>) -> Answered<'a> {
     let word = match told {
         Ok(()) => "given",
         Err(HubFault::AllGiven) => "all_given",
@@ -116,7 +116,7 @@ fn given<'a>(told: Result<(), HubFault>) -> Told<'a> {
     (word, None)
 }
 
-fn put<'a>(told: Option<Put>) -> Told<'a> {
+fn put<'a>(told: Option<Put>) -> Answered<'a> {
     let word = match told {
         Some(Put::Linked) => "linked",
         Some(Put::Full) => "full",
@@ -126,7 +126,7 @@ fn put<'a>(told: Option<Put>) -> Told<'a> {
     (word, None)
 }
 
-fn finished<'a>(told: Option<Finish>) -> Told<'a> {
+fn finished<'a>(told: Option<Finish>) -> Answered<'a> {
     let word = match told {
         Some(Finish::Ended) => "ended",
         Some(Finish::Busy) => "busy",
@@ -136,7 +136,7 @@ fn finished<'a>(told: Option<Finish>) -> Told<'a> {
     (word, None)
 }
 
-fn polled<'a>(told: Option<Poll>) -> Told<'a> {
+fn polled<'a>(told: Option<Poll>) -> Answered<'a> {
     match told {
         Some(Poll::Took(item)) => ("took", Some(item)),
         Some(Poll::Lost(winner)) => ("lost", Some(u64::from(winner))),
@@ -149,7 +149,7 @@ fn polled<'a>(told: Option<Poll>) -> Told<'a> {
     }
 }
 
-fn taken<'a>(told: bool) -> Told<'a> {
+fn taken<'a>(told: bool) -> Answered<'a> {
     (if told { "taken" } else { "nobody" }, None)
 }
 
@@ -160,7 +160,7 @@ fn spent<'a, A: Allocator + Copy + Drop>(
     place: usize,
     budget: u64,
     times: u64,
-) -> Told<'a> {
+) -> Answered<'a> {
     let mut count = 0u64;
     for _ in 0..times {
         if trial.poll(place, 0, budget, words) == Some(Poll::Spent) {
