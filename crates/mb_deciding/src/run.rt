@@ -71,7 +71,8 @@ impl<A: Allocator + Copy + Drop> Course<A> {
         word: u64,
     ) -> Result<(), AllocError>
         requires run { (inputs : List ℕ) × (schedule : List (ℕ × ℕ))
-            × IsCourse (setup_of (M.table machine.now) (M.kind machine.now) inputs) schedule self.old }
+            × IsCourse (setup_of (M.table machine.now) (M.kind machine.now) inputs) schedule
+            self.old }
         requires process { process < length self.old.places }
         ensures run { OnOk result ((t : QuorumTable) (inputs : List ℕ) (schedule : List (ℕ × ℕ))
             → IsSameFor (M.kind machine.now) t (M.table machine.now)

@@ -22,7 +22,8 @@ fn push_byte<A: Allocator>(text: &mut String<A>, byte: u8) -> Result<(), NoMemor
 
 /// Appends a text as XML has it, byte by byte.
 pub fn push_escaped<A: Allocator>(text: &mut String<A>, plain: &str) -> Result<(), NoMemory>
-    ensures { OnOk result (string_bytes text.new ≡ string_bytes text.old ++ escaped_text plain.now) }
+    ensures { OnOk result (string_bytes text.new
+        ≡ string_bytes text.old ++ escaped_text plain.now) }
 {
     for byte in plain.as_bytes() {
         push_byte(text, *byte)?;

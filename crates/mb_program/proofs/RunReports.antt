@@ -10,10 +10,8 @@ use Rattle.mb_world.specs.Imports.{PoolSize}
 use Rattle.mb_mailbox.specs.Vocabulary.{CellsName, consumer_count, HubView, IsHubOf, MailboxView, plan_at, IsFront, AreCutByCells, AreStoppedPolls, AreStoppedPuts, HasNoteAtEach, IsWorked}
 use Rattle.mb_mailbox.specs.Vocabulary.{ProducerEnd, ended_list}
 use Rattle.mb_mailbox.specs.Gathering.{FullTakesAll, IsGathered, IsReportIn, count_missing, kept_at, lane_in, put_count}
-use Rattle.mb_mailbox.specs.declared.gather.GatherFault.{GatherFault}
-use Rattle.mb_mailbox.specs.declared.gather.GatherFault.TheVariants.{Missing, NoMemory}
-use Rattle.mb_mailbox.specs.declared.gate.Who.{Who}
-use Rattle.mb_mailbox.specs.declared.crew.Worked.{Worked}
+use Rattle.mb_mailbox.specs.declared.gather.GatherFault.{GatherFault, TheVariants.Missing, TheVariants.NoMemory}
+use Rattle.mb_mailbox.specs.declared.{gate.Who.Who, crew.Worked.Worked}
 use Rattle.mb_mailbox.specs.Hubs.{hub_empty}
 use Rattle.mb_mailbox.specs.ReportedRuns.{IsReportedRun}
 use Rattle.mb_mailbox.specs.Worked.{AsksTooMany}

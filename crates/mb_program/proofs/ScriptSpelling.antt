@@ -10,9 +10,9 @@ use Rattle.std.proofs.lemmas.Bool.{le-ltb, eqb-true}
 use Rattle.std.proofs.lemmas.List.{nil_from_length}
 use Rattle.std.proofs.lemmas.Slice.Eq.{bytes_eq-Decides}
 use Rattle.std.proofs.lemmas.List.Splits.{join_with_byte-slice_split}
-use Rattle.mb_quorum.specs.declared.table.TableName.{TableName}
-use Rattle.mb_quorum.specs.declared.table.TableName.TheVariants.{Unary, Bits, Middle}
-use Rattle.mb_program.specs.Vocabulary.{RatifyFault, Gives, Script, view, line_words, head_of, list_of, three_lines, script_of, HasSpelling, script_words, script_lines}
+use Rattle.mb_quorum.specs.declared.table.TableName.{TableName, TheVariants.Unary, TheVariants.Bits, TheVariants.Middle}
+use Rattle.mb_program.specs.Vocabulary.{RatifyFault, Gives, HasSpelling, script_words, script_lines}
+use Rattle.mb_program.specs.RatifyScript.{Script, view, line_words, head_of, list_of, three_lines, script_of}
 use Rattle.mb_program.specs.declared.fault.RatifyFault.TheVariants.{TooLong, NotAscii, BadLine, BadNumber}
 use Rattle.mb_program.specs.declared.script.RatifyScript as code
 use Rattle.mb_script.specs.declared.transfer.TheConstants.{MAX_SCRIPT_LEN}

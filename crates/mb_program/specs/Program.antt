@@ -2,17 +2,13 @@
 use Rattle.std.specs.Prelude.{◌≡◌, ◌≢◌, ◌⊎◌, ℕ, List, [], Bool, Result, Ok, Err, Some, true, false}
 use Rattle.std.specs.Io.KnownBytes.{Appends}
 use Rattle.clap.specs.Words.{Text, fault_of, takes}
-use Rattle.clap.specs.declared.error.ErrorKind.{ErrorKind}
-use Rattle.clap.specs.declared.error.ErrorKind.TheVariants.{DisplayHelp, DisplayVersion, OutOfMemory}
+use Rattle.clap.specs.declared.error.ErrorKind.{ErrorKind, TheVariants.DisplayHelp, TheVariants.DisplayVersion, TheVariants.OutOfMemory}
 use Rattle.mb_script.specs.declared.fault.Fault.{Fault}
 use Rattle.mb_script.specs.Replaying.{replaying}
 use Rattle.mb_script.specs.Vocabulary.{AppendsFront, IsCommandIo, IoModel, one_more}
-use Rattle.mb_program.specs.declared.command.Choice.{Choice}
-use Rattle.mb_program.specs.declared.command.Choice.TheVariants.{Ratify, Replay, Run}
-use Rattle.mb_program.specs.declared.fault.Failed.{Failed}
+use Rattle.mb_program.specs.declared.command.Choice.{Choice, TheVariants.Ratify, TheVariants.Replay, TheVariants.Run}
+use Rattle.mb_program.specs.declared.fault.{Failed.Failed, RatifyFault.RatifyFault, RunFault.RunFault}
 use Rattle.mb_program.specs.declared.fault.Failed.TheVariants as failed
-use Rattle.mb_program.specs.declared.fault.RatifyFault.{RatifyFault}
-use Rattle.mb_program.specs.declared.fault.RunFault.{RunFault}
 use Rattle.mb_program.specs.declared.outcome.ProgramExit.{ProgramExit}
 use Rattle.mb_program.specs.declared.outcome.ProgramExit.TheVariants as ending
 use Rattle.mb_program.specs.Answer.{ratifying}

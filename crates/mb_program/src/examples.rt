@@ -6,8 +6,7 @@ ghost use Rattle.clap.specs.declared.error.ErrorKind.TheVariants.{DisplayHelp, I
 ghost use Rattle.mb_claim.specs.Vocabulary.{row_of};
 ghost use Rattle.mb_deciding.specs.Spread.{spread};
 ghost use Rattle.mb_quorum.specs.declared.table.TableName.TheVariants.{Unary};
-ghost use Rattle.mb_program.specs.declared.fault.RatifyFault.TheVariants.{TooLong, BadLine, NoMemory, ReadFault};
-ghost use Rattle.mb_program.specs.declared.fault.RatifyFault.TheVariants.{WriteFault};
+ghost use Rattle.mb_program.specs.declared.fault.RatifyFault.TheVariants.{TooLong, BadLine, NoMemory, ReadFault, WriteFault};
 ghost use Rattle.mb_script.specs.declared.transfer.TheConstants.{MAX_SCRIPT_LEN};
 ghost use Rattle.mb_program.specs.Vocabulary.{IsAnswer, ratifying, program, command_in, HasSpelling, Gives, Options, MAX_BUDGET, HasBudget, HasToldOptions, AreOwnReaders, HasNotedAll};
 ghost use Rattle.mb_program.specs.Vocabulary.{IsLaneOf, IsRunReport, accesses_by, items_of, plan_asked, setup_refused, IsEndOver, nobody_script, nothing_done, one_item, asked, help_words};
@@ -17,10 +16,8 @@ ghost use Rattle.mb_world.specs.declared.setup.SetupFault.TheVariants.{BadCells,
 ghost use Rattle.mb_program.specs.declared.command.Choice.TheVariants.{Run};
 ghost use Rattle.mb_program.specs.declared.fault.Failed.TheVariants as failed;
 ghost use Rattle.mb_program.specs.declared.outcome.ProgramExit.TheVariants as ending;
-ghost use Rattle.mb_world.specs.Plan.{Histories};
-ghost use Rattle.mb_world.specs.Report.{ReportView};
-ghost use Rattle.mb_mailbox.specs.Imports.{ClaimAccess, Stream, consumer_part, next_u64};
-ghost use Rattle.mb_mailbox.specs.Steps.{AreDrawn};
+ghost use Rattle.mb_world.specs.Vocabulary.{Histories, ReportView};
+ghost use Rattle.mb_mailbox.specs.{Imports.ClaimAccess, Imports.Stream, Imports.consumer_part, Imports.next_u64, Steps.AreDrawn};
 ghost use Rattle.mb_world.specs.declared.report.Note.TheVariants.{Took, Undecided};
 
 use mb_mailbox::laws::calls_draw_the_first_words;

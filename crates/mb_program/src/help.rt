@@ -1,5 +1,5 @@
 //! What the help of each command says after its options: the grammar of its script, or how to read what it prints, and
-//! an example.
+//! an example. Also what it says of each option.
 
 /// What the help of the whole program says at its end.
 pub(crate) const PROGRAM: &str = "\
@@ -60,3 +60,25 @@ prints
   lane 0 ended put 0 1
   left 0
   diary 0 0 took 0 took 1";
+
+/// What the help of `run` says of `--producers`.
+pub(crate) const PRODUCERS: &str = "How many producers put items, 1 to 16";
+
+/// What the help of `run` says of `--consumers`.
+pub(crate) const CONSUMERS: &str = "How many consumers compete for them, 1 to 64";
+
+/// What the help of `run` says of `--items`.
+pub(crate) const ITEMS: &str = "How many items each producer puts; all together at most 256";
+
+/// What the help of `run` says of `--pairs`.
+pub(crate) const PAIRS: &str = "How many pairs of deciding objects each item has, 1 to 8";
+
+/// What the help of `run` says of `--budget`.
+pub(crate) const BUDGET: &str = "The most accesses of one poll, 1 to 1000000";
+
+/// What the help of `run` says of `--seed`.
+pub(crate) const SEED: &str = "The seed of the consumers' random words";
+
+/// What the help of `run` says of `--shape`.
+pub(crate) const SHAPE: &str =
+    "What each item has beside its pairs: a fast path, a last object or both";

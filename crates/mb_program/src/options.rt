@@ -116,51 +116,13 @@ pub(crate) fn run_command<'a>(alloc: Global) -> Result<Command<'a>, AllocError>
     ensures local { IfOk result (λ c. (fields_of c).has_globals ≡ false) }
 {
     named_subcommand(alloc, "run", help::RUN_ABOUT, help::RUN)
-        .arg(any_number(
-            alloc,
-            "producers",
-            "2",
-            "How many producers put items, 1 to 16",
-        ))?
-        .arg(any_number(
-            alloc,
-            "consumers",
-            "2",
-            "How many consumers compete for them, 1 to 64",
-        ))?
-        .arg(any_number(
-            alloc,
-            "items",
-            "8",
-            "How many items each producer puts; all together at most 256",
-        ))?
-        .arg(any_number(
-            alloc,
-            "pairs",
-            "4",
-            "How many pairs of deciding objects each item has, 1 to 8",
-        ))?
-        .arg(number(
-            alloc,
-            "budget",
-            "64",
-            1,
-            MAX_BUDGET,
-            "The most accesses of one poll, 1 to 1000000",
-        ))?
-        .arg(any_number(
-            alloc,
-            "seed",
-            "0",
-            "The seed of the consumers' random words",
-        ))?
-        .arg(named(
-            alloc,
-            "shape",
-            "plain",
-            SHAPES,
-            "What each item has beside its pairs: a fast path, a last object or both",
-        ))
+        .arg(any_number(alloc, "producers", "2", help::PRODUCERS))?
+        .arg(any_number(alloc, "consumers", "2", help::CONSUMERS))?
+        .arg(any_number(alloc, "items", "8", help::ITEMS))?
+        .arg(any_number(alloc, "pairs", "4", help::PAIRS))?
+        .arg(number(alloc, "budget", "64", 1, MAX_BUDGET, help::BUDGET))?
+        .arg(any_number(alloc, "seed", "0", help::SEED))?
+        .arg(named(alloc, "shape", "plain", SHAPES, help::SHAPE))
 }
 
 /// The number of an option, or `default` if it is not given.

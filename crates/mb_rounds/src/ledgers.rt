@@ -37,7 +37,8 @@ fn ledger<A: Allocator + Clone + Drop>(
 ) -> Result<Vec<u64, A>, AllocError>
     requires told { consumer * length report.now.lanes + length report.now.lanes
         ≤ length report.now.diaries }
-    ensures { IfOk result (λ v. v.items ≡ taken_below (length report.now.lanes) consumer report.now) }
+    ensures { IfOk result (λ v. v.items
+        ≡ taken_below (length report.now.lanes) consumer report.now) }
 {
     let lanes = report.lanes.len();
     let diaries = report.diaries.as_slice();

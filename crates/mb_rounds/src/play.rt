@@ -43,7 +43,8 @@ pub(crate) fn play<
 ) -> Result<Report<A>, RoundFault>
     requires lists { vec_len lists ≡ (plan_in setup.now).lanes }
     ensures played { IfOk result (IsPlayed (G.may_stop gate.now) (G.may_pass gate.now)
-        (terms_of setup.now means.budget (map R.stream means.sources.items)) (lists_in lists.items)) }
+        (terms_of setup.now means.budget (map R.stream means.sources.items))
+        (lists_in lists.items)) }
     ensures sources { result ≢ Err TooManySources }
     ensures budget { result ≢ Err BadBudget }
 {

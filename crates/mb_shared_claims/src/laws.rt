@@ -78,7 +78,8 @@ pub fn steps_keep_states()
     ensures settle { (k size : TableSize) (words : List ℕ) (views : List View) (id own : ℕ)
         (roll : Roll) (done : List ClaimAccess)
         → IsClaimsState k words views → IsViewAt views id (Taking size roll own done)
-        → IsClaimsState k words (slice_set views id (Handing size (slice_set roll own (Some done)))) }
+        → IsClaimsState k words
+        (slice_set views id (Handing size (slice_set roll own (Some done)))) }
 {
     accesses_lengthen_one_part();
     addresses_are_apart();

@@ -412,7 +412,8 @@ fn put_beside<R: Threads + Sync, A: Allocator + Drop + Send + Sync>(
             requires reader { reader.table ≡ table.now }
             requires may { MayRead table.now.size.lanes (word_of from.cursor) reader.part }
             ensures reader { result.0.table ≡ table.entry.now }
-            ensures may { MayRead table.entry.now.size.lanes (word_of result.1.cursor) result.0.part }
+            ensures may { MayRead table.entry.now.size.lanes (word_of result.1.cursor)
+                result.0.part }
         { read_from(table, reader, from) },
     );
     (lane, reader, at)

@@ -1,5 +1,5 @@
--- Proof of `examples::programs_do_what_the_words_ask`: what the program does with its words: a script of no process, one
--- with a fault, words that clap refuses, and help.
+-- Proof of `examples::programs_do_what_the_words_ask`: what the program does with its words: a script of no process,
+-- one with a fault, words that clap refuses, and help.
 use Rattle.std.proofs.Common.{◌≡◌, ℕ, Bool, true, false, List, [], ◌∷◌, codes, length, Some, Ok, Err, inl, inr, refl, sym, ap, ◌∙◌, subst, arith}
 use Rattle.std.specs.Fmt.{digits}
 use Rattle.clap.proofs.OnLiterals.{clap_on_literals}
