@@ -56,7 +56,8 @@ module _ (t : QuorumTable) (c : ℕ) (k : Kind) (ks : List Kind) (o v : ℕ) (xs
 -- ---- the object on which a claim stands has a lawful history
 -- object o has a lawful history with some inputs. There consumer c's input is w, a value of the table, and it has made
 -- these turns
-pub record LawfulObject (t : QuorumTable) (kind : Kind) (hs : ℕ → List Access) (c o w : ℕ) (turns : List Turn) : Type 0 where
+pub record LawfulObject (t : QuorumTable) (kind : Kind) (hs : ℕ → List Access) (c o w : ℕ) (turns : List Turn)
+    : Type 0 where
   pub inputs : ℕ → ℕ
   pub lawful : IsObjectLawful (object_of t kind inputs) (hs o)
   pub own : inputs c ≡ w
@@ -79,7 +80,8 @@ pub family_at :
     (after : List Kind) (o : ℕ) (P : ℕ → Type 0)
     (fam : Family t (before ++ kind ∷ after) o hs P) (c w m : ℕ) (front : List ObjectTurn) (turns : List Turn)
     → m ≡ o + length before → fam.input c < t.values
-    → fam.rest c ≡ turns_on m turns ++ front → PassesAll t before o (fam.input c) front w → LawfulObject t kind hs c m w turns
+    → fam.rest c ≡ turns_on m turns ++ front → PassesAll t before o (fam.input c) front w
+    → LawfulObject t kind hs c m w turns
 family_at t hs law [] kind after o P fam c w m front turns e l all p =
     let n : m ≡ o = omega arith in
     subst (λ i. LawfulObject t kind hs c i w turns) (sym n)

@@ -10,7 +10,8 @@ use Rattle.mb_world.specs.Setups.{setup_refusal}
 use Rattle.mb_script.specs.declared.fault.Fault.{Fault}
 use Rattle.mb_script.specs.declared.fault.Fault.TheVariants.{BadLine, BadNumber, BadSetup}
 use Rattle.mb_script.specs.FirstFault.{line_of}
-use Rattle.mb_script.specs.Scripts.{SetupLine, made_from, number_at, one_number, two_numbers, three_numbers, made_of, sizes_of, setup_of, event_of, lane_of, consumer_in, has_consumer, placed, event_at}
+use Rattle.mb_script.specs.Scripts.{SetupLine, made_from, number_at, one_number, two_numbers, three_numbers, made_of, sizes_of, setup_of, event_of, lane_of}
+use Rattle.mb_script.specs.Scripts.{consumer_in, has_consumer, placed, event_at}
 use Rattle.mb_script.specs.Steps.{◌>>=◌}
 use Rattle.mb_script.specs.Shapes.{shape_named}
 use Rattle.mb_script.specs.Tables.{table_named}

@@ -101,7 +101,8 @@ events_step made (Err d) s e is on = rw (on (ap (λ (f : Fault). Err f) (err_is 
 
 -- scripts with the same first line have the same fault, if their events have
 setup_step : (r : Result SetupLine Fault) (f g : SetupLine → Result (List Event) Fault) (e : Fault)
-    → (r >>= (λ made. f made >>= (λ es. Ok (script_with made es)))) ≡ Err e → ((x : SetupLine) → f x ≡ Err e → g x ≡ Err e)
+    → (r >>= (λ made. f made >>= (λ es. Ok (script_with made es)))) ≡ Err e
+    → ((x : SetupLine) → f x ≡ Err e → g x ≡ Err e)
     → (r >>= (λ made. g made >>= (λ es. Ok (script_with made es)))) ≡ Err e
 setup_step (Err d) f g e is on = is
 setup_step (Ok x) f g e is on = events_step x (f x) (g x) e is (on x)
@@ -116,7 +117,8 @@ least_behind made (Err d) m e is on =
 -- a fault of a script's lines is about line 1 or a later one
 setup_least : (r : Result SetupLine Fault) (f : SetupLine → Result (List Event) Fault) (m : ℕ) (e : Fault)
     → At 1 r → line_of e ≡ Some m
-    → (r >>= (λ made. f made >>= (λ es. Ok (script_with made es)))) ≡ Err e → ((x : SetupLine) → f x ≡ Err e → 2 ≤ m) → 1 ≤ m
+    → (r >>= (λ made. f made >>= (λ es. Ok (script_with made es)))) ≡ Err e
+    → ((x : SetupLine) → f x ≡ Err e → 2 ≤ m) → 1 ≤ m
 setup_least (Err d) f m e at about is on =
     let same = one_line d e 1 m at (err_is d e is) about in omega (arith, same)
 setup_least (Ok x) f m e at about is on = least_behind x (f x) m e is (on x)
