@@ -1,5 +1,5 @@
 -- Lists of cells, and whether a cell is in one.
-use Rattle.std.proofs.Common.{◌⊎◌, ℕ, true, false, List, [], ◌∷◌, ◌++◌, sym, ◌∙◌, inl, inr}
+use Rattle.std.proofs.Common.{◌⊎◌, ℕ, List, [], ◌∷◌, ◌++◌, sym, ◌∙◌, inl, inr}
 use Rattle.std.proofs.lemmas.Bool.{cases_Bool, false≢true}
 pub use Rattle.mb_cells.proofs.ReaderParts.{cell-of_true, has_cell-true}
 use Rattle.mb_world.specs.Imports.{Has, IsOnceEach, has_cell}

@@ -60,7 +60,8 @@ module _ (plan : Plan) (hs : Histories) (known : Known plan hs)
       let q = diary.begun.0 next.1 in
       let at = has_at diary.cells q.0 q.1 in
       let last = open_last plan hs known c p cs d diary at.0 q.0 at.1 q.3 in
-      let there : HasPosition diary.cells j q.0 = subst (λ i. HasPosition diary.cells i q.0) (sym last.0 ∙ next.0) at.1 in
+      let there : HasPosition diary.cells j q.0 =
+      subst (λ i. HasPosition diary.cells i q.0) (sym last.0 ∙ next.0) at.1 in
       subst (λ i. claim_part c i hs.claims ≢ []) (cell_at q.0 there) q.2
 
   -- consumer c competed for the item by the report exactly if it has an access to the claim on cell k

@@ -50,6 +50,7 @@ pub mod Grids
 pub mod StateNotes
 pub mod LaneWalks
 pub mod StateLists
+pub mod ReportParts
 pub mod StateReports
 -- The state after one more access
 pub mod StateEnds

@@ -37,8 +37,8 @@ met_given q p h (j ∷ ks) k met (inl e) =
 met_given q p h (j ∷ ks) k met (inr has) = met_given q p h ks k met.2 has
 
 -- the link of each cell met but the last was loaded
-pub met_link : (q p : ℕ) (h : History) (ks : List ℕ) (j k : ℕ) → HasMet q p ks h → HasPosition ks j k → suc j < length ks
-    → (v : ℕ) × HasLoaded q (Link k) v h
+pub met_link : (q p : ℕ) (h : History) (ks : List ℕ) (j k : ℕ) → HasMet q p ks h → HasPosition ks j k
+    → suc j < length ks → (v : ℕ) × HasLoaded q (Link k) v h
 met_link q p h [] j k met at less = absurd at
 met_link q p h (a ∷ []) j k met (inl at) less = absurd (omega (arith, at.0))
 met_link q p h (a ∷ []) j k met (inr at) less = absurd at

@@ -1,8 +1,7 @@
 -- What a look of a consumer that holds no claim makes of the state of a world.
 use Rattle.std.proofs.Common.{◌≡◌, ◌≢◌, ◌⊎◌, ℕ, ◌+◌, ◌*◌, ◌-◌, ◌<◌, Bool, true, false, cond, List, [], ◌∷◌, Option, Some, None, refl, sym, ◌∙◌, ap, subst, inl, inr, arith, nat_eq, slice_get}
 use Rattle.std.proofs.Common.{slice_set}
-use Rattle.std.proofs.lemmas.Bool.{eqb-true, eqb-false}
-use Rattle.std.proofs.lemmas.List.{length-set}
+use Rattle.std.proofs.lemmas.{Bool.eqb-true, Bool.eqb-false, List.length-set}
 use Rattle.mb_claim.specs.declared.access.Stage.TheVariants as stage
 use Rattle.mb_claim.specs.declared.claim.Claim.{Claim}
 use Rattle.mb_claim.specs.Vocabulary.{IsClaimIn, claim_stage, consumer_of}
@@ -15,8 +14,7 @@ use Rattle.mb_world.specs.declared.event.Answer.TheVariants as answer
 use Rattle.mb_world.specs.declared.event.Event.TheVariants as event
 use Rattle.mb_world.specs.Vocabulary.{Note, END, Has, Gave, IsClaimPrefix, Item, Load, MayRead, ObjectTurn, Reader, Stage, Word, load, part, place_past, consumers_of, layout_of, ToCells}
 use Rattle.mb_world.specs.Vocabulary.{WorldAccess, WorldHistory, lane_part, pool_accesses, ConsumerPath, finds, link_load, waits, IsPlaceAt, IsWorldAfter, WorldState, answer_to, EventAdds}
-use Rattle.mb_world.specs.Vocabulary.{with_place, StepKnown}
-use Rattle.mb_world.specs.declared.place.Place.TheVariants.{At, Before}
+use Rattle.mb_world.specs.Vocabulary.{with_place, StepKnown, At, Before}
 use Rattle.mb_world.proofs.LoadStates.{adds, given, load_adds, loaded}
 use Rattle.mb_world.proofs.StateEnds.{load_keeps}
 use Rattle.mb_world.proofs.StateSteps.{AreNotes, notes_kept, own_place, plan, place_here, places_kept, places_set}

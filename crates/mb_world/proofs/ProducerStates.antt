@@ -2,13 +2,10 @@
 use Rattle.std.proofs.Common.{◌≡◌, ◌≢◌, ◌↔◌, ℕ, ◌+◌, ◌-◌, ◌<◌, cond, ◌∷◌, Option, Some, None, refl, sym, ◌∙◌, ap, subst, subst₂, inr, arith, is_some, unwrap_or, slice_index_or}
 use Rattle.std.specs.Option.{option_map_or}
 use Rattle.std.proofs.lemmas.Bool.{ne_eqb}
-use Rattle.mb_cells.specs.declared.answer.Finish.{Finish}
+use Rattle.mb_cells.specs.declared.answer.{Finish.Finish, Offer.Offer, Push.Push}
 use Rattle.mb_cells.specs.declared.answer.Finish.TheVariants as finish
-use Rattle.mb_cells.specs.declared.answer.Offer.{Offer}
-use Rattle.mb_cells.specs.declared.answer.Push.{Push}
 use Rattle.mb_cells.specs.declared.answer.Push.TheVariants as push
-use Rattle.mb_cells.specs.declared.lane.Lane.{Lane}
-use Rattle.mb_cells.specs.declared.lane.LaneStage.{LaneStage}
+use Rattle.mb_cells.specs.declared.lane.{Lane.Lane, LaneStage.LaneStage}
 use Rattle.mb_cells.specs.declared.lane.LaneStage.TheVariants as lane
 use Rattle.mb_cells.specs.Vocabulary.{FinishMeets, OfferMeets, PushMeets, fetch, store, value_in, Phase, PhaseFits, IsLaneAfter, finish_refusal, link_after, new_lane, next_link}
 use Rattle.mb_cells.specs.Vocabulary.{offer_by_found, offer_refusal, push_store, stage_of, stage_push_answer, stage_push_store, IsAfter, PoolState, SameSize, cell_count, lane_count}
@@ -17,8 +14,7 @@ use Rattle.mb_world.specs.declared.event.Answer.TheVariants as answer
 use Rattle.mb_world.specs.declared.event.Event.TheVariants as event
 use Rattle.mb_world.specs.Vocabulary.{Note, Counter, END, History, IsLinkWord, IsPoolLawful, Item, PoolAccess, Process, Producer, Reader, Store, Word, is_same_process, part, pool_size}
 use Rattle.mb_world.specs.Vocabulary.{consumers_of, size_of, HasRead, ToCells, WorldHistory, pool_accesses, ConsumerPath, ProducerAdds, IsLaneOf, IsPushed, answer_to, answer_to_link}
-use Rattle.mb_world.specs.Vocabulary.{IsNoteAfter, IsPlaceAfter, IsWorldAfter, WorldState, EventAdds, with_pool}
-use Rattle.mb_world.specs.declared.report.Note.TheVariants.{Took, Lost, Undecided}
+use Rattle.mb_world.specs.Vocabulary.{IsNoteAfter, IsPlaceAfter, IsWorldAfter, WorldState, EventAdds, with_pool, Took, Lost, Undecided}
 use Rattle.mb_world.proofs.StateEnds.{Ends}
 use Rattle.mb_world.proofs.Grids.{all_kept}
 use Rattle.mb_world.proofs.StateSteps.{plan}

@@ -1,122 +1,23 @@
 -- What the state of a world tells is the report of each history that leaves the world.
-use Rattle.std.proofs.Common.{◌≡◌, ◌≢◌, ◌↔◌, ℕ, suc, ◌+◌, ◌*◌, ◌<◌, ◌≤◌, ◌++◌, Bool, true, false, not, List, [], ◌∷◌, length, Option, Some, None, refl, sym, ◌∙◌, ap, subst, inl, inr, arith}
-use Rattle.std.proofs.Common.{reverse, slice_get, filter_map}
+use Rattle.std.proofs.Common.{◌≡◌, ◌≢◌, ℕ, ◌*◌, ◌<◌, ◌++◌, Bool, false, not, List, [], length, Option, Some, None, refl, sym, ◌∙◌, ap, subst, arith, reverse, slice_get, filter_map}
 use Rattle.std.specs.Option.{option_map_or}
 use Rattle.std.proofs.lemmas.Bool.{lt-ltb}
-use Rattle.std.proofs.lemmas.List.{append-nil, append_assoc, length-reverse, reverse-append}
+use Rattle.std.proofs.lemmas.List.{append-nil, length-reverse, reverse-append}
 use Rattle.std.proofs.lemmas.List.Elements.{filter_map-append}
-use Rattle.std.proofs.Math.Nat.{mul-le-mul_right}
 use Rattle.mb_claim.specs.declared.access.Stage.TheVariants as stage
-use Rattle.mb_claim.specs.declared.layout.Layout.{Layout}
 use Rattle.mb_cells.specs.Vocabulary.{item_in}
-use Rattle.mb_world.specs.Vocabulary.{Note, Place, Has, IsClaimPrefix, IsOnceEach, ObjectTurn, claim_part, linked_cells, Plan, consumers_of, DiaryView, LaneView, ReportView, diary, note}
-use Rattle.mb_world.specs.Vocabulary.{notes, items_where, EndsAs, parts_of, IsDiaryOf, IsReportOf, is_taken, is_took, lane_view, plan_in, AreSound, WorldHistory, claim_accesses}
-use Rattle.mb_world.specs.Vocabulary.{histories_of, lane_part, pool_accesses, has_begun, IsOnPath, IsPlaceAfter, IsPlaceAt, IsWorldAfter, WorldState, has_begun_at, AreDiariesTold}
-use Rattle.mb_world.specs.Vocabulary.{AreLanesTold, IsDiaryTold, IsLaneTold, IsWalked, begun_on, is_taken_on, note_on, note_there, WorldKnown}
-use Rattle.mb_world.specs.declared.report.Note.TheVariants.{Took, Lost, Undecided}
-use Rattle.mb_world.specs.declared.place.Place.TheVariants.{At, Before}
+use Rattle.mb_world.specs.Vocabulary.{Note, Place, Has, IsClaimPrefix, IsOnceEach, claim_part, linked_cells, Plan, consumers_of, DiaryView, LaneView, ReportView, diary, note, notes, items_where}
+use Rattle.mb_world.specs.Vocabulary.{EndsAs, parts_of, IsDiaryOf, IsReportOf, is_taken, is_took, lane_view, plan_in, AreSound, WorldHistory, claim_accesses, histories_of, lane_part, pool_accesses}
+use Rattle.mb_world.specs.Vocabulary.{has_begun, IsOnPath, IsPlaceAfter, IsWorldAfter, WorldState, has_begun_at, AreDiariesTold, AreLanesTold, IsDiaryTold, IsLaneTold, IsWalked, begun_on}
+use Rattle.mb_world.specs.Vocabulary.{is_taken_on, note_on, note_there, WorldKnown, Took, Lost, Undecided}
 use Rattle.mb_world.proofs.Cells.{has_cell-true}
 use Rattle.mb_world.proofs.PathDiaries.{ends_length}
-use Rattle.mb_world.proofs.Positions.{HasPosition, at_has, has_at, reverse_at}
+use Rattle.mb_world.proofs.Positions.{has_at, reverse_at}
 use Rattle.mb_world.proofs.StateNotes.{any_below-same, items_chosen, none_noted, note_by, note_placed, noted, put_cells}
+use Rattle.mb_world.proofs.ReportParts.{has_front, has_of_reverse, once_apart, closed_has, closed_at, closed_cut, place_begun, lane_same, grid_within}
 use Rattle.mb_world.proofs.Tracks.{AreEnds, EndsIn, closed, ends_more, ends_some}
 use Rattle.mb_world.proofs.WorldClaims.{end_here, met_all, on_lane, tracks}
 use Rattle.mb_world.proofs.WorldDiaries.{diary_is, ended_within, no_other}
-use mathlib.Core.List.{reverse-cons}
-
--- ---- lists of cells
--- a cell of the first list is in both joined
-has_front : (xs ys : List ℕ) (k : ℕ) → Has xs k → Has (xs ++ ys) k
-has_front [] ys k has = absurd has
-has_front (x ∷ xs) ys k (inl e) = inl e
-has_front (x ∷ xs) ys k (inr m) = inr (has_front xs ys k m)
-
--- a cell of the second list is in both joined
-has_right : (xs ys : List ℕ) (k : ℕ) → Has ys k → Has (xs ++ ys) k
-has_right [] ys k has = has
-has_right (x ∷ xs) ys k has = inr (has_right xs ys k has)
-
--- what a list with a last element has
-has_last : (xs : List ℕ) (x k : ℕ) → Has (xs ++ x ∷ []) k → Has (x ∷ xs) k
-has_last [] x k has = has
-has_last (y ∷ xs) x k (inl e) = inr (inl e)
-has_last (y ∷ xs) x k (inr m) = elim (has_last xs x k m) [ inl e ↦ inl e | inr n ↦ inr (inr n) ]
-
--- what the reversed list has, the list has
-has_of_reverse : (xs : List ℕ) (k : ℕ) → Has (reverse xs) k → Has xs k
-has_of_reverse [] k has = has
-has_of_reverse (x ∷ xs) k has =
-    elim (has_last (reverse xs) x k (subst (λ (ys : List ℕ). Has ys k) (reverse-cons x xs) has)) [
-      | inl e ↦ inl e
-      | inr m ↦ inr (has_of_reverse xs k m)
-    ]
-
--- if each cell stands once in a list, none stands in both of its parts
-once_apart : (xs ys : List ℕ) (k : ℕ) → IsOnceEach (xs ++ ys) → Has xs k → Has ys k → ⊥
-once_apart [] ys k once has there = has
-once_apart (x ∷ xs) ys k once (inl e) there =
-    once.0 (has_right xs ys x (subst (λ (i : ℕ). Has ys i) (sym e) there))
-once_apart (x ∷ xs) ys k once (inr m) there = once_apart xs ys k once.1 m there
-
--- ---- the cells that have notes
--- a cell on which the claim has ended was met
-closed_has : (ks : List ℕ) (z : Option (List ObjectTurn)) (k : ℕ) → Has (closed ks z) k → Has ks k
-closed_has ks None k has = has
-closed_has [] (Some xs) k has = absurd has
-closed_has (q ∷ qs) (Some xs) k has = inr has
-
--- a cell at a position with a note is one on which the claim has ended
-closed_at : (ks : List ℕ) (z : Option (List ObjectTurn)) (j k : ℕ) → HasPosition ks j k → j < length (closed ks z)
-    → Has (closed ks z) k
-closed_at ks None j k at less = at_has ks j k at
-closed_at [] (Some xs) j k at less = absurd at
-closed_at (q ∷ qs) (Some xs) j k (inl at) less = absurd (omega (arith, at.0, less))
-closed_at (q ∷ qs) (Some xs) j k (inr at) less = at_has qs j k at
-
--- the lane's cells are those on which the claim has ended, and cells linked later
-closed_cut : (ks : List ℕ) (z : Option (List ObjectTurn)) (later ls : List ℕ) → later ++ ks ≡ ls
-    → (late : List ℕ) × (late ++ closed ks z ≡ ls)
-closed_cut ks None later ls e = (later, e)
-closed_cut [] (Some xs) later ls e = (later, e)
-closed_cut (q ∷ qs) (Some xs) later ls e = (later ++ q ∷ [], append_assoc later (q ∷ []) qs ∙ e)
-
--- ---- whether the claim at a place is begun
--- a list with an element is not empty
-cons_some : (x : ObjectTurn) (xs : List ObjectTurn) → x ∷ xs ≢ []
-cons_some x xs e = cc
-
--- a claim is begun exactly if it has steps
-claim_begun : (b : Bool) (xs : List ObjectTurn) → (b ≡ true) ↔ (xs ≢ []) → b ≡ has_begun (Some xs)
-claim_begun true [] w = absurd (w.0 refl refl)
-claim_begun false [] w = refl
-claim_begun true (x ∷ xs) w = refl
-claim_begun false (x ∷ xs) w = w.1 (cons_some x xs)
-
--- the claim at a place is begun exactly if that of the consumer's path is
-place_begun : (layout : Layout) (c p : ℕ) (ks : List ℕ) (held : Option (List ObjectTurn)) (d : Place)
-    → IsPlaceAt layout c p ks held d → has_begun_at d ≡ has_begun held
-place_begun layout c p ks None (Before at) is = refl
-place_begun layout c p ks None (At k claim) is = absurd is
-place_begun layout c p [] (Some xs) d is = absurd is
-place_begun layout c p (q ∷ qs) (Some xs) (Before at) is = absurd is
-place_begun layout c p (q ∷ qs) (Some xs) (At k claim) is = claim_begun claim.begun xs is.2.begun
-
--- ---- the view of a lane, and the position of a diary
--- the view of a lane that is made of these parts
-abbrev lane_of : List ℕ → Bool → List ℕ → LaneView
-lane_of put ended left = record { put = put; ended = ended; left = left }
-
--- views of a lane with the same parts are one
-lane_same : (l m : LaneView) → l.put ≡ m.put → l.ended ≡ m.ended → l.left ≡ m.left → l ≡ m
-lane_same l m a b c =
-    ap (λ x. lane_of x l.ended l.left) a ∙ (ap (λ x. lane_of m.put x l.left) b ∙ ap (λ x. lane_of m.put m.ended x) c)
-
--- a position in the grid of the diaries
-grid_within : (n w c p : ℕ) → c < n → p < w → c * w + p < n * w
-grid_within n w c p cs ps =
-    let most : suc c * w ≤ n * w = mul-le-mul_right w cs in
-    let more : suc c * w ≡ c * w + w = grind arith in
-    omega (arith, most, more, ps)
 
 -- ---- a state, and a history that leaves it
 module _ (s : WorldState) (h : WorldHistory) (is : IsWorldAfter h s) (known : WorldKnown (plan_in s.setup) h)

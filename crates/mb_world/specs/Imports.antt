@@ -2,20 +2,14 @@
 -- `Offer`, `Push` and `Finish` share names, so they stay in modules of their own.
 pub use Rattle.mb_quorum.specs.Quorum.{IsQuorumTable, QuorumTable}
 pub use Rattle.mb_deciding.specs.declared.object.Kind.{Kind}
-pub use Rattle.mb_claim.specs.declared.access.ClaimAccess.{ClaimAccess}
-pub use Rattle.mb_claim.specs.declared.access.ObjectTurn.{ObjectTurn}
-pub use Rattle.mb_claim.specs.declared.access.Stage.{Stage}
+pub use Rattle.mb_claim.specs.declared.access.{ClaimAccess.ClaimAccess, ObjectTurn.ObjectTurn, Stage.Stage}
 pub use Rattle.mb_claim.specs.AllClaims.{Claims}
 pub use Rattle.mb_claim.specs.Claiming.{IsClaimLawful}
 pub use Rattle.mb_claim.specs.History.{part_on as claim_part}
 pub use Rattle.mb_claim.specs.Paths.{IsClaimPrefix}
-pub use Rattle.mb_cells.specs.declared.access.PoolAccess.{PoolAccess}
-pub use Rattle.mb_cells.specs.declared.access.PoolAct.{PoolAct}
+pub use Rattle.mb_cells.specs.declared.access.{PoolAccess.PoolAccess, PoolAct.PoolAct, Process.Process, TheConstants.END, Word.Word}
 pub use Rattle.mb_cells.specs.declared.access.PoolAct.TheVariants.{FetchAdd, Load, Store}
-pub use Rattle.mb_cells.specs.declared.access.Process.{Process}
 pub use Rattle.mb_cells.specs.declared.access.Process.TheVariants.{Producer, Reader}
-pub use Rattle.mb_cells.specs.declared.access.TheConstants.{END}
-pub use Rattle.mb_cells.specs.declared.access.Word.{Word}
 pub use Rattle.mb_cells.specs.declared.access.Word.TheVariants.{Counter, Head, Item, Link}
 pub use Rattle.mb_cells.specs.declared.size.PoolSize.{PoolSize}
 pub use Rattle.mb_cells.specs.Size.{pool_size}

@@ -1,28 +1,15 @@
 -- A world of two lanes, two consumers and two cells, with one pair of objects over the unary table. Below are what was
--- done in it, what may not follow, its report and reports that are not its own, and some of its events.
-use Rattle.std.specs.Prelude.{ℕ, true, false, Option, List, [], ◌∷◌, ◌++◌, map}
+-- done in it, what may not follow, and its report and reports that are not its own.
+use Rattle.std.specs.Prelude.{ℕ, true, false, List, [], ◌∷◌, ◌++◌, map}
 use Rattle.mb_cells.specs.LanePath.{fetch, store}
-use Rattle.mb_cells.specs.declared.answer.Finish.TheVariants as finish
-use Rattle.mb_cells.specs.declared.answer.Look.TheVariants as look
-use Rattle.mb_cells.specs.declared.answer.Offer.TheVariants as offer
-use Rattle.mb_cells.specs.declared.answer.Push.TheVariants as push
-use Rattle.mb_deciding.specs.declared.access.Act.TheVariants as act
-use Rattle.mb_deciding.specs.declared.access.Reg.TheVariants.{Value}
-use Rattle.mb_claim.specs.declared.access.Stage.TheVariants as stage
 use Rattle.mb_claim.specs.Examples.{won_and_lost}
-use Rattle.mb_world.specs.declared.event.Answer.{Answer}
-use Rattle.mb_world.specs.declared.event.Answer.TheVariants as answer
-use Rattle.mb_world.specs.declared.event.Event.{Event}
-use Rattle.mb_world.specs.declared.event.Event.TheVariants as event
-use Rattle.mb_world.specs.declared.report.Note.{Note}
-use Rattle.mb_world.specs.declared.report.Note.TheVariants.{Took, Lost}
+use Rattle.mb_world.specs.declared.report.Note.{Note, TheVariants.Took, TheVariants.Lost}
 use Rattle.mb_world.specs.Imports.{END, Entry, Head, Item, Link, ObjectTurn, Word, claim_part}
 use Rattle.mb_world.specs.Plan.{Histories, Plan}
 use Rattle.mb_world.specs.Report.{DiaryView, ReportView}
 use Rattle.mb_world.specs.Reporting.{IsDiaryOf, IsReportOf}
 use Rattle.mb_world.specs.World.{ToCells, WorldAccess, WorldHistory, histories_of}
 use Rattle.mb_world.specs.Worlds.{IsWorldLawful}
-use Rattle.mb_world.specs.Replay.{HasAnswer}
 use Rattle.mb_world.specs.ConsumerPath.{claim_step, item_load, link_load}
 use Rattle.mb_world.specs.PathExamples.{first_step, two_cells, won_steps}
 
@@ -190,23 +177,3 @@ unwon_taken = diary_with 1 1 (Took 6 ∷ [])
 -- consumer 1 does not say that its claim is begun
 abbrev pub claim_missing : DiaryView
 claim_missing = diary_with 1 1 []
-
--- ---- events of the world, and their answers
--- the first events, which lead to `one_put`
-abbrev pub first_events : List Event
-first_events =
-    event.Offer 0 5 ∷ event.Step 0 0 9 ∷ event.Finish 0 ∷ event.Push 0 ∷ event.Push 0 ∷ event.Push 0 ∷ []
-
--- the answers to these events
-abbrev pub first_answers : List Answer
-first_answers =
-    answer.Offered (offer.Cell 0) ∷ answer.Looked look.Nothing ∷ answer.Finished finish.Busy
-    ∷ answer.Pushed (push.Item 0) ∷ answer.Pushed (push.Link 0) ∷ answer.Pushed push.Idle ∷ []
-
--- after this history the event has this answer, with an access or with none
-abbrev pub Answers : Event → Answer → WorldHistory → Type 0
-Answers e r h = (a : Option WorldAccess) × HasAnswer two_by_two e r a h
-
--- the answer to the first step of consumer 1 on its claim on cell 1
-abbrev pub first_claimed : Answer
-first_claimed = answer.Claimed 1 0 (act.Load Value 0) stage.Going

@@ -6,8 +6,7 @@ ghost use Rattle.mb_world.specs.Vocabulary.{ReportView, note, Assignment, Agrees
 ghost use Rattle.mb_world.specs.Vocabulary.{cells_met, parts_of, AreSound, HasMetAll, IsDiaryOf, IsReportOf, IsHonest, Claims, IsQuorumTable, ObjectTurn, claim_part, linked_cells, Note};
 ghost use Rattle.mb_world.specs.Vocabulary.{Setup, plan_in, shape_in, shaped_plan, ConsumerPath, diary_at, Answer, Event, EventKnown, IsAccessOf, HasAnswer, IsRefused, IsRefusedOrMade};
 ghost use Rattle.mb_world.specs.Vocabulary.{IsReplay, WorldAccess, WorldHistory, claim_accesses, histories_of, lane_part, pool_accesses, HasFoundNone, HasPending, has_ended, HasNothing};
-ghost use Rattle.mb_world.specs.Vocabulary.{IsWorldLawful};
-ghost use Rattle.mb_world.specs.declared.report.Note.TheVariants.{Undecided};
+ghost use Rattle.mb_world.specs.Vocabulary.{IsWorldLawful, Undecided};
 ghost use Rattle.mb_claim.specs.declared.shape.Shape.{Shape};
 ghost use Rattle.mb_quorum.specs.declared.table.TableName.{TableName};
 ghost use Rattle.mb_cells.specs.declared.answer.Finish.TheVariants as finish;

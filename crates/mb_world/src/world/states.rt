@@ -4,20 +4,14 @@ ghost use Rattle.std.specs.Prelude.{ℕ, ◌≡◌, ◌≢◌, ◌<◌, List, []
 ghost use Rattle.mb_claim.specs.declared.access.Stage.TheVariants as stage;
 ghost use Rattle.mb_claim.specs.declared.claim.Claim.{Claim};
 ghost use Rattle.mb_claim.specs.Vocabulary.{IsClaimIn, IsClaimOn, claim_access, claim_stage, consumer_of};
-ghost use Rattle.mb_cells.specs.declared.answer.Finish.{Finish};
-ghost use Rattle.mb_cells.specs.declared.answer.Look.{Look};
+ghost use Rattle.mb_cells.specs.declared.answer.{Finish.Finish, Look.Look, Offer.Offer, Push.Push};
 ghost use Rattle.mb_cells.specs.declared.answer.Look.TheVariants as look;
-ghost use Rattle.mb_cells.specs.declared.answer.Offer.{Offer};
-ghost use Rattle.mb_cells.specs.declared.answer.Push.{Push};
-ghost use Rattle.mb_cells.specs.declared.cursor.Cursor.{Cursor};
-ghost use Rattle.mb_cells.specs.declared.cursor.Cursor.TheVariants.{Past};
+ghost use Rattle.mb_cells.specs.declared.cursor.Cursor.{Cursor, TheVariants.Past};
 ghost use Rattle.mb_cells.specs.Vocabulary.{FinishKeeps, FinishMeets, OfferKeeps, OfferMeets, PushMeets, value_in, look_after, IsWithin, PoolState, SameSize};
 ghost use Rattle.mb_world.specs.Vocabulary.{Answer, Item, ObjectTurn, consumers_of, layout_of, plan_in, StepKnown, WorldHistory, claim_accesses, pool_accesses, note_of, IsWorldAfter};
-ghost use Rattle.mb_world.specs.Vocabulary.{WorldState, IsRefused, place_after, EventAdds, HasPlace, with_note, with_note_if, with_place, with_pool, with_words};
+ghost use Rattle.mb_world.specs.Vocabulary.{Took, At, Before, WorldState, IsRefused, place_after, EventAdds, HasPlace, with_note, with_note_if, with_place, with_pool, with_words};
 ghost use Rattle.mb_world.specs.declared.event.Answer.TheVariants as answer;
 ghost use Rattle.mb_world.specs.declared.event.Event.TheVariants as event;
-ghost use Rattle.mb_world.specs.declared.report.Note.TheVariants.{Took};
-ghost use Rattle.mb_world.specs.declared.place.Place.TheVariants.{At, Before};
 
 use crate::known::worlds_are_known;
 use crate::laws::worlds_are_sound;

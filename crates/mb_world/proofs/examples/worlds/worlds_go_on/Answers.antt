@@ -1,0 +1,302 @@
+-- Proof of `examples::worlds::worlds_go_on`: what was done in a small world, and where its consumers stand after it.
+use Rattle.std.proofs.Common.{arith}
+use Rattle.mb_quorum.specs.declared.table.TableName.TheVariants.{Unary}
+use Rattle.mb_world.specs.ConsumerPath.{begins}
+use Rattle.mb_world.specs.PathExamples.{two_cells}
+use Rattle.mb_world.specs.Plan.{size_of}
+use Rattle.mb_world.specs.World.{pool_accesses}
+use Rattle.mb_world.specs.WorldExamples.{two_by_two}
+use Rattle.mb_world.proofs.ExampleWorlds.{all_done_lawful, begun_path, both_put_lawful, ended_path, first_path, first_lost_lawful, first_taken_lawful}
+use Rattle.mb_world.proofs.ExampleWorlds.{first_won_lawful, met_lawful, offered_lawful, one_put_lawful, second_begun_lawful, second_goes, stored_lawful}
+use Rattle.mb_world.proofs.ExampleWorlds.{taken_lawful}
+use Rattle.mb_world.proofs.examples.worlds.worlds_go_on.Goals as goal
+
+-- each clause takes its lemma, with the record `Laws` that the lemmas of `ExampleWorlds` ask for
+pub returns-clause-offered : goal.returns-clause-offered
+returns-clause-offered c =
+    offered_lawful (record {
+      empty = c.history_extends.ensures.empty two_by_two (omega arith);
+      consumer = λ h d p a ks ns held lawful ds ps. c.history_extends.ensures.consumer two_by_two h d p a
+          ks ns held (c.named_tables_are_lawful.ensures.lawful Unary 2 (omega arith)) lawful ds ps;
+      producer = λ h p a lawful maker ps fits reads next.
+          (c.history_extends.ensures.producer two_by_two h p a lawful maker
+          (c.history_extends-2.ensures.producer (size_of two_by_two) (pool_accesses h) a p
+          (c.worlds_are_sound.ensures.sound two_by_two h
+          (c.named_tables_are_lawful.ensures.lawful Unary 2 (omega arith)) lawful).pool_lawful maker
+          ps fits reads next)).lawful;
+      prefix = λ p es phase done. c.places_lead_on.ensures.prefix 2 p es phase done;
+      going = λ d x xs s. c.claims_have_one_next_op.ensures.going two_cells d x xs s;
+      won = c.examples_are_lawful.ensures.won.1;
+      lost = c.examples_are_lawful.ensures.lost.1;
+      undecided = c.examples_are_lawful.ensures.second.1;
+    })
+
+pub returns-clause-put : goal.returns-clause-put
+returns-clause-put c =
+    both_put_lawful (record {
+      empty = c.history_extends.ensures.empty two_by_two (omega arith);
+      consumer = λ h d p a ks ns held lawful ds ps. c.history_extends.ensures.consumer two_by_two h d p a
+          ks ns held (c.named_tables_are_lawful.ensures.lawful Unary 2 (omega arith)) lawful ds ps;
+      producer = λ h p a lawful maker ps fits reads next.
+          (c.history_extends.ensures.producer two_by_two h p a lawful maker
+          (c.history_extends-2.ensures.producer (size_of two_by_two) (pool_accesses h) a p
+          (c.worlds_are_sound.ensures.sound two_by_two h
+          (c.named_tables_are_lawful.ensures.lawful Unary 2 (omega arith)) lawful).pool_lawful maker
+          ps fits reads next)).lawful;
+      prefix = λ p es phase done. c.places_lead_on.ensures.prefix 2 p es phase done;
+      going = λ d x xs s. c.claims_have_one_next_op.ensures.going two_cells d x xs s;
+      won = c.examples_are_lawful.ensures.won.1;
+      lost = c.examples_are_lawful.ensures.lost.1;
+      undecided = c.examples_are_lawful.ensures.second.1;
+    })
+
+pub returns-clause-taken : goal.returns-clause-taken
+returns-clause-taken c =
+    first_taken_lawful (record {
+      empty = c.history_extends.ensures.empty two_by_two (omega arith);
+      consumer = λ h d p a ks ns held lawful ds ps. c.history_extends.ensures.consumer two_by_two h d p a
+          ks ns held (c.named_tables_are_lawful.ensures.lawful Unary 2 (omega arith)) lawful ds ps;
+      producer = λ h p a lawful maker ps fits reads next.
+          (c.history_extends.ensures.producer two_by_two h p a lawful maker
+          (c.history_extends-2.ensures.producer (size_of two_by_two) (pool_accesses h) a p
+          (c.worlds_are_sound.ensures.sound two_by_two h
+          (c.named_tables_are_lawful.ensures.lawful Unary 2 (omega arith)) lawful).pool_lawful maker
+          ps fits reads next)).lawful;
+      prefix = λ p es phase done. c.places_lead_on.ensures.prefix 2 p es phase done;
+      going = λ d x xs s. c.claims_have_one_next_op.ensures.going two_cells d x xs s;
+      won = c.examples_are_lawful.ensures.won.1;
+      lost = c.examples_are_lawful.ensures.lost.1;
+      undecided = c.examples_are_lawful.ensures.second.1;
+    })
+
+pub returns-clause-met : goal.returns-clause-met
+returns-clause-met c =
+    met_lawful (record {
+      empty = c.history_extends.ensures.empty two_by_two (omega arith);
+      consumer = λ h d p a ks ns held lawful ds ps. c.history_extends.ensures.consumer two_by_two h d p a
+          ks ns held (c.named_tables_are_lawful.ensures.lawful Unary 2 (omega arith)) lawful ds ps;
+      producer = λ h p a lawful maker ps fits reads next.
+          (c.history_extends.ensures.producer two_by_two h p a lawful maker
+          (c.history_extends-2.ensures.producer (size_of two_by_two) (pool_accesses h) a p
+          (c.worlds_are_sound.ensures.sound two_by_two h
+          (c.named_tables_are_lawful.ensures.lawful Unary 2 (omega arith)) lawful).pool_lawful maker
+          ps fits reads next)).lawful;
+      prefix = λ p es phase done. c.places_lead_on.ensures.prefix 2 p es phase done;
+      going = λ d x xs s. c.claims_have_one_next_op.ensures.going two_cells d x xs s;
+      won = c.examples_are_lawful.ensures.won.1;
+      lost = c.examples_are_lawful.ensures.lost.1;
+      undecided = c.examples_are_lawful.ensures.second.1;
+    })
+
+pub returns-clause-all : goal.returns-clause-all
+returns-clause-all c =
+    all_done_lawful (record {
+      empty = c.history_extends.ensures.empty two_by_two (omega arith);
+      consumer = λ h d p a ks ns held lawful ds ps. c.history_extends.ensures.consumer two_by_two h d p a
+          ks ns held (c.named_tables_are_lawful.ensures.lawful Unary 2 (omega arith)) lawful ds ps;
+      producer = λ h p a lawful maker ps fits reads next.
+          (c.history_extends.ensures.producer two_by_two h p a lawful maker
+          (c.history_extends-2.ensures.producer (size_of two_by_two) (pool_accesses h) a p
+          (c.worlds_are_sound.ensures.sound two_by_two h
+          (c.named_tables_are_lawful.ensures.lawful Unary 2 (omega arith)) lawful).pool_lawful maker
+          ps fits reads next)).lawful;
+      prefix = λ p es phase done. c.places_lead_on.ensures.prefix 2 p es phase done;
+      going = λ d x xs s. c.claims_have_one_next_op.ensures.going two_cells d x xs s;
+      won = c.examples_are_lawful.ensures.won.1;
+      lost = c.examples_are_lawful.ensures.lost.1;
+      undecided = c.examples_are_lawful.ensures.second.1;
+    })
+
+pub returns-clause-took : goal.returns-clause-took
+returns-clause-took c =
+    first_path (record {
+      empty = c.history_extends.ensures.empty two_by_two (omega arith);
+      consumer = λ h d p a ks ns held lawful ds ps. c.history_extends.ensures.consumer two_by_two h d p a
+          ks ns held (c.named_tables_are_lawful.ensures.lawful Unary 2 (omega arith)) lawful ds ps;
+      producer = λ h p a lawful maker ps fits reads next.
+          (c.history_extends.ensures.producer two_by_two h p a lawful maker
+          (c.history_extends-2.ensures.producer (size_of two_by_two) (pool_accesses h) a p
+          (c.worlds_are_sound.ensures.sound two_by_two h
+          (c.named_tables_are_lawful.ensures.lawful Unary 2 (omega arith)) lawful).pool_lawful maker
+          ps fits reads next)).lawful;
+      prefix = λ p es phase done. c.places_lead_on.ensures.prefix 2 p es phase done;
+      going = λ d x xs s. c.claims_have_one_next_op.ensures.going two_cells d x xs s;
+      won = c.examples_are_lawful.ensures.won.1;
+      lost = c.examples_are_lawful.ensures.lost.1;
+      undecided = c.examples_are_lawful.ensures.second.1;
+    })
+
+pub returns-clause-away : goal.returns-clause-away
+returns-clause-away c =
+    begins
+
+pub returns-clause-lost : goal.returns-clause-lost
+returns-clause-lost c =
+    ended_path (record {
+      empty = c.history_extends.ensures.empty two_by_two (omega arith);
+      consumer = λ h d p a ks ns held lawful ds ps. c.history_extends.ensures.consumer two_by_two h d p a
+          ks ns held (c.named_tables_are_lawful.ensures.lawful Unary 2 (omega arith)) lawful ds ps;
+      producer = λ h p a lawful maker ps fits reads next.
+          (c.history_extends.ensures.producer two_by_two h p a lawful maker
+          (c.history_extends-2.ensures.producer (size_of two_by_two) (pool_accesses h) a p
+          (c.worlds_are_sound.ensures.sound two_by_two h
+          (c.named_tables_are_lawful.ensures.lawful Unary 2 (omega arith)) lawful).pool_lawful maker
+          ps fits reads next)).lawful;
+      prefix = λ p es phase done. c.places_lead_on.ensures.prefix 2 p es phase done;
+      going = λ d x xs s. c.claims_have_one_next_op.ensures.going two_cells d x xs s;
+      won = c.examples_are_lawful.ensures.won.1;
+      lost = c.examples_are_lawful.ensures.lost.1;
+      undecided = c.examples_are_lawful.ensures.second.1;
+    })
+
+pub returns-clause-begun : goal.returns-clause-begun
+returns-clause-begun c =
+    begun_path (record {
+      empty = c.history_extends.ensures.empty two_by_two (omega arith);
+      consumer = λ h d p a ks ns held lawful ds ps. c.history_extends.ensures.consumer two_by_two h d p a
+          ks ns held (c.named_tables_are_lawful.ensures.lawful Unary 2 (omega arith)) lawful ds ps;
+      producer = λ h p a lawful maker ps fits reads next.
+          (c.history_extends.ensures.producer two_by_two h p a lawful maker
+          (c.history_extends-2.ensures.producer (size_of two_by_two) (pool_accesses h) a p
+          (c.worlds_are_sound.ensures.sound two_by_two h
+          (c.named_tables_are_lawful.ensures.lawful Unary 2 (omega arith)) lawful).pool_lawful maker
+          ps fits reads next)).lawful;
+      prefix = λ p es phase done. c.places_lead_on.ensures.prefix 2 p es phase done;
+      going = λ d x xs s. c.claims_have_one_next_op.ensures.going two_cells d x xs s;
+      won = c.examples_are_lawful.ensures.won.1;
+      lost = c.examples_are_lawful.ensures.lost.1;
+      undecided = c.examples_are_lawful.ensures.second.1;
+    })
+
+pub returns-clause-won : goal.returns-clause-won
+returns-clause-won c =
+    first_won_lawful (record {
+      empty = c.history_extends.ensures.empty two_by_two (omega arith);
+      consumer = λ h d p a ks ns held lawful ds ps. c.history_extends.ensures.consumer two_by_two h d p a
+          ks ns held (c.named_tables_are_lawful.ensures.lawful Unary 2 (omega arith)) lawful ds ps;
+      producer = λ h p a lawful maker ps fits reads next.
+          (c.history_extends.ensures.producer two_by_two h p a lawful maker
+          (c.history_extends-2.ensures.producer (size_of two_by_two) (pool_accesses h) a p
+          (c.worlds_are_sound.ensures.sound two_by_two h
+          (c.named_tables_are_lawful.ensures.lawful Unary 2 (omega arith)) lawful).pool_lawful maker
+          ps fits reads next)).lawful;
+      prefix = λ p es phase done. c.places_lead_on.ensures.prefix 2 p es phase done;
+      going = λ d x xs s. c.claims_have_one_next_op.ensures.going two_cells d x xs s;
+      won = c.examples_are_lawful.ensures.won.1;
+      lost = c.examples_are_lawful.ensures.lost.1;
+      undecided = c.examples_are_lawful.ensures.second.1;
+    })
+
+pub returns-clause-came : goal.returns-clause-came
+returns-clause-came c =
+    first_lost_lawful (record {
+      empty = c.history_extends.ensures.empty two_by_two (omega arith);
+      consumer = λ h d p a ks ns held lawful ds ps. c.history_extends.ensures.consumer two_by_two h d p a
+          ks ns held (c.named_tables_are_lawful.ensures.lawful Unary 2 (omega arith)) lawful ds ps;
+      producer = λ h p a lawful maker ps fits reads next.
+          (c.history_extends.ensures.producer two_by_two h p a lawful maker
+          (c.history_extends-2.ensures.producer (size_of two_by_two) (pool_accesses h) a p
+          (c.worlds_are_sound.ensures.sound two_by_two h
+          (c.named_tables_are_lawful.ensures.lawful Unary 2 (omega arith)) lawful).pool_lawful maker
+          ps fits reads next)).lawful;
+      prefix = λ p es phase done. c.places_lead_on.ensures.prefix 2 p es phase done;
+      going = λ d x xs s. c.claims_have_one_next_op.ensures.going two_cells d x xs s;
+      won = c.examples_are_lawful.ensures.won.1;
+      lost = c.examples_are_lawful.ensures.lost.1;
+      undecided = c.examples_are_lawful.ensures.second.1;
+    })
+
+pub returns-clause-goes : goal.returns-clause-goes
+returns-clause-goes c =
+    second_begun_lawful (record {
+      empty = c.history_extends.ensures.empty two_by_two (omega arith);
+      consumer = λ h d p a ks ns held lawful ds ps. c.history_extends.ensures.consumer two_by_two h d p a
+          ks ns held (c.named_tables_are_lawful.ensures.lawful Unary 2 (omega arith)) lawful ds ps;
+      producer = λ h p a lawful maker ps fits reads next.
+          (c.history_extends.ensures.producer two_by_two h p a lawful maker
+          (c.history_extends-2.ensures.producer (size_of two_by_two) (pool_accesses h) a p
+          (c.worlds_are_sound.ensures.sound two_by_two h
+          (c.named_tables_are_lawful.ensures.lawful Unary 2 (omega arith)) lawful).pool_lawful maker
+          ps fits reads next)).lawful;
+      prefix = λ p es phase done. c.places_lead_on.ensures.prefix 2 p es phase done;
+      going = λ d x xs s. c.claims_have_one_next_op.ensures.going two_cells d x xs s;
+      won = c.examples_are_lawful.ensures.won.1;
+      lost = c.examples_are_lawful.ensures.lost.1;
+      undecided = c.examples_are_lawful.ensures.second.1;
+    })
+
+pub returns-clause-going : goal.returns-clause-going
+returns-clause-going c =
+    second_goes (record {
+      empty = c.history_extends.ensures.empty two_by_two (omega arith);
+      consumer = λ h d p a ks ns held lawful ds ps. c.history_extends.ensures.consumer two_by_two h d p a
+          ks ns held (c.named_tables_are_lawful.ensures.lawful Unary 2 (omega arith)) lawful ds ps;
+      producer = λ h p a lawful maker ps fits reads next.
+          (c.history_extends.ensures.producer two_by_two h p a lawful maker
+          (c.history_extends-2.ensures.producer (size_of two_by_two) (pool_accesses h) a p
+          (c.worlds_are_sound.ensures.sound two_by_two h
+          (c.named_tables_are_lawful.ensures.lawful Unary 2 (omega arith)) lawful).pool_lawful maker
+          ps fits reads next)).lawful;
+      prefix = λ p es phase done. c.places_lead_on.ensures.prefix 2 p es phase done;
+      going = λ d x xs s. c.claims_have_one_next_op.ensures.going two_cells d x xs s;
+      won = c.examples_are_lawful.ensures.won.1;
+      lost = c.examples_are_lawful.ensures.lost.1;
+      undecided = c.examples_are_lawful.ensures.second.1;
+    })
+
+pub returns-clause-asked : goal.returns-clause-asked
+returns-clause-asked c =
+    taken_lawful (record {
+      empty = c.history_extends.ensures.empty two_by_two (omega arith);
+      consumer = λ h d p a ks ns held lawful ds ps. c.history_extends.ensures.consumer two_by_two h d p a
+          ks ns held (c.named_tables_are_lawful.ensures.lawful Unary 2 (omega arith)) lawful ds ps;
+      producer = λ h p a lawful maker ps fits reads next.
+          (c.history_extends.ensures.producer two_by_two h p a lawful maker
+          (c.history_extends-2.ensures.producer (size_of two_by_two) (pool_accesses h) a p
+          (c.worlds_are_sound.ensures.sound two_by_two h
+          (c.named_tables_are_lawful.ensures.lawful Unary 2 (omega arith)) lawful).pool_lawful maker
+          ps fits reads next)).lawful;
+      prefix = λ p es phase done. c.places_lead_on.ensures.prefix 2 p es phase done;
+      going = λ d x xs s. c.claims_have_one_next_op.ensures.going two_cells d x xs s;
+      won = c.examples_are_lawful.ensures.won.1;
+      lost = c.examples_are_lawful.ensures.lost.1;
+      undecided = c.examples_are_lawful.ensures.second.1;
+    })
+
+pub returns-clause-stored : goal.returns-clause-stored
+returns-clause-stored c =
+    stored_lawful (record {
+      empty = c.history_extends.ensures.empty two_by_two (omega arith);
+      consumer = λ h d p a ks ns held lawful ds ps. c.history_extends.ensures.consumer two_by_two h d p a
+          ks ns held (c.named_tables_are_lawful.ensures.lawful Unary 2 (omega arith)) lawful ds ps;
+      producer = λ h p a lawful maker ps fits reads next.
+          (c.history_extends.ensures.producer two_by_two h p a lawful maker
+          (c.history_extends-2.ensures.producer (size_of two_by_two) (pool_accesses h) a p
+          (c.worlds_are_sound.ensures.sound two_by_two h
+          (c.named_tables_are_lawful.ensures.lawful Unary 2 (omega arith)) lawful).pool_lawful maker
+          ps fits reads next)).lawful;
+      prefix = λ p es phase done. c.places_lead_on.ensures.prefix 2 p es phase done;
+      going = λ d x xs s. c.claims_have_one_next_op.ensures.going two_cells d x xs s;
+      won = c.examples_are_lawful.ensures.won.1;
+      lost = c.examples_are_lawful.ensures.lost.1;
+      undecided = c.examples_are_lawful.ensures.second.1;
+    })
+
+pub returns-clause-one : goal.returns-clause-one
+returns-clause-one c =
+    one_put_lawful (record {
+      empty = c.history_extends.ensures.empty two_by_two (omega arith);
+      consumer = λ h d p a ks ns held lawful ds ps. c.history_extends.ensures.consumer two_by_two h d p a
+          ks ns held (c.named_tables_are_lawful.ensures.lawful Unary 2 (omega arith)) lawful ds ps;
+      producer = λ h p a lawful maker ps fits reads next.
+          (c.history_extends.ensures.producer two_by_two h p a lawful maker
+          (c.history_extends-2.ensures.producer (size_of two_by_two) (pool_accesses h) a p
+          (c.worlds_are_sound.ensures.sound two_by_two h
+          (c.named_tables_are_lawful.ensures.lawful Unary 2 (omega arith)) lawful).pool_lawful maker
+          ps fits reads next)).lawful;
+      prefix = λ p es phase done. c.places_lead_on.ensures.prefix 2 p es phase done;
+      going = λ d x xs s. c.claims_have_one_next_op.ensures.going two_cells d x xs s;
+      won = c.examples_are_lawful.ensures.won.1;
+      lost = c.examples_are_lawful.ensures.lost.1;
+      undecided = c.examples_are_lawful.ensures.second.1;
+    })
