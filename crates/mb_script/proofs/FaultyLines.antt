@@ -15,7 +15,7 @@ use Rattle.mb_script.specs.Scripts.{Made, Script, setup_of, event_at, events_of,
 use Rattle.mb_script.specs.Steps.{◌>>=◌}
 use Rattle.mb_script.specs.Text.{lines_of, words_in_line}
 use Rattle.mb_script.specs.Spelling.{Spells}
-use Rattle.mb_script.proofs.ReadBack.{lines_take}
+use Rattle.mb_script.proofs.ScriptBack.{lines_take}
 use Rattle.mb_script.proofs.AboutLines.{At, at_line, at_setup}
 
 -- ---- equal results, and lists that begin alike

@@ -17,7 +17,7 @@ use Rattle.mb_world.specs.declared.event.Event.TheVariants as event
 use Rattle.mb_world.specs.Vocabulary.{Plan, consumers_of, HasAnswer, IsRefused, IsReplay, AnswerNames, answer_to, with_access, ToCells, WorldAccess, WorldHistory}
 use Rattle.mb_world.specs.World.{ToClaims}
 use Rattle.mb_script.specs.Vocabulary.{IsAnswer, IsOfWorld, Script, IsEventOf, Sizes, script_in}
-use Rattle.mb_script.proofs.ReadBack.{script_takes}
+use Rattle.mb_script.proofs.ScriptBack.{script_takes}
 
 -- ---- the answer to an access names it
 -- an answer to a store in a link says nothing of missing lanes or consumers

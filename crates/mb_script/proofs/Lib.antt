@@ -13,6 +13,7 @@ pub mod ReadAgain
 pub mod ManyLines
 pub mod Lined
 pub mod ReadBack
+pub mod ScriptBack
 -- The first fault of a script
 pub mod AboutLines
 pub mod FaultyLines

@@ -14,7 +14,7 @@ use Rattle.mb_world.specs.declared.setup.TheConstants.{MAX_PRODUCERS}
 use Rattle.mb_world.specs.Vocabulary.{Histories, Plan, IsReplay, ReportView, IsReportOf, AreSound, WorldHistory, histories_of, IsWorldLawful}
 use Rattle.mb_world.specs.Setups.{setup_refusal}
 use Rattle.mb_script.specs.Vocabulary.{IsReplayText, report_text, Script, script_of, transcript_text}
-use Rattle.mb_script.proofs.ReadBack.{script_takes}
+use Rattle.mb_script.proofs.ScriptBack.{script_takes}
 
 -- ---- the laws of the crates below, one name for each
 -- each quorum table that has a name is lawful

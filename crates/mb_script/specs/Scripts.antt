@@ -5,12 +5,10 @@ use Rattle.std.specs.Char.{is_ascii}
 use Rattle.std.specs.Option.{ok_or}
 use Rattle.std.specs.Str.{bytes_eq}
 use Rattle.mb_quorum.specs.declared.table.TableName.{TableName}
-use Rattle.mb_world.specs.declared.event.Event.{Event}
-use Rattle.mb_world.specs.declared.event.Event.TheVariants.{Offer, Push, Finish, Step}
-use Rattle.mb_world.specs.declared.setup.SetupFault.{SetupFault}
+use Rattle.mb_world.specs.declared.event.Event.{Event, TheVariants.Offer, TheVariants.Push, TheVariants.Finish, TheVariants.Step}
+use Rattle.mb_world.specs.declared.setup.{Setup.Setup, SetupFault.SetupFault}
 use Rattle.mb_world.specs.Plan.{Plan, consumers_of}
 use Rattle.mb_claim.specs.declared.shape.Shape.{Shape}
-use Rattle.mb_world.specs.declared.setup.Setup.{Setup}
 use Rattle.mb_world.specs.Setups.{pairs_in, plan_in, setup_refusal, shape_in, shaped_plan}
 use Rattle.mb_script.specs.declared.fault.Fault.{Fault}
 use Rattle.mb_script.specs.declared.fault.Fault.TheVariants.{TooLong, NotAscii, BadLine, BadNumber, NoSetup, BadSetup, NoLane, NoConsumer, TooManyEvents}

@@ -3,7 +3,7 @@ use Rattle.std.proofs.Common.{subst}
 use Rattle.mb_script.specs.Faults.{Gives}
 use Rattle.mb_script.specs.Scripts.{view}
 use Rattle.mb_script.proofs.ReadAgain.{script_again}
-use Rattle.mb_script.proofs.ReadBack.{is_found}
+use Rattle.mb_script.proofs.ScriptBack.{is_found}
 use Rattle.mb_script.proofs.parser.parse.Goals as goal
 
 pub returns-clause-found : goal.returns-clause-found
