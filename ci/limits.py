@@ -26,7 +26,7 @@ LIMITS = {
 FIXED_FUNCTION = "work"
 
 CLAUSE = re.compile(r"^ *(?:requires|ensures)\b")
-IMPORT = re.compile(r"^ *(?:pub )?(?:ghost )?use ")
+IMPORT = re.compile(r"^ *(?:unfoldable )?(?:pub )?(?:ghost )?use ")
 FUNCTION = re.compile(r'^( *)(?:pub(?:\([^)]*\))? )?(?:const |unsafe |final |extern "C" )*fn (\w+)', re.M)
 PATH = re.compile(r"^ *(?:pub(?:\([^)]*\))? )?use (\w+(?:::\w+)*)", re.M)
 
