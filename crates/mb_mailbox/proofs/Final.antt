@@ -16,7 +16,8 @@ use Rattle.mb_mailbox.specs.Vocabulary.{IsRunOf, IsWorked, ProducerEnd, WereTake
 use Rattle.mb_mailbox.specs.Vocabulary.{WorkerBuffers}
 use Rattle.mb_mailbox.specs.Rooms.{HasRoom}
 use Rattle.mb_mailbox.proofs.Noted.{all_noted}
-use Rattle.mb_mailbox.proofs.Runs.{producer_end, lanes_of, consumer_end, consumer_ends, nums, run_beyond, run_cut, run_ends}
+use Rattle.mb_mailbox.proofs.RunEnds.{consumer_end, producer_end}
+use Rattle.mb_mailbox.proofs.Runs.{lanes_of, consumer_ends, nums, run_beyond, run_cut, run_ends}
 use Rattle.mb_mailbox.proofs.Runs.{run_met, run_of, run_only, run_passes, run_poll_stops, run_polled, run_stops, run_unread}
 use Rattle.mb_mailbox.proofs.Zips.{zip_length}
 
@@ -241,9 +242,8 @@ module _ {R Z : Type 0} (m : MailboxView) (may_stop may_pass : Who → ℕ → T
     module _ (w : Worked) (full : w.full ≡ min (2 ^ 64 - 1) (sum_by (λ (d : PutDone Z). d.full) ends.puts.items))
         (stopped : w.stopped ≡ min (2 ^ 64 - 1) (count_stopped ends))
         (puts_on : All (λ (d : PutDone Z). d.aborted ≡ false) ends.puts.items)
-        (polls_on : All (λ (d : PollDone Z). d.aborted ≡ false) ends.polls.items) (small : length items +
-        sources < 2 ^ 64)
-        (later : IsHub now) (of : IsHubOf m now)
+        (polls_on : All (λ (d : PollDone Z). d.aborted ≡ false) ends.polls.items)
+        (small : length items + sources < 2 ^ 64) (later : IsHub now) (of : IsHubOf m now)
         (pool : History) (roll : IsRollOf now.cells.table.size now.cells.roll pool)
         (first : from ≡ length h.puts) (last : end ≡ length h.puts + length items)
         (tell : (size : PoolSize) (roll : Roll) (h : History) (p : ℕ) (done : History)

@@ -35,6 +35,7 @@ pub mod Closing
 pub mod HubMoves
 pub mod HubRuns
 -- A run of workers
+pub mod RunEnds
 pub mod Runs
 pub mod Loops
 pub mod Called

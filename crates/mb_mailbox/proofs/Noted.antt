@@ -17,7 +17,8 @@ use Rattle.mb_mailbox.specs.Steps.{notes_on}
 use Rattle.mb_mailbox.specs.Worked.{ConsumerEnd, HasNoteAtEach, ProducerEnd, ended_list}
 use Rattle.mb_mailbox.specs.declared.gate.Who.{Who}
 use Rattle.mb_mailbox.specs.declared.crew.jobs.PollDone.{PollDone}
-use Rattle.mb_mailbox.proofs.Runs.{AreNumbered, consumer_end, consumer_ends}
+use Rattle.mb_mailbox.proofs.RunEnds.{consumer_end}
+use Rattle.mb_mailbox.proofs.Runs.{AreNumbered, consumer_ends}
 
 -- the element after the first n has place n
 get_next : {X : Type 0} (base rest : List X) (x : X) (n : ℕ) → length base ≡ n → slice_get (base ++ x ∷ rest) n ≡ Some x

@@ -15,44 +15,8 @@ use Rattle.mb_mailbox.specs.Vocabulary.{AreStoppedPuts, ConsumerEnd, HasMetEnd, 
 use Rattle.mb_mailbox.specs.Vocabulary.{PollDone, PollJob, PutDone, PutJob}
 use Rattle.mb_mailbox.specs.declared.gate.Who.TheVariants as who
 use Rattle.mb_mailbox.proofs.HubRuns.{CountFrom, after, run_claimed, run_ledgers, run_parts, run_puts, run_readers}
+use Rattle.mb_mailbox.proofs.RunEnds.{behind, consumer_end, met_at, producer_end}
 use Rattle.mb_mailbox.proofs.Zips.{zip_length}
-
--- what a producer came to, and by `consumer_end` what a consumer came to
-abbrev pub producer_end : ProducerView → Bool → ProducerEnd
-producer_end s stopped = record { put = s.items; part = s.seat.part; stopped = stopped }
-
-abbrev pub consumer_end : ConsumerView → Bool → ConsumerEnd
-consumer_end s stopped = record {
-  ledger = record { places = s.places; notes = s.notes };
-  reads =
-      s.reader.part;
-  claimed = s.seat.part;
-  stopped = stopped;
-}
-
--- a consumer that has read lanes to their end marks has met these end marks, under its number c
-met_at : (from end c : ℕ) (s : ConsumerView) → s.reader.reader ≡ c → HasReadEnds from end s
-    → HasMetEnds from end c s.reader.part
-met_at from end c s is r = record {
-  marks = r.marks;
-  within = r.within;
-  met = λ p e.
-      let to_end = r.read p e in
-      subst (λ (n : ℕ). HasMetEnd n p s.reader.part) is (record {
-        cells = to_end.cells;
-        met = to_end.met;
-        end =
-            to_end.end;
-      });
-  once = r.once;
-}
-
--- `full` counts the items that the producer did not put
-behind : (stopped : Bool) (list put : List ℕ) (full : ℕ) → (stopped ≡ false → length put + full ≡ length list)
-    → (stopped ≡ true → full ≡ 0)
-    → full ≡ items_behind stopped list put
-behind true list put full rest none = none refl
-behind false list put full rest none = let e = rest refl in omega (arith, e)
 
 module _ {Z : Type 0} (m : MailboxView) (may_stop may_pass : Who → ℕ → Type 0) where
   -- ---- producers
@@ -86,7 +50,8 @@ module _ {Z : Type 0} (m : MailboxView) (may_stop may_pass : Who → ℕ → Typ
   end_at : (p : ℕ) (v : Vec ℕ Z) (j : PutJob Z) (d : PutDone Z) → j.producer ≡ new_producer m p → j.list ≡ v
       → IsPutEnd may_stop may_pass j d → IsPutEndAt p v d
   end_at p v j d is list e =
-      let lane : d.producer.seat.lane ≡ p = e.same.lane ∙ ap (λ (s : ProducerView). s.seat.lane) is in
+      let at = ap (λ (s : ProducerView). s.seat.lane) is in
+      let lane : d.producer.seat.lane ≡ p = e.same.lane ∙ at in
       let table : d.producer.seat.table ≡ m.cells = e.same.table ∙ ap (λ (s : ProducerView). s.seat.table) is in
       record {
         lane = lane;
@@ -94,29 +59,24 @@ module _ {Z : Type 0} (m : MailboxView) (may_stop may_pass : Who → ℕ → Typ
         over = e.over;
         front = subst (λ (w : Vec ℕ Z). IsFront d.producer.items w.items) list e.front;
         full = λ f. e.full f ∙ ap (λ (w : Vec ℕ Z). length w.items) list;
-        found = λ f ne. subst (λ (z : CellsName × ℕ). HasFoundNone z.0.size.cells z.1 d.producer.seat.part) (λ
-            i. (table i, lane i)) (e.found f ne);
+        found = λ f ne. subst (λ (z : CellsName × ℕ). HasFoundNone z.0.size.cells z.1 d.producer.seat.part)
+            (λ i. (table i, lane i)) (e.found f ne);
         none = e.none;
         stop = λ t o. record {
           short = subst (λ (w : Vec ℕ Z). length d.producer.items < length w.items) list (e.short t o);
           had_cells = λ none.
               let mine : FoundNoCell d.producer =
-              subst (λ (z : CellsName × ℕ). HasFoundNone z.0.size.cells z.1 d.producer.seat.part) (λ i. (
-                sym
-                    table i,
-                sym lane i,
-              )) none in
+              subst (λ (z : CellsName × ℕ). HasFoundNone z.0.size.cells z.1 d.producer.seat.part)
+              (λ i. (sym table i, sym lane i)) none in
               absurd ((subst FoundNoCell is (e.had_cells t o mine)).offered);
-          stop = subst (λ (q : ℕ). IsStopBefore may_stop (who.Producer q) (suc (length d.producer.items))) (ap
-              (λ (s : ProducerView). s.seat.lane) is) (e.stop t o);
+          stop = subst (λ (q : ℕ). IsStopBefore may_stop (who.Producer q) (suc (length d.producer.items))) at
+              (e.stop t o);
         };
         passed = λ o. record {
-          put = subst (λ (q : ℕ). ArePassed may_pass (who.Producer q) (length d.producer.items)) (ap (λ (s :
-              ProducerView). s.seat.lane) is) (e.passed o);
+          put = subst (λ (q : ℕ). ArePassed may_pass (who.Producer q) (length d.producer.items)) at (e.passed o);
           full = λ f short.
               let here = e.full f ∙ ap (λ (w : Vec ℕ Z). length w.items) list in
-              subst (λ (q : ℕ). may_pass (who.Producer q) (suc (length d.producer.items))) (ap (λ (s :
-              ProducerView). s.seat.lane) is)
+              subst (λ (q : ℕ). may_pass (who.Producer q) (suc (length d.producer.items))) at
               (e.passed_full o f (λ z. omega (arith, here, z, short)));
         };
       }
@@ -149,8 +109,8 @@ module _ {Z : Type 0} (m : MailboxView) (may_stop may_pass : Who → ℕ → Typ
 
   -- what the hub keeps of each of these producers says that its lane has ended
   ended_of : (p : ℕ) (vs : List (Vec ℕ Z)) (ds : List (PutDone Z)) → AreAt p vs ds
-      → map (λ (s : ProducerView). Some (put_list_of s)) (producers ds) ≡ map (λ (l : ProducerEnd). Some
-      (ended_list l)) (lanes_of ds)
+      → map (λ (s : ProducerView). Some (put_list_of s)) (producers ds)
+      ≡ map (λ (l : ProducerEnd). Some (ended_list l)) (lanes_of ds)
   ended_of p [] [] a = refl
   ended_of p [] (d ∷ ds) a = absurd a
   ended_of p (v ∷ vs) [] a = absurd a
@@ -226,10 +186,10 @@ module _ {Z : Type 0} (m : MailboxView) (may_stop may_pass : Who → ℕ → Typ
   AreNumbered from end budget c (d ∷ ds) = IsPollEndAt from end budget c d × AreNumbered from end budget (suc c) ds
 
   -- the ends of the jobs of new consumers are such ends
-  numbered : {R : Type 0} (stream : R → Stream) (from end budget c : ℕ) (js : List (PollJob R Z)) (ds : List
-      (PollDone Z)) → ArePollJobs m c js
-      → AllZip (λ (j : PollJob R Z) (d : PollDone Z). IsPollEnd may_stop may_pass from end budget (stream
-      j.rng) j.consumer d) js ds → AreNumbered from end budget c ds
+  numbered : {R : Type 0} (stream : R → Stream) (from end budget c : ℕ) (js : List (PollJob R Z))
+      (ds : List (PollDone Z)) → ArePollJobs m c js
+      → AllZip (λ j d. IsPollEnd may_stop may_pass from end budget (stream j.rng) j.consumer d) js ds
+      → AreNumbered from end budget c ds
   numbered stream from end budget c [] [] a z = tt
   numbered stream from end budget c [] (d ∷ ds) a z = absurd z
   numbered stream from end budget c (j ∷ js) [] a z = absurd z
@@ -276,10 +236,9 @@ module _ {Z : Type 0} (m : MailboxView) (may_stop may_pass : Who → ℕ → Typ
   sources_of stream js = map (λ j. stream j.rng) js
 
   -- each consumer polls with the words of its own source
-  polled_of : {R : Type 0} (stream : R → Stream) (from end budget c : ℕ) (js : List (PollJob R Z)) (ds : List
-      (PollDone Z)) → ArePollJobs m c js
-      → AllZip (λ (j : PollJob R Z) (d : PollDone Z). IsPollEnd may_stop may_pass from end budget (stream
-      j.rng) j.consumer d) js ds
+  polled_of : {R : Type 0} (stream : R → Stream) (from end budget c : ℕ) (js : List (PollJob R Z))
+      (ds : List (PollDone Z)) → ArePollJobs m c js
+      → AllZip (λ j d. IsPollEnd may_stop may_pass from end budget (stream j.rng) j.consumer d) js ds
       → All (λ (d : PollDone Z). d.aborted ≡ false) ds
       → WerePolled may_stop may_pass from end budget c (sources_of stream js) (consumer_ends ds)
   polled_of stream from end budget c [] [] a z on = tt
@@ -317,19 +276,16 @@ module _ {Z : Type 0} (m : MailboxView) (may_stop may_pass : Who → ℕ → Typ
       → All (λ (x : ConsumerEnd). x.stopped ≡ false → ends_met x.reads ≡ end - from) (consumer_ends ds)
   ends_of from end budget c [] a = λ k d low. absurd (omega (arith, low))
   ends_of from end budget c (d ∷ ds) a =
-      All-cons (λ (x : ConsumerEnd). x.stopped ≡ false → ends_met x.reads ≡ end - from) (consumer_end
-      d.consumer d.stopped) (consumer_ends ds)
-      a.0.ends (ends_of from end budget (suc c) ds a.1)
+      All-cons (λ (x : ConsumerEnd). x.stopped ≡ false → ends_met x.reads ≡ end - from)
+      (consumer_end d.consumer d.stopped) (consumer_ends ds) a.0.ends
+      (ends_of from end budget (suc c) ds a.1)
 
   -- each consumer has met the end marks of the lanes that it has read to their ends
   mets_of : (from end budget c : ℕ) (ds : List (PollDone Z)) → AreNumbered from end budget c ds
       → HaveMetEnds from end c (consumer_ends ds)
   mets_of from end budget c [] a = tt
-  mets_of from end budget c (d ∷ ds) a = (
-    met_at from end c d.consumer a.0.reader a.0.marked,
-    mets_of from end
-        budget (suc c) ds a.1,
-  )
+  mets_of from end budget c (d ∷ ds) a =
+      let rest = mets_of from end budget (suc c) ds a.1 in (met_at from end c d.consumer a.0.reader a.0.marked, rest)
 
   -- if the run is not aborted, a consumer that was stopped has loaded fewer end marks than there are lanes
   unread_of : (from end budget c : ℕ) (ds : List (PollDone Z)) → AreNumbered from end budget c ds
@@ -338,17 +294,16 @@ module _ {Z : Type 0} (m : MailboxView) (may_stop may_pass : Who → ℕ → Typ
   unread_of from end budget c [] a on = λ k d low. absurd (omega (arith, low))
   unread_of from end budget c (d ∷ ds) a on =
       let F = λ (d : PollDone Z). d.aborted ≡ false in
-      All-cons (λ (x : ConsumerEnd). x.stopped ≡ true → ends_met x.reads < end - from) (consumer_end d.consumer
-      d.stopped) (consumer_ends ds)
+      All-cons (λ (x : ConsumerEnd). x.stopped ≡ true → ends_met x.reads < end - from)
+      (consumer_end d.consumer d.stopped) (consumer_ends ds)
       (λ t. a.0.unread t (All-head F d ds on)) (unread_of from end budget (suc c) ds a.1 (All-tail F d ds on))
 
   -- ---- a whole run: each lemma `run_X` below is the lemma `X_of` above, over all ends of the run
-  module _ {R : Type 0} (stream : R → Stream) (h : HubView) (from end budget : ℕ) (vs : List (Vec ℕ Z)) (js :
-      List (PutJob Z)) (ds : List (PutDone Z))
-      (ks : List (PollJob R Z)) (es : List (PollDone Z)) (i : IsHub h) (putting : ArePutJobs m (length h.puts) vs js)
+  module _ {R : Type 0} (stream : R → Stream) (h : HubView) (from end budget : ℕ) (vs : List (Vec ℕ Z))
+      (js : List (PutJob Z)) (ds : List (PutDone Z)) (ks : List (PollJob R Z)) (es : List (PollDone Z))
+      (i : IsHub h) (putting : ArePutJobs m (length h.puts) vs js)
       (polling : ArePollJobs m (length h.ledgers) ks) (put : AllZip (IsPutEnd may_stop may_pass) js ds)
-      (polled : AllZip (λ (j : PollJob R Z) (d : PollDone Z). IsPollEnd may_stop may_pass from end budget
-      (stream j.rng) j.consumer d) ks es) where
+      (polled : AllZip (λ j d. IsPollEnd may_stop may_pass from end budget (stream j.rng) j.consumer d) ks es) where
     abbrev pub now : HubView
     now = after js ks (producers ds) (consumers es) h
 
@@ -362,8 +317,8 @@ module _ {Z : Type 0} (m : MailboxView) (may_stop may_pass : Who → ℕ → Typ
     puts_count = zip_length (IsPutEnd may_stop may_pass) js ds put ∙ sym (length-map ds (λ (d : PutDone Z). d.producer))
 
     polls_count : length ks ≡ length (consumers es)
-    polls_count = zip_length (λ (j : PollJob R Z) (d : PollDone Z). IsPollEnd may_stop may_pass from end budget
-        (stream j.rng) j.consumer d) ks es polled
+    polls_count =
+        zip_length (λ j d. IsPollEnd may_stop may_pass from end budget (stream j.rng) j.consumer d) ks es polled
         ∙ sym (length-map es (λ (d : PollDone Z). d.consumer))
 
     -- the run is one for these lists and as many sources as consumers' jobs
@@ -374,27 +329,25 @@ module _ {Z : Type 0} (m : MailboxView) (may_stop may_pass : Who → ℕ → Typ
       parts = run_parts js ks (producers ds) (consumers es) h puts_count (count_lanes (length h.puts) vs ds ats) i.lanes
           ∙ ap (λ l. h.cells.roll.lanes ++ l) (parts_of_lanes ds);
       fronts = fronts_of (length h.puts) vs ds ats;
-      ledgers = run_ledgers js ks (producers ds) (consumers es) h polls_count (count_seats from end budget
-          (length h.ledgers) es nums)
-          ∙ ap (λ l. h.ledgers ++ l) (turned (λ (s : ConsumerView). Some (consumer_end s true).ledger) (λ (x :
-          ConsumerEnd). Some x.ledger) (λ s b. refl) es);
-      reads = run_readers js ks (producers ds) (consumers es) h polls_count i.readers (count_readers from end
-          budget (length h.ledgers) es nums)
-          ∙ ap (λ l. h.cells.roll.readers ++ l) (turned (λ (s : ConsumerView). Some s.reader.part) (λ (x :
-          ConsumerEnd). Some x.reads) (λ s b. refl) es);
-      claimed = run_claimed js ks (producers ds) (consumers es) h polls_count i.seats (count_seats from end
-          budget (length h.ledgers) es nums)
-          ∙ ap (λ l. h.claims.roll ++ l) (turned (λ (s : ConsumerView). Some s.seat.part) (λ (x : ConsumerEnd).
-          Some x.claimed) (λ s b. refl) es);
-      count = length-map es (λ (d : PollDone Z). consumer_end d.consumer d.stopped) ∙ sym (length-map es (λ (d
-          : PollDone Z). d.consumer)) ∙ sym polls_count;
+      ledgers = run_ledgers js ks (producers ds) (consumers es) h polls_count
+          (count_seats from end budget (length h.ledgers) es nums)
+          ∙ ap (λ l. h.ledgers ++ l) (turned (λ (x : ConsumerEnd). Some x.ledger) (λ s b. refl) es);
+      reads = run_readers js ks (producers ds) (consumers es) h polls_count i.readers
+          (count_readers from end budget (length h.ledgers) es nums)
+          ∙ ap (λ l. h.cells.roll.readers ++ l) (turned (λ (x : ConsumerEnd). Some x.reads) (λ s b. refl) es);
+      claimed = run_claimed js ks (producers ds) (consumers es) h polls_count i.seats
+          (count_seats from end budget (length h.ledgers) es nums)
+          ∙ ap (λ l. h.claims.roll ++ l) (turned (λ (x : ConsumerEnd). Some x.claimed) (λ s b. refl) es);
+      count = length-map es (λ (d : PollDone Z). consumer_end d.consumer d.stopped)
+          ∙ sym (length-map es (λ (d : PollDone Z). d.consumer)) ∙ sym polls_count;
     }
       where
-        turned : {Y : Type 0} (f : ConsumerView → Y) (r : ConsumerEnd → Y)
-            → ((s : ConsumerView) (b : Bool) → f s ≡ r (consumer_end s b)) → (es : List (PollDone Z))
-            → map f (consumers es) ≡ map r (consumer_ends es)
-        turned f r same [] = refl
-        turned f r same (d ∷ ds) = λ i. same d.consumer d.stopped i ∷ turned f r same ds i
+        turned : {Y : Type 0} (r : ConsumerEnd → Y)
+            → ((s : ConsumerView) (b : Bool) → r (consumer_end s true) ≡ r (consumer_end s b))
+            → (es : List (PollDone Z))
+            → map (λ (s : ConsumerView). r (consumer_end s true)) (consumers es) ≡ map r (consumer_ends es)
+        turned r same [] = refl
+        turned r same (d ∷ ds) = λ i. same d.consumer d.stopped i ∷ turned r same ds i
 
     pub run_beyond : sum_by (λ (d : PutDone Z). d.full) ds ≡ items_beyond (lists_in vs) (lanes_of ds)
     run_beyond = beyond_of (length h.puts) vs ds ats

@@ -4,35 +4,50 @@ use Rattle.std.specs.Prelude.{Some, None, slice_get, sum_by}
 use Rattle.std.proofs.lemmas.List.{length-set}
 use Rattle.mb_claim.specs.declared.access.Stage.TheVariants as stage
 use Rattle.mb_shared_claims.specs.Vocabulary.{AreSeatSteps, IsSeatStep}
-use Rattle.mb_mailbox.specs.Imports.{Claim, ClaimTable, IsClaimIn, Layout, ReaderSeatView, SeatView, Stream, TableSize, claim_stage, consumer_of, next_u64, note_of, part_on}
+use Rattle.mb_mailbox.specs.Imports.{Claim, ClaimTable, IsClaimIn, Layout, SeatView, Stream, TableSize, claim_stage, consumer_of, next_u64, note_of, part_on}
 use Rattle.mb_world.specs.declared.place.Place.{Place}
 use Rattle.mb_world.specs.declared.place.Place.TheVariants.{At}
+use Rattle.mb_mailbox.specs.declared.consumer.ConsumerFields.{ConsumerFields}
+use Rattle.mb_mailbox.specs.declared.consumer.pursuit.PendingClaim.{PendingClaim}
 use Rattle.mb_mailbox.specs.Consumers.{ConsumerView, IsConsumer, IsConsumerOf}
 use Rattle.mb_mailbox.specs.Mailboxes.{MailboxView}
 use Rattle.mb_mailbox.specs.Moves.{HasLoads, HasPlace}
-use Rattle.mb_mailbox.specs.LaneNotes.{NotesView}
 use Rattle.mb_mailbox.specs.NoteLists.{HasAllRoom, HasRoom}
-use Rattle.mb_mailbox.specs.Pursuits.{HasCompeted, consumer_with, holding}
+use Rattle.mb_mailbox.specs.Pursuits.{HasCompeted, holding, with_fields}
 use Rattle.mb_mailbox.specs.Steps.{AreSteps}
 use Rattle.mb_mailbox.proofs.Competing.{IsNext, MovesOn, competed_more, competed_none}
 use Rattle.mb_mailbox.proofs.Lists.{get_some, set_here}
 use Rattle.mb_mailbox.proofs.Moving.{holds}
 
--- these are the fields of a consumer that holds this claim. Its place on lane p may be out of date
-pub record Start (m : MailboxView) (p k : ℕ) (claim : Claim) (reader : ReaderSeatView)
-    (seat : SeatView) (places : List Place)
-    (notes : NotesView) : Type 0 where
-  pub held : IsConsumer (holding p k claim (consumer_with reader seat places notes))
-  pub of : IsConsumerOf m (consumer_with reader seat places notes)
-  pub lane : p < length places
-  pub wide : HasAllRoom reader.table.size.cells notes
-  pub loads : HasLoads (consumer_with reader seat places notes)
+-- these are the fields of a consumer that holds this claim. Its place on the claim's lane may be out of date
+pub record Start {Z : Type 0} (m : MailboxView) (pending : PendingClaim) (f : ConsumerFields Z) : Type 0 where
+  pub held : IsConsumer (holding pending.lane pending.cell pending.claim (with_fields f))
+  pub of : IsConsumerOf m (with_fields f)
+  pub lane : pending.lane < length f.places.items
+  pub wide : HasAllRoom f.reader.table.size.cells f.notes
+  pub loads : HasLoads (with_fields f)
 
-module _ (m : MailboxView) (p k : ℕ) (claim : Claim) (reader : ReaderSeatView) (seat : SeatView) (places : List Place)
-    (notes : NotesView) (start : Start m p k claim reader seat places notes) where
+module _ {Z : Type 0} (m : MailboxView) (pending : PendingClaim) (f : ConsumerFields Z)
+    (start : Start m pending f) where
+  -- the lane and the cell of the claim, the claim, and the consumer's seat and places
+  abbrev p : ℕ
+  p = pending.lane
+
+  abbrev k : ℕ
+  k = pending.cell
+
+  abbrev claim : Claim
+  claim = pending.claim
+
+  abbrev seat : SeatView
+  seat = f.seat
+
+  abbrev places : List Place
+  places = f.places.items
+
   -- the consumer with the claim in its place
   abbrev s : ConsumerView
-  s = holding p k claim (consumer_with reader seat places notes)
+  s = holding p k claim (with_fields f)
 
   -- the lane has some place
   pub there : (place : Place) × (slice_get places p ≡ Some place)
@@ -43,7 +58,7 @@ module _ (m : MailboxView) (p k : ℕ) (claim : Claim) (reader : ReaderSeatView)
   here = set_here places p (At k claim) there.0 there.1
 
   -- if there are fewer notes than cells, there is room for one more
-  pub start_room : sum_by length s.notes < reader.table.size.cells → HasRoom p notes
+  pub start_room : sum_by length s.notes < f.reader.table.size.cells → HasRoom p f.notes
   start_room few = record {
     lane = subst (λ n. p < n) (sym (length-set places p (At k claim)) ∙ start.held.places_count
         ∙ sym start.held.notes_count) start.lane;

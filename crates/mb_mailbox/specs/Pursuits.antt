@@ -1,27 +1,20 @@
 -- A poll that keeps the claim of its lane in a variable, while the place there is out of date.
-use Rattle.std.specs.Prelude.{ℕ, ◌≡◌, ◌≢◌, ◌+◌, ◌≤◌, List, slice_set}
-use Rattle.mb_mailbox.specs.Imports.{Claim, ReaderSeatView, SeatView, Stream, claim_stage, note_of}
+use Rattle.std.specs.Prelude.{ℕ, ◌≡◌, ◌≢◌, ◌+◌, ◌≤◌, slice_set}
+use Rattle.mb_mailbox.specs.Imports.{Claim, SeatView, Stream, claim_stage, note_of}
 use Rattle.mb_mailbox.specs.declared.consumer.ConsumerFields.{ConsumerFields}
 use Rattle.mb_mailbox.specs.declared.consumer.Poll.{Poll}
 use Rattle.mb_mailbox.specs.declared.consumer.Poll.TheVariants as poll
-use Rattle.mb_world.specs.declared.place.Place.{Place}
 use Rattle.mb_world.specs.declared.place.Place.TheVariants.{At}
 use Rattle.mb_mailbox.specs.Consumers.{ConsumerView, IsConsumer}
 use Rattle.mb_mailbox.specs.ConsumerStep.{stage_answer}
-use Rattle.mb_mailbox.specs.LaneNotes.{NotesView}
 use Rattle.mb_mailbox.specs.Moves.{moved_to}
 use Rattle.mb_world.specs.Places.{place_after}
 use Rattle.mb_mailbox.specs.Steps.{AreSteps, HasNoteOnEach, outcome}
 
 -- ---- a consumer by its fields
--- the consumer with these seats, places and notes
-abbrev pub consumer_with : ReaderSeatView → SeatView → List Place → NotesView → ConsumerView
-consumer_with reader seat places notes =
-    record { reader = reader; seat = seat; places = places; notes = notes.lists }
-
 -- the consumer with these fields
 abbrev pub with_fields : {Z : Type 0} → ConsumerFields Z → ConsumerView
-with_fields f = consumer_with f.reader f.seat f.places.items f.notes
+with_fields f = record { reader = f.reader; seat = f.seat; places = f.places.items; notes = f.notes.lists }
 
 -- the consumer at cell k of lane p with this claim there
 abbrev pub holding : ℕ → ℕ → Claim → ConsumerView → ConsumerView

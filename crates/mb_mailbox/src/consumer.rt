@@ -33,8 +33,8 @@ pub enum Poll {
     NoLane,
 }
 
-/// The fields of a consumer: its two seats, its place on each lane, and its notes there. During a poll a place may be
-/// out of date. Then these are not the fields of a consumer.
+/// The two seats of a consumer, its place on each lane, and its notes there. During a poll a place may be out of date.
+/// Then these are not the fields of a consumer.
 #[derive(Drop)]
 pub(crate) struct ConsumerFields<A: Allocator + Drop> {
     pub(crate) reader: ReaderSeat,
@@ -43,7 +43,7 @@ pub(crate) struct ConsumerFields<A: Allocator + Drop> {
     pub(crate) notes: Notes<A>,
 }
 
-/// A consumer: fields that fit each other.
+/// A consumer: its two seats, its place on each lane, and its notes there. They fit each other.
 #[derive(Drop)]
 pub struct Consumer<A: Allocator + Drop> {
     pub(crate) fields: ConsumerFields<A>,

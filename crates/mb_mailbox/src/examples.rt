@@ -122,7 +122,8 @@ pub fn workers_are_counted()
 
 /// Which lanes a consumer has looked at, and how many end marks it has loaded. Only loads of heads and links count.
 pub fn consumers_look_at_lanes()
-    ensures within { IsOnLanes 1 3 (load 0 (Link 4) 0 ∷ load 0 (Head 2) 0 ∷ load 0 (Head 1) 5 ∷ []) }
+    ensures within { IsOnLanes 1 3 (load 0 (Link 4) 0 ∷ load 0 (Head 2) 0 ∷ load 0 (Head 1) 5
+        ∷ []) }
     ensures none { IsOnLanes 1 1 [] }
     ensures below { IsOnLanes 1 3 (load 0 (Head 0) 0 ∷ []) → ⊥ }
     ensures past { IsOnLanes 1 3 (load 0 (Head 3) 0 ∷ []) → ⊥ }

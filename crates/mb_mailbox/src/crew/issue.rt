@@ -56,7 +56,8 @@ pub(super) fn give_consumers<R: Rng + Drop, A: Allocator + Clone + Drop, B: Allo
     jobs: &mut Vec<PollJob<R, A>, A>,
 ) -> bool
     requires of { IsHubOf mailbox.now hub.old }
-    requires left { length hub.old.ledgers + vec_len rngs ≤ consumer_count mailbox.now.claims.layout }
+    requires left { length hub.old.ledgers + vec_len rngs ≤ consumer_count
+        mailbox.now.claims.layout }
     requires none { jobs.old.items ≡ [] }
     requires room { vec_len rngs ≤ vec_capacity jobs.old }
     ensures jobs { ArePollJobs mailbox.now (length hub.old.ledgers) jobs.new.items }

@@ -62,8 +62,7 @@ returns-in-Ok-clause-worked g c =
     let given = c.lanes_given.ensures in
     let told : Worked = c.in-Ok.worked in
     subst (λ (b : ℕ). IsWorked (g.G.Gate.may_stop c.args.gate.now) b (lists_in c.args.load.items.items)
-    (vec_len c.args.load.rngs)
-    told c.args.hub.now c.settle.new.hub) c.next_lanes-lanes.ensures.budget
+    (vec_len c.args.load.rngs) told c.args.hub.now c.settle.new.hub) c.next_lanes-lanes.ensures.budget
     (worked c.args.mailbox.now (g.G.Gate.may_stop c.args.gate.now)
     (g.G.Gate.may_pass c.args.gate.now) g.R.Rng.stream c.args.load.items.items (vec_len c.args.load.rngs)
     c.next_lanes-lanes.result.from c.next_lanes-lanes.result.end
@@ -93,8 +92,7 @@ returns-in-Ok-clause-called g c =
     let told : Worked = c.in-Ok.worked in
     subst (λ (b : ℕ). IsCalled (g.G.Gate.may_stop c.args.gate.now)
     (g.G.Gate.may_pass c.args.gate.now) b (lists_in c.args.load.items.items)
-    (map g.R.Rng.stream c.args.load.rngs.items)
-    told c.args.hub.now c.settle.new.hub) c.next_lanes-lanes.ensures.budget
+    (map g.R.Rng.stream c.args.load.rngs.items) told c.args.hub.now c.settle.new.hub) c.next_lanes-lanes.ensures.budget
     (called c.args.mailbox.now (g.G.Gate.may_stop c.args.gate.now)
     (g.G.Gate.may_pass c.args.gate.now) g.R.Rng.stream c.args.load.items.items (vec_len c.args.load.rngs)
     c.next_lanes-lanes.result.from c.next_lanes-lanes.result.end

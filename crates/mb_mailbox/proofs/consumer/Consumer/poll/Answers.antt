@@ -11,7 +11,7 @@ use Rattle.mb_mailbox.specs.ConsumerStep.{link_answer}
 use Rattle.mb_mailbox.specs.Mailboxes.{MailboxView}
 use Rattle.mb_mailbox.specs.Moves.{HasPlace, reads_with_link}
 use Rattle.mb_mailbox.specs.Steps.{AnswerTells, AreSteps, IsPollOf, note_with}
-use Rattle.mb_mailbox.specs.Pursuits.{IsPursuit, holding}
+use Rattle.mb_mailbox.specs.Pursuits.{IsPursuit, holding, with_fields}
 use Rattle.mb_mailbox.proofs.Ending.{holds_it, not_no_lane, poll_by, pursuit_tells, still_of}
 use Rattle.mb_mailbox.proofs.Lists.{set_same, some_same}
 use Rattle.mb_mailbox.proofs.Made.{at_views, cells_size, claims_size, look_made, moved_has}
@@ -23,12 +23,10 @@ use Rattle.mb_mailbox.proofs.consumer.Consumer.poll.Goals as goal
 module _ (g : Over) (c : goal.After-run_claim g) where
   -- `at_claim` is the consumer before the poll, and `past_claim` after it
   abbrev at_claim : ConsumerView
-  at_claim = at_views c.self.inside.fields.reader c.self.inside.fields.seat c.self.inside.fields.places.items
-      c.self.inside.fields.notes.lists
+  at_claim = with_fields c.self.inside.fields
 
   abbrev past_claim : ConsumerView
-  past_claim = at_views c.run_claim.new.fields.reader c.run_claim.new.fields.seat c.run_claim.new.fields.places.items
-      c.run_claim.new.fields.notes.lists
+  past_claim = with_fields c.run_claim.new.fields
 
   -- the poll is the rest of a poll, after no access
   goes_on : IsPursuit c.args.lane 0 c.args.budget c.run_claim.result (g.R.Rng.stream c.args.rng.now)
@@ -37,16 +35,14 @@ module _ (g : Over) (c : goal.After-run_claim g) where
       let hold = holds_it c.args.lane c.in-At.cell c.in-At.claim at_claim
       (c.place_at.ensures ∙ ap (λ (z : Place). Some z) c.in-At.is) in
       c.run_claim.ensures.pursued at_claim 0 (g.R.Rng.stream c.args.rng.now)
-      (subst (λ z. AreSteps c.args.lane 0 None (g.R.Rng.stream c.args.rng.now) (g.R.Rng.stream c.args.rng.now)
-      at_claim
+      (subst (λ z. AreSteps c.args.lane 0 None (g.R.Rng.stream c.args.rng.now) (g.R.Rng.stream c.args.rng.now) at_claim
       z) (sym hold) (no_steps c.args.lane (g.R.Rng.stream c.args.rng.now) at_claim))
 
 -- a poll that loads a link
 module _ (g : Over) (c : After-look g) where
   -- `seen` is the consumer before the load, and `looked` after it
   abbrev seen : ConsumerView
-  seen = at_views c.self.inside.fields.reader c.self.inside.fields.seat c.self.inside.fields.places.items
-      c.self.inside.fields.notes.lists
+  seen = with_fields c.self.inside.fields
 
   abbrev looked : ConsumerView
   looked = at_views c.look.new.seat seen.seat seen.places seen.notes
@@ -63,8 +59,7 @@ module _ (g : Over) (c : After-look g) where
   look_steps places l m quiet =
       history_extends c.args.lane (link_answer l) (g.R.Rng.stream c.args.rng.now) (g.R.Rng.stream c.args.rng.now)
       c.args.self.now (at_views c.look.new.seat seen.seat places seen.notes)
-      (look_made seen c.args.self.now c.args.lane c.in-Before.at c.look.new.seat places l (link_answer l)
-      c.self.view_is
+      (look_made seen c.args.self.now c.args.lane c.in-Before.at c.look.new.seat places l (link_answer l) c.self.view_is
       m refl quiet (λ v. c.places_tell_steps.ensures.looks seen c.args.lane v c.in-Before.at c.self.invariant.0
       place_is) (g.R.Rng.stream c.args.rng.now))
 
@@ -77,17 +72,14 @@ module _ (g : Over) (c : After-look g) where
         seen.seat.part c.look.new.seat seen.seat seen.places seen.notes
         (c.consumers_move_on.ensures.waits seen c.args.lane v c.in-Before.at c.self.invariant.0 c.has_history.ensures
         place_is quiet) there refl (sym (set_same seen.places c.args.lane (Before c.in-Before.at) place_is)) refl,
-    subst (λ (r : ReaderSeatView). r.table.size.cells ≤ c.self.inside.fields.notes.room) (sym there)
-        c.self.invariant.1,
+    subst (λ (r : ReaderSeatView). r.table.size.cells ≤ c.self.inside.fields.notes.room) (sym there) c.self.invariant.1,
   )
 
 -- a poll that then goes on with a new claim
 module _ (g : Over) (c : goal.After-run_claim-2 g) where
   -- the consumer after the poll
   abbrev past_new : ConsumerView
-  past_new = at_views c.run_claim-2.new.fields.reader c.run_claim-2.new.fields.seat
-      c.run_claim-2.new.fields.places.items
-      c.run_claim-2.new.fields.notes.lists
+  past_new = with_fields c.run_claim-2.new.fields
 
   -- the poll is the rest of a poll, after one access: the load of the link
   goes_on_new : IsPursuit c.args.lane 1 (c.args.budget - 1) c.run_claim-2.result (g.R.Rng.stream c.args.rng.now)
@@ -102,8 +94,7 @@ module _ (g : Over) (c : goal.After-run_claim-2 g) where
 -- leads to no cell. The others are of a new claim
 pub run_claim-requires-clause-held : goal.run_claim-requires-clause-held
 run_claim-requires-clause-held g c =
-    let s = at_views c.self.inside.fields.reader c.self.inside.fields.seat c.self.inside.fields.places.items
-    c.self.inside.fields.notes.lists in
+    let s = with_fields c.self.inside.fields in
     let e = c.place_at.ensures ∙ ap (λ (z : Place). Some z) c.in-At.is in
     let hold : holding c.args.lane c.in-At.cell c.in-At.claim s
     ≡ s = holds_it c.args.lane c.in-At.cell c.in-At.claim s e in
@@ -150,8 +141,7 @@ returns-in-At-clause-of g c =
 
 pub look-requires-clause-may : goal.look-requires-clause-may
 look-requires-clause-may g c =
-    let s = at_views c.self.inside.fields.reader c.self.inside.fields.seat c.self.inside.fields.places.items
-    c.self.inside.fields.notes.lists in
+    let s = with_fields c.self.inside.fields in
     let e = c.place_at.ensures ∙ ap (λ (z : Place). Some z) c.in-Before.is in
     let size : s.reader.table.size ≡ c.mailbox.inside.cells.size =
     cells_size c.args.mailbox.now s c.args.self.now c.self.view_is c.requires.of
@@ -171,9 +161,8 @@ returns-in-Nothing-clause-polled g c =
     let some = c.if-budget-eq0.false in
     λ _. poll_of c.args.lane 1 c.args.budget poll.Nothing (g.R.Rng.stream c.args.rng.now)
     (g.R.Rng.stream c.args.rng.now) c.args.self.now (looked g at)
-    (look_steps g at c.self.inside.fields.places.items look.Nothing c.in-Nothing.ensures.makes refl) (omega
-    (arith, some))
-    (λ f. absurd (cc))
+    (look_steps g at c.self.inside.fields.places.items look.Nothing c.in-Nothing.ensures.makes refl)
+    (omega (arith, some)) (λ f. absurd (cc))
 
 pub returns-in-Nothing-clause-told : goal.returns-in-Nothing-clause-told
 returns-in-Nothing-clause-told g c =
@@ -206,8 +195,7 @@ returns-in-Ended-clause-told g c =
 
 pub run_claim-requires-2-clause-held : goal.run_claim-requires-2-clause-held
 run_claim-requires-2-clause-held g c =
-    let s = at_views c.self.inside.fields.reader c.self.inside.fields.seat c.self.inside.fields.places.items
-    c.self.inside.fields.notes.lists in
+    let s = with_fields c.self.inside.fields in
     let e = c.place_at.ensures ∙ ap (λ (z : Place). Some z) c.in-Before.is in
     let m = c.in-Cell.ensures.makes in
     let k = c.in-Cell.cell in
@@ -240,12 +228,10 @@ invariant_of-self-2 g c = ((goes_on_new g c).is, c.run_claim-2.ensures.wide)
 
 pub returns-clause-no_lane : goal.returns-clause-no_lane
 returns-clause-no_lane g c =
-    let s = at_views c.self.inside.fields.reader c.self.inside.fields.seat c.self.inside.fields.places.items
-    c.self.inside.fields.notes.lists in
+    let s = with_fields c.self.inside.fields in
     let lanes : c.len.result ≡ c.args.mailbox.now.cells.size.lanes =
     c.len.ensures.value ∙ c.self.invariant.0.places_count
-    ∙ ap (λ (z : PoolSize). z.lanes) (cells_size c.args.mailbox.now s c.args.self.now c.self.view_is
-    c.requires.of) in (
+    ∙ ap (λ (z : PoolSize). z.lanes) (cells_size c.args.mailbox.now s c.args.self.now c.self.view_is c.requires.of) in (
       (λ f. absurd (not_no_lane c.args.lane 1 (c.args.budget - 1) c.run_claim-2.result (g.R.Rng.stream c.args.rng.now)
           (g.R.Rng.stream c.run_claim-2.new.rng) c.args.self.now (past_new g c) (goes_on_new g c) f)),
       (λ wide. let low = c.if-lane-len.false in absurd (omega (arith, low, wide, lanes))),

@@ -11,7 +11,7 @@ use Rattle.mb_mailbox.specs.Consumers.{ConsumerView}
 use Rattle.mb_mailbox.specs.Mailboxes.{MailboxView}
 use Rattle.mb_mailbox.specs.Moves.{HasPlace, moved_to}
 use Rattle.mb_mailbox.specs.NoteLists.{HasRoom}
-use Rattle.mb_mailbox.specs.Pursuits.{HasCompeted, IsPursuit, consumer_with, holding}
+use Rattle.mb_mailbox.specs.Pursuits.{HasCompeted, IsPursuit, holding, with_fields}
 use Rattle.mb_mailbox.specs.Steps.{AreSteps, with_note}
 use Rattle.mb_mailbox.proofs.Made.{at_views, room_stays}
 use Rattle.mb_mailbox.proofs.Pursuing.{mid_at, mid_consumer, pursued_past, pursued_spent, pursued_took}
@@ -23,15 +23,13 @@ use Rattle.mb_mailbox.proofs.consumer.pursuit.run_claim.Goals as goal
 module _ (g : Over) (c : After-has_history g) where
   -- `base` is a consumer of these fields, whose place may be out of date. `with_claim` is the consumer with the claim
   abbrev base : ConsumerView
-  base = consumer_with c.args.fields.now.reader c.args.fields.now.seat c.args.fields.now.places.items
-      c.args.fields.now.notes
+  base = with_fields c.args.fields.now
 
   abbrev with_claim : ConsumerView
   with_claim = holding c.args.held.lane c.args.held.cell c.args.held.claim base
 
   -- the claim may go on from these fields
-  start : Start c.args.mailbox.now c.args.held.lane c.args.held.cell c.args.held.claim c.args.fields.now.reader
-      c.args.fields.now.seat c.args.fields.now.places.items c.args.fields.now.notes
+  start : Start c.args.mailbox.now c.args.held c.args.fields.now
   start = record {
     held = c.requires.held;
     of = c.requires.of;
@@ -42,8 +40,7 @@ module _ (g : Over) (c : After-has_history g) where
 
   -- the consumer stands at the claim
   stands : HasPlace c.args.held.lane (At c.args.held.cell c.args.held.claim) with_claim
-  stands = here c.args.mailbox.now c.args.held.lane c.args.held.cell c.args.held.claim c.args.fields.now.reader
-      c.args.fields.now.seat c.args.fields.now.places.items c.args.fields.now.notes start
+  stands = here c.args.mailbox.now c.args.held c.args.fields.now start
 
   -- the consumer's loads gave it the cell
   given : Gave c.args.held.cell c.args.fields.now.reader.part
@@ -52,16 +49,13 @@ module _ (g : Over) (c : After-has_history g) where
 
   -- there is room for the claim's note
   has_room : HasRoom c.args.held.lane c.args.fields.now.notes
-  has_room = start_room c.args.mailbox.now c.args.held.lane c.args.held.cell c.args.held.claim
-      c.args.fields.now.reader
-      c.args.fields.now.seat c.args.fields.now.places.items c.args.fields.now.notes start
+  has_room = start_room c.args.mailbox.now c.args.held c.args.fields.now start
       (c.consumers_move_on.ensures.room with_claim c.args.held.lane c.args.held.cell c.args.held.claim
       start.held start.loads stands)
 
   -- the lane has some place
   was_there : (place : Place) × (slice_get c.args.fields.now.places.items c.args.held.lane ≡ Some place)
-  was_there = there c.args.mailbox.now c.args.held.lane c.args.held.cell c.args.held.claim c.args.fields.now.reader
-      c.args.fields.now.seat c.args.fields.now.places.items c.args.fields.now.notes start
+  was_there = there c.args.mailbox.now c.args.held c.args.fields.now start
 
   -- if the claim is won, the load of the item ends the poll
   takes : (v : ℕ) (claim : Claim) (seat : SeatView) (reader : ReaderSeatView) (places : List Place)
@@ -74,8 +68,7 @@ module _ (g : Over) (c : After-has_history g) where
       → IsPursuit c.args.held.lane n c.args.most (poll.Took v) t u from (at_views reader seat places notes)
   takes v claim seat reader places notes made n all t u from count won so makes e f few =
       let mid = moved_to c.args.held.lane (At c.args.held.cell claim) None base.reader.part seat.part with_claim in
-      let is = mid_consumer base c.args.held.lane c.args.held.cell c.args.held.claim v claim seat reader places
-      notes t
+      let is = mid_consumer base c.args.held.lane c.args.held.cell c.args.held.claim v claim seat reader places notes t
       u from all was_there.0 was_there.1 won so makes e f in
       let at = mid_at base c.args.held.lane c.args.held.cell c.args.held.claim v claim seat reader places notes t u
       from all was_there.0 was_there.1 won so makes e f in
@@ -92,14 +85,11 @@ few_made g c all = subst (λ z. z ≤ most_accesses c.args.mailbox.now.claims.la
     c.run-made.ensures.few)
 
 -- after accesses of the claim
-module _ (g : Over) (c : After-run-made g) (start : Start c.args.mailbox.now c.args.held.lane c.args.held.cell
-    c.args.held.claim c.args.fields.now.reader c.args.fields.now.seat c.args.fields.now.places.items
-    c.args.fields.now.notes) where
+module _ (g : Over) (c : After-run-made g) (start : Start c.args.mailbox.now c.args.held c.args.fields.now) where
   -- the consumer with the claim
   abbrev held : ConsumerView
   held = holding c.args.held.lane c.args.held.cell c.args.held.claim
-      (consumer_with c.args.fields.now.reader c.args.fields.now.seat c.args.fields.now.places.items
-      c.args.fields.now.notes)
+      (with_fields c.args.fields.now)
 
   -- accesses that led to the start of these lead on
   ran_on : (made : ℕ) → c.run-made.result ≡ made → (from : ConsumerView) (n : ℕ) (t : Stream)
@@ -108,19 +98,11 @@ module _ (g : Over) (c : After-run-made g) (start : Start c.args.mailbox.now c.a
       (g.R.Rng.stream c.run-made.new.rng) from held c.run-made.new.seat
   ran_on made all from n t m =
       let own = c.consumers_move_on.ensures.own held c.args.held.lane c.args.held.cell c.args.held.claim start.held
-      (here c.args.mailbox.now c.args.held.lane c.args.held.cell c.args.held.claim c.args.fields.now.reader
-      c.args.fields.now.seat
-      c.args.fields.now.places.items c.args.fields.now.notes start) in
+      (here c.args.mailbox.now c.args.held c.args.fields.now start) in
       subst (λ z. HasCompeted c.args.held.lane c.args.held.cell (z + n) c.run-made.new.claim t
       (g.R.Rng.stream c.run-made.new.rng) from held c.run-made.new.seat) all
-      (ran c.args.mailbox.now c.args.held.lane c.args.held.cell c.args.held.claim c.args.fields.now.reader
-      c.args.fields.now.seat
-      c.args.fields.now.places.items c.args.fields.now.notes start c.consumers_move_on.ensures.competes
-      c.places_tell_steps.ensures.competes (record {
-        cells = c.mailbox.inside.cells;
-        claims =
-            c.mailbox.inside.claims;
-      })
+      (ran c.args.mailbox.now c.args.held c.args.fields.now start c.consumers_move_on.ensures.competes
+      c.places_tell_steps.ensures.competes (record { cells = c.mailbox.inside.cells; claims = c.mailbox.inside.claims })
       c.mailbox.view_is own from n t (g.R.Rng.stream c.args.rng.now) m c.run-made.result c.run-made.new.claim
       c.run-made.new.seat (g.R.Rng.stream c.run-made.new.rng) c.run-made.ensures.steps)
 
@@ -138,32 +120,22 @@ returns-in-Won-clause-pursued g c =
     let won = sym c.stage.ensures ∙ c.in-Won.is in
     λ from n t m. takes g at c.take.result c.args.held.claim c.args.fields.now.seat c.take.new.reader
     c.take.new.places.items c.take.new.notes.lists 0 n n t (g.R.Rng.stream c.args.rng.now) from (omega arith) won
-    (begun c.args.mailbox.now c.args.held.lane c.args.held.cell c.args.held.claim c.args.fields.now.reader
-    c.args.fields.now.seat
-    c.args.fields.now.places.items c.args.fields.now.notes (start g at) from n t (g.R.Rng.stream c.args.rng.now) m)
+    (begun c.args.mailbox.now c.args.held c.args.fields.now (start g at) from n t (g.R.Rng.stream c.args.rng.now) m)
     c.take.ensures.makes c.take.ensures.place c.take.ensures.notes.lists (omega (arith, c.requires.won won))
 
 pub returns-in-Won-clause-wide : goal.returns-in-Won-clause-wide
 returns-in-Won-clause-wide g c =
     subst (λ (r : ReaderSeatView). r.table.size.cells ≤ c.take.new.notes.room) (sym c.take.ensures.makes.1)
     (room_stays c.args.held.lane c.args.fields.now.reader.table.size.cells (Some (Took c.take.result))
-    c.args.fields.now.notes
-    c.take.new.notes c.take.ensures.notes c.requires.wide)
+    c.args.fields.now.notes c.take.new.notes c.take.ensures.notes c.requires.wide)
 
 pub run-made-requires : goal.run-made-requires
 run-made-requires g c =
     let at = (goal.at.run-made-requires g c).After-has_history in
-    let z : TableSize = record {
-      layout = c.args.mailbox.now.claims.layout;
-      cells =
-          c.args.mailbox.now.claims.cells;
-    } in
-    let turns = c.consumers_move_on.ensures.turns (with_claim g at) c.args.held.lane c.args.held.cell
-    c.args.held.claim
+    let z : TableSize = record { layout = c.args.mailbox.now.claims.layout; cells = c.args.mailbox.now.claims.cells } in
+    let turns = c.consumers_move_on.ensures.turns (with_claim g at) c.args.held.lane c.args.held.cell c.args.held.claim
     c.requires.held (stands g at) z
-    (table c.args.mailbox.now c.args.held.lane c.args.held.cell c.args.held.claim c.args.fields.now.reader
-    c.args.fields.now.seat
-    c.args.fields.now.places.items c.args.fields.now.notes (start g at)) in
+    (table c.args.mailbox.now c.args.held c.args.fields.now (start g at)) in
     let low = c.consumers_move_on.ensures.within (with_claim g at) c.args.held.lane c.args.held.cell
     c.args.held.claim c.requires.held c.has_history.ensures (stands g at) in
     let cells : c.args.fields.now.reader.table.size.cells ≡ c.mailbox.inside.claims.cells =
@@ -175,8 +147,8 @@ run-made-requires g c =
       consumer = c.consumers_move_on.ensures.own (with_claim g at) c.args.held.lane c.args.held.cell c.args.held.claim
           c.requires.held (stands g at);
       standing = subst (λ (y : MailboxView). IsClaimIn y.claims.layout c.args.held.claim
-          (part_on c.args.fields.now.seat.consumer c.args.held.cell c.args.fields.now.seat.part)) (sym
-          c.mailbox.view_is) turns;
+          (part_on c.args.fields.now.seat.consumer c.args.held.cell c.args.fields.now.seat.part))
+          (sym c.mailbox.view_is) turns;
     }
 
 pub take-requires-then-made-most : goal.take-requires-then-made-most
@@ -199,10 +171,9 @@ returns-then-made-most g c =
       decided = λ last e. cc;
       wide = subst (λ (r : ReaderSeatView). r.table.size.cells ≤ c.take-then-made-most.new.notes.room)
           (sym c.take-then-made-most.ensures.makes.1)
-          (room_stays c.args.held.lane c.args.fields.now.reader.table.size.cells (Some (Took
-          c.take-then-made-most.result))
-          c.args.fields.now.notes c.take-then-made-most.new.notes c.take-then-made-most.ensures.notes
-          c.requires.wide);
+          (room_stays c.args.held.lane c.args.fields.now.reader.table.size.cells
+          (Some (Took c.take-then-made-most.result)) c.args.fields.now.notes c.take-then-made-most.new.notes
+          c.take-then-made-most.ensures.notes c.requires.wide);
     }
 
 pub returns-in-Going : goal.returns-in-Going
@@ -256,8 +227,7 @@ returns-in-Lost g c =
       few = λ e. cc;
       decided = λ last e. cc;
       wide = room_stays c.args.held.lane c.args.fields.now.reader.table.size.cells (Some (Lost c.in-Lost.w))
-          c.args.fields.now.notes
-          c.leave.new.notes c.leave.ensures.notes c.requires.wide;
+          c.args.fields.now.notes c.leave.new.notes c.leave.ensures.notes c.requires.wide;
     }
 
 pub leave-requires-in-Undecided : goal.leave-requires-in-Undecided
@@ -283,6 +253,5 @@ returns-in-Undecided g c =
           → claim_stage c.run-made.new.claim ≢ stage.Undecided) c.mailbox.view_is c.run-made.ensures.decided last
           undecided);
       wide = room_stays c.args.held.lane c.args.fields.now.reader.table.size.cells (Some Undecided)
-          c.args.fields.now.notes
-          c.leave-in-Undecided.new.notes c.leave-in-Undecided.ensures.notes c.requires.wide;
+          c.args.fields.now.notes c.leave-in-Undecided.new.notes c.leave-in-Undecided.ensures.notes c.requires.wide;
     }

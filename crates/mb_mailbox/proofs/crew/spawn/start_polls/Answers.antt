@@ -36,7 +36,6 @@ returns g c =
     (sym c.loop-job.job-iterator.rest.ok.0 ∙ c.in-None.ensures.steps.0) in
     subst (λ l. AllZip (PollPromises g.G.Gate.may_stop g.G.Gate.may_pass g.R.Rng.stream
     c.args.shared.now.gate.now c.args.shared.now.lanes.from c.args.shared.now.lanes.end
-    c.args.shared.now.lanes.budget) l
-    c.loop-job.begun.items)
+    c.args.shared.now.lanes.budget) l c.loop-job.begun.items)
     (all_seen c.loop-job.yielded c.loop-job.job-iterator.rest.items c.args.jobs.items
     c.loop-job.invariant.rest none) c.loop-job.invariant.promised

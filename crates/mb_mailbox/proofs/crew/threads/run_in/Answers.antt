@@ -17,9 +17,8 @@ pub join_all-requires-2-clause-room : goal.join_all-requires-2-clause-room
 join_all-requires-2-clause-room g c =
     let same = zip_length (PollPromises g.G.Gate.may_stop g.G.Gate.may_pass g.R.Rng.stream
     c.args.shared.now.gate.now c.args.shared.now.lanes.from c.args.shared.now.lanes.end
-    c.args.shared.now.lanes.budget)
-    c.args.jobs.polls.items c.start_polls-polling.result.items
-    c.start_polls-polling.ensures in
+    c.args.shared.now.lanes.budget) c.args.jobs.polls.items
+    c.start_polls-polling.result.items c.start_polls-polling.ensures in
     omega (arith, same, c.start_polls-polling.result.ok.0, c.args.jobs.polls.ok.0, c.requires.room.ends.polls)
 
 -- each job has its promise, and each promise its end. So each job has its end
@@ -38,11 +37,10 @@ returns g c = record {
       (Keeps (λ p d. IsPollEnd (g.G.Gate.may_stop p.gate.value) (g.G.Gate.may_pass p.gate.value)
       p.from p.end p.budget (g.R.Rng.stream p.rng.value) p.consumer.value d))
       (λ j d. IsPollEnd (g.G.Gate.may_stop c.args.shared.now.gate.now) (g.G.Gate.may_pass c.args.shared.now.gate.now)
-      c.args.shared.now.lanes.from c.args.shared.now.lanes.end c.args.shared.now.lanes.budget (g.R.Rng.stream
-      j.rng) j.consumer
-      d)
+      c.args.shared.now.lanes.from c.args.shared.now.lanes.end c.args.shared.now.lanes.budget
+      (g.R.Rng.stream j.rng) j.consumer d)
       (poll_kept g.G.Gate.may_stop g.G.Gate.may_pass g.R.Rng.stream c.args.shared.now.gate.now
-      c.args.shared.now.lanes.from c.args.shared.now.lanes.end c.args.shared.now.lanes.budget) c.args.jobs.polls.items
-      c.start_polls-polling.result.items
-      c.join_all-2.result.items c.start_polls-polling.ensures c.join_all-2.ensures;
+      c.args.shared.now.lanes.from c.args.shared.now.lanes.end c.args.shared.now.lanes.budget)
+      c.args.jobs.polls.items c.start_polls-polling.result.items c.join_all-2.result.items
+      c.start_polls-polling.ensures c.join_all-2.ensures;
 }

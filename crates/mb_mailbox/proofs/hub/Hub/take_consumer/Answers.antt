@@ -7,8 +7,8 @@ use Rattle.mb_mailbox.specs.Consumers.{ConsumerView}
 use Rattle.mb_mailbox.specs.Mailboxes.{MailboxView}
 use Rattle.mb_mailbox.specs.Ledgers.{KeptView, ledgers_in}
 use Rattle.mb_mailbox.specs.Hubs.{HubView, IsHub, ledger_of, with_taken_consumer}
+use Rattle.mb_mailbox.specs.Pursuits.{with_fields}
 use Rattle.mb_mailbox.proofs.CutLists.{ledgers_set}
-use Rattle.mb_mailbox.proofs.Made.{at_views}
 use Rattle.mb_mailbox.proofs.HubMoves.{seat_is_out, took_consumer}
 use Rattle.mb_mailbox.proofs.hub.Hub.take_consumer.Goals as goal
 
@@ -22,8 +22,7 @@ invariant_of-self g c =
       puts = c.self.inside.puts.items;
       ledgers = ledgers_in c.self.inside.ledgers.items;
     } in
-    let s = at_views c.consumer.inside.fields.reader c.consumer.inside.fields.seat c.consumer.inside.fields.places.items
-    c.consumer.inside.fields.notes.lists in
+    let s = with_fields c.consumer.inside.fields in
     let table : h.cells.table ≡ c.mailbox.inside.cells =
     ap (λ (v : HubView). v.cells.table) c.self.view_is ∙ c.requires.hub.cells
     ∙ sym (ap (λ (m : MailboxView). m.cells) c.mailbox.view_is) in
@@ -73,8 +72,7 @@ returns-clause-hub g c =
       puts = c.self.inside.puts.items;
       ledgers = ledgers_in c.self.inside.ledgers.items;
     } in
-    let s = at_views c.consumer.inside.fields.reader c.consumer.inside.fields.seat c.consumer.inside.fields.places.items
-    c.consumer.inside.fields.notes.lists in
+    let s = with_fields c.consumer.inside.fields in
     let table : h.cells.table ≡ c.mailbox.inside.cells =
     ap (λ (v : HubView). v.cells.table) c.self.view_is ∙ c.requires.hub.cells
     ∙ sym (ap (λ (m : MailboxView). m.cells) c.mailbox.view_is) in
@@ -114,8 +112,7 @@ returns-clause-was_out g c =
       puts = c.self.inside.puts.items;
       ledgers = ledgers_in c.self.inside.ledgers.items;
     } in
-    let s = at_views c.consumer.inside.fields.reader c.consumer.inside.fields.seat c.consumer.inside.fields.places.items
-    c.consumer.inside.fields.notes.lists in
+    let s = with_fields c.consumer.inside.fields in
     subst (λ (z : HubView × ConsumerView). slice_get z.0.ledgers z.1.seat.consumer ≡ Some None)
     (λ j. (c.self.view_is j, c.consumer.view_is j))
     (seat_is_out h s.seat.consumer c.self.invariant.0 c.take_in.ensures.was_out)
