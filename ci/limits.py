@@ -14,13 +14,13 @@ TOP = os.path.dirname(os.path.dirname(os.path.abspath(__file__)))
 # What is counted, and how many of it there may be.
 LIMITS = {
     "files over 400 lines": 1,
-    "functions over 40 lines": 3,
-    "functions with more than 6 parameters": 6,
+    "functions over 40 lines": 0,
+    "functions with more than 6 parameters": 0,
     "modules that import each other": 0,
-    "lines of clauses over 100 columns": 10,
-    "heads of more than 20 imports": 50,
-    "lines of imports over 200 columns": 1,
-    "lines of proofs over 120 columns": 45,
+    "lines of clauses over 100 columns": 0,
+    "heads of more than 20 imports": 0,
+    "lines of imports over 200 columns": 0,
+    "lines of proofs over 120 columns": 0,
 }
 # The rules of the product fix the parameters of this one.
 FIXED_FUNCTION = "work"

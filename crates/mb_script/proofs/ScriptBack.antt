@@ -8,9 +8,9 @@ use Rattle.std.proofs.lemmas.Slice.Eq.{bytes_eq-Decides}
 use Rattle.std.proofs.lemmas.List.Splits.{join_with_byte-slice_split}
 use Rattle.mb_world.specs.declared.event.Event.{Event, TheVariants.Offer, TheVariants.Push, TheVariants.Finish, TheVariants.Step}
 use Rattle.mb_world.specs.Vocabulary.{Plan}
-use Rattle.mb_script.specs.Vocabulary.{Fault, MAX_EVENTS, MAX_SCRIPT_LEN, Gives, SetupLine, Script, view, one_number, two_numbers, three_numbers, setup_of, event_of, lane_of, consumer_in, has_consumer}
-use Rattle.mb_script.specs.Vocabulary.{placed, event_at, events_of, script_with, lines_script, script_of, IsEventOf, Spells, Sizes, event_words, made_for, script_in, setup_words, ◌>>=◌, has_empty}
-use Rattle.mb_script.specs.Vocabulary.{lines_of, words_in_line}
+use Rattle.mb_script.specs.Vocabulary.{Fault, MAX_EVENTS, MAX_SCRIPT_LEN, Gives, SetupLine, Script, view, one_number, two_numbers, three_numbers, setup_of, event_of, lane_of, consumer_in}
+use Rattle.mb_script.specs.Vocabulary.{has_consumer, placed, event_at, events_of, script_with, lines_script, script_of, IsEventOf, Spells, Sizes, event_words, made_for, script_in}
+use Rattle.mb_script.specs.Vocabulary.{setup_words, ◌>>=◌, has_empty, lines_of, words_in_line}
 use Rattle.mb_script.specs.declared.fault.Fault.TheVariants.{TooLong, NotAscii, BadLine, NoLane, NoConsumer, TooManyEvents}
 use Rattle.mb_script.specs.declared.script.Script as code
 use Rattle.mb_script.proofs.Bound.{avoided, bind_ok, ok_is, passed}
