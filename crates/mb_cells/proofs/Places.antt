@@ -11,7 +11,7 @@ pub record IsSomewhere (cells p : ℕ) (done : History) : Type 0 where
   pub phase : Phase
   pub at : LaneIsAt cells p entries phase done
 
--- what was done on the way to whole groups stands at a place
+-- what was done on the way to the groups of some entries (each a fetch-add and two stores) stands at a place
 in_groups : (cells p : ℕ) (es : List Entry) (later done : History) → AllCellsBelow cells es
     → later ++ done ≡ groups p es → IsSomewhere cells p done
 in_groups cells p es [] done b h =

@@ -45,7 +45,7 @@ both_undecided =
     ∷ access_at 1 0 (Load Value 0) ∷ access_at 0 0 (Load Value 0) ∷ []
 
 -- ---- histories that are not lawful
--- consumer 0 has its output from object 0, pauses, and begins there again
+-- consumer 0 has its output from object 0, and begins there again
 abbrev pub begun_again : List ClaimAccess
 begun_again =
     access_at 0 0 (Load Value 1)

@@ -32,7 +32,7 @@ pub fn examples_are_lawful()
 
 /// Histories that are not lawful.
 pub fn counterexamples_are_unlawful()
-    // Consumer 0 has its output from the first object. After a pause it begins there again.
+    // Consumer 0 has its output from the first object, and begins there again.
     ensures again { IsClaimLawful two_consumers begun_again → ⊥ }
 
     // Consumer 0 makes an access after it has won.

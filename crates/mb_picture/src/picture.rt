@@ -127,7 +127,7 @@ pub enum Tone {
     Won,
     /// As a claim that is lost.
     Lost,
-    /// As a claim that is undecided.
+    /// As a claim that is undecided, or a value that is kept and not decided.
     Undecided,
     /// As an item that is taken.
     Took,
@@ -187,7 +187,7 @@ pub struct Picture<A: Allocator + Drop> {
     pub marks: Vec<Mark, A>,
     /// The lines from stores to the loads that read them.
     pub lines: Vec<Line, A>,
-    /// The boxes of the claims.
+    /// The boxes of the claims, or of the processes' uses of the ratifier.
     pub frames: Vec<Frame, A>,
     /// How many further events are not drawn.
     pub hidden: usize,

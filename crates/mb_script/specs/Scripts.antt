@@ -63,17 +63,17 @@ view s = script_with (made_in s.setup) s.events.items
 abbrev pub number_at : ℕ → List ℕ → Result ℕ Fault
 number_at n word = ok_or (number_of word) (BadNumber n)
 
--- the number of a line's only word. A line with more words or none is bad
+-- the number of the only word after a line's key. A line with more words there, or none, is bad
 unfoldable pub one_number : ℕ → List (List ℕ) → Result ℕ Fault
 one_number n (a ∷ []) = number_at n a
 one_number n words = Err (BadLine n)
 
--- the numbers of a line's two words. A line with more words or fewer is bad
+-- the numbers of the two words after a line's key. A line with more words there, or fewer, is bad
 unfoldable pub two_numbers : ℕ → List (List ℕ) → Result (ℕ × ℕ) Fault
 two_numbers n (a ∷ b ∷ []) = number_at n a >>= (λ x. number_at n b >>= (λ y. Ok (x, y)))
 two_numbers n words = Err (BadLine n)
 
--- the numbers of a line's three words. A line with more words or fewer is bad
+-- the numbers of the three words after a line's key. A line with more words there, or fewer, is bad
 unfoldable pub three_numbers : ℕ → List (List ℕ) → Result (ℕ × ℕ × ℕ) Fault
 three_numbers n (a ∷ b ∷ c ∷ []) =
     number_at n a >>= (λ x. number_at n b >>= (λ y. number_at n c >>= (λ z. Ok (x, y, z))))

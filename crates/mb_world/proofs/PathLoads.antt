@@ -38,7 +38,7 @@ gift_is (Head p) j k g = omega (arith, g.0)
 gift_is (Link p) j k g = omega (arith, g.0)
 gift_is (Item p) j k g = absurd g
 
--- ---- which cells a load more meets
+-- ---- which cells one more load meets
 -- a load of the link past those met before meets the cell that it gives
 pub met_there : (p : ℕ) (ks : List ℕ) (a : PoolAccess) (older : History) → cells_met p older ≡ ks
     → a.word ≡ place_past p ks

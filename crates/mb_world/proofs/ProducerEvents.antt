@@ -96,7 +96,7 @@ module _ (plan : Plan) (h : WorldHistory) (known : EventKnown plan h) (p : ℕ) 
       e ∙ (ap answer.Offered one ∙ sym f)
 
   -- ---- pushes and finishes have at most one access or one refusal
-  -- a push stores no end mark in a link
+  -- at each phase a push stores no end mark in a head or link
   no_mark_of : (link w : Word) (done : Phase) → PhaseFits plan.claims.cells done
       → stage_push_store link (stage_of done) ≡ stored w END
       → IsLinkWord w → ⊥

@@ -78,7 +78,7 @@ static WINNERS: [(bool, [&[Note]; 3], Option<Flaw>); 11] = [
     // The winner that losers name competed. In the first row it did not. In the second there is no such consumer.
     (true, [&[Lost(1)], &[], &[]], OTHER_WINNER),
     (true, [&[Lost(3)], &[], &[]], OTHER_WINNER),
-    // If the item was taken, the winner that they name is the taker.
+    // If the item was taken, the winner that losers name is the taker.
     (false, [&[Took(5)], &[Lost(2)], &[Undecided]], OTHER_WINNER),
     // A consumer that is alone decides.
     (true, [&[], &[], &[Undecided]], Some(Flaw::UndecidedAlone)),

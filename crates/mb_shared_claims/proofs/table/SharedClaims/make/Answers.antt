@@ -79,7 +79,7 @@ store-requires g c =
     (λ n small. store_small next.object c.args.word n value next.op _ op c.is_word.ensures c.ranges.word.fits) in
     (same, may.0, may.1)
 
--- after each of the three steps the seat keeps what it has to
+-- after the load, the store or the exchange the seat has its invariant
 pub invariant_of-seat : goal.invariant_of-seat
 invariant_of-seat g c =
     seat_after c.accesses_lengthen_one_part.ensures.own c.seat.inside.consumer (g.W.AccessSpec.access c.load.result)
