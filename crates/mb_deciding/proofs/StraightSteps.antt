@@ -1,12 +1,12 @@
 -- One access of a process that goes straight through an object: each access that it makes is a step, and where that
 -- leads.
-use Rattle.std.proofs.Common.{◌≡◌, ◌≢◌, ℕ, ◌+◌, ◌-◌, ◌*◌, ◌<◌, ◌≤◌, ◌%◌, ◌==◌, Bool, true, false, List, ◌∷◌, inl, inr, refl, sym}
+use Rattle.std.proofs.Common.{◌≡◌, ◌≢◌, ℕ, ◌+◌, ◌-◌, ◌*◌, ◌<◌, ◌≤◌, ◌%◌, true, false, List, ◌∷◌, inl, inr, refl, sym}
 use Rattle.std.proofs.Common.{ap, subst, arith, bit_and, cond}
 use Rattle.std.proofs.lemmas.Bool.{cases_eq, eq-eqb, ne_eqb}
 use Rattle.mb_quorum.specs.Quorum.{QuorumTable, IsQuorumTable}
-use Rattle.mb_deciding.specs.{Value, Proposal, Quorum, Act, Load, Store, Op, Turn, Conciliator, Ratifier, Next, Out, Draw, Put, Look}
+use Rattle.mb_deciding.specs.{Value, Proposal, Quorum, Load, Op, Turn, Ratifier, Next, Draw, Put, Look}
 use Rattle.mb_deciding.specs.{InConciliator, InRatifier, Announce, Propose, Check, IsConciliatorPlace, IsInConciliator}
-use Rattle.mb_deciding.specs.{PcIsAt, IsPath, IsReached, IsConciliatorPath, ConciliatorReaches, RatifierReaches, IsStep}
+use Rattle.mb_deciding.specs.{IsReached, IsConciliatorPath, ConciliatorReaches, RatifierReaches, IsStep}
 use Rattle.mb_deciding.specs.{IsLeast, IsRest, ReadsClear, acts, act_of, announcement, answer, checks_of}
 use Rattle.mb_deciding.specs.declared.access.Op.TheVariants as to
 use Rattle.mb_deciding.specs.declared.place.pc.Next.TheVariants as leads

@@ -1,7 +1,7 @@
 -- Proof of `prefer`: loads the proposal of a ratifier, and stores the input there if the proposal is empty.
-use Rattle.std.proofs.Common.{◌≡◌, ◌≤◌, ◌<◌, ◌+◌, ◌-◌, arith, refl, sym, ap}
+use Rattle.std.proofs.Common.{◌≡◌, ◌≤◌, ◌<◌, ◌+◌, ◌-◌, arith, refl, ap}
 use Rattle.mb_quorum.specs.Quorum.{QuorumTable}
-use Rattle.mb_deciding.specs.{Proposal, InRatifier, Announce, Propose, AreSteps, DrawsAndMakes, checks_of}
+use Rattle.mb_deciding.specs.{Proposal, InRatifier, Announce, Propose, checks_of}
 use Rattle.mb_deciding.specs.declared.access.Op.TheVariants as to
 use Rattle.mb_deciding.specs.declared.place.pc.Next.TheVariants as leads
 use Rattle.mb_deciding.proofs.ManySteps.{one_more}

@@ -1,7 +1,7 @@
 -- Proof of `through_conciliator`: goes through a conciliator whose last attempt is `s`.
-use Rattle.std.proofs.Common.{◌≡◌, ◌≤◌, ◌+◌, ◌%◌, ◌*◌, ◌^◌, false, arith, suc, refl, ap}
+use Rattle.std.proofs.Common.{◌+◌, ◌%◌, ◌*◌, ◌^◌, false, arith, suc, refl, ap}
 use Rattle.mb_quorum.specs.Quorum.{QuorumTable}
-use Rattle.mb_deciding.specs.{Value, Conciliator, InConciliator, Draw, Put, Look, AreSteps, DrawsAndMakes, first_place, answer}
+use Rattle.mb_deciding.specs.{Value, Conciliator, InConciliator, Draw, Put, Look, first_place, answer}
 use Rattle.mb_deciding.specs.declared.access.Op.TheVariants as to
 use Rattle.mb_deciding.specs.declared.place.pc.Next.TheVariants as leads
 use Rattle.mb_deciding.proofs.ConciliatorPlaces.{low_bits, next_limits}

@@ -1,8 +1,7 @@
 -- Proof of `through_ratifier`: goes through a ratifier.
-use Rattle.std.proofs.Common.{◌≡◌, ◌≢◌, ◌≤◌, ◌<◌, ◌+◌, false, arith, suc, refl, sym, ap, subst, count_ones}
+use Rattle.std.proofs.Common.{◌+◌, false, arith, suc, refl, sym, ap, subst, count_ones}
 use Rattle.mb_quorum.specs.Quorum.{QuorumTable, IsQuorumTable}
-use Rattle.mb_deciding.specs.{Quorum, Ratifier, InRatifier, Announce, Check, Next, AreSteps, DrawsAndMakes, first_place, answer, checks_of}
-use Rattle.mb_deciding.specs.declared.access.Op.TheVariants as to
+use Rattle.mb_deciding.specs.{Ratifier, InRatifier, Announce, Check, Next, AreSteps, DrawsAndMakes, first_place, answer, checks_of}
 use Rattle.mb_deciding.specs.declared.place.pc.Next.TheVariants as leads
 use Rattle.mb_deciding.proofs.ManySteps.{one_more, joined, announce_step}
 use Rattle.mb_deciding.proofs.Sizes.{largest_bound}

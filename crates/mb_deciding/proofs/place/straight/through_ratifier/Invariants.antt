@@ -1,5 +1,5 @@
 -- Loop invariants of `through_ratifier`: goes through a ratifier.
-use Rattle.std.proofs.Common.{◌≡◌, ◌≢◌, ◌+◌, ◌<◌, ◌≤◌, ℕ, count_ones}
+use Rattle.std.proofs.Common.{◌≡◌, ◌+◌, ◌<◌, ◌≤◌, ℕ, count_ones}
 use Rattle.mb_deciding.specs.{Ratifier, InRatifier, Announce, AreSteps, DrawsAndMakes, first_place, turns_left, checks_of}
 use Rattle.mb_deciding.specs.declared.place.pc.Next.TheVariants as leads
 use Rattle.mb_deciding.proofs.place.straight.through_ratifier.Given as goal

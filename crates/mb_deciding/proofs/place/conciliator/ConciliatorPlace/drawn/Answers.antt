@@ -1,5 +1,5 @@
 -- Proof of `ConciliatorPlace::drawn`: what follows the load of a process that has not stored.
-use Rattle.std.proofs.Common.{◌≡◌, ◌≤◌, ◌<◌, ◌-◌, ◌*◌, ◌%◌, ℕ, suc, ◌∷◌, sym, ap, ◌∙◌, subst}
+use Rattle.std.proofs.Common.{◌≡◌, ◌≤◌, ◌<◌, ◌*◌, ◌%◌, ℕ, suc, ◌∷◌, sym, ap, ◌∙◌, subst}
 use Rattle.mb_deciding.specs.{Value, Op, Act, Load, Conciliator, Draw, Put, InConciliator, PcIsAt, IsConciliatorPlace}
 use Rattle.mb_deciding.specs.{IsInConciliator, act_of}
 use Rattle.mb_deciding.specs.declared.access.Op.TheVariants as to
