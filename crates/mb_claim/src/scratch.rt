@@ -22,12 +22,15 @@ pub trait DrawingAt: Drawing {
     /// Makes an access to the object of this site.
     fn perform_at(&mut self, site: Site, op: Op) -> u64
         requires { can_make_at self.old site op }
-        ensures { makes self.old site.object op result self.new };
+        ensures { Self.makes self.old site.object op result self.new };
 }
 
 ghost use Rattle.std.specs.Prelude.{◌≡◌, ◌<◌, ◌≤◌, ◌+◌, ℕ, [], false};
-ghost use Rattle.mb_deciding.specs.{PcIsAt, IsPlace, IsFitKind, turns_left, most_turns, IsOpAt, answer};
+ghost use Rattle.mb_deciding.specs.Vocabulary.{PcIsAt, IsPlace, turns_left, most_turns, IsOpAt, answer};
+ghost use Rattle.mb_deciding.specs.Course.{IsFitKind};
 ghost use Rattle.mb_claim.specs.{Op, Pc, Conciliator, Ratifier, first_place};
+ghost use Rattle.mb_quorum.specs.Quorum.{QuorumTable, IsQuorumTable};
+ghost use Rattle.std.specs.Prelude.{◌*◌};
 ghost use Rattle.mb_deciding.specs.ManySteps.{AreSteps, DrawsAndMakes};
 ghost use Rattle.mb_deciding.specs.declared.place.pc.Next.TheVariants as leads;
 
@@ -90,3 +93,10 @@ pub fn through_ratifier<Q: Quorums, M: DrawingAt>(
 {
     Out::decided(input)
 }
+
+/// Bounds.
+pub fn paths_are_short()
+    ensures ratifier { (t : QuorumTable)
+        → IsQuorumTable t → most_turns t Ratifier ≤ 2 * t.registers + 2 }
+    ensures conciliator { (t : QuorumTable) (s : ℕ) → most_turns t (Conciliator s) ≡ s + 3 }
+{}

@@ -3,7 +3,7 @@
 use super::Claim;
 use crate::access::{ClaimOp, Stage};
 use crate::layout::Layout;
-use crate::scratch::{DrawingAt, through_conciliator, through_ratifier};
+use crate::scratch::{DrawingAt, paths_are_short, through_conciliator, through_ratifier};
 use crate::steps::places_show_prefixes;
 use mb_deciding::Kind;
 use mb_quorum::Quorums;
@@ -62,17 +62,17 @@ impl Claim {
             at before
             → claim_stage at ≡ Going → M.draws before word mid → IsNextOp layout.now at next
             → M.can_make_at mid (site_of layout.now begin next.object) next.op }
-        ensures object { result.object ≤ length (kinds_of layout.now) }
+        ensures object { result.stage ≡ Going → result.object < length (kinds_of layout.now) }
         ensures value { result.value < consumer_count layout.now }
 
-        // Either the claim has ended, or what is left has no room for a pair, or the last object is next.
+        // These are accesses of the claim, and they ended there.
         ensures steps { (start : Claim) → IsStanding layout.now consumer 0 consumer start
             → (n : ℕ) × (end : Claim) × (n + result.left ≡ most)
             × AreClaimSteps layout.now (DrawsAndMakesNext M.draws M.makes) start memory.old n
             end memory.new
             × HasEnd layout.now consumer result end }
     {
-        let room = 2 * u64::from(layout.table.registers()) + 12;
+        let room = 2 * u64::from(layout.table.registers()) + 10;
         let mut at = Stretch {
             stage: Stage::Going,
             object: 0,
@@ -81,6 +81,9 @@ impl Claim {
         };
         'pairs: while at.left >= room {
             if !Claim::agree(layout, memory, begin, consumer, &mut at) {
+                return at;
+            }
+            if at.left < room {
                 return at;
             }
             if !Claim::decide(layout, memory, begin, consumer, &mut at) {
@@ -101,7 +104,7 @@ impl Claim {
     ) -> bool
         requires object { at.old.object < length (kinds_of layout.now) }
         requires value { at.old.value < consumer_count layout.now }
-        requires room { 2 * (quorums_of layout.now).registers + 12 ≤ at.old.left }
+        requires room { 10 ≤ at.old.left }
         requires begin { begin + cell_words layout.now < 2 ^ 64 }
         requires may { (start : Claim)
             → IsStanding layout.now consumer at.old.object at.old.value start
@@ -114,7 +117,6 @@ impl Claim {
         ensures object { at.new.object < length (kinds_of layout.now) }
         ensures further { at.old.object ≤ at.new.object }
         ensures value { at.new.value < consumer_count layout.now }
-        ensures room { 2 * (quorums_of layout.now).registers + 2 ≤ at.new.left }
         ensures next { result ≡ true
             → slice_get (kinds_of layout.now) at.new.object ≡ Some Ratifier }
         ensures steps { (start : Claim)
@@ -161,8 +163,8 @@ impl Claim {
             → claim_stage at ≡ Going → M.draws before word mid → IsNextOp layout.now at next
             → M.can_make_at mid (site_of layout.now begin next.object) next.op }
         ensures goes { result ≡ true → at.new.stage ≡ Going }
+        ensures ends { result ≡ false → at.new.stage ≢ Going }
         ensures object { result ≡ true → at.new.object < length (kinds_of layout.now) }
-        ensures within { at.new.object ≤ length (kinds_of layout.now) }
         ensures further { result ≡ true → at.old.object < at.new.object }
         ensures value { at.new.value < consumer_count layout.now }
         ensures steps { (start : Claim)
@@ -173,6 +175,7 @@ impl Claim {
             × HasEnd layout.now consumer at.new end }
     {
         places_show_prefixes();
+        paths_are_short();
         let site = layout.site(begin, at.object);
         let left = &mut at.left;
         let out = through_ratifier(&layout.table, memory, site, at.value, left);
