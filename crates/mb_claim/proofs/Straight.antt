@@ -6,12 +6,11 @@ use Rattle.mb_quorum.specs.Vocabulary.{QuorumTable}
 use Rattle.mb_deciding.specs.declared.access.Op.{Op}
 use Rattle.mb_deciding.specs.declared.place.pc.Next.TheVariants as leads
 use Rattle.mb_deciding.specs.Course.{IsFitKind}
-use Rattle.mb_deciding.specs.Vocabulary.{answer, PcIsAt, IsPlace, IsOpAt, spread}
+use Rattle.mb_deciding.specs.Vocabulary.{answer, PcIsAt, IsPlace, IsOpAt, spread, first_place}
 use Rattle.mb_deciding.specs.ManySteps.{AreSteps, DrawsAndMakes}
-use Rattle.mb_claim.specs.{Kind, Conciliator, Ratifier, LastObject, Pc, Next, Claim, ClaimOp, Going, Won, Lost, Undecided, Stage, Stretch, Layout}
+use Rattle.mb_claim.specs.{Kind, Conciliator, Ratifier, LastObject, Pc, Next, Site, Claim, ClaimOp, Going, Won, Lost, Undecided, Stage, Stretch, Layout}
 use Rattle.mb_claim.specs.{quorums_of, kinds_of, consumer_count, claim_stage, stage_for, FitsLayout, IsNextOp}
-use Rattle.mb_claim.specs.{first_place, standing, IsStanding, site_of, HasEnd, AreClaimSteps, DrawsAndMakesNext}
-use Rattle.mb_claim.specs.declared.scratch.Site.{Site}
+use Rattle.mb_claim.specs.{standing, IsStanding, site_of, HasEnd, AreClaimSteps, DrawsAndMakesNext}
 use Rattle.mb_claim.proofs.ClaimSteps.{PlacesMakeParts, claim_passed, claim_decided}
 use Rattle.mb_claim.proofs.StepsLeft.{won_ended, lost_ended}
 use Rattle.mb_claim.proofs.LayoutObjects.{length-row_of, fit_in_row, last_turn_small}

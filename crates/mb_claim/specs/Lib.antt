@@ -11,7 +11,6 @@ pub mod Layouts
 pub mod States
 pub mod OneClaim
 pub mod ManyClaimSteps
-pub mod Scratch
 pub mod Straight
 pub mod Refusals
 pub mod Plays
@@ -32,7 +31,6 @@ pub use Layouts.*
 pub use States.*
 pub use OneClaim.*
 pub use ManyClaimSteps.*
-pub use Scratch.*
 pub use Straight.*
 pub use Refusals.*
 pub use Plays.*

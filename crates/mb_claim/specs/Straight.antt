@@ -1,8 +1,7 @@
 -- A claim that goes straight through whole objects: where it stands before an object, and where its accesses ended.
 use Rattle.std.specs.Prelude.{ℕ, zero, suc, ◌≡◌, ◌+◌, Bool, true, false, MatchOption, slice_get}
-use Rattle.mb_claim.specs.declared.scratch.Site.{Site}
-use Rattle.mb_claim.specs.Scratch.{first_place}
-use Rattle.mb_claim.specs.ObjectTypes.{Kind}
+use Rattle.mb_deciding.specs.Vocabulary.{first_place}
+use Rattle.mb_claim.specs.ObjectTypes.{Kind, Site}
 use Rattle.mb_claim.specs.Types.{Claim, Stage, Going, Layout, Stretch}
 use Rattle.mb_claim.specs.Layouts.{quorums_of, kinds_of, words_before}
 use Rattle.mb_claim.specs.OneClaim.{claim_stage, consumer_of, FitsLayout}

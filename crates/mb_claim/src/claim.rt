@@ -44,7 +44,7 @@ impl Claim {
         Claim {
             consumer,
             object: 0,
-            place: crate::scratch::place_of(layout.kind_of(0), &layout.table, consumer),
+            place: layout.kind_of(0).place(&layout.table, consumer),
             stage: Stage::Going,
             begun: false,
         }

@@ -5,10 +5,9 @@ ghost use Rattle.mb_deciding.specs.Vocabulary.{spread};
 ghost use Rattle.mb_claim.specs.Rows.{row_of, words_before, row_words};
 ghost use Rattle.mb_claim.specs.declared.layout.TheConstants.{MAX_PAIRS};
 
-use crate::scratch::Site;
 use crate::shape::Shape;
 use crate::steps::addresses_are_apart;
-use mb_deciding::{Kind, Reg, spread};
+use mb_deciding::{Kind, Reg, Site, spread};
 use mb_quorum::{Quorums, Table, TableName};
 use std::error::Error;
 use std::fmt;

@@ -35,7 +35,6 @@ pub mod laws;
 mod layout;
 mod plays;
 mod run;
-pub mod scratch;
 mod shape;
 pub mod steps;
 

@@ -3,9 +3,9 @@
 use super::Claim;
 use crate::access::{ClaimOp, Stage};
 use crate::layout::Layout;
-use crate::scratch::{DrawingAt, paths_are_short, through_conciliator, through_ratifier};
 use crate::steps::places_show_prefixes;
-use mb_deciding::Kind;
+use mb_deciding::steps::paths_are_short;
+use mb_deciding::{Drawing, Kind, through_conciliator, through_ratifier};
 use mb_quorum::Quorums;
 
 /// Where straight accesses of a claim ended.
@@ -38,7 +38,7 @@ impl Claim {
         Claim {
             consumer,
             object,
-            place: crate::scratch::place_of(layout.kind_of(object), &layout.table, value),
+            place: layout.kind_of(object).place(&layout.table, value),
             stage: Stage::Going,
             begun: object != 0,
         }
@@ -47,7 +47,7 @@ impl Claim {
     /// Makes the accesses of a new claim on a cell, pair by pair, as long as the budget has room for all accesses to a
     /// pair. The cell's words begin at `begin`. These are the accesses of as many calls of [`Claim::step`].
     #[inline(always)]
-    pub fn straight<M: DrawingAt>(
+    pub fn straight<M: Drawing>(
         layout: &Layout,
         memory: &mut M,
         begin: usize,
@@ -95,7 +95,7 @@ impl Claim {
 
     /// Goes through the object, if that is a conciliator. Returns whether a ratifier comes next.
     #[inline(always)]
-    fn agree<M: DrawingAt>(
+    fn agree<M: Drawing>(
         layout: &Layout,
         memory: &mut M,
         begin: usize,
@@ -142,7 +142,7 @@ impl Claim {
 
     /// Goes through the object, a ratifier. Returns whether another object comes next.
     #[inline(always)]
-    fn decide<M: DrawingAt>(
+    fn decide<M: Drawing>(
         layout: &Layout,
         memory: &mut M,
         begin: usize,

@@ -22,7 +22,7 @@ through_conciliator-at-requires-clause-may g c =
     (quorums_lawful layout) in
     site_may layout parts g.M.Drawing.draws g.M.Memory.makes c.args.consumer c.args.at.now.object c.args.at.now.value
     (Conciliator c.in-Conciliator.s) c.in-Conciliator.ensures.exact c.args.memory.now c.args.begin c.site-site.result
-    c.site-site.ensures g.M.DrawingAt.can_make_at c.requires.may
+    c.site-site.ensures g.M.Drawing.can_make_at c.requires.may
 
 -- a ratifier comes next
 next_is : goal.returns-in-Conciliator-clause-next

@@ -2,9 +2,9 @@
 use Rattle.std.proofs.Common.{◌≡◌, ◌≢◌, ◌<◌, ◌+◌, ℕ, suc, Bool, true, false, refl, ap, subst, slice_get, Some, None, length, arith}
 use Rattle.std.proofs.lemmas.Option.{slice_get_within, slice_get_past}
 use Rattle.mb_deciding.specs.ManySteps.{AreSteps, DrawsAndMakes}
-use Rattle.mb_deciding.specs.Vocabulary.{answer, spread}
+use Rattle.mb_deciding.specs.Vocabulary.{answer, spread, first_place}
 use Rattle.mb_deciding.specs.declared.place.pc.Next.TheVariants as leads
-use Rattle.mb_claim.specs.{Ratifier, Out, Layout, Undecided, quorums_of, kinds_of, claims_in, first_place}
+use Rattle.mb_claim.specs.{Ratifier, Out, Layout, Undecided, quorums_of, kinds_of, claims_in}
 use Rattle.mb_claim.proofs.ClaimSteps.{PlacesMakeParts}
 use Rattle.mb_claim.proofs.LayoutObjects.{quorums_lawful, objects_few}
 use Rattle.mb_claim.proofs.Straight.{site_may, led_on, led_out, led_to_end, some_kind, standing_end}
@@ -18,7 +18,7 @@ through_ratifier-out-requires-clause-may g c =
     (quorums_lawful layout) in
     site_may layout parts g.M.Drawing.draws g.M.Memory.makes c.args.consumer c.args.at.now.object c.args.at.now.value
     Ratifier c.requires.object c.args.memory.now c.args.begin c.site-site.result
-    c.site-site.ensures g.M.DrawingAt.can_make_at c.requires.may
+    c.site-site.ensures g.M.Drawing.can_make_at c.requires.may
 
 pub through_ratifier-out-requires-clause-room : goal.through_ratifier-out-requires-clause-room
 through_ratifier-out-requires-clause-room g c =

@@ -1,7 +1,7 @@
 -- Proof of `Claim::straight`: makes the accesses of a new claim on a cell, object by object.
-use Rattle.std.proofs.Common.{◌≡◌, sym, ◌∙◌, arith}
-use Rattle.mb_claim.specs.{Claim, ClaimOp, Going, Stretch, IsStanding, HasEnd, site_of, DrawsAndMakesNext}
-use Rattle.mb_claim.proofs.Straight.{AreLed, further, further_may, standing_end}
+use Rattle.std.proofs.Common.{◌∙◌}
+use Rattle.mb_claim.specs.{IsStanding, HasEnd, site_of, DrawsAndMakesNext}
+use Rattle.mb_claim.proofs.Straight.{further, further_may, led_as, standing_end}
 use Rattle.mb_claim.proofs.claim.Claim.straight.Goals as goal
 
 pub agree-requires-clause-may : goal.agree-requires-clause-may
@@ -10,7 +10,7 @@ agree-requires-clause-may g c =
     let at = c.pairs.at in
     further_may layout g.M.Drawing.draws g.M.Memory.makes c.args.consumer c.args.memory.now c.args.most at.object at.value
     c.pairs.memory at.left c.pairs.invariant.steps
-    (λ claim mid next. g.M.DrawingAt.can_make_at mid (site_of layout c.args.begin next.object) next.op) c.requires.may
+    (λ claim mid next. g.M.Drawing.can_make_at mid (site_of layout c.args.begin next.object) next.op) c.requires.may
 
 -- Below, `first` are the accesses up to the object that `agree` leads to.
 pub decide-requires-clause-may : goal.decide-requires-clause-may
@@ -23,7 +23,7 @@ decide-requires-clause-may g c =
     (IsStanding layout c.args.consumer on.object on.value) c.agree.new.memory on.left c.agree.ensures.steps in
     further_may layout g.M.Drawing.draws g.M.Memory.makes c.args.consumer c.args.memory.now c.args.most
     on.object on.value c.agree.new.memory on.left first
-    (λ claim mid next. g.M.DrawingAt.can_make_at mid (site_of layout c.args.begin next.object) next.op) c.requires.may
+    (λ claim mid next. g.M.Drawing.can_make_at mid (site_of layout c.args.begin next.object) next.op) c.requires.may
 
 pub returns-then-not-agree-clause-steps : goal.returns-then-not-agree-clause-steps
 returns-then-not-agree-clause-steps g c =
