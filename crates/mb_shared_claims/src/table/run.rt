@@ -6,7 +6,7 @@ use crate::seat::ClaimSeat;
 use crate::table::SharedClaims;
 use mb_claim::laws::{claims_are_bounded, last_objects_decide_claims};
 use mb_claim::steps::{accesses_lengthen_one_part, claims_make_steps};
-use mb_claim::{Claim, ClaimOp};
+use mb_claim::{Claim, ClaimOp, Stage};
 use mb_deciding::{Drawing, Memory, Op};
 use rand_core::Rng;
 use std::alloc::Allocator;
@@ -16,7 +16,7 @@ impl<A: Allocator + Drop> SharedClaims<A> {
     ghost use Rattle.std.specs.Prelude.{◌≡◌, ◌≢◌, ◌<◌, ◌≤◌, true};
     ghost use Rattle.mb_claim.specs.Vocabulary.{IsClaimIn, claim_stage, consumer_of, most_accesses, part_on, shape_of};
     ghost use Rattle.mb_claim.specs.declared.access.Stage.TheVariants.{Undecided};
-    ghost use Rattle.mb_shared_claims.specs.{Going, name_of, AreSeatSteps};
+    ghost use Rattle.mb_shared_claims.specs.{Going, name_of, AreSeatSteps, IsSeatStep};
 
     /// Makes accesses of a claim of the seat's consumer on a cell, each with the next word of `rng`. It stops if the
     /// claim has ended or `most` were made. Returns how many it made. As many calls of [`SharedClaims::step`] make the
@@ -65,6 +65,68 @@ impl<A: Allocator + Drop> SharedClaims<A> {
             rng: &mut *rng,
         };
         claim.run(&self.size.layout, &mut memory, most)
+    }
+
+    /// What [`SharedClaims::run`] does, by single steps. A program that seldom needs them keeps them out of its way.
+    #[inline(always)]
+    pub fn steps<R: Rng>(
+        &self,
+        seat: &mut ClaimSeat,
+        claim: &mut Claim,
+        cell: u32,
+        rng: &mut R,
+        most: u64,
+    ) -> u64
+        requires table { seat.old.table ≡ name_of self.now }
+        requires cell { cell < self.now.cells }
+        requires consumer { consumer_of claim.old ≡ seat.old.consumer }
+        requires standing { IsClaimIn self.now.layout claim.old
+            (part_on seat.old.consumer cell seat.old.part) }
+
+        // Each access is the next one of the claim, with the next word of `rng`.
+        ensures steps { AreSeatSteps self.now.layout cell claim.old seat.old (R.stream rng.old)
+            result
+            claim.new seat.new (R.stream rng.new) }
+        ensures within { result ≤ most }
+        ensures all { claim_stage claim.new ≡ Going → result ≡ most }
+
+        // So the claim has made all that its consumer has done on the cell, and at most what its layout allows.
+        ensures standing { IsClaimIn self.now.layout claim.new
+            (part_on seat.new.consumer cell seat.new.part) }
+        ensures consumer { consumer_of claim.new ≡ consumer_of claim.old }
+        ensures few { result ≤ most_accesses self.now.layout }
+
+        // With a last object no claim is undecided.
+        ensures decided { (shape_of self.now.layout).last ≡ true
+            → claim_stage claim.new ≢ Undecided }
+    {
+        claims_are_bounded();
+        accesses_lengthen_one_part();
+        last_objects_decide_claims();
+        let mut left = most;
+        'steps: while left != 0 && claim.stage() == Stage::Going {
+            left -= 1;
+            self.single(seat, claim, cell, rng.next_u64());
+        }
+        most - left
+    }
+
+    /// Makes one step of a claim, out of line.
+    #[cold]
+    #[inline(never)]
+    fn single(&self, seat: &mut ClaimSeat, claim: &mut Claim, cell: u32, word: u64)
+        requires table { seat.old.table ≡ name_of self.now }
+        requires cell { cell < self.now.cells }
+        requires consumer { consumer_of claim.old ≡ seat.old.consumer }
+        requires standing { IsClaimIn self.now.layout claim.old
+            (part_on seat.old.consumer cell seat.old.part) }
+        requires going { claim_stage claim.old ≡ Going }
+        ensures step { IsSeatStep self.now.layout cell word claim.old seat.old claim.new seat.new }
+        ensures standing { IsClaimIn self.now.layout claim.new
+            (part_on seat.new.consumer cell seat.new.part) }
+        ensures consumer { consumer_of claim.new ≡ consumer_of claim.old }
+    {
+        self.step(seat, claim, cell, word);
     }
 }
 
