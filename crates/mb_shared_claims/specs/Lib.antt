@@ -1,5 +1,6 @@
 -- In the order of reading: a file stands on files above it.
 pub mod Types
+pub mod Scratch
 pub mod Views
 pub mod ViewSteps
 pub mod Rule
@@ -9,6 +10,7 @@ pub mod ManySeatSteps
 pub mod Vocabulary
 -- what clauses name is here, too
 pub use Types.*
+pub use Scratch.*
 pub use Views.*
 pub use ViewSteps.*
 pub use Rule.*

@@ -25,6 +25,7 @@ pub mod examples;
 mod hub;
 pub mod laws;
 pub mod rule;
+pub mod scratch;
 mod seat;
 mod table;
 pub mod view;

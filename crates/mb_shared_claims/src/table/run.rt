@@ -2,10 +2,11 @@
 ghost use Rattle.std.specs.Prelude.{◌<◌, ◌^◌};
 
 use crate::rule::MakeAccess;
+use crate::scratch::{DrawingAt, Site, Stretch, begin_of, place_in_object, straight};
 use crate::seat::ClaimSeat;
 use crate::table::SharedClaims;
-use mb_claim::laws::{claims_are_bounded, last_objects_decide_claims};
-use mb_claim::steps::{accesses_lengthen_one_part, claims_make_steps};
+use mb_claim::laws::{claims_are_bounded, last_objects_decide_claims, layouts_are_sound};
+use mb_claim::steps::{accesses_lengthen_one_part, addresses_are_apart, claims_make_steps};
 use mb_claim::{Claim, ClaimOp, Stage};
 use mb_deciding::{Drawing, Memory, Op};
 use rand_core::Rng;
@@ -13,10 +14,10 @@ use std::alloc::Allocator;
 use std::marker::Brand;
 
 impl<A: Allocator + Drop> SharedClaims<A> {
-    ghost use Rattle.std.specs.Prelude.{◌≡◌, ◌≢◌, ◌<◌, ◌≤◌, true};
-    ghost use Rattle.mb_claim.specs.Vocabulary.{IsClaimIn, claim_stage, consumer_of, most_accesses, part_on, shape_of};
+    ghost use Rattle.std.specs.Prelude.{◌≡◌, ◌≢◌, ◌<◌, ◌≤◌, ◌+◌, ℕ, true, length};
+    ghost use Rattle.mb_claim.specs.Vocabulary.{IsClaimIn, claim_stage, consumer_count, consumer_of, kinds_of, most_accesses, part_on, shape_of};
     ghost use Rattle.mb_claim.specs.declared.access.Stage.TheVariants.{Undecided};
-    ghost use Rattle.mb_shared_claims.specs.{Going, name_of, AreSeatSteps, IsSeatStep};
+    ghost use Rattle.mb_shared_claims.specs.{Claim, Going, name_of, AreSeatSteps, IsSeatStep, IsStanding, HasEnd};
 
     /// Makes accesses of a claim of the seat's consumer on a cell, each with the next word of `rng`. It stops if the
     /// claim has ended or `most` were made. Returns how many it made. As many calls of [`SharedClaims::step`] make the
@@ -65,6 +66,61 @@ impl<A: Allocator + Drop> SharedClaims<A> {
             rng: &mut *rng,
         };
         claim.run(&self.size.layout, &mut memory, most)
+    }
+
+    /// Makes the accesses of a new claim of the seat's consumer on a cell, each with the next word of `rng`. It goes pair
+    /// by pair as long as `most` has room for all accesses to a pair. As many calls of [`SharedClaims::step`] make the
+    /// same accesses. The rest is for [`SharedClaims::steps`], with the claim of [`Claim::standing`].
+    #[inline(always)]
+    pub fn straight<R: Rng>(
+        &self,
+        seat: &mut ClaimSeat,
+        cell: u32,
+        rng: &mut R,
+        most: u64,
+    ) -> Stretch
+        requires table { seat.old.table ≡ name_of self.now }
+        requires cell { cell < self.now.cells }
+
+        // The consumer has done nothing on the cell.
+        requires standing { (start : Claim)
+            → IsStanding self.now.layout seat.old.consumer 0 seat.old.consumer start
+            → IsClaimIn self.now.layout start (part_on seat.old.consumer cell seat.old.part) }
+
+        // Each access is the next one of the claim, with the next word of `rng`. The claim has then made all that its
+        // consumer has done on the cell, and at most what its layout allows.
+        ensures steps { (start : Claim)
+            → IsStanding self.now.layout seat.old.consumer 0 seat.old.consumer start
+            → (n : ℕ) × (end : Claim) × (n + result.left ≡ most)
+            × AreSeatSteps self.now.layout cell start seat.old (R.stream rng.old) n
+            end seat.new (R.stream rng.new)
+            × HasEnd self.now.layout seat.old.consumer result end
+            × IsClaimIn self.now.layout end (part_on seat.new.consumer cell seat.new.part)
+            × (n ≤ most_accesses self.now.layout) }
+
+        // A claim that is still going can be made.
+        ensures object { result.stage ≡ Going → result.object < length (kinds_of self.now.layout) }
+        ensures value { result.value < consumer_count self.now.layout }
+
+        // With a last object no claim is undecided.
+        ensures decided { (shape_of self.now.layout).last ≡ true → result.stage ≢ Undecided }
+    {
+        claims_make_steps();
+        claims_are_bounded();
+        accesses_lengthen_one_part();
+        last_objects_decide_claims();
+        layouts_are_sound();
+        addresses_are_apart();
+        let consumer = seat.consumer;
+        let layout = &self.size.layout;
+        let mut memory = DrawingWords {
+            table: self,
+            seat: &mut *seat,
+            cell,
+            word: 0,
+            rng: &mut *rng,
+        };
+        straight(layout, &mut memory, begin_of(layout, cell), consumer, most)
     }
 
     /// What [`SharedClaims::run`] does, by single steps. A program that seldom needs them keeps them out of its way.
@@ -186,5 +242,35 @@ impl<'a, A: Allocator + Drop, R: Rng> Drawing for DrawingWords<'a, A, R> {
         let word = self.rng.next_u64();
         self.word = word;
         word
+    }
+}
+
+impl<'a, A: Allocator + Drop, R: Rng> DrawingAt for DrawingWords<'a, A, R> {
+    ghost use Rattle.std.specs.Prelude.{◌≡◌, ◌<◌, ◌+◌, ◌*◌, ◌^◌};
+    ghost use Rattle.mb_deciding.specs.Vocabulary.{reg_of};
+    ghost use Rattle.mb_claim.specs.Vocabulary.{IsWordInLayout, cell_words, claims_in};
+    ghost use Rattle.mb_shared_claims.specs.{name_of, MayComeNext, site_of};
+
+    // The op is one that the seat's consumer may make next on the cell, to a word of the site's object. The site is
+    // where that object is in the cell, whose words can be addressed.
+    ghost can_make_at = { λ m site op. (m.seat.now.table ≡ name_of m.table.now)
+        × (m.cell < m.table.now.cells)
+        × IsWordInLayout m.table.now.layout site.object (reg_of op)
+        × MayComeNext (claims_in m.table.now.layout m.table.now.cells) m.seat.now.consumer m.cell
+        m.seat.now.part (record { object = site.object; op = op })
+        × (site ≡ site_of m.table.now.layout (m.cell * cell_words m.table.now.layout) site.object)
+        × (m.cell * cell_words m.table.now.layout + cell_words m.table.now.layout < 2 ^ 64) };
+
+    #[inline(always)]
+    fn perform_at(&mut self, site: Site, op: Op) -> u64 {
+        layouts_are_sound();
+        addresses_are_apart();
+        let address = site.begin + place_in_object(op.reg()) as usize;
+        let next = ClaimOp {
+            object: site.object,
+            op,
+        };
+        self.table
+            .make_at::<Brand>(self.seat, address, self.cell, next, self.word)
     }
 }

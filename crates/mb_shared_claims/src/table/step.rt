@@ -99,7 +99,8 @@ impl<A: Allocator + Drop> SharedClaims<A> {
         requires table { seat.old.table ≡ name_of self.now }
         requires cell { cell < self.now.cells }
         requires word { IsWordInLayout self.now.layout next.object (reg_of next.op) }
-        requires address { address ≡ word_address self.now.layout cell next.object (reg_of next.op) }
+        requires address { address ≡ word_address self.now.layout cell next.object
+            (reg_of next.op) }
         requires next { MayComeNext (claims_in self.now.layout self.now.cells) seat.old.consumer
             cell seat.old.part next }
         requires access { (found : ℕ) → W.access found ≡ access_of

@@ -9,7 +9,8 @@ use Rattle.mb_shared_claims.proofs.table.SharedClaims.steps.Given as goal
 abbrev pub invariant-steps : goal.invariant-steps
 invariant-steps g l = record {
   steps : (n : ℕ) × (n + l.left ≡ l.most)
-      × AreSeatSteps l.self.layout l.cell l.fn.claim l.fn.seat (g.R.Rng.stream l.fn.rng) n l.claim l.seat (g.R.Rng.stream l.rng);
+      × AreSeatSteps l.self.layout l.cell l.fn.claim l.fn.seat (g.R.Rng.stream l.fn.rng)
+      n l.claim l.seat (g.R.Rng.stream l.rng);
   table : l.seat.table ≡ name_of l.self;
   owner : consumer_of l.claim ≡ l.seat.consumer;
   keeps : consumer_of l.claim ≡ consumer_of l.fn.claim;
