@@ -11,6 +11,7 @@ pub mod Accesses
 pub mod ClaimMoves
 pub mod Running
 pub mod SeatRuns
+pub mod Sites
 -- Names of tables, and their end
 pub mod Names
 pub mod Closing

@@ -40,7 +40,7 @@ pub trait DrawingAt: Drawing {
     /// Makes an access to the object of this site.
     fn perform_at(&mut self, site: Site, op: Op) -> u64
         requires { can_make_at self.old site op }
-        ensures { makes self.old site.object op result self.new };
+        ensures { Self.makes self.old site.object op result self.new };
 }
 
 /// As `Layout::begin`.
@@ -50,8 +50,7 @@ pub fn begin_of(layout: &Layout, cell: u32) -> usize
     ensures exact { result ≡ cell * cell_words layout.now }
     ensures room { result + cell_words layout.now < 2 ^ 64 }
 {
-    let _ = cell;
-    layout.words(1)
+    layout.words(cell + 1) - layout.words(1)
 }
 
 /// As `Layout::place_in_object`.
@@ -60,8 +59,10 @@ pub fn place_in_object(reg: Reg) -> u32
     requires { offset reg < 2 ^ 32 }
     ensures { result ≡ offset reg }
 {
-    let _ = reg;
-    0
+    match reg {
+        Reg::Value | Reg::Proposal | Reg::Last => 0,
+        Reg::Quorum(register) => 1 + register,
+    }
 }
 
 /// As `Claim::straight`.
