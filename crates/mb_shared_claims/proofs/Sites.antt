@@ -20,7 +20,8 @@ matched (Some a) P h = (a, refl, h)
 module _ (layout : Layout) (c o v : ℕ) (claim : Claim) (stands : IsStanding layout c o v claim) where
   -- the claim belongs to that consumer
   pub standing_consumer : consumer_of claim ≡ c
-  standing_consumer = ap consumer_of (matched (slice_get (kinds_of layout) o) (λ kind. claim ≡ standing layout c o v kind) stands).2
+  standing_consumer =
+      ap consumer_of (matched (slice_get (kinds_of layout) o) (λ kind. claim ≡ standing layout c o v kind) stands).2
 
   -- the layout has the object
   pub standing_within : o < length (kinds_of layout)

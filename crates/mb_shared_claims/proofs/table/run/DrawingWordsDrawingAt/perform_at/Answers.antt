@@ -11,5 +11,6 @@ overflow_add-address g c =
     let layout = c.args.self.now.table.now.layout in
     let in_cell = c.addresses_are_apart.ensures.within (quorums_of layout).registers (kinds_of layout) 1 0
     c.args.site.object (reg_of c.args.op) c.requires.2 (omega arith) in
-    let low = word_addressed layout c.args.self.now.cell c.args.site (reg_of c.args.op) in_cell c.requires.4 c.requires.5 in
+    let low = word_addressed layout c.args.self.now.cell c.args.site (reg_of c.args.op) in_cell
+    c.requires.4 c.requires.5 in
     omega (arith, low, c.place_in_object.ensures, ap offset c.reg.ensures)
