@@ -1,5 +1,5 @@
 -- Proof of `SharedClaims::steps`: what `run` does, by single steps.
-use Rattle.std.proofs.Common.{rules, ◌≡◌, ◌-◌, ◌≤◌, ◌+◌, suc, sym, ◌∙◌, subst, arith}
+use Rattle.std.proofs.Common.{rules, ◌≡◌, ◌-◌, ◌≤◌, suc, sym, ◌∙◌, subst, arith}
 use Rattle.mb_claim.specs.Vocabulary.{claim_stage, most_accesses}
 use Rattle.mb_shared_claims.specs.Types.{Going}
 use Rattle.mb_shared_claims.specs.ManySeatSteps.{AreSeatSteps}
