@@ -53,9 +53,11 @@ mod trace;
 
 pub use access::{Access, Act, Op, Reg, Turn};
 pub use attempts::spread;
-pub use memory::{Drawing, Memory};
+pub use memory::{Drawing, Memory, Site};
 pub use object::{Kind, Out};
-pub use place::{ConciliatorPlace, LastPlace, Next, Pc, RatifierPlace};
+pub use place::{
+    ConciliatorPlace, LastPlace, Next, Pc, RatifierPlace, through_conciliator, through_ratifier,
+};
 pub use run::conciliate::conciliate;
 pub use run::ratify::ratify;
 pub use trace::{Entry, Fault, Trace};
