@@ -1,33 +1,25 @@
 -- Where a claim stands before an object, and where the words of that object are.
-use Rattle.std.proofs.Common.{◌≡◌, ◌≤◌, ◌<◌, ◌+◌, ◌*◌, ℕ, zero, suc, Bool, true, false, ◌^◌, Option, Some, None, ◌++◌, length, slice_get}
-use Rattle.std.proofs.Common.{refl, sym, ap, ◌∙◌, subst, arith}
-use Rattle.std.proofs.lemmas.Option.{slice_get_within}
+use Rattle.std.proofs.Common.{◌≡◌, ◌≤◌, ◌<◌, ◌+◌, ◌*◌, ℕ, zero, suc, Bool, true, false, ◌^◌, Option, Some, None, ◌++◌, slice_get}
+use Rattle.std.proofs.Common.{refl, sym, ap, subst, arith}
 use Rattle.std.specs.Prelude.{MatchOption}
+use Rattle.mb_deciding.specs.declared.memory.Site.{Site}
 use Rattle.mb_deciding.specs.declared.object.Kind.{Kind}
 use Rattle.mb_deciding.specs.declared.object.Kind.TheVariants.{Conciliator, Ratifier}
 use Rattle.mb_claim.specs.Vocabulary.{quorums_of, kinds_of, pair_count, offset, pairs_of, fast_row, last_row}
-use Rattle.mb_claim.specs.Vocabulary.{cell_words, address_of, consumer_of}
+use Rattle.mb_claim.specs.Vocabulary.{cell_words, address_of, consumer_of, IsStanding, standing, site_of}
 use Rattle.mb_shared_claims.specs.Types.{Claim, Layout, Reg}
-use Rattle.mb_shared_claims.specs.declared.scratch.Site.{Site}
-use Rattle.mb_shared_claims.specs.Scratch.{IsStanding, standing, site_of}
 
 -- ---- a claim before its first access to an object
--- an option that has a value with this property
-matched : {A : Type 0} (x : Option A) (P : A → Type 0) → MatchOption x ⊥ P → (a : A) × (x ≡ Some a) × P a
-matched None P h = absurd h
-matched (Some a) P h = (a, refl, h)
+-- the claim belongs to that consumer, whatever kind the object has
+consumer_in :
+    (kind : Option Kind) (layout : Layout) (c o v : ℕ) (claim : Claim)
+    → MatchOption kind ⊥ (λ k. claim ≡ standing layout c o v k) → consumer_of claim ≡ c
+consumer_in None layout c o v claim h = absurd h
+consumer_in (Some k) layout c o v claim h = ap consumer_of h
 
-module _ (layout : Layout) (c o v : ℕ) (claim : Claim) (stands : IsStanding layout c o v claim) where
-  -- the claim belongs to that consumer
-  pub standing_consumer : consumer_of claim ≡ c
-  standing_consumer =
-      ap consumer_of (matched (slice_get (kinds_of layout) o) (λ kind. claim ≡ standing layout c o v kind) stands).2
-
-  -- the layout has the object
-  pub standing_within : o < length (kinds_of layout)
-  standing_within =
-      let m = matched (slice_get (kinds_of layout) o) (λ kind. claim ≡ standing layout c o v kind) stands in
-      slice_get_within (kinds_of layout) o m.0 m.1
+-- the claim belongs to that consumer
+pub standing_consumer : (layout : Layout) (c o v : ℕ) (claim : Claim) → IsStanding layout c o v claim → consumer_of claim ≡ c
+standing_consumer layout c o v claim stands = consumer_in (slice_get (kinds_of layout) o) layout c o v claim stands
 
 -- a row with a pair has a first object
 first_kind :

@@ -1,6 +1,5 @@
 -- In the order of reading: a file stands on files above it.
 pub mod Types
-pub mod Scratch
 pub mod Views
 pub mod ViewSteps
 pub mod Rule
@@ -10,7 +9,6 @@ pub mod ManySeatSteps
 pub mod Vocabulary
 -- what clauses name is here, too
 pub use Types.*
-pub use Scratch.*
 pub use Views.*
 pub use ViewSteps.*
 pub use Rule.*

@@ -25,7 +25,6 @@ pub mod examples;
 mod hub;
 pub mod laws;
 pub mod rule;
-pub mod scratch;
 mod seat;
 mod table;
 pub mod view;

@@ -2,22 +2,22 @@
 ghost use Rattle.std.specs.Prelude.{◌<◌, ◌^◌};
 
 use crate::rule::MakeAccess;
-use crate::scratch::{DrawingAt, Site, Stretch, begin_of, place_in_object, straight};
 use crate::seat::ClaimSeat;
 use crate::table::SharedClaims;
 use mb_claim::laws::{claims_are_bounded, last_objects_decide_claims, layouts_are_sound};
 use mb_claim::steps::{accesses_lengthen_one_part, addresses_are_apart, claims_make_steps};
-use mb_claim::{Claim, ClaimOp, Stage};
-use mb_deciding::{Drawing, Memory, Op};
+use mb_claim::{Claim, ClaimOp, Layout, Stage, Stretch};
+use mb_deciding::{Drawing, Memory, Op, Site};
 use rand_core::Rng;
 use std::alloc::Allocator;
 use std::marker::Brand;
 
 impl<A: Allocator + Drop> SharedClaims<A> {
     ghost use Rattle.std.specs.Prelude.{◌≡◌, ◌≢◌, ◌<◌, ◌≤◌, ◌+◌, ℕ, true, length};
-    ghost use Rattle.mb_claim.specs.Vocabulary.{IsClaimIn, claim_stage, consumer_count, consumer_of, kinds_of, most_accesses, part_on, shape_of};
+    ghost use Rattle.mb_claim.specs.Vocabulary.{IsClaimIn, IsStanding, HasEnd, claim_stage, consumer_count, consumer_of, kinds_of};
+    ghost use Rattle.mb_claim.specs.Vocabulary.{most_accesses, part_on, shape_of};
     ghost use Rattle.mb_claim.specs.declared.access.Stage.TheVariants.{Undecided};
-    ghost use Rattle.mb_shared_claims.specs.{Claim, Going, name_of, AreSeatSteps, IsSeatStep, IsStanding, HasEnd};
+    ghost use Rattle.mb_shared_claims.specs.{Claim, Going, name_of, AreSeatSteps, IsSeatStep};
 
     /// Makes accesses of a claim of the seat's consumer on a cell, each with the next word of `rng`. It stops if the
     /// claim has ended or `most` were made. Returns how many it made. As many calls of [`SharedClaims::step`] make the
@@ -120,7 +120,7 @@ impl<A: Allocator + Drop> SharedClaims<A> {
             word: 0,
             rng: &mut *rng,
         };
-        straight(layout, &mut memory, begin_of(layout, cell), consumer, most)
+        Claim::straight(layout, &mut memory, layout.begin(cell), consumer, most)
     }
 
     /// What [`SharedClaims::run`] does, by single steps. A program that seldom needs them keeps them out of its way.
@@ -227,8 +227,11 @@ impl<'a, A: Allocator + Drop, R: Rng> Memory for DrawingWords<'a, A, R> {
 }
 
 impl<'a, A: Allocator + Drop, R: Rng> Drawing for DrawingWords<'a, A, R> {
-    ghost use Rattle.std.specs.Prelude.{◌≡◌};
+    ghost use Rattle.std.specs.Prelude.{◌≡◌, ◌<◌, ◌+◌, ◌*◌, ◌^◌};
     ghost use Rattle.rand_core.specs.Stream.{next_u64};
+    ghost use Rattle.mb_deciding.specs.Vocabulary.{reg_of};
+    ghost use Rattle.mb_claim.specs.Vocabulary.{IsWordInLayout, cell_words, claims_in, site_of};
+    ghost use Rattle.mb_shared_claims.specs.{name_of, MayComeNext};
 
     // The random word is the source's next one. Nothing else changes.
     ghost draws = { λ m word after.
@@ -236,20 +239,6 @@ impl<'a, A: Allocator + Drop, R: Rng> Drawing for DrawingWords<'a, A, R> {
         × (after.word ≡ word) × (after.seat.now ≡ m.seat.now)
         × (after.table.now ≡ m.table.now) × (after.cell ≡ m.cell)
         × (after.seat.ghost_name ≡ m.seat.ghost_name) × (after.rng.ghost_name ≡ m.rng.ghost_name) };
-
-    #[inline(always)]
-    fn draw(&mut self) -> u64 {
-        let word = self.rng.next_u64();
-        self.word = word;
-        word
-    }
-}
-
-impl<'a, A: Allocator + Drop, R: Rng> DrawingAt for DrawingWords<'a, A, R> {
-    ghost use Rattle.std.specs.Prelude.{◌≡◌, ◌<◌, ◌+◌, ◌*◌, ◌^◌};
-    ghost use Rattle.mb_deciding.specs.Vocabulary.{reg_of};
-    ghost use Rattle.mb_claim.specs.Vocabulary.{IsWordInLayout, cell_words, claims_in};
-    ghost use Rattle.mb_shared_claims.specs.{name_of, MayComeNext, site_of};
 
     // The op is one that the seat's consumer may make next on the cell, to a word of the site's object. The site is
     // where that object is in the cell, whose words can be addressed.
@@ -262,10 +251,17 @@ impl<'a, A: Allocator + Drop, R: Rng> DrawingAt for DrawingWords<'a, A, R> {
         × (m.cell * cell_words m.table.now.layout + cell_words m.table.now.layout < 2 ^ 64) };
 
     #[inline(always)]
+    fn draw(&mut self) -> u64 {
+        let word = self.rng.next_u64();
+        self.word = word;
+        word
+    }
+
+    #[inline(always)]
     fn perform_at(&mut self, site: Site, op: Op) -> u64 {
         layouts_are_sound();
         addresses_are_apart();
-        let address = site.begin + place_in_object(op.reg()) as usize;
+        let address = site.begin + Layout::place_in_object(op.reg()) as usize;
         let next = ClaimOp {
             object: site.object,
             op,

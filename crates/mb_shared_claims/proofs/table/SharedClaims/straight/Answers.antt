@@ -1,14 +1,13 @@
 -- Proof of `SharedClaims::straight`: makes the accesses of a new claim of the seat's consumer on a cell, pair by pair.
 use Rattle.std.proofs.Common.{◌≡◌, ◌<◌, ◌+◌, ◌*◌, ◌^◌, ℕ, ap, sym, ◌∙◌, subst}
 use Rattle.mb_deciding.specs.Vocabulary.{reg_of}
-use Rattle.mb_claim.specs.Vocabulary.{IsWordInLayout, IsClaimIn, cell_words, claims_in, part_on}
+use Rattle.mb_claim.specs.Vocabulary.{IsWordInLayout, IsClaimIn, HasEnd, IsStanding, cell_words, claims_in, part_on, site_of}
 use Rattle.mb_shared_claims.specs.Types.{Layout}
-use Rattle.mb_shared_claims.specs.Scratch.{HasEnd, IsStanding, site_of}
 use Rattle.mb_shared_claims.specs.Seats.{SeatView, TableView, name_of}
 use Rattle.mb_shared_claims.specs.SeatSteps.{MayComeNext}
 use Rattle.mb_shared_claims.specs.ManySeatSteps.{AreSeatSteps}
 use Rattle.mb_shared_claims.proofs.Running.{IsMade, arrives_in, few_steps_in, may_go_on_in, same_cell, same_frame, same_rng, same_seat, same_table}
-use Rattle.mb_shared_claims.proofs.Sites.{first_claim, standing_consumer, standing_within}
+use Rattle.mb_shared_claims.proofs.Sites.{first_claim, standing_consumer}
 use Rattle.mb_shared_claims.proofs.table.SharedClaims.straight.Goals as goal
 
 -- Each clause needs two facts, which stand after `start` in this order. A draw changes only the random word and its
@@ -45,8 +44,8 @@ straight-requires-clause-may g c start stands n word at before mid next steps go
     let table : c.args.self.now ≡ mid.table.now = sym (same_table can.1) in
     let cell : c.args.cell ≡ mid.cell = sym (same_cell can.1) in
     let there : c.self.inside.size.layout ≡ mid.table.now.layout = layout ∙ ap (λ (v : TableView). v.layout) table in
-    let begin : c.begin_of.result ≡ mid.cell * cell_words mid.table.now.layout =
-    c.begin_of.ensures.exact ∙ (λ i. cell i * cell_words (there i)) in (
+    let begin : c.begin.result ≡ mid.cell * cell_words mid.table.now.layout =
+    c.begin.ensures.exact ∙ (λ i. cell i * cell_words (there i)) in (
       can.0.0 ∙ ap name_of table,
       subst (λ k. k < mid.table.now.cells) cell
           (subst (λ (v : TableView). c.args.cell < v.cells) table can.0.1),
@@ -56,7 +55,7 @@ straight-requires-clause-may g c start stands n word at before mid next steps go
           (subst (λ k. MayComeNext (claims_in c.args.self.now.layout c.args.self.now.cells)
           mid.seat.now.consumer k mid.seat.now.part next) cell can.0.3),
       λ i. site_of (there i) (begin i) next.object,
-      subst (λ (z : ℕ × Layout). z.0 + cell_words z.1 < 2 ^ 64) (λ i. (begin i, there i)) c.begin_of.ensures.room,
+      subst (λ (z : ℕ × Layout). z.0 + cell_words z.1 < 2 ^ 64) (λ i. (begin i, there i)) c.begin.ensures.room,
     )
 
 -- the accesses that were made are steps of the seat, and no more than the layout allows
@@ -122,15 +121,6 @@ returns-clause-steps g c start first =
           (sym seat) p.rests,
       few,
     )
-
--- a claim that is still going stands on an object of the layout
-pub returns-clause-object : goal.returns-clause-object
-returns-clause-object g c going =
-    let first = first_claim c.args.self.now.layout c.args.seat.now.consumer
-    (c.layouts_are_sound.ensures.pairs c.args.self.now.layout).0 in
-    let r = returns-clause-steps g c first.0 first.1 in
-    standing_within c.args.self.now.layout c.args.seat.now.consumer c.straight.result.object c.straight.result.value r.1
-    (r.4.3 going)
 
 -- a claim over a layout with a last object is not undecided
 pub returns-clause-decided : goal.returns-clause-decided
