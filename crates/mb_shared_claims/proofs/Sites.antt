@@ -18,7 +18,8 @@ consumer_in None layout c o v claim h = absurd h
 consumer_in (Some k) layout c o v claim h = ap consumer_of h
 
 -- the claim belongs to that consumer
-pub standing_consumer : (layout : Layout) (c o v : ℕ) (claim : Claim) → IsStanding layout c o v claim → consumer_of claim ≡ c
+pub standing_consumer :
+    (layout : Layout) (c o v : ℕ) (claim : Claim) → IsStanding layout c o v claim → consumer_of claim ≡ c
 standing_consumer layout c o v claim stands = consumer_in (slice_get (kinds_of layout) o) layout c o v claim stands
 
 -- a row with a pair has a first object
