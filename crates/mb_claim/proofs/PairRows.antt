@@ -1,10 +1,10 @@
 -- The conciliators of a row: after each comes a ratifier, and no more accesses than few are made to one.
-use Rattle.std.proofs.Common.{◌≡◌, ◌≤◌, ◌+◌, ◌∙◌, ℕ, zero, suc, Bool, true, false, Some, List, [], ◌∷◌, ◌++◌, slice_get, refl, sym, ap, arith}
+use Rattle.std.proofs.Common.{◌≡◌, ◌≤◌, ℕ, zero, suc, Bool, true, false, Some, List, ◌++◌, slice_get, refl, arith}
 use Rattle.std.proofs.lemmas.Option.{none-some, same_Some}
 use Rattle.mb_quorum.specs.Width.{width_of}
 use Rattle.mb_quorum.specs.WidthLaw.{width_is_least}
 use Rattle.mb_deciding.specs.Vocabulary.{spread}
-use Rattle.mb_claim.specs.{Kind, Conciliator, Ratifier, LastObject, Layout, Shape, pairs_of, fast_row, last_row, row_of, quorums_of, kinds_of}
+use Rattle.mb_claim.specs.{Kind, Conciliator, Ratifier, LastObject, Layout, pairs_of, fast_row, last_row, quorums_of, kinds_of}
 use Rattle.mb_claim.proofs.LayoutObjects.{quorums_lawful}
 
 -- what is known of a conciliator at place o of these objects: its last attempt is s, and a ratifier is next

@@ -1,6 +1,6 @@
 -- A claim before its first access to an object, and the accesses to that object that lead it on or end it.
-use Rattle.std.proofs.Common.{◌≡◌, ◌≢◌, ◌+◌, ◌<◌, ◌≤◌, ◌^◌, ◌==◌, ◌∙◌, ℕ, zero, suc, Bool, true, false, cond, Option, Some, None, MatchOption, arith}
-use Rattle.std.proofs.Common.{List, [], ◌∷◌, length, slice_get, get_or, refl, sym, subst, ap}
+use Rattle.std.proofs.Common.{◌≡◌, ◌≢◌, ◌+◌, ◌<◌, ◌==◌, ◌∙◌, ℕ, suc, Bool, true, false, cond, Option, Some, None, MatchOption, arith}
+use Rattle.std.proofs.Common.{[], length, slice_get, get_or, refl, sym, subst, ap}
 use Rattle.std.proofs.lemmas.Option.{slice_get-get_or, slice_get_within}
 use Rattle.mb_quorum.specs.Vocabulary.{QuorumTable}
 use Rattle.mb_deciding.specs.declared.access.Op.{Op}
@@ -45,8 +45,7 @@ pub some_kind : (layout : Layout) (o : ℕ) → o < length (kinds_of layout)
     → (kind : Kind) × (slice_get (kinds_of layout) o ≡ Some kind) × IsFitKind kind
 some_kind layout o below =
     let kind = get_or (kinds_of layout) o Ratifier in
-    let at = slice_get-get_or (kinds_of layout) o Ratifier below in
-    (
+    let at = slice_get-get_or (kinds_of layout) o Ratifier below in (
       kind,
       at,
       fit_in_row layout.shape (spread (quorums_of layout).values) layout.pairs o kind (last_turn_small layout) at,
@@ -118,9 +117,12 @@ standing_end layout c stretch claim going below within stands =
     let kind = some_kind layout stretch.object below in
     let is = standing_is layout c stretch.object stretch.value kind.0 claim kind.1 stands in
     let there = standing layout c stretch.object stretch.value kind.0 in
-    subst (λ d. HasEnd layout c stretch d) (sym is)
-    (sym going, refl, standing_fits layout c stretch.object stretch.value kind.0 kind.1 kind.2 within,
-    (λ g. is_standing layout c stretch.object stretch.value kind.0 there kind.1 refl))
+    subst (λ d. HasEnd layout c stretch d) (sym is) (
+      sym going,
+      refl,
+      standing_fits layout c stretch.object stretch.value kind.0 kind.1 kind.2 within,
+      (λ g. is_standing layout c stretch.object stretch.value kind.0 there kind.1 refl),
+    )
 
 -- ---- the accesses of a claim to a whole object
 module _ {M : Type 0} (layout : Layout) (parts : PlacesMakeParts (quorums_of layout) (kinds_of layout))
@@ -308,7 +310,8 @@ led_as layout makes c o v start most P Q now left led follows claim stands =
 
 module _ {M : Type 0} (layout : Layout) (draws : M → ℕ → M → Type 0) (makes : M → ℕ → Op → ℕ → M → Type 0) (c : ℕ)
     (start : M) (most o v : ℕ) (between : M) (left : ℕ)
-    (first : AreLed layout (DrawsAndMakesNext draws makes) c 0 c start most (IsStanding layout c o v) between left) where
+    (first : AreLed layout (DrawsAndMakesNext draws makes) c 0 c start most (IsStanding layout c o v) between
+    left) where
   -- accesses from where others led are accesses from the beginning
   pub further :
       (P : Claim → Type 0) (now : M) (rest : ℕ)

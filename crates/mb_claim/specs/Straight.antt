@@ -1,8 +1,8 @@
--- A claim that goes straight through whole objects: where it stands before an object, and where its accesses ended.
+-- A claim that goes straight through whole objects: where it stands before one, and where its accesses ended.
 use Rattle.std.specs.Prelude.{ℕ, zero, suc, ◌≡◌, ◌+◌, Bool, true, false, MatchOption, slice_get}
 use Rattle.mb_deciding.specs.Vocabulary.{first_place}
 use Rattle.mb_claim.specs.ObjectTypes.{Kind, Site}
-use Rattle.mb_claim.specs.Types.{Claim, Stage, Going, Layout, Stretch}
+use Rattle.mb_claim.specs.Types.{Claim, Going, Layout, Stretch}
 use Rattle.mb_claim.specs.Layouts.{quorums_of, kinds_of, words_before}
 use Rattle.mb_claim.specs.OneClaim.{claim_stage, consumer_of, FitsLayout}
 
@@ -24,15 +24,16 @@ standing layout c o v kind =
 
 -- the claim is that of consumer c before its first access to object o, where its input is v
 abbrev pub IsStanding : Layout → ℕ → ℕ → ℕ → Claim → Type 0
-IsStanding layout c o v claim = MatchOption (slice_get (kinds_of layout) o) ⊥ (λ kind. claim ≡ standing layout c o v kind)
+IsStanding layout c o v claim =
+    MatchOption (slice_get (kinds_of layout) o) ⊥ (λ kind. claim ≡ standing layout c o v kind)
 
 -- object o of a cell whose words begin there
 abbrev pub site_of : Layout → ℕ → ℕ → Site
 site_of layout begin o =
     record { object = o; begin = begin + words_before (quorums_of layout).registers (kinds_of layout) o }
 
--- straight accesses of a claim of consumer c ended with this claim: it has the stage, and if it is going, it is about
--- to make its first access to the object, where its input is the value
+-- straight accesses of consumer c ended with this claim. It has the stage. If it is going, it is about to make its
+-- first access to the object, where its input is the value
 abbrev pub HasEnd : Layout → ℕ → Stretch → Claim → Type 0
 HasEnd layout c stretch end = (claim_stage end ≡ stretch.stage) × (consumer_of end ≡ c) × FitsLayout layout end
     × (stretch.stage ≡ Going → IsStanding layout c stretch.object stretch.value end)

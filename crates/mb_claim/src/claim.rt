@@ -4,9 +4,7 @@ use crate::layout::Layout;
 use crate::steps::places_show_prefixes;
 use mb_deciding::{ConciliatorPlace, Drawing, Memory, Next, Out, Pc, RatifierPlace};
 
-mod straight;
-
-pub use straight::Stretch;
+pub mod straight;
 
 /// The claim of one consumer on one cell: the object on which it stands, its place there, and how far it has come. It
 /// is a plain value, which may be kept between calls.

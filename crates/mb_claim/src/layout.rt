@@ -244,7 +244,8 @@ impl Layout {
         // The words of the cell can be addressed.
         ensures room { result + cell_words self.now < 2 ^ 64 }
     {
-        cell as usize * self.words_of_cell()
+        let words = self.words_of_cell();
+        cell as usize * words
     }
 
     /// An object of a cell whose words begin there.

@@ -1,5 +1,4 @@
-//! A claim that has made no access yet goes straight through whole objects. No claim and no place in an object is made
-//! on this way.
+//! A new claim goes straight through whole objects. It keeps no place in an object on this way.
 use super::Claim;
 use crate::access::{ClaimOp, Stage};
 use crate::layout::Layout;
@@ -44,8 +43,9 @@ impl Claim {
         }
     }
 
-    /// Makes the accesses of a new claim on a cell, pair by pair, as long as the budget has room for all accesses to a
-    /// pair. The cell's words begin at `begin`. These are the accesses of as many calls of [`Claim::step`].
+    /// Makes the accesses of a new claim on a cell whose words begin at `begin`. It goes object by object, as long as
+    /// the budget has room for all accesses to one more, and stops before a last object. These are the accesses of as
+    /// many calls of [`Claim::step`].
     #[inline(always)]
     pub fn straight<M: Drawing>(
         layout: &Layout,

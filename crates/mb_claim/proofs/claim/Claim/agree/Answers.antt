@@ -1,5 +1,5 @@
 -- Proof of `Claim::agree`: goes through the object, if that is a conciliator.
-use Rattle.std.proofs.Common.{◌≡◌, ◌+◌, suc, refl, sym, subst, Some, slice_get, arith}
+use Rattle.std.proofs.Common.{◌≡◌, ◌+◌, suc, refl, subst, Some, slice_get, arith}
 use Rattle.std.proofs.lemmas.Option.{slice_get_within}
 use Rattle.mb_claim.specs.{Conciliator, Ratifier, quorums_of, kinds_of, claims_in}
 use Rattle.mb_claim.proofs.ClaimSteps.{PlacesMakeParts}

@@ -8,8 +8,8 @@ pub agree-requires-clause-may : goal.agree-requires-clause-may
 agree-requires-clause-may g c =
     let layout = c.args.layout.now in
     let at = c.pairs.at in
-    further_may layout g.M.Drawing.draws g.M.Memory.makes c.args.consumer c.args.memory.now c.args.most at.object at.value
-    c.pairs.memory at.left c.pairs.invariant.steps
+    further_may layout g.M.Drawing.draws g.M.Memory.makes c.args.consumer c.args.memory.now c.args.most
+    at.object at.value c.pairs.memory at.left c.pairs.invariant.steps
     (λ claim mid next. g.M.Drawing.can_make_at mid (site_of layout c.args.begin next.object) next.op) c.requires.may
 
 -- Below, `first` are the accesses up to the object that `agree` leads to.

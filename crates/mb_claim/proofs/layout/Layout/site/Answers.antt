@@ -1,9 +1,7 @@
 -- Proof of `Layout::site`: an object of a cell whose words begin there.
-use Rattle.std.proofs.Common.{◌≡◌, ◌+◌, slice_index, refl, ap, arith}
-use Rattle.mb_deciding.specs.Vocabulary.{spread}
-use Rattle.mb_claim.specs.{quorums_of, kinds_of, words_before}
+use Rattle.std.proofs.Common.{arith}
+use Rattle.mb_claim.specs.{quorums_of, kinds_of}
 use Rattle.mb_claim.proofs.Addresses.{words_before-within}
-use Rattle.mb_claim.proofs.LayoutObjects.{objects_few}
 use Rattle.mb_claim.proofs.layout.Layout.site.Goals as goal
 
 pub overflow_add-result : goal.overflow_add-result
