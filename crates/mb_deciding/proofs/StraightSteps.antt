@@ -84,7 +84,8 @@ pub put_step :
     → makes (to.Store Value value) seen
     → IsStep t (InConciliator (Put input)) makes word (leads.Go (InConciliator (Look input)))
 put_step t input value seen word makes same made =
-    conciliator_step t (Put input) makes (to.Store Value value) seen word _ (ap (λ n. to.Store Value n) same) made reaches
+    conciliator_step t (Put input) makes (to.Store Value value) seen word _ (ap (λ n. to.Store Value n) same) made
+    reaches
   where
     -- the process is about to look
     reaches : ConciliatorReaches t (Put input) seen word (leads.Go (InConciliator (Look input)))
@@ -125,7 +126,8 @@ checks_some u left some =
 -- a process that has read the registers below the bound has reached what follows of the check
 checks_reached :
     (t : QuorumTable) (v u bound left : ℕ) (turns : List Turn) → u < t.values → bound ≤ t.registers
-    → IsRest (t.read u) bound left → ReadsClear t v u bound (acts turns) → IsReached t Ratifier v (checks_of u left) turns
+    → IsRest (t.read u) bound left → ReadsClear t v u bound (acts turns)
+    → IsReached t Ratifier v (checks_of u left) turns
 checks_reached t v u bound left turns within few rest clear =
     elim (cases_eq left 0) [
       | inl none ↦ subst (λ (follows : Next). IsReached t Ratifier v follows turns) (sym (checks_none u left none))

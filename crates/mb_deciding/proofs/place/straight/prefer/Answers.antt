@@ -32,7 +32,7 @@ returns-then-seen-from-clause-steps g c =
           within same),
     )
 
--- In both proofs `first` is the load that finds no value of the table. After it the process is about to store its input.
+-- In both proofs `first` is the load that finds no value of the table. The process is then about to store its input.
 pub perform_at-requires : goal.perform_at-requires
 perform_at-requires g c =
     let t : QuorumTable = g.Q.Quorums.table c.args.q.now in

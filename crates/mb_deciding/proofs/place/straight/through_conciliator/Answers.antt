@@ -9,7 +9,7 @@ use Rattle.mb_deciding.proofs.ManySteps.{one_more}
 use Rattle.mb_deciding.proofs.StraightSteps.{met_step, missed_step, found_step, put_step, look_step}
 use Rattle.mb_deciding.proofs.place.straight.through_conciliator.Goals as goal
 
--- In each proof `at` is the place before the load of this attempt, and `one_more` adds an access to those made before it.
+-- In each proof `at` is the place before the load of this attempt. `one_more` adds an access to those before it.
 pub returns-then-seen-ne0-clause-steps : goal.returns-then-seen-ne0-clause-steps
 returns-then-seen-ne0-clause-steps g c =
     let t : QuorumTable = g.Q.Quorums.table c.args.q.now in
@@ -18,8 +18,9 @@ returns-then-seen-ne0-clause-steps g c =
     let inv = c.draws.invariant in (
       suc inv.made,
       omega (arith, inv.count, inv.limits.0, c.requires.room),
-      one_more t g.M.Drawing.draws g.M.Memory.makes c.args.site.object start c.args.memory.now inv.made at c.draws.memory
-          c.draw-word.new.self c.perform_at-seen.new.self c.draw-word.result _ inv.steps c.draw-word.ensures
+      one_more t g.M.Drawing.draws g.M.Memory.makes c.args.site.object start c.args.memory.now inv.made at
+          c.draws.memory c.draw-word.new.self c.perform_at-seen.new.self c.draw-word.result _ inv.steps
+          c.draw-word.ensures
           (met_step t c.args.input c.draws.limit _ c.perform_at-seen.result c.draw-word.result c.met.result _
           c.perform_at-seen.ensures c.if-seen-ne0.true (rw (c.values-values.ensures) at c.met.ensures.met)),
     )
