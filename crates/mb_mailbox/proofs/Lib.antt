@@ -25,6 +25,8 @@ pub mod Competing
 pub mod Pursuing
 pub mod Starts
 pub mod Ending
+pub mod Beginnings
+pub mod Straight
 -- A consumer at the end of a lane
 pub mod Endings
 pub mod EndsMet

@@ -1,3 +1,4 @@
+pub mod Stubs
 pub mod Imports
 pub mod Mailboxes
 pub mod Consumers

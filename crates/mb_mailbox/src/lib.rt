@@ -45,6 +45,7 @@ mod mailbox;
 mod notes;
 mod producer;
 mod spare;
+mod stubs;
 mod taken;
 
 pub use consumer::{Consumer, Poll};
