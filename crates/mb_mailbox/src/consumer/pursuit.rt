@@ -217,8 +217,9 @@ fn run_rest<A: Allocator + Drop, B: Allocator + Drop, R: Rng>(
 {
     consumers_move_on();
     claims_begin_objects();
-    let layout = mailbox.claims.layout();
-    let claim = standing(layout, fields.seat.consumer(), end.object, end.value);
+    fields.reader.has_history();
+    let consumer = fields.seat.consumer();
+    let claim = standing(mailbox.claims.layout(), consumer, end.object, end.value);
     let held = PendingClaim { lane, cell, claim };
     run_claim(fields, mailbox, held, end.left, rng)
 }
