@@ -146,6 +146,12 @@ words_before-few r [] o = omega arith
 words_before-few r (k ∷ ks) zero = omega arith
 words_before-few r (k ∷ ks) (suc o) = omega (arith, width_few r k, words_before-few r ks o, suc-mul o (1 + r))
 
+-- the words before an object are some of the row's
+pub words_before-within : (r : ℕ) (kinds : List Kind) (o : ℕ) → words_before r kinds o ≤ row_words r kinds
+words_before-within r [] o = omega arith
+words_before-within r (k ∷ ks) zero = omega arith
+words_before-within r (k ∷ ks) (suc o) = omega (arith, words_before-within r ks o)
+
 -- a row has at most the words of as many ratifiers
 pub row_words-few : (r : ℕ) (kinds : List Kind) → row_words r kinds ≤ length kinds * (1 + r)
 row_words-few r kinds = omega (arith, words_before-all r kinds, words_before-few r kinds (length kinds))

@@ -4,6 +4,8 @@ use crate::layout::Layout;
 use crate::steps::places_show_prefixes;
 use mb_deciding::{ConciliatorPlace, Drawing, Memory, Next, Out, Pc, RatifierPlace};
 
+pub mod straight;
+
 /// The claim of one consumer on one cell: the object on which it stands, its place there, and how far it has come. It
 /// is a plain value, which may be kept between calls.
 #[derive(Clone, Copy, PartialEq, Eq, Debug)]
@@ -24,7 +26,7 @@ impl Claim {
     ghost use Rattle.mb_deciding.specs.declared.place.pc.Pc.TheVariants.{InConciliator, InRatifier};
     ghost use Rattle.mb_deciding.specs.declared.place.ratifier.RatifierPlace.TheVariants.{Announce};
     ghost use Rattle.mb_claim.specs.{Pc, stage_for, placed_at, stood_at, AreClaimSteps, DrawsAndMakesNext};
-    ghost use Rattle.mb_claim.specs.{quorums_of, kinds_of, consumer_count, most_accesses};
+    ghost use Rattle.mb_claim.specs.{quorums_of, kinds_of, consumer_count, most_accesses, IsStanding};
 
     /// The claim of a consumer that has made no access.
     pub fn new(layout: &Layout, consumer: u32) -> Claim
@@ -34,6 +36,7 @@ impl Claim {
         ensures fits { FitsLayout layout.now result }
         ensures path { IsClaimIn layout.now result [] }
         ensures bound { steps_left layout.now result ≤ most_accesses layout.now }
+        ensures first { IsStanding layout.now consumer 0 consumer result }
     {
         places_show_prefixes();
         Claim {

@@ -1,4 +1,4 @@
--- Proof of `SharedClaims::make`: makes an access of a claim that may come next.
+-- Proof of `SharedClaims::make_at`: makes an access of a claim that may come next, at the address of its word.
 use Rattle.std.proofs.Common.{[], sym, ap, ◌∙◌, ◌==◌}
 use prog.Atomic.{either}
 use Rattle.mb_deciding.specs.Vocabulary.{reg_of}
@@ -6,7 +6,7 @@ use Rattle.mb_claim.specs.Vocabulary.{quorums_of, kinds_of, after_op}
 use Rattle.mb_shared_claims.specs.Types.{ClaimAccess, Op, Standing}
 use Rattle.mb_shared_claims.specs.Seats.{TableView, SeatView, ClaimTable}
 use Rattle.mb_shared_claims.proofs.Accesses.{load_small, exchange_small, exchange_after, store_small, store_same, access_may, seat_after}
-use Rattle.mb_shared_claims.proofs.table.SharedClaims.make.Goals as goal
+use Rattle.mb_shared_claims.proofs.table.SharedClaims.make_at.Goals as goal
 
 -- the load may be made: seat and table have one identity, and the access goes on at its address
 pub load-requires : goal.load-requires
@@ -18,12 +18,12 @@ load-requires g c =
     let same = ap (λ (v : SeatView). v.table.id) c.seat.view_is ∙ ap (λ (z : ClaimTable). z.id) c.requires.table
     ∙ sym (ap (λ (v : TableView). v.id) c.self.view_is) in
     let may = access_may c.accesses_lengthen_one_part.ensures.own c.accesses_lengthen_one_part.ensures.others t seat _ _
-    c.seat.invariant.size _ _ _ _ c.address-address.result c.args.cell c.args.word next _ (λ n. n) g.W.AccessSpec.access
+    c.seat.invariant.size _ _ _ _ c.args.address c.args.cell c.args.word next (λ n. n) g.W.AccessSpec.access
     c.self.invariant.told
     (ap (λ (v : TableView). record { layout = v.layout; cells = v.cells }) c.self.view_is) c.self.invariant.words
     (c.seat.invariant.is
     ∙ ap (λ (v : SeatView). (Standing c.seat.invariant.size v.consumer v.part, [])) c.seat.view_is)
-    c.address-address.ensures.exact c.reg.ensures
+    c.requires.address
     (c.addresses_are_apart.ensures.within (quorums_of t.layout).registers (kinds_of t.layout) t.cells c.args.cell
     next.object (reg_of next.op) c.requires.word c.requires.cell)
     c.requires.next (λ n. sym (ap (λ (o : Op). after_op o n) op)) c.requires.access
@@ -41,13 +41,13 @@ compare_exchange-requires g c =
     let same = ap (λ (v : SeatView). v.table.id) c.seat.view_is ∙ ap (λ (z : ClaimTable). z.id) c.requires.table
     ∙ sym (ap (λ (v : TableView). v.id) c.self.view_is) in
     let may = access_may c.accesses_lengthen_one_part.ensures.own c.accesses_lengthen_one_part.ensures.others t seat _ _
-    c.seat.invariant.size _ _ _ _ c.address-address.result c.args.cell c.args.word next _
+    c.seat.invariant.size _ _ _ _ c.args.address c.args.cell c.args.word next
     (λ n. either (n == 0) value n) g.W.AccessSpec.access
     c.self.invariant.told
     (ap (λ (v : TableView). record { layout = v.layout; cells = v.cells }) c.self.view_is) c.self.invariant.words
     (c.seat.invariant.is
     ∙ ap (λ (v : SeatView). (Standing c.seat.invariant.size v.consumer v.part, [])) c.seat.view_is)
-    c.address-address.ensures.exact c.reg.ensures
+    c.requires.address
     (c.addresses_are_apart.ensures.within (quorums_of t.layout).registers (kinds_of t.layout) t.cells c.args.cell
     next.object (reg_of next.op) c.requires.word c.requires.cell)
     c.requires.next (λ n. exchange_after value n next.op _ op) c.requires.access
@@ -66,12 +66,12 @@ store-requires g c =
     let same = ap (λ (v : SeatView). v.table.id) c.seat.view_is ∙ ap (λ (z : ClaimTable). z.id) c.requires.table
     ∙ sym (ap (λ (v : TableView). v.id) c.self.view_is) in
     let may = access_may c.accesses_lengthen_one_part.ensures.own c.accesses_lengthen_one_part.ensures.others t seat _ _
-    c.seat.invariant.size _ _ _ _ c.address-address.result c.args.cell c.args.word next _ (λ _. value)
+    c.seat.invariant.size _ _ _ _ c.args.address c.args.cell c.args.word next (λ _. value)
     (λ _. g.W.AccessSpec.access value) c.self.invariant.told
     (ap (λ (v : TableView). record { layout = v.layout; cells = v.cells }) c.self.view_is) c.self.invariant.words
     (c.seat.invariant.is
     ∙ ap (λ (v : SeatView). (Standing c.seat.invariant.size v.consumer v.part, [])) c.seat.view_is)
-    c.address-address.ensures.exact c.reg.ensures
+    c.requires.address
     (c.addresses_are_apart.ensures.within (quorums_of t.layout).registers (kinds_of t.layout) t.cells c.args.cell
     next.object (reg_of next.op) c.requires.word c.requires.cell)
     c.requires.next (λ n. sym (ap (λ (o : Op). after_op o n) op))
