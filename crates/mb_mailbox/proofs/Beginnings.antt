@@ -1,17 +1,17 @@
 -- A claim before its first access to an object, and the first claim of a consumer on a cell.
-use Rattle.std.proofs.Common.{◌≡◌, ◌≢◌, ◌<◌, ℕ, List, [], refl, sym, ◌∙◌, ap, subst, arith, length}
+use Rattle.std.proofs.Common.{◌≡◌, ◌<◌, ℕ, List, [], refl, sym, ◌∙◌, ap, subst, arith, length}
 use Rattle.std.specs.Prelude.{Option, Some, None, MatchOption, slice_get}
 use Rattle.std.proofs.lemmas.Bool.{false≢true}
 use Rattle.std.proofs.lemmas.Option.{slice_get_within}
 use Rattle.mb_quorum.specs.Vocabulary.{QuorumTable}
 use Rattle.mb_deciding.specs.Course.{IsFitKind}
 use Rattle.mb_deciding.specs.declared.object.Kind.{Kind, TheVariants.{Conciliator, Ratifier, LastObject}}
-use Rattle.mb_deciding.specs.Vocabulary.{IsPlace, PcIsAt, spread}
+use Rattle.mb_deciding.specs.Vocabulary.{IsPlace, PcIsAt, first_place, spread}
 use Rattle.mb_claim.specs.declared.access.Stage.TheVariants as stage
-use Rattle.mb_claim.specs.Vocabulary.{FitsLayout, IsClaimPrefix, StandsAt, pair_count, quorums_of, shape_of}
+use Rattle.mb_claim.specs.Vocabulary.{FitsLayout, IsClaimPrefix, StandsAt, pair_count, quorums_of, shape_of, standing}
 use Rattle.mb_claim.proofs.ClaimSteps.{stands_first}
 use Rattle.mb_claim.proofs.LayoutObjects.{fit_in_row, last_turn_small, length-row_of}
-use Rattle.mb_mailbox.specs.Imports.{Claim, IsClaimIn, IsStanding, Layout, claim_stage, claims_in, consumer_count, consumer_of, first_place, kinds_of, standing}
+use Rattle.mb_mailbox.specs.Imports.{Claim, IsClaimIn, IsStanding, Layout, claim_stage, claims_in, consumer_count, consumer_of, kinds_of}
 use Rattle.mb_mailbox.proofs.Lists.{get_some, some_same}
 
 -- ---- which claim it is

@@ -1,10 +1,9 @@
 -- Accesses of a claim in a row: how many they are.
-use Rattle.std.proofs.Common.{◌≡◌, ◌≢◌, ◌+◌, ◌-◌, ◌≤◌, ℕ, zero, suc, List, ◌∷◌, length, refl, sym, ◌∙◌, ap, subst, arith}
-use Rattle.mb_shared_claims.specs.Vocabulary.{AreSeatSteps, access_of}
+use Rattle.std.proofs.Common.{◌≡◌, ◌+◌, ◌≤◌, ℕ, zero, suc, List, ◌∷◌, length, refl, sym, ◌∙◌, ap, subst, arith}
 use Rattle.std.specs.Prelude.{Some}
 use Rattle.mb_claim.specs.Vocabulary.{IsClaimLawful, part}
 use Rattle.mb_shared_claims.specs.Seats.{claims_at_size}
-use Rattle.mb_mailbox.specs.Imports.{Claim, ClaimAccess, ClaimTable, IsLawfulPart, Layout, SeatView, Stream, claims_at, claims_in, most_accesses, part_on}
+use Rattle.mb_mailbox.specs.Imports.{AreSeatSteps, Claim, ClaimAccess, ClaimTable, IsLawfulPart, Layout, SeatView, Stream, access_of, claims_at, claims_in, most_accesses, part_on}
 
 -- an access of a consumer on a cell lengthens its part there. This is a clause of a law of mb_claim
 abbrev pub OwnCell : Type 0

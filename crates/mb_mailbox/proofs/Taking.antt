@@ -1,11 +1,10 @@
 -- Straight accesses of a new claim in a poll: where they leave the consumer, and the item if the claim is won.
-use Rattle.std.proofs.Common.{◌≡◌, ◌≢◌, ℕ, zero, suc, ◌+◌, ◌≤◌, List, refl, sym, ap, ◌∙◌, subst, arith}
+use Rattle.std.proofs.Common.{◌≡◌, ℕ, zero, suc, ◌+◌, ◌≤◌, List, refl, sym, ap, ◌∙◌, subst, arith}
 use Rattle.std.specs.Prelude.{Option, Some, None, slice_get, slice_set}
 use Rattle.mb_claim.specs.declared.access.Stage.TheVariants as stage
 use Rattle.mb_cells.specs.declared.cursor.Cursor.TheVariants.{Past}
 use Rattle.mb_shared_cells.specs.Vocabulary.{ItemMakes}
-use Rattle.mb_shared_claims.specs.Vocabulary.{AreSeatSteps}
-use Rattle.mb_mailbox.specs.Imports.{Claim, HasEnd, IsClaimIn, IsStanding, Item, Layout, Note, ReaderSeatView, SeatView, Stream, Stretch, ToCells, Took}
+use Rattle.mb_mailbox.specs.Imports.{AreSeatSteps, Claim, HasEnd, IsClaimIn, IsStanding, Item, Layout, Note, ReaderSeatView, SeatView, Stream, Stretch, ToCells, Took}
 use Rattle.mb_mailbox.specs.Imports.{claim_stage, claims_at, load, most_accesses, part_on}
 use Rattle.mb_mailbox.specs.declared.consumer.Poll.{Poll}
 use Rattle.mb_mailbox.specs.declared.consumer.Poll.TheVariants as poll
@@ -75,8 +74,10 @@ module _ (b : ConsumerView) (p k : ℕ) (claim : Claim) where
 
     pub still_steps : AreSteps p n None t u from again
     still_steps = subst (λ (z : Option Poll × ConsumerView). AreSteps p n z.0 t u from z.1)
-        (λ j. (ap stage_answer going j,
-        seen_at b p k claim now stage.Going seat (slice_set b.places p (At k now)) b.notes going so.same refl refl j))
+        (λ j. (
+          ap stage_answer going j,
+          seen_at b p k claim now stage.Going seat (slice_set b.places p (At k now)) b.notes going so.same refl refl j,
+        ))
         so.steps
 
     pub still_consumer : IsConsumer again

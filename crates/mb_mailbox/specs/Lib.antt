@@ -1,4 +1,3 @@
-pub mod Stubs
 pub mod Imports
 pub mod Mailboxes
 pub mod Consumers

@@ -45,7 +45,6 @@ mod mailbox;
 mod notes;
 mod producer;
 mod spare;
-mod stubs;
 mod taken;
 
 pub use consumer::{Consumer, Poll};

@@ -16,9 +16,8 @@ use super::standing::{accesses_are_counted, claims_begin_objects};
 use super::{ConsumerFields, Poll};
 use crate::mailbox::Mailbox;
 use crate::notes::Notes;
-use crate::stubs::{Stretch, standing, steps, straight};
 use arrayvec::ArrayVec;
-use mb_claim::{Claim, Stage};
+use mb_claim::{Claim, Stage, Stretch};
 use mb_shared_cells::ReaderSeat;
 use mb_world::{Note, Place};
 use rand_core::Rng;
@@ -96,16 +95,13 @@ pub(super) fn run_claim<A: Allocator + Drop, B: Allocator + Drop, R: Rng>(
         notes,
     } = fields;
     reader.has_history();
-    let PendingClaim {
-        lane,
-        cell,
-        mut claim,
-    } = held;
+    let PendingClaim { lane, cell, claim } = held;
+    let mut claim = claim;
     let p = lane as usize;
     if let Stage::Won = claim.stage() {
         return Poll::Took(take(places, notes, reader, mailbox, lane, cell));
     }
-    let made = steps(&mailbox.claims, seat, &mut claim, cell, rng, most);
+    let made = mailbox.claims.steps(seat, &mut claim, cell, rng, most);
     seat.has_history();
     match claim.stage() {
         Stage::Going => {
@@ -162,28 +158,36 @@ pub(super) fn run_new<A: Allocator + Drop, B: Allocator + Drop, R: Rng>(
     fields.reader.has_history();
 
     // One access is kept for the item.
-    let straight_most = most.saturating_sub(1);
-    let mut end = straight(&mailbox.claims, &mut fields.seat, cell, rng, straight_most);
+    let room = most.saturating_sub(1);
+    let mut end = mailbox.claims.straight(&mut fields.seat, cell, rng, room);
     match end.stage {
         Stage::Won => {
-            let ConsumerFields {
-                reader,
-                places,
-                notes,
-                ..
-            } = fields;
-            Poll::Took(take(places, notes, reader, mailbox, lane, cell))
+            let places = &mut fields.places;
+            let notes = &mut fields.notes;
+            Poll::Took(take(places, notes, &mut fields.reader, mailbox, lane, cell))
         }
-        Stage::Lost(w) => {
-            leave(&mut fields.places, &mut fields.notes, lane, cell, Note::Lost(w));
-            Poll::Lost(w)
+        Stage::Lost(winner) => {
+            leave(
+                &mut fields.places,
+                &mut fields.notes,
+                lane,
+                cell,
+                Note::Lost(winner),
+            );
+            Poll::Lost(winner)
         }
         Stage::Undecided => {
-            leave(&mut fields.places, &mut fields.notes, lane, cell, Note::Undecided);
+            leave(
+                &mut fields.places,
+                &mut fields.notes,
+                lane,
+                cell,
+                Note::Undecided,
+            );
             Poll::Undecided
         }
         Stage::Going => {
-            end.left += most - straight_most;
+            end.left += most - room;
             run_rest(fields, mailbox, lane, cell, end, rng)
         }
     }
@@ -219,7 +223,8 @@ fn run_rest<A: Allocator + Drop, B: Allocator + Drop, R: Rng>(
     claims_begin_objects();
     fields.reader.has_history();
     let consumer = fields.seat.consumer();
-    let claim = standing(mailbox.claims.layout(), consumer, end.object, end.value);
+    let layout = mailbox.claims.layout();
+    let claim = Claim::standing(layout, consumer, end.object, end.value);
     let held = PendingClaim { lane, cell, claim };
     run_claim(fields, mailbox, held, end.left, rng)
 }

@@ -1,7 +1,6 @@
 //! A claim before its first access to an object, and accesses of a claim in a row. The functions compute nothing.
 ghost use Rattle.std.specs.Prelude.{ℕ, ◌≡◌, ◌+◌, ◌<◌, ◌≤◌, [], List, Some, length};
-ghost use Rattle.mb_shared_claims.specs.Vocabulary.{AreSeatSteps};
-ghost use Rattle.mb_mailbox.specs.Imports.{Claim, IsClaimIn, IsLawfulPart, IsStanding, Layout, ObjectTurn, SeatView, Stream};
+ghost use Rattle.mb_mailbox.specs.Imports.{AreSeatSteps, Claim, IsClaimIn, IsLawfulPart, IsStanding, Layout, ObjectTurn, SeatView, Stream};
 ghost use Rattle.mb_mailbox.specs.Imports.{claims_at, consumer_count, kinds_of, most_accesses, part_on};
 
 use mb_claim::laws::claims_are_bounded;

@@ -3,20 +3,18 @@ use Rattle.std.specs.Prelude.{None, Some, slice_set}
 use Rattle.mb_cells.specs.declared.answer.Look.TheVariants as look
 use Rattle.mb_mailbox.specs.declared.consumer.Poll.TheVariants as poll
 use Rattle.mb_shared_cells.specs.Vocabulary.{LookMakes}
-use Rattle.mb_world.specs.declared.place.Place.{Place}
-use Rattle.mb_world.specs.declared.place.Place.TheVariants.{At, Before}
-use Rattle.mb_mailbox.specs.Imports.{Claim, END, IsAccessAfter, IsClaimIn, IsStanding, Look, MayRead, PoolSize, ReaderSeatView, TableSize, claims_at, consumer_count, load, word_of}
+use Rattle.mb_world.specs.declared.place.Place.{Place, TheVariants.At, TheVariants.Before}
+use Rattle.mb_mailbox.specs.Imports.{Claim, END, IsAccessAfter, IsClaimIn, IsStanding, Look, MayRead, PoolSize, ReaderSeatView, TableSize, consumer_count, load, word_of}
 use Rattle.mb_mailbox.specs.Consumers.{ConsumerView, IsConsumer, IsConsumerOf}
 use Rattle.mb_mailbox.specs.ConsumerStep.{link_answer}
 use Rattle.mb_mailbox.specs.Mailboxes.{MailboxView}
 use Rattle.mb_mailbox.specs.Moves.{HasPlace, reads_with_link}
 use Rattle.mb_mailbox.specs.Steps.{AnswerTells, AreSteps, IsPollOf, note_with}
 use Rattle.mb_mailbox.specs.Pursuits.{IsPursuit, holding, with_fields}
-use Rattle.mb_shared_claims.specs.Seats.{claims_at_size}
 use Rattle.mb_mailbox.proofs.Beginnings.{standing_going, standing_own}
 use Rattle.mb_mailbox.proofs.Ending.{holds_it, not_no_lane, poll_by, pursuit_tells, still_of}
 use Rattle.mb_mailbox.proofs.Lists.{set_same, some_same}
-use Rattle.mb_mailbox.proofs.Made.{at_views, cells_size, claims_size, look_made, moved_has}
+use Rattle.mb_mailbox.proofs.Made.{at_views, cells_size, claims_size, known_in, look_made, moved_has}
 use Rattle.mb_mailbox.proofs.Polls.{no_steps, history_extends, poll_of}
 use Rattle.mb_mailbox.proofs.consumer.Consumer.poll.{Given.Over, Goals.After-consumer, Goals.After-look}
 use Rattle.mb_mailbox.proofs.consumer.Consumer.poll.Goals as goal
@@ -82,10 +80,8 @@ module _ (g : Over) (c : After-consumer g) where
   -- the consumer's number is one of the mailbox's
   known : c.self.inside.fields.seat.consumer < consumer_count c.args.mailbox.now.claims.layout
   known =
-      let seat = c.self.inside.fields.seat in
-      subst (λ z. seat.consumer < (claims_at_size z).table.values)
-      (claims_size c.args.mailbox.now (with_fields c.self.inside.fields) c.args.self.now c.self.view_is c.requires.of)
-      (subst (λ n. n < (claims_at seat.table).table.values) c.consumer.ensures.exact c.consumer.ensures.known)
+      known_in c.args.mailbox.now (with_fields c.self.inside.fields) c.args.self.now c.self.view_is c.requires.of
+      c.consumer.result c.consumer.ensures.exact c.consumer.ensures.known
 
   -- the claim, which has made no access
   first : (claim : Claim)

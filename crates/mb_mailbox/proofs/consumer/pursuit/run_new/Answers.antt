@@ -4,14 +4,10 @@ use Rattle.mb_claim.specs.declared.access.Stage.TheVariants as stage
 use Rattle.mb_mailbox.specs.declared.consumer.Poll.TheVariants as poll
 use Rattle.mb_mailbox.specs.declared.consumer.pursuit.PendingClaim.{PendingClaim}
 use Rattle.mb_world.specs.declared.place.Place.{Place, TheVariants.At}
-use Rattle.mb_mailbox.specs.Imports.{CellsName, Claim, Gave, IsClaimIn, IsStanding, Lost, ReaderSeatView, SeatView, TableSize, Took, Undecided}
-use Rattle.mb_mailbox.specs.Imports.{claim_stage, name_of, part_on, shape_of}
-use Rattle.mb_mailbox.specs.Consumers.{ConsumerView}
+use Rattle.mb_mailbox.specs.Imports.{CellsName, Claim, Gave, IsClaimIn, IsStanding, Lost, ReaderSeatView, SeatView, Stream, TableSize, Took, Undecided, claim_stage, name_of, part_on, shape_of}
+use Rattle.mb_mailbox.specs.ConsumerWords.{AreSteps, ConsumerView, HasPlace, HasRoom, holding, with_fields}
 use Rattle.mb_mailbox.specs.Mailboxes.{MailboxView}
-use Rattle.mb_mailbox.specs.Moves.{HasPlace}
-use Rattle.mb_mailbox.specs.NoteLists.{HasRoom}
-use Rattle.mb_mailbox.specs.Pursuits.{HasCompeted, holding, with_fields}
-use Rattle.mb_mailbox.specs.Steps.{AreSteps}
+use Rattle.mb_mailbox.specs.Pursuits.{HasCompeted}
 use Rattle.mb_mailbox.proofs.Beginnings.{standing_going, standing_same}
 use Rattle.mb_mailbox.proofs.Made.{at_views, room_stays}
 use Rattle.mb_mailbox.proofs.Polls.{no_steps}
@@ -90,11 +86,11 @@ module _ (g : Over) (c : After-straight-end g) (start : Start c.args.mailbox.now
 
   -- the straight accesses, by the layout of the mailbox
   straight_on : AreStraight c.args.mailbox.now.claims.layout c.args.cell c.args.fields.now.seat
-      (g.R.Rng.stream c.args.rng.now) c.saturating_sub-straight_most.result c.straight-end.result c.straight-end.new.seat
-      (g.R.Rng.stream c.straight-end.new.rng)
+      (g.R.Rng.stream c.args.rng.now) c.saturating_sub-room.result c.straight-end.result
+      c.straight-end.new.seat (g.R.Rng.stream c.straight-end.new.rng)
   straight_on = subst (λ (y : MailboxView). AreStraight y.claims.layout c.args.cell c.args.fields.now.seat
-      (g.R.Rng.stream c.args.rng.now) c.saturating_sub-straight_most.result c.straight-end.result c.straight-end.new.seat
-      (g.R.Rng.stream c.straight-end.new.rng)) c.mailbox.view_is c.straight-end.ensures.steps
+      (g.R.Rng.stream c.args.rng.now) c.saturating_sub-room.result c.straight-end.result
+      c.straight-end.new.seat (g.R.Rng.stream c.straight-end.new.rng)) c.mailbox.view_is c.straight-end.ensures.steps
 
   -- how many they are, and the claim at their end
   abbrev made : ℕ
@@ -104,7 +100,7 @@ module _ (g : Over) (c : After-straight-end g) (start : Start c.args.mailbox.now
   last = (straight_on first c.requires.held.standing).1
 
   -- with what is left they are the budget of the straight accesses
-  sum : made + c.straight-end.result.left ≡ c.saturating_sub-straight_most.result
+  sum : made + c.straight-end.result.left ≡ c.saturating_sub-room.result
   sum = (straight_on first c.requires.held.standing).2
 
   -- the claim at their end has the stage
@@ -120,7 +116,7 @@ module _ (g : Over) (c : After-straight-end g) (start : Start c.args.mailbox.now
       (straight_on first c.requires.held.standing).3
       (standing_going c.args.mailbox.now.claims.layout d 0 d first c.requires.held.standing) (stage_is ∙ won) in
       let all = sum in
-      omega (arith, some, all, c.saturating_sub-straight_most.ensures)
+      omega (arith, some, all, c.saturating_sub-room.ensures)
 
   -- accesses that led to the start of these lead on
   ran_on : (from : ConsumerView) (n : ℕ) (t : Stream) (other : Claim)
@@ -201,15 +197,15 @@ returns-in-Lost g c =
     record {
       pursued = λ from n t other is m. pursued_past (base g at.After-has_history) c.args.lane c.args.cell
           c.requires.held.claim c.args.most (made g at.After-straight-end s) n (last g at.After-straight-end s)
-          (stage.Lost c.in-Lost.w) (Lost c.in-Lost.w) (poll.Lost c.in-Lost.w) t
+          (stage.Lost c.in-Lost.winner) (Lost c.in-Lost.winner) (poll.Lost c.in-Lost.winner) t
           (g.R.Rng.stream c.straight-end.new.rng) from c.straight-end.new.seat
           c.leave.new.places.items c.leave.new.notes.lists was.0 was.1
           (stage_is g at.After-straight-end s ∙ c.in-Lost.is) refl refl tt (λ f. cc) refl
-          (omega (arith, all, c.saturating_sub-straight_most.ensures))
+          (omega (arith, all, c.saturating_sub-room.ensures))
           (ran_on g at.After-straight-end s from n t other is m) c.leave.ensures.place c.leave.ensures.notes.lists;
       few = λ e. cc;
       decided = λ last e. cc;
-      wide = room_stays c.args.lane c.args.fields.now.reader.table.size.cells (Some (Lost c.in-Lost.w))
+      wide = room_stays c.args.lane c.args.fields.now.reader.table.size.cells (Some (Lost c.in-Lost.winner))
           c.args.fields.now.notes c.leave.new.notes c.leave.ensures.notes c.requires.wide;
     }
 
@@ -230,7 +226,7 @@ returns-in-Undecided g c =
           stage.Undecided Undecided poll.Undecided t (g.R.Rng.stream c.straight-end.new.rng) from
           c.straight-end.new.seat c.leave-in-Undecided.new.places.items c.leave-in-Undecided.new.notes.lists was.0 was.1
           (stage_is g at.After-straight-end s ∙ c.in-Undecided.is) refl refl tt (λ f. cc) refl
-          (omega (arith, all, c.saturating_sub-straight_most.ensures))
+          (omega (arith, all, c.saturating_sub-room.ensures))
           (ran_on g at.After-straight-end s from n t other is m) c.leave-in-Undecided.ensures.place
           c.leave-in-Undecided.ensures.notes.lists;
       few = λ e. cc;
@@ -285,9 +281,9 @@ returns-in-Going-clause-pursued g c from n t other is m =
     let going : claim_stage end ≡ stage.Going = stage_is g at.After-straight-end s ∙ c.in-Going.is in
     let all = sum g at.After-straight-end s in
     pursued_on c.args.lane (made g at.After-straight-end s) n
-    (c.straight-end.result.left + (c.args.most - c.saturating_sub-straight_most.result)) c.args.most
+    (c.straight-end.result.left + (c.args.most - c.saturating_sub-room.result)) c.args.most
     c.run_rest.result t (g.R.Rng.stream c.run_rest.new.rng) from (with_fields c.run_rest.new.fields)
-    (omega (arith, all, c.saturating_sub-straight_most.ensures))
+    (omega (arith, all, c.saturating_sub-room.ensures))
     (c.run_rest.ensures.pursued from (made g at.After-straight-end s + n) t end
     (subst (λ x. IsStanding c.args.mailbox.now.claims.layout x c.straight-end.result.object
     c.straight-end.result.value end) (sym (ap (λ (z : SeatView). z.consumer) so.same))

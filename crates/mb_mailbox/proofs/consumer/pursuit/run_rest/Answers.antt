@@ -40,8 +40,8 @@ module _ (g : Over) (c : After-has_history g) where
 
 module _ (g : Over) (c : After-standing-claim g) where
   -- the layout that the mailbox returned is its own
-  layout_is : c.args.mailbox.now.claims.layout ≡ c.layout.result.now
-  layout_is = sym (c.layout.ensures ∙ ap (λ (v : MailboxView). v.claims.layout) c.mailbox.view_is)
+  layout_is : c.args.mailbox.now.claims.layout ≡ c.layout-layout.result.now
+  layout_is = sym (c.layout-layout.ensures ∙ ap (λ (v : MailboxView). v.claims.layout) c.mailbox.view_is)
 
   -- the claim is that which the consumer holds
   claim_is : c.requires.held.claim ≡ c.standing-claim.result
@@ -50,20 +50,20 @@ module _ (g : Over) (c : After-standing-claim g) where
       c.args.end.value c.requires.held.claim c.requires.held.standing c.standing-claim.result
       (subst (λ (l : Layout). IsStanding l c.args.fields.now.seat.consumer c.args.end.object c.args.end.value
       c.standing-claim.result) (sym layout_is)
-      (subst (λ d. IsStanding c.layout.result.now d c.args.end.object c.args.end.value c.standing-claim.result)
+      (subst (λ d. IsStanding c.layout-layout.result.now d c.args.end.object c.args.end.value c.standing-claim.result)
       c.consumer-consumer.ensures.exact c.standing-claim.ensures))
 
 pub standing-claim-requires-clause-object : goal.standing-claim-requires-clause-object
 standing-claim-requires-clause-object g c =
     let at = (goal.at.standing-claim-requires-clause-object g c).After-has_history in
     subst (λ (l : Layout). c.args.end.object < length (kinds_of l))
-    (sym (c.layout.ensures ∙ ap (λ (v : MailboxView). v.claims.layout) c.mailbox.view_is)) (within g at).0
+    (sym (c.layout-layout.ensures ∙ ap (λ (v : MailboxView). v.claims.layout) c.mailbox.view_is)) (within g at).0
 
 pub standing-claim-requires-clause-value : goal.standing-claim-requires-clause-value
 standing-claim-requires-clause-value g c =
     let at = (goal.at.standing-claim-requires-clause-value g c).After-has_history in
     subst (λ (l : Layout). c.args.end.value < consumer_count l)
-    (sym (c.layout.ensures ∙ ap (λ (v : MailboxView). v.claims.layout) c.mailbox.view_is)) (within g at).1
+    (sym (c.layout-layout.ensures ∙ ap (λ (v : MailboxView). v.claims.layout) c.mailbox.view_is)) (within g at).1
 
 pub run_claim-requires-clause-held : goal.run_claim-requires-clause-held
 run_claim-requires-clause-held g c =

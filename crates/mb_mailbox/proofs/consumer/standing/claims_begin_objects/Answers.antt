@@ -10,6 +10,7 @@ returns-clause-new c layout d low =
     (λ stands. c.places_show_prefixes.ensures.prefix (claims_in layout 0) d 0 _ [] (quorums_lawful layout) stands)
 
 pub returns-clause-within : goal.returns-clause-within
-returns-clause-within c layout d o v claim xs is path =
-    (standing_object layout d o v claim is,
-    standing_value layout d o v claim is (c.claims_make_steps.ensures.fits layout claim xs path))
+returns-clause-within c layout d o v claim xs is path = (
+  standing_object layout d o v claim is,
+  standing_value layout d o v claim is (c.claims_make_steps.ensures.fits layout claim xs path),
+)
