@@ -32,7 +32,7 @@ never_behind made (Err d) never = λ is. never (ap (λ (f : Fault). Err f) (err_
 -- if neither the first line of a script nor the others have the fault NoSetup, the script does not have it
 never_step : (r : Result SetupLine Fault) (f : SetupLine → Result (List Event) Fault) → For (λ e. e ≢ NoSetup) r
     → ((x : SetupLine) → f x ≢ Err NoSetup)
-        → (r >>= (λ made. f made >>= (λ es. Ok (script_with made es)))) ≢ Err NoSetup
+    → (r >>= (λ made. f made >>= (λ es. Ok (script_with made es)))) ≢ Err NoSetup
 never_step (Err d) f first behind = λ is. first (err_is d NoSetup is)
 never_step (Ok x) f first behind = λ is. never_behind x (f x) (behind x) is
 
