@@ -73,6 +73,8 @@ impl<A: Allocator + Drop> Consumer<A> {
             Look::Ended => return Poll::Ended,
             Look::Cell(cell) => cell,
         };
+
+        // This call's contract says that the consumer is one of the mailbox's. So it may begin a claim.
         fields.seat.consumer();
         run_new(fields, mailbox, lane, cell, budget - 1, rng)
     }

@@ -1,6 +1,6 @@
 //! What a poll does with a claim. It keeps the claim in a variable of its own, and writes the consumer's place once.
 //! So an item with four consumers costs a seventh fewer instructions than if each step wrote the claim into its
-//! place.
+//! place. A new claim goes straight through whole objects, and is kept nowhere on this way.
 ghost use Rattle.std.specs.Prelude.{ℕ, ◌≡◌, ◌≢◌, ◌+◌, ◌<◌, ◌≤◌, None, Some, length, slice_set, true};
 ghost use Rattle.arrayvec.specs.ArrayVec.{array_vec_len};
 ghost use Rattle.mb_claim.specs.declared.access.Stage.TheVariants as stage;
@@ -126,8 +126,8 @@ pub(super) fn run_claim<A: Allocator + Drop, B: Allocator + Drop, R: Rng>(
     }
 }
 
-/// Makes a claim from its first access on, with the clauses of [`run_claim`]. It goes straight through whole objects,
-/// and makes no claim on this way.
+/// Makes a claim from its first access on, with the clauses of [`run_claim`]. As long as `most` has room for whole
+/// objects, it goes straight through them. [`run_rest`] makes the other accesses.
 #[inline(always)]
 pub(super) fn run_new<A: Allocator + Drop, B: Allocator + Drop, R: Rng>(
     fields: &mut ConsumerFields<A>,
