@@ -1,11 +1,11 @@
--- Proof of `SharedClaims::steps`: what `run` does, by single steps.
+-- Proof of `SharedClaims::run`: makes accesses of a claim of the seat's consumer on a cell, by single steps.
 use Rattle.std.proofs.Common.{rules, ◌≡◌, ◌-◌, ◌≤◌, suc, sym, ◌∙◌, subst, arith}
 use Rattle.mb_claim.specs.Vocabulary.{claim_stage, most_accesses}
 use Rattle.mb_shared_claims.specs.Types.{Going}
 use Rattle.mb_shared_claims.specs.ManySeatSteps.{AreSeatSteps}
 use Rattle.mb_shared_claims.proofs.SeatRuns.{same_table, same_consumer, few_seat_steps}
-use Rattle.mb_shared_claims.proofs.table.SharedClaims.steps.Goals as goal
-use Rattle.mb_shared_claims.proofs.table.SharedClaims.steps.Goals.{then-steps-test+else-eq, else-steps-test}
+use Rattle.mb_shared_claims.proofs.table.SharedClaims.run.Goals as goal
+use Rattle.mb_shared_claims.proofs.table.SharedClaims.run.Goals.{then-steps-test+else-eq, else-steps-test}
 
 -- one step more was made, with the word drawn
 pub steps-preserved : goal.steps-preserved
