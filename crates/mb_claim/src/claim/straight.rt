@@ -23,8 +23,7 @@ pub struct Stretch {
 impl Claim {
     ghost use Rattle.std.specs.Prelude.{◌≡◌, ◌≢◌, ◌<◌, ◌≤◌, ◌+◌, ◌*◌, ◌^◌, ℕ, true, false, length, slice_get, Some};
     ghost use Rattle.mb_claim.specs.{Ratifier, Going, claim_stage, IsNextOp, AreClaimSteps, DrawsAndMakesNext};
-    ghost use Rattle.mb_claim.specs.{quorums_of, kinds_of, consumer_count, cell_words, stage_for};
-    ghost use Rattle.mb_claim.specs.{IsStanding, HasEnd, site_of};
+    ghost use Rattle.mb_claim.specs.{quorums_of, kinds_of, consumer_count, cell_words, IsStanding, HasEnd, site_of};
 
     /// The claim of a consumer before its first access to an object, with this value as its input there.
     #[cold]
@@ -181,7 +180,7 @@ impl Claim {
         let out = through_ratifier(&layout.table, memory, site, at.value, left);
         at.value = out.value;
         if out.decided {
-            at.stage = Claim::ended(consumer, out.value);
+            at.stage = Claim::stage_for(consumer, out.value);
             return false;
         }
         at.object += 1;
@@ -190,18 +189,5 @@ impl Claim {
             return false;
         }
         true
-    }
-
-    /// The stage of a consumer's claim if its object decided this value.
-    #[inline(always)]
-    fn ended(consumer: u32, value: u32) -> Stage
-        ensures exact { result ≡ stage_for consumer value }
-        ensures ended { result ≢ Going }
-    {
-        if value == consumer {
-            Stage::Won
-        } else {
-            Stage::Lost(value)
-        }
     }
 }

@@ -21,7 +21,7 @@ impl<A: Allocator + Drop> SharedClaims<A> {
 
     /// Makes accesses of a claim of the seat's consumer on a cell, each with the next word of `rng`. It stops if the
     /// claim has ended or `most` were made. Returns how many it made. As many calls of [`SharedClaims::step`] make the
-    /// same accesses.
+    /// same accesses. It goes by single steps, out of line. A new claim goes faster by [`SharedClaims::straight`].
     #[inline(always)]
     pub fn run<R: Rng>(
         &self,
@@ -54,23 +54,20 @@ impl<A: Allocator + Drop> SharedClaims<A> {
         ensures decided { (shape_of self.now.layout).last ≡ true
             → claim_stage claim.new ≢ Undecided }
     {
-        claims_make_steps();
         claims_are_bounded();
         accesses_lengthen_one_part();
         last_objects_decide_claims();
-        let mut memory = DrawingWords {
-            table: self,
-            seat: &mut *seat,
-            cell,
-            word: 0,
-            rng: &mut *rng,
-        };
-        claim.run(&self.size.layout, &mut memory, most)
+        let mut left = most;
+        'steps: while left != 0 && claim.stage() == Stage::Going {
+            left -= 1;
+            self.single(seat, claim, cell, rng.next_u64());
+        }
+        most - left
     }
 
     /// Makes the accesses of a new claim of the seat's consumer on a cell, each with the next word of `rng`. It goes pair
     /// by pair as long as `most` has room for all accesses to a pair. As many calls of [`SharedClaims::step`] make the
-    /// same accesses. The rest is for [`SharedClaims::steps`], with the claim of [`Claim::standing`].
+    /// same accesses. The rest is for [`SharedClaims::run`], with the claim of [`Claim::standing`].
     #[inline(always)]
     pub fn straight<R: Rng>(
         &self,
@@ -121,50 +118,6 @@ impl<A: Allocator + Drop> SharedClaims<A> {
             rng: &mut *rng,
         };
         Claim::straight(layout, &mut memory, layout.begin(cell), consumer, most)
-    }
-
-    /// What [`SharedClaims::run`] does, by single steps. A program that seldom needs them keeps them out of its way.
-    #[inline(always)]
-    pub fn steps<R: Rng>(
-        &self,
-        seat: &mut ClaimSeat,
-        claim: &mut Claim,
-        cell: u32,
-        rng: &mut R,
-        most: u64,
-    ) -> u64
-        requires table { seat.old.table ≡ name_of self.now }
-        requires cell { cell < self.now.cells }
-        requires consumer { consumer_of claim.old ≡ seat.old.consumer }
-        requires standing { IsClaimIn self.now.layout claim.old
-            (part_on seat.old.consumer cell seat.old.part) }
-
-        // Each access is the next one of the claim, with the next word of `rng`.
-        ensures steps { AreSeatSteps self.now.layout cell claim.old seat.old (R.stream rng.old)
-            result
-            claim.new seat.new (R.stream rng.new) }
-        ensures within { result ≤ most }
-        ensures all { claim_stage claim.new ≡ Going → result ≡ most }
-
-        // So the claim has made all that its consumer has done on the cell, and at most what its layout allows.
-        ensures standing { IsClaimIn self.now.layout claim.new
-            (part_on seat.new.consumer cell seat.new.part) }
-        ensures consumer { consumer_of claim.new ≡ consumer_of claim.old }
-        ensures few { result ≤ most_accesses self.now.layout }
-
-        // With a last object no claim is undecided.
-        ensures decided { (shape_of self.now.layout).last ≡ true
-            → claim_stage claim.new ≢ Undecided }
-    {
-        claims_are_bounded();
-        accesses_lengthen_one_part();
-        last_objects_decide_claims();
-        let mut left = most;
-        'steps: while left != 0 && claim.stage() == Stage::Going {
-            left -= 1;
-            self.single(seat, claim, cell, rng.next_u64());
-        }
-        most - left
     }
 
     /// Makes one step of a claim, out of line.

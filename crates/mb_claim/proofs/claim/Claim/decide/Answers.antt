@@ -62,8 +62,8 @@ returns-then-out-clause-steps g c claim stands =
     let ends = led_to_end layout parts g.M.Drawing.draws g.M.Memory.makes c.args.consumer o c.args.at.now.value
     Ratifier c.requires.object c.args.memory.now c.args.begin c.site-site.result
     c.site-site.ensures claim stands made.0 out.value c.through_ratifier-out.new.memory
-    (record { stage = c.ended-at.result; object = o; value = out.value; left = c.through_ratifier-out.new.left })
-    c.ended-at.ensures.exact
+    (record { stage = c.stage_for-at.result; object = o; value = out.value; left = c.through_ratifier-out.new.left })
+    c.stage_for-at.ensures.exact
     (subst (λ r. AreSteps (quorums_of layout) (DrawsAndMakes g.M.Drawing.draws g.M.Memory.makes
     c.site-site.result.object) (first_place (quorums_of layout) Ratifier c.args.at.now.value) c.args.memory.now
     made.0 (leads.Out r) c.through_ratifier-out.new.memory) (as_answer out true c.if-out.true) made.2) in

@@ -1,9 +1,9 @@
--- Choices for the loop of `SharedClaims::steps`: what it keeps.
+-- Choices for the loop of `SharedClaims::run`: what it keeps.
 use Rattle.std.proofs.Common.{◌≡◌, ◌+◌, ℕ}
 use Rattle.mb_claim.specs.Vocabulary.{IsClaimIn, consumer_of, part_on}
 use Rattle.mb_shared_claims.specs.Seats.{name_of}
 use Rattle.mb_shared_claims.specs.ManySeatSteps.{AreSeatSteps}
-use Rattle.mb_shared_claims.proofs.table.SharedClaims.steps.Given as goal
+use Rattle.mb_shared_claims.proofs.table.SharedClaims.run.Given as goal
 
 -- so many accesses were made as the budget lost, and the claim can be stepped again
 abbrev pub invariant-steps : goal.invariant-steps
