@@ -101,7 +101,7 @@ pub(super) fn run_claim<A: Allocator + Drop, B: Allocator + Drop, R: Rng>(
     if let Stage::Won = claim.stage() {
         return Poll::Took(take(places, notes, reader, mailbox, lane, cell));
     }
-    let made = mailbox.claims.steps(seat, &mut claim, cell, rng, most);
+    let made = mailbox.claims.run(seat, &mut claim, cell, rng, most);
     seat.has_history();
     match claim.stage() {
         Stage::Going => {
