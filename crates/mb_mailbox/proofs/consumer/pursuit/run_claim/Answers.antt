@@ -16,7 +16,7 @@ use Rattle.mb_mailbox.proofs.Made.{at_views, room_stays}
 use Rattle.mb_mailbox.proofs.Pursuing.{pursued_past, pursued_spent}
 use Rattle.mb_mailbox.proofs.Starts.{Start, begun, here, ran, start_room, table, there}
 use Rattle.mb_mailbox.proofs.Taking.{taken}
-use Rattle.mb_mailbox.proofs.consumer.pursuit.run_claim.{Given.Over, Goals.After-has_history, Goals.After-has_history-2, Goals.After-steps-made}
+use Rattle.mb_mailbox.proofs.consumer.pursuit.run_claim.{Given.Over, Goals.After-has_history, Goals.After-has_history-2, Goals.After-run-made}
 use Rattle.mb_mailbox.proofs.consumer.pursuit.run_claim.Goals as goal
 
 -- the consumer of these fields, with the claim in its place
@@ -75,41 +75,41 @@ module _ (g : Over) (c : After-has_history g) where
 
 -- if as many accesses were made as may be, the claim's layout allows that many, with those before
 few_made : (g : Over) (c : After-has_history-2 g) → Start c.args.mailbox.now c.args.held c.args.fields.now
-    → c.steps-made.result ≡ c.args.most
+    → c.run-made.result ≡ c.args.most
     → c.args.most + length (part_on c.args.fields.now.seat.consumer c.args.held.cell c.args.fields.now.seat.part)
     ≤ most_accesses c.args.mailbox.now.claims.layout
 few_made g c start all =
     let m = c.args.mailbox.now in
     let seat = c.args.fields.now.seat in
     subst (λ z. z + length (part_on seat.consumer c.args.held.cell seat.part) ≤ most_accesses m.claims.layout) all
-    (c.accesses_are_counted.ensures.few m.claims.layout m.claims.cells c.args.held.cell c.steps-made.result
-    c.args.held.claim c.steps-made.new.claim seat c.steps-made.new.seat (g.R.Rng.stream c.args.rng.now)
-    (g.R.Rng.stream c.steps-made.new.rng) (table m c.args.held c.args.fields.now start)
+    (c.accesses_are_counted.ensures.few m.claims.layout m.claims.cells c.args.held.cell c.run-made.result
+    c.args.held.claim c.run-made.new.claim seat c.run-made.new.seat (g.R.Rng.stream c.args.rng.now)
+    (g.R.Rng.stream c.run-made.new.rng) (table m c.args.held c.args.fields.now start)
     (subst (λ (y : MailboxView). AreSeatSteps y.claims.layout c.args.held.cell c.args.held.claim seat
-    (g.R.Rng.stream c.args.rng.now) c.steps-made.result c.steps-made.new.claim c.steps-made.new.seat
-    (g.R.Rng.stream c.steps-made.new.rng)) c.mailbox.view_is c.steps-made.ensures.steps) c.has_history-2.ensures)
+    (g.R.Rng.stream c.args.rng.now) c.run-made.result c.run-made.new.claim c.run-made.new.seat
+    (g.R.Rng.stream c.run-made.new.rng)) c.mailbox.view_is c.run-made.ensures.steps) c.has_history-2.ensures)
 
 -- after accesses of the claim
-module _ (g : Over) (c : After-steps-made g) (start : Start c.args.mailbox.now c.args.held c.args.fields.now) where
+module _ (g : Over) (c : After-run-made g) (start : Start c.args.mailbox.now c.args.held c.args.fields.now) where
   -- the consumer with the claim
   abbrev held : ConsumerView
   held = holding c.args.held.lane c.args.held.cell c.args.held.claim
       (with_fields c.args.fields.now)
 
   -- accesses that led to the start of these lead on
-  ran_on : (made : ℕ) → c.steps-made.result ≡ made → (from : ConsumerView) (n : ℕ) (t : Stream)
+  ran_on : (made : ℕ) → c.run-made.result ≡ made → (from : ConsumerView) (n : ℕ) (t : Stream)
       → AreSteps c.args.held.lane n None t (g.R.Rng.stream c.args.rng.now) from held
-      → HasCompeted c.args.held.lane c.args.held.cell (made + n) c.steps-made.new.claim t
-      (g.R.Rng.stream c.steps-made.new.rng) from held c.steps-made.new.seat
+      → HasCompeted c.args.held.lane c.args.held.cell (made + n) c.run-made.new.claim t
+      (g.R.Rng.stream c.run-made.new.rng) from held c.run-made.new.seat
   ran_on made all from n t m =
       let own = c.consumers_move_on.ensures.own held c.args.held.lane c.args.held.cell c.args.held.claim start.held
       (here c.args.mailbox.now c.args.held c.args.fields.now start) in
-      subst (λ z. HasCompeted c.args.held.lane c.args.held.cell (z + n) c.steps-made.new.claim t
-      (g.R.Rng.stream c.steps-made.new.rng) from held c.steps-made.new.seat) all
+      subst (λ z. HasCompeted c.args.held.lane c.args.held.cell (z + n) c.run-made.new.claim t
+      (g.R.Rng.stream c.run-made.new.rng) from held c.run-made.new.seat) all
       (ran c.args.mailbox.now c.args.held c.args.fields.now start c.consumers_move_on.ensures.competes
       c.places_tell_steps.ensures.competes (record { cells = c.mailbox.inside.cells; claims = c.mailbox.inside.claims })
-      c.mailbox.view_is own from n t (g.R.Rng.stream c.args.rng.now) m c.steps-made.result c.steps-made.new.claim
-      c.steps-made.new.seat (g.R.Rng.stream c.steps-made.new.rng) c.steps-made.ensures.steps)
+      c.mailbox.view_is own from n t (g.R.Rng.stream c.args.rng.now) m c.run-made.result c.run-made.new.claim
+      c.run-made.new.seat (g.R.Rng.stream c.run-made.new.rng) c.run-made.ensures.steps)
 
 -- The clauses in `Won` are of a claim that was won before. The others are of its stage after the accesses made here:
 -- won with an access left (`then-made-most`) or with none, going, lost or undecided
@@ -134,9 +134,9 @@ returns-in-Won-clause-wide g c =
     (room_stays c.args.held.lane c.args.fields.now.reader.table.size.cells (Some (Took c.take.result))
     c.args.fields.now.notes c.take.new.notes c.take.ensures.notes c.requires.wide)
 
-pub steps-made-requires : goal.steps-made-requires
-steps-made-requires g c =
-    let at = (goal.at.steps-made-requires g c).After-has_history in
+pub run-made-requires : goal.run-made-requires
+run-made-requires g c =
+    let at = (goal.at.run-made-requires g c).After-has_history in
     let z : TableSize = record { layout = c.args.mailbox.now.claims.layout; cells = c.args.mailbox.now.claims.cells } in
     let turns = c.consumers_move_on.ensures.turns (with_claim g at) c.args.held.lane c.args.held.cell c.args.held.claim
     c.requires.held (stands g at) z
@@ -165,11 +165,11 @@ pub returns-then-made-most : goal.returns-then-made-most
 returns-then-made-most g c =
     let at = goal.at.returns-then-made-most g c in
     record {
-      pursued = λ from n t m. takes g at.After-has_history c.take-then-made-most.result c.steps-made.new.claim
-          c.steps-made.new.seat c.take-then-made-most.new.reader c.take-then-made-most.new.places.items
-          c.take-then-made-most.new.notes.lists c.steps-made.result n (c.steps-made.result + n) t
-          (g.R.Rng.stream c.steps-made.new.rng) from refl (sym c.stage-2.ensures ∙ c.in-Won-stage.is)
-          (ran_on g at.After-steps-made (start g at.After-has_history) c.steps-made.result refl from n t m)
+      pursued = λ from n t m. takes g at.After-has_history c.take-then-made-most.result c.run-made.new.claim
+          c.run-made.new.seat c.take-then-made-most.new.reader c.take-then-made-most.new.places.items
+          c.take-then-made-most.new.notes.lists c.run-made.result n (c.run-made.result + n) t
+          (g.R.Rng.stream c.run-made.new.rng) from refl (sym c.stage-2.ensures ∙ c.in-Won-stage.is)
+          (ran_on g at.After-run-made (start g at.After-has_history) c.run-made.result refl from n t m)
           c.take-then-made-most.ensures.makes c.take-then-made-most.ensures.place
           c.take-then-made-most.ensures.notes.lists (omega (arith, c.if-made-most.true));
       few = λ e. cc;
@@ -185,12 +185,12 @@ pub returns-in-Going : goal.returns-in-Going
 returns-in-Going g c =
     let at = goal.at.returns-in-Going g c in
     let going = sym c.stage-2.ensures ∙ c.in-Going.is in
-    let all : c.steps-made.result ≡ c.args.most = c.steps-made.ensures.all going in
+    let all : c.run-made.result ≡ c.args.most = c.run-made.ensures.all going in
     record {
       pursued = λ from n t m. pursued_spent (base g at.After-has_history) c.args.held.lane c.args.held.cell
-          c.args.held.claim c.args.most n c.steps-made.new.claim stage.Going t (g.R.Rng.stream c.steps-made.new.rng)
-          from c.steps-made.new.seat c.stay.new.places.items going refl refl refl
-          (ran_on g at.After-steps-made (start g at.After-has_history) c.args.most all from n t m) c.stay.ensures;
+          c.args.held.claim c.args.most n c.run-made.new.claim stage.Going t (g.R.Rng.stream c.run-made.new.rng)
+          from c.run-made.new.seat c.stay.new.places.items going refl refl refl
+          (ran_on g at.After-run-made (start g at.After-has_history) c.args.most all from n t m) c.stay.ensures;
       few = λ e. few_made g at.After-has_history-2 (start g at.After-has_history) all;
       decided = λ last e. cc;
       wide = c.requires.wide;
@@ -199,13 +199,13 @@ returns-in-Going g c =
 pub returns-else-made-most : goal.returns-else-made-most
 returns-else-made-most g c =
     let at = goal.at.returns-else-made-most g c in
-    let all : c.steps-made.result ≡ c.args.most = omega (arith, c.if-made-most.false, c.steps-made.ensures.within) in
+    let all : c.run-made.result ≡ c.args.most = omega (arith, c.if-made-most.false, c.run-made.ensures.within) in
     let won = sym c.stage-2.ensures ∙ c.in-Won-stage.is in
     record {
       pursued = λ from n t m. pursued_spent (base g at.After-has_history) c.args.held.lane c.args.held.cell
-          c.args.held.claim c.args.most n c.steps-made.new.claim stage.Won t (g.R.Rng.stream c.steps-made.new.rng) from
-          c.steps-made.new.seat c.stay-in-Won-stage.new.places.items won refl refl refl
-          (ran_on g at.After-steps-made (start g at.After-has_history) c.args.most all from n t m)
+          c.args.held.claim c.args.most n c.run-made.new.claim stage.Won t (g.R.Rng.stream c.run-made.new.rng) from
+          c.run-made.new.seat c.stay-in-Won-stage.new.places.items won refl refl refl
+          (ran_on g at.After-run-made (start g at.After-has_history) c.args.most all from n t m)
           c.stay-in-Won-stage.ensures;
       few = λ e. few_made g at.After-has_history-2 (start g at.After-has_history) all;
       decided = λ last e. cc;
@@ -223,11 +223,11 @@ returns-in-Lost g c =
     let was = was_there g at.After-has_history in
     record {
       pursued = λ from n t m. pursued_past (base g at.After-has_history) c.args.held.lane c.args.held.cell
-          c.args.held.claim c.args.most c.steps-made.result n c.steps-made.new.claim (stage.Lost c.in-Lost.w)
-          (Lost c.in-Lost.w) (poll.Lost c.in-Lost.w) t (g.R.Rng.stream c.steps-made.new.rng) from c.steps-made.new.seat
+          c.args.held.claim c.args.most c.run-made.result n c.run-made.new.claim (stage.Lost c.in-Lost.w)
+          (Lost c.in-Lost.w) (poll.Lost c.in-Lost.w) t (g.R.Rng.stream c.run-made.new.rng) from c.run-made.new.seat
           c.leave.new.places.items c.leave.new.notes.lists was.0 was.1
-          (sym c.stage-2.ensures ∙ c.in-Lost.is) refl refl tt (λ f. cc) refl c.steps-made.ensures.within
-          (ran_on g at.After-steps-made (start g at.After-has_history) c.steps-made.result refl from n t m)
+          (sym c.stage-2.ensures ∙ c.in-Lost.is) refl refl tt (λ f. cc) refl c.run-made.ensures.within
+          (ran_on g at.After-run-made (start g at.After-has_history) c.run-made.result refl from n t m)
           c.leave.ensures.place c.leave.ensures.notes.lists;
       few = λ e. cc;
       decided = λ last e. cc;
@@ -247,15 +247,15 @@ returns-in-Undecided g c =
     let undecided = sym c.stage-2.ensures ∙ c.in-Undecided.is in
     record {
       pursued = λ from n t m. pursued_past (base g at.After-has_history) c.args.held.lane c.args.held.cell
-          c.args.held.claim c.args.most c.steps-made.result n c.steps-made.new.claim stage.Undecided
-          Undecided poll.Undecided t (g.R.Rng.stream c.steps-made.new.rng) from c.steps-made.new.seat
+          c.args.held.claim c.args.most c.run-made.result n c.run-made.new.claim stage.Undecided
+          Undecided poll.Undecided t (g.R.Rng.stream c.run-made.new.rng) from c.run-made.new.seat
           c.leave-in-Undecided.new.places.items c.leave-in-Undecided.new.notes.lists was.0 was.1
-          undecided refl refl tt (λ f. cc) refl c.steps-made.ensures.within
-          (ran_on g at.After-steps-made (start g at.After-has_history) c.steps-made.result refl from n t m)
+          undecided refl refl tt (λ f. cc) refl c.run-made.ensures.within
+          (ran_on g at.After-run-made (start g at.After-has_history) c.run-made.result refl from n t m)
           c.leave-in-Undecided.ensures.place c.leave-in-Undecided.ensures.notes.lists;
       few = λ e. cc;
       decided = λ last e. absurd (subst (λ (y : MailboxView). (shape_of y.claims.layout).last ≡ true
-          → claim_stage c.steps-made.new.claim ≢ stage.Undecided) c.mailbox.view_is c.steps-made.ensures.decided last
+          → claim_stage c.run-made.new.claim ≢ stage.Undecided) c.mailbox.view_is c.run-made.ensures.decided last
           undecided);
       wide = room_stays c.args.held.lane c.args.fields.now.reader.table.size.cells (Some Undecided)
           c.args.fields.now.notes c.leave-in-Undecided.new.notes c.leave-in-Undecided.ensures.notes c.requires.wide;
