@@ -33,12 +33,6 @@ first_fits t (Conciliator s) v fit below = (below, (s, 0, fit, (omega arith, ref
 first_fits t Ratifier v fit below = below
 first_fits t LastObject v fit below = below
 
--- if the first place of an object fits the table, its input is one of the table's values
-first_within : (t : QuorumTable) (kind : Kind) (v : ℕ) → IsPlace t (first_place t kind v) → v < t.values
-first_within t (Conciliator s) v fits = fits.0
-first_within t Ratifier v fits = fits
-first_within t LastObject v fits = fits
-
 -- ---- claims before an object
 -- an object that a layout has is of some kind, which fits
 pub some_kind : (layout : Layout) (o : ℕ) → o < length (kinds_of layout)
@@ -346,24 +340,3 @@ module _ {M : Type 0} (layout : Layout) (draws : M → ℕ → M → Type 0) (ma
       (joined layout (DrawsAndMakesNext draws makes) new.0 start a.0 a.1 between a.3 n follows before
       (subst (λ d. AreClaimSteps layout (DrawsAndMakesNext draws makes) d between n follows before) (sym same) steps))
       going drawn is
-
--- the object and the input of a claim that goes on are some of its layout's
-pub end_within :
-    (layout : Layout) (c : ℕ) (stretch : Stretch) (claim : Claim) → HasEnd layout c stretch claim
-    → stretch.stage ≡ Going
-    → (stretch.object < length (kinds_of layout)) × (stretch.value < consumer_count layout)
-end_within layout c stretch claim end going =
-    by_kind (slice_get (kinds_of layout) stretch.object) refl (end.3 going)
-  where
-    -- the kind of the object says what its first place is
-    by_kind :
-        (kind : Option Kind) → slice_get (kinds_of layout) stretch.object ≡ kind
-        → MatchOption kind ⊥ (λ k. claim ≡ standing layout c stretch.object stretch.value k)
-        → (stretch.object < length (kinds_of layout)) × (stretch.value < consumer_count layout)
-    by_kind None at is = absurd is
-    by_kind (Some kind) at is =
-        let fits = end.2 (end.0 ∙ going) in (
-          slice_get_within (kinds_of layout) stretch.object kind at,
-          first_within (quorums_of layout) kind stretch.value
-              (subst (λ (d : Claim). IsPlace (quorums_of layout) d.place) is fits.place),
-        )
