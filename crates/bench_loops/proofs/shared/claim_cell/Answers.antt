@@ -1,9 +1,8 @@
 -- Proof of `claim_cell`: makes the claim of the seat's consumer on a cell that it has not touched, to its end.
-use Rattle.std.proofs.Common.{◌≡◌, ◌<◌, ◌∙◌, [], ap, sym, subst, arith}
+use Rattle.std.proofs.Common.{◌∙◌, ap, sym, subst}
 use Rattle.mb_claim.specs.Vocabulary.{IsClaimIn, IsStanding, part_on}
-use Rattle.mb_shared_claims.specs.Vocabulary.{ClaimTable, claims_at}
 use Rattle.mb_mailbox.proofs.Beginnings.{standing_own, standing_same}
-use Rattle.bench_loops.proofs.Seats.{steps_keep, kept_on, new_claims}
+use Rattle.bench_loops.proofs.Seats.{steps_keep, kept_on, new_claims, seat_known}
 use Rattle.bench_loops.proofs.shared.claim_cell.Goals as goal
 
 -- the consumer has made no access on the cell
@@ -11,8 +10,8 @@ pub straight-end-requires-clause-standing : goal.straight-end-requires-clause-st
 straight-end-requires-clause-standing g c other stands =
     let layout = c.args.table.now.layout in
     let own = c.args.seat.now.consumer in
-    let low = subst (λ (t : ClaimTable). own < (claims_at t).table.values) c.requires.table
-    (subst (λ k. k < (claims_at c.args.seat.now.table).table.values) c.consumer.ensures.exact c.consumer.ensures.known) in
+    let low = seat_known c.args.table.now c.args.seat.now c.consumer.result c.requires.table
+    c.consumer.ensures.exact c.consumer.ensures.known in
     let start = new_claims c.places_show_prefixes.ensures.prefix layout own low in
     subst (IsClaimIn layout other) (sym c.requires.fresh) (start.2 other stands)
 
@@ -21,8 +20,8 @@ pub run-more-requires-clause-standing : goal.run-more-requires-clause-standing
 run-more-requires-clause-standing g c =
     let layout = c.args.table.now.layout in
     let own = c.args.seat.now.consumer in
-    let low = subst (λ (t : ClaimTable). own < (claims_at t).table.values) c.requires.table
-    (subst (λ k. k < (claims_at c.args.seat.now.table).table.values) c.consumer.ensures.exact c.consumer.ensures.known) in
+    let low = seat_known c.args.table.now c.args.seat.now c.consumer.result c.requires.table
+    c.consumer.ensures.exact c.consumer.ensures.known in
     let start = new_claims c.places_show_prefixes.ensures.prefix layout own low in
     let end = c.straight-end.ensures.steps start.0 start.1 in
     let p = steps_keep layout c.args.cell start.0 c.args.seat.now _
@@ -38,8 +37,8 @@ pub run-more-requires-clause-consumer : goal.run-more-requires-clause-consumer
 run-more-requires-clause-consumer g c =
     let layout = c.args.table.now.layout in
     let own = c.args.seat.now.consumer in
-    let low = subst (λ (t : ClaimTable). own < (claims_at t).table.values) c.requires.table
-    (subst (λ k. k < (claims_at c.args.seat.now.table).table.values) c.consumer.ensures.exact c.consumer.ensures.known) in
+    let low = seat_known c.args.table.now c.args.seat.now c.consumer.result c.requires.table
+    c.consumer.ensures.exact c.consumer.ensures.known in
     let start = new_claims c.places_show_prefixes.ensures.prefix layout own low in
     let end = c.straight-end.ensures.steps start.0 start.1 in
     let p = steps_keep layout c.args.cell start.0 c.args.seat.now _
@@ -53,8 +52,8 @@ pub run-more-requires-clause-table : goal.run-more-requires-clause-table
 run-more-requires-clause-table g c =
     let layout = c.args.table.now.layout in
     let own = c.args.seat.now.consumer in
-    let low = subst (λ (t : ClaimTable). own < (claims_at t).table.values) c.requires.table
-    (subst (λ k. k < (claims_at c.args.seat.now.table).table.values) c.consumer.ensures.exact c.consumer.ensures.known) in
+    let low = seat_known c.args.table.now c.args.seat.now c.consumer.result c.requires.table
+    c.consumer.ensures.exact c.consumer.ensures.known in
     let start = new_claims c.places_show_prefixes.ensures.prefix layout own low in
     let end = c.straight-end.ensures.steps start.0 start.1 in
     let p = steps_keep layout c.args.cell start.0 c.args.seat.now _
@@ -66,8 +65,8 @@ pub returns-then-ne-clause-table : goal.returns-then-ne-clause-table
 returns-then-ne-clause-table g c =
     let layout = c.args.table.now.layout in
     let own = c.args.seat.now.consumer in
-    let low = subst (λ (t : ClaimTable). own < (claims_at t).table.values) c.requires.table
-    (subst (λ k. k < (claims_at c.args.seat.now.table).table.values) c.consumer.ensures.exact c.consumer.ensures.known) in
+    let low = seat_known c.args.table.now c.args.seat.now c.consumer.result c.requires.table
+    c.consumer.ensures.exact c.consumer.ensures.known in
     let start = new_claims c.places_show_prefixes.ensures.prefix layout own low in
     let end = c.straight-end.ensures.steps start.0 start.1 in
     let p = steps_keep layout c.args.cell start.0 c.args.seat.now _
@@ -78,8 +77,8 @@ pub returns-clause-table : goal.returns-clause-table
 returns-clause-table g c =
     let layout = c.args.table.now.layout in
     let own = c.args.seat.now.consumer in
-    let low = subst (λ (t : ClaimTable). own < (claims_at t).table.values) c.requires.table
-    (subst (λ k. k < (claims_at c.args.seat.now.table).table.values) c.consumer.ensures.exact c.consumer.ensures.known) in
+    let low = seat_known c.args.table.now c.args.seat.now c.consumer.result c.requires.table
+    c.consumer.ensures.exact c.consumer.ensures.known in
     let start = new_claims c.places_show_prefixes.ensures.prefix layout own low in
     let end = c.straight-end.ensures.steps start.0 start.1 in
     let p = steps_keep layout c.args.cell start.0 c.args.seat.now _
@@ -94,8 +93,8 @@ pub returns-then-ne-clause-same : goal.returns-then-ne-clause-same
 returns-then-ne-clause-same g c =
     let layout = c.args.table.now.layout in
     let own = c.args.seat.now.consumer in
-    let low = subst (λ (t : ClaimTable). own < (claims_at t).table.values) c.requires.table
-    (subst (λ k. k < (claims_at c.args.seat.now.table).table.values) c.consumer.ensures.exact c.consumer.ensures.known) in
+    let low = seat_known c.args.table.now c.args.seat.now c.consumer.result c.requires.table
+    c.consumer.ensures.exact c.consumer.ensures.known in
     let start = new_claims c.places_show_prefixes.ensures.prefix layout own low in
     let end = c.straight-end.ensures.steps start.0 start.1 in
     let p = steps_keep layout c.args.cell start.0 c.args.seat.now _
@@ -106,8 +105,8 @@ pub returns-clause-same : goal.returns-clause-same
 returns-clause-same g c =
     let layout = c.args.table.now.layout in
     let own = c.args.seat.now.consumer in
-    let low = subst (λ (t : ClaimTable). own < (claims_at t).table.values) c.requires.table
-    (subst (λ k. k < (claims_at c.args.seat.now.table).table.values) c.consumer.ensures.exact c.consumer.ensures.known) in
+    let low = seat_known c.args.table.now c.args.seat.now c.consumer.result c.requires.table
+    c.consumer.ensures.exact c.consumer.ensures.known in
     let start = new_claims c.places_show_prefixes.ensures.prefix layout own low in
     let end = c.straight-end.ensures.steps start.0 start.1 in
     let p = steps_keep layout c.args.cell start.0 c.args.seat.now _
@@ -122,8 +121,8 @@ pub returns-then-ne-clause-others : goal.returns-then-ne-clause-others
 returns-then-ne-clause-others g c k apart =
     let layout = c.args.table.now.layout in
     let own = c.args.seat.now.consumer in
-    let low = subst (λ (t : ClaimTable). own < (claims_at t).table.values) c.requires.table
-    (subst (λ k. k < (claims_at c.args.seat.now.table).table.values) c.consumer.ensures.exact c.consumer.ensures.known) in
+    let low = seat_known c.args.table.now c.args.seat.now c.consumer.result c.requires.table
+    c.consumer.ensures.exact c.consumer.ensures.known in
     let start = new_claims c.places_show_prefixes.ensures.prefix layout own low in
     let end = c.straight-end.ensures.steps start.0 start.1 in
     let p = steps_keep layout c.args.cell start.0 c.args.seat.now _
@@ -134,8 +133,8 @@ pub returns-clause-others : goal.returns-clause-others
 returns-clause-others g c k apart =
     let layout = c.args.table.now.layout in
     let own = c.args.seat.now.consumer in
-    let low = subst (λ (t : ClaimTable). own < (claims_at t).table.values) c.requires.table
-    (subst (λ k. k < (claims_at c.args.seat.now.table).table.values) c.consumer.ensures.exact c.consumer.ensures.known) in
+    let low = seat_known c.args.table.now c.args.seat.now c.consumer.result c.requires.table
+    c.consumer.ensures.exact c.consumer.ensures.known in
     let start = new_claims c.places_show_prefixes.ensures.prefix layout own low in
     let end = c.straight-end.ensures.steps start.0 start.1 in
     let p = steps_keep layout c.args.cell start.0 c.args.seat.now _
