@@ -1,6 +1,6 @@
--- Loop invariants of `play_twice`: plays the claims of all consumers on a cell of this layout twice.
+-- Loop invariants of `claim_twice`: plays a consumer's new claim twice.
 use Rattle.mb_claim.specs.Vocabulary.{FitsLayout}
-use Rattle.test_libraries.proofs.straight_claims.play_twice.Given as goal
+use Rattle.test_libraries.proofs.straight_claims.claim_twice.Given as goal
 
 -- both claims fit the layout
 abbrev pub invariant-loop : goal.invariant-loop
