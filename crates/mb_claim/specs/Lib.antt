@@ -12,6 +12,7 @@ pub mod States
 pub mod OneClaim
 pub mod ManyClaimSteps
 pub mod Straight
+pub mod WordSteps
 pub mod Refusals
 pub mod Plays
 pub mod Boards
@@ -32,6 +33,7 @@ pub use States.*
 pub use OneClaim.*
 pub use ManyClaimSteps.*
 pub use Straight.*
+pub use WordSteps.*
 pub use Refusals.*
 pub use Plays.*
 pub use Boards.*

@@ -44,6 +44,7 @@ pub use access::{ClaimAccess, ClaimOp, ClaimStep, ObjectTurn, Stage};
 pub use claim::Claim;
 pub use claim::straight::Stretch;
 pub use claim_words::ClaimWords;
+pub use claim_words::straight::RandomWords;
 pub use layout::{BadLayout, Layout, MAX_CELLS, MAX_LARGE_CELLS, MAX_PAIRS};
 pub use plays::play;
 pub use run::{ClaimEntry, ClaimRun, PlayFault};
