@@ -76,6 +76,42 @@ LengthensPart =
     (a : ClaimAccess) (h : List ClaimAccess)
     → part_on a.consumer a.cell (a ∷ h) ≡ a.step ∷ part_on a.consumer a.cell h
 
+-- ---- what accesses leave as it is
+-- the layout, the cell, and which words and which source are borrowed
+pub record Frame (N P : Type 0) : Type 0 where
+  pub layout : Layout
+  pub cell : ℕ
+  pub words : N
+  pub source : P
+
+-- the frame of a layout, a cell, the words and a source
+frame : {N P : Type 0} → Layout → ℕ → N → P → Frame N P
+frame l k n p = record { layout = l; cell = k; words = n; source = p }
+
+module _ {N P : Type 0} {a b : Frame N P} where
+  -- frames with the same parts are one
+  pub same_frame : a.layout ≡ b.layout → a.cell ≡ b.cell → a.words ≡ b.words → a.source ≡ b.source → a ≡ b
+  unfolding frame
+  same_frame e f g h =
+      ap (λ x. frame x a.cell a.words a.source) e ∙ ap (λ x. frame b.layout x a.words a.source) f
+      ∙ ap (λ x. frame b.layout b.cell x a.source) g ∙ ap (λ x. frame b.layout b.cell b.words x) h
+
+  -- one frame has one layout
+  pub same_layout : a ≡ b → a.layout ≡ b.layout
+  same_layout e = ap (λ (k : Frame N P). k.layout) e
+
+  -- one frame has one cell
+  pub same_cell : a ≡ b → a.cell ≡ b.cell
+  same_cell e = ap (λ (k : Frame N P). k.cell) e
+
+  -- one frame has the same words
+  pub same_words : a ≡ b → a.words ≡ b.words
+  same_words e = ap (λ (k : Frame N P). k.words) e
+
+  -- one frame has one source
+  pub same_source : a ≡ b → a.source ≡ b.source
+  same_source e = ap (λ (k : Frame N P). k.source) e
+
 -- ---- accesses in a memory of type M, which shows the words, the source, and what stays as it is
 module _ (layout : Layout) (cells cell c : ℕ) {M : Type 0} {K : Type 0} {S : Type 0} (words : M → List ℕ)
     (source : M → S) (kept : M → K) (draws : M → ℕ → M → Type 0) (makes : M → ℕ → Op → ℕ → M → Type 0)
