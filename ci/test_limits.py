@@ -52,6 +52,7 @@ class Limits(unittest.TestCase):
 
     def test_imports_are_counted_however_they_are_wrapped(self):
         self.assertEqual(limits.imports_at_head(RUST), 2)
+        self.assertEqual(limits.imports_at_head("-- a\nunfoldable pub use A.{b}\npub use A.{c}\n\nf : A\n"), 2)
         self.assertEqual(limits.imports_at_head("-- a\nuse A.{\n  b,\n  c\n}\nuse D.{e}\n\nf : A\nuse G.{h}\n"), 2)
         self.assertEqual(found_in({"crates/a/proofs/A.antt": "use A.{b}\n" * 20}), [])
         self.assertEqual(found_in({"crates/a/proofs/A.antt": "use A.{b}\n" * 21}), ["heads of more than 20 imports"])

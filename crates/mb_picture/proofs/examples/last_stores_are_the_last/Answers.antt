@@ -21,7 +21,7 @@ returns-clause-overlooked c = λ none. none 2 (omega arith) refl
 pub returns-clause-past_the_rows : goal.returns-clause-past_the_rows
 returns-clause-past_the_rows c = λ last. let low : 2 < 2 = last.0 in omega arith
 
--- before row 1 nobody stored in item 3
+-- nobody stored in the item word of cell 3 before the second row
 nobody : (i : ℕ) → i < 1 → StoresAt three_stores (Item 3) i → ⊥
 nobody zero below stores = let is : ◌≡◌ {A = Option Word} (Some Counter) (Some (Item 3)) = stores in cc
 nobody (suc i) below stores = omega (arith, below)

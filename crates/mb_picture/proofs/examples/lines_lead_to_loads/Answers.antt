@@ -9,7 +9,7 @@ use Rattle.mb_picture.proofs.examples.lines_lead_to_loads.Goals as goal
 pub returns-clause-load : goal.returns-clause-load
 returns-clause-load c = (Some 2, (omega arith, refl, λ i below above stores. omega (arith, below, above)), refl)
 
--- a line from this row to row 3, and nothing else
+-- a line from this row to the fourth, and nothing else
 abbrev pub one_line : ℕ → List Line
 one_line row = record { from = row; to = 3 } ∷ []
 
@@ -18,7 +18,7 @@ abbrev pub first_row : List Line → ℕ
 first_row [] = 0
 first_row (line ∷ lines) = line.from
 
--- the line to a load of the counter does not come from row 0
+-- the line to a load of the counter does not come from the first row
 not_first : (from : Option ℕ) → IsLastStore three_stores Counter 3 from → one_line 0 ≡ lines_to 3 from → ⊥
 not_first None none is = none 2 (omega arith) refl
 not_first (Some row) last is = let first : 0 ≡ row = ap first_row is in last.2 2 (omega arith) (omega arith) refl
