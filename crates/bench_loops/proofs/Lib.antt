@@ -1,2 +1,3 @@
 mod Contests
+mod WordChains
 mod Seats

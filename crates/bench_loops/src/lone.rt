@@ -1,9 +1,10 @@
 //! Claims that nobody disturbs, one on each cell.
-ghost use Rattle.std.specs.Prelude.{◌≡◌, ◌<◌, [], ℕ, List};
+ghost use Rattle.std.specs.Prelude.{◌≡◌, ◌<◌, [], ◌∷◌, ℕ, List};
 ghost use Rattle.mb_claim.specs.declared.access.ClaimAccess.{ClaimAccess};
 ghost use Rattle.mb_claim.specs.declared.layout.TheConstants.{MAX_CELLS};
-ghost use Rattle.mb_claim.specs.Vocabulary.{part_on, consumer_count, IsMemoryOf};
-ghost use Rattle.bench_loops.specs.UnderWay.{all_claims, ChangesOnly};
+ghost use Rattle.mb_claim.specs.declared.access.Stage.TheVariants.{Going};
+ghost use Rattle.mb_claim.specs.Vocabulary.{part_on, claim_stage, consumer_count, consumer_of, steps_left, IsMemoryOf};
+ghost use Rattle.bench_loops.specs.UnderWay.{all_claims, ChangesOnly, IsUnderWay};
 
 use crate::count::Count;
 use crate::source::Source;
@@ -82,13 +83,39 @@ fn claim_through<A: Allocator + Drop>(
         × ChangesOnly (λ c k. (c ≡ consumer) × (k ≡ cell)) h later }
 {
     accesses_lengthen_one_part();
-    let mut claim = Claim::new(layout, consumer);
-    let mut made = 0u64;
+    let end = words.straight(layout, consumer, cell, source, u64::MAX);
+    let mut made = u64::MAX - end.left;
+    if end.stage != Stage::Going {
+        return (made, end.stage);
+    }
+    let mut claim = Claim::standing(layout, consumer, end.object, end.value);
     'steps: while let Stage::Going = claim.stage() {
-        step(&mut claim, layout, words, cell, source.word());
+        single(&mut claim, layout, words, cell, source.word());
         made = made.wrapping_add(1);
     }
     (made, claim.stage())
+}
+
+/// Makes one step of a claim, out of line, with the clauses of `step`.
+#[cold]
+#[inline(never)]
+fn single<A: Allocator + Drop>(
+    claim: &mut Claim,
+    layout: &Layout,
+    words: &mut ClaimWords<A>,
+    cell: u32,
+    word: u64,
+)
+    requires going { claim_stage claim.old ≡ Going }
+    requires cell { cell < MAX_CELLS }
+    requires stands { (h : List ClaimAccess) × IsUnderWay layout.now cell claim.old words.old h }
+    ensures consumer { consumer_of claim.new ≡ consumer_of claim.old }
+    ensures fewer { steps_left layout.now claim.new < steps_left layout.now claim.old }
+    ensures stands { (h : List ClaimAccess) → IsUnderWay layout.now cell claim.old words.old h
+        → (a : ClaimAccess) × (a.consumer ≡ consumer_of claim.old) × (a.cell ≡ cell)
+        × IsUnderWay layout.now cell claim.new words.new (a ∷ h) }
+{
+    step(claim, layout, words, cell, word);
 }
 
 /// Makes the claim of a consumer as `claim_through` does, but by a loop with a bound. LLVM makes faster code of this

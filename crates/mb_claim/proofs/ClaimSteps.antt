@@ -1,13 +1,12 @@
 -- A claim after its next access, at its beginning, and the object on which it stands.
-use Rattle.std.proofs.Common.{◌≡◌, ◌≢◌, ◌+◌, ◌<◌, ℕ, suc, true, false, cond, Option, Some, None, MatchOption}
+use Rattle.std.proofs.Common.{◌≡◌, ◌≢◌, ◌+◌, ◌<◌, ℕ, suc, true, false, Option, Some, None, MatchOption}
 use Rattle.std.proofs.Common.{List, [], ◌∷◌, ◌++◌, length, refl, sym, ◌∙◌, ap, ap₂, subst, subst₂, slice_get}
 use Rattle.std.proofs.Common.{append-nil, append_assoc, arith}
-use Rattle.std.proofs.lemmas.Bool.{eq-eqb, ne_eqb}
 use Rattle.std.proofs.lemmas.Option.{slice_get_within}
 use Rattle.mb_quorum.specs.Vocabulary.{QuorumTable}
 use Rattle.mb_deciding.specs.Vocabulary.{answer, IsPath, PcIsAt, IsPlace}
 use Rattle.mb_claim.specs.{Turn, Kind, Conciliator, Ratifier, LastObject, Pc, InConciliator, InLast, InRatifier, ClaimOp, ObjectTurn, Going}
-use Rattle.mb_claim.specs.{Won, Lost, Undecided, Claim, Layout, IsOnObject, IsNextOp, quorums_of, kinds_of}
+use Rattle.mb_claim.specs.{Undecided, Claim, Layout, IsOnObject, IsNextOp, quorums_of, kinds_of}
 use Rattle.mb_claim.specs.{turns_on, stage_for, IsClaimPrefixFrom, PassesAll, StandsAt, IsClaimOf}
 use Rattle.mb_claim.proofs.Lists.{not_empty, get_behind, first_of, none_of, length-push}
 use Rattle.mb_claim.proofs.Standing.{longer_is, decided_here, undecided_here, stands_on}
@@ -134,14 +133,6 @@ claim_ended t kinds claim x xs known ended begun prefix =
       stands = λ g. absurd
           (ended g);
     }
-
--- a consumer whose own number was decided has won
-pub stage_for-own : (c u : ℕ) → u ≡ c → stage_for c u ≡ Won
-stage_for-own c u e = ap (λ b. cond b Won (Lost u)) (eq-eqb c u (sym e))
-
--- a consumer has lost to another number that was decided
-pub stage_for-other : (c u : ℕ) → u ≢ c → stage_for c u ≡ Lost u
-stage_for-other c u ne = ap (λ b. cond b Won (Lost u)) (ne_eqb c u (λ e. ne (sym e)))
 
 -- ---- a claim at its beginning, and after an object's end
 -- a consumer without a turn stands on the first object

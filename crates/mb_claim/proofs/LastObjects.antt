@@ -1,5 +1,5 @@
 -- A row that ends with a last object decides, and one that begins with a fast path has its conciliators after it.
-use Rattle.std.proofs.Common.{◌≡◌, ◌==◌, ◌≤◌, ℕ, zero, suc, true, false, Some, List, [], ◌∷◌, ◌++◌, inl, inr}
+use Rattle.std.proofs.Common.{◌≡◌, ◌==◌, ◌≤◌, ℕ, zero, suc, true, Some, List, [], ◌∷◌, ◌++◌, inl, inr}
 use Rattle.std.proofs.Common.{sym, ap, ◌∙◌, slice_get, append_assoc, true≢false, arith}
 use Rattle.mb_quorum.specs.Vocabulary.{QuorumTable}
 use Rattle.mb_claim.specs.{Kind, Conciliator, Ratifier, LastObject, ObjectTurn, Going, Undecided, pairs_of}

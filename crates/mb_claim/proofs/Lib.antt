@@ -29,12 +29,16 @@ pub mod NextSteps
 pub mod Words
 pub mod Addresses
 pub mod LayoutObjects
+pub mod PairRows
 pub mod ShapedAddresses
 pub mod States
 -- How many accesses a claim makes
 pub mod Bounds
 pub mod StepsLeft
 pub mod MostSteps
+-- A claim that goes straight
+pub mod Straight
+pub mod WordSteps
 -- The fast path and the last object
 pub mod FastPath
 pub mod PassedRatifiers

@@ -1,5 +1,5 @@
 -- The accesses of a place on a claim's object are accesses of the claim.
-use Rattle.std.proofs.Common.{◌≡◌, ◌≢◌, ◌+◌, ◌∙◌, arith, ℕ, zero, suc, Bool, true, List, ◌∷◌, refl, sym, subst, ap}
+use Rattle.std.proofs.Common.{◌≡◌, ◌+◌, ◌∙◌, arith, ℕ, zero, suc, Bool, true, List, ◌∷◌, refl, sym, subst, ap}
 use Rattle.mb_deciding.specs.declared.access.Op.{Op}
 use Rattle.mb_deciding.specs.declared.place.pc.Next.TheVariants as leads
 use Rattle.mb_deciding.specs.Vocabulary.{PcIsAt, IsReached, CanFind, IsOpAt}
@@ -98,24 +98,6 @@ module _ {M : Type 0} (layout : Layout) (parts : PlacesMakeParts (quorums_of lay
           (leads.Go follows))
           (sym (place_after n at before older)) step))),
     )
-
-    -- at least one access leads to the claim at the new place, begun
-    pub moved_on :
-        (n : ℕ) (follows : Pc) (now : M) → n ≢ 0
-        → AreSteps (quorums_of layout) (DrawsAndMakes draws makes claim.object) claim.place start n
-        (leads.Go follows) now
-        → AreClaimSteps layout (DrawsAndMakesNext draws makes) claim start n (stood_at follows true claim) now
-    moved_on zero follows now some steps = absurd (some refl)
-    moved_on (suc n) follows now some steps = all_go_on (suc n) follows now steps
-
-    -- if no access was made, the claim and its place are as they were
-    pub stayed :
-        (n : ℕ) (at : Pc) (now : M) → n ≡ 0
-        → AreSteps (quorums_of layout) (DrawsAndMakes draws makes claim.object) claim.place start n (leads.Go at) now
-        → AreClaimSteps layout (DrawsAndMakesNext draws makes) claim start 0 (stood_at at claim.begun claim) now
-    stayed zero at now none steps =
-        (ap (λ pc. stood_at pc claim.begun claim) (sym (place_after zero at now steps)), steps.1)
-    stayed (suc n) at now none steps = absurd (omega (arith, none))
 
     -- the claim after n accesses is the first claim put at the place to which they led
     stands_there :

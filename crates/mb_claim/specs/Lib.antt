@@ -11,6 +11,8 @@ pub mod Layouts
 pub mod States
 pub mod OneClaim
 pub mod ManyClaimSteps
+pub mod Straight
+pub mod WordSteps
 pub mod Refusals
 pub mod Plays
 pub mod Boards
@@ -30,6 +32,8 @@ pub use Layouts.*
 pub use States.*
 pub use OneClaim.*
 pub use ManyClaimSteps.*
+pub use Straight.*
+pub use WordSteps.*
 pub use Refusals.*
 pub use Plays.*
 pub use Boards.*

@@ -6,6 +6,7 @@ pub use Rattle.mb_deciding.specs.declared.access.Act.TheVariants.{Load, Store, E
 pub use Rattle.mb_deciding.specs.declared.access.Op.{Op}
 pub use Rattle.mb_deciding.specs.declared.access.Turn.{Turn}
 pub use Rattle.mb_deciding.specs.declared.access.Access.{Access}
+pub use Rattle.mb_deciding.specs.declared.memory.Site.{Site}
 pub use Rattle.mb_deciding.specs.declared.object.Out.{Out}
 pub use Rattle.mb_deciding.specs.declared.object.Kind.{Kind}
 pub use Rattle.mb_deciding.specs.declared.object.Kind.TheVariants.{Conciliator, Ratifier, LastObject}

@@ -2,7 +2,9 @@
 use crate::access::{ClaimOp, Stage};
 use crate::layout::Layout;
 use crate::steps::places_show_prefixes;
-use mb_deciding::{ConciliatorPlace, Drawing, Memory, Next, Out, Pc, RatifierPlace};
+use mb_deciding::{Memory, Next, Out, Pc};
+
+pub mod straight;
 
 /// The claim of one consumer on one cell: the object on which it stands, its place there, and how far it has come. It
 /// is a plain value, which may be kept between calls.
@@ -16,15 +18,12 @@ pub struct Claim {
 }
 
 impl Claim {
-    ghost use Rattle.std.specs.Prelude.{◌≡◌, ◌≢◌, ◌<◌, ◌≤◌, ◌+◌, ℕ, Bool, true, false, List, [], ◌∷◌, length, slice_get, MatchOption};
+    ghost use Rattle.std.specs.Prelude.{◌≡◌, ◌≢◌, ◌<◌, ◌≤◌, ◌+◌, ℕ, Bool, true, List, [], ◌∷◌, length, slice_get, MatchOption};
     ghost use Rattle.mb_deciding.specs.Vocabulary.{PcIsAt, IsNext, IsReached, next_from, turns_left, turns_after};
     ghost use Rattle.mb_deciding.specs.Vocabulary.{most_turns};
     ghost use Rattle.mb_claim.specs.{Kind, Turn, ClaimOp, ObjectTurn, Going, Undecided, consumer_of, claim_stage, is_begun};
     ghost use Rattle.mb_claim.specs.{FitsLayout, IsClaimIn, IsNextOp, CanClaimFind, IsClaimStep, steps_left, step_of};
-    ghost use Rattle.mb_deciding.specs.declared.place.pc.Pc.TheVariants.{InConciliator, InRatifier};
-    ghost use Rattle.mb_deciding.specs.declared.place.ratifier.RatifierPlace.TheVariants.{Announce};
-    ghost use Rattle.mb_claim.specs.{Pc, stage_for, placed_at, stood_at, AreClaimSteps, DrawsAndMakesNext};
-    ghost use Rattle.mb_claim.specs.{quorums_of, kinds_of, consumer_count, most_accesses};
+    ghost use Rattle.mb_claim.specs.{Pc, stage_for, placed_at, stood_at, quorums_of, kinds_of, consumer_count, most_accesses, IsStanding};
 
     /// The claim of a consumer that has made no access.
     pub fn new(layout: &Layout, consumer: u32) -> Claim
@@ -34,6 +33,7 @@ impl Claim {
         ensures fits { FitsLayout layout.now result }
         ensures path { IsClaimIn layout.now result [] }
         ensures bound { steps_left layout.now result ≤ most_accesses layout.now }
+        ensures first { IsStanding layout.now consumer 0 consumer result }
     {
         places_show_prefixes();
         Claim {
@@ -109,192 +109,6 @@ impl Claim {
         self.follow(layout, out)
     }
 
-    /// Makes accesses, each with a random word drawn for it, until the claim has ended or `most` were made. Returns how
-    /// many. These are the accesses of as many calls of [`Claim::step`]. The call goes straight through each object.
-    #[inline(always)]
-    pub fn run<M: Drawing>(&mut self, layout: &Layout, memory: &mut M, most: u64) -> u64
-        requires fits { FitsLayout layout.now self.old }
-        requires may { (n word : ℕ) (at : Claim) (before mid : M) (next : ClaimOp)
-            → AreClaimSteps layout.now (DrawsAndMakesNext M.draws M.makes) self.old memory.old n
-            at before
-            → claim_stage at ≡ Going → M.draws before word mid → IsNextOp layout.now at next
-            → M.can_make mid next.object next.op }
-        ensures fits { FitsLayout layout.now self.new }
-        ensures consumer { consumer_of self.new ≡ consumer_of self.old }
-        ensures within { result ≤ most }
-        ensures all { claim_stage self.new ≡ Going → result ≡ most }
-        ensures steps { AreClaimSteps layout.now (DrawsAndMakesNext M.draws M.makes) self.old
-            memory.old
-            result self.new memory.new }
-    {
-        if !self.stage.is_going() {
-            return 0;
-        }
-        let mut left = most;
-        'objects: while left != 0 {
-            if !self.conciliate(layout, memory, &mut left) {
-                return most - left;
-            }
-            if !self.ratify(layout, memory, &mut left) {
-                return most - left;
-            }
-        }
-        most - left
-    }
-
-    /// Goes through the claim's object, if that is a conciliator in which the consumer has not stored. Returns whether
-    /// the claim can make more accesses.
-    #[inline(always)]
-    fn conciliate<M: Drawing>(&mut self, layout: &Layout, memory: &mut M, left: &mut u64) -> bool
-        requires going { claim_stage self.old ≡ Going }
-        requires fits { FitsLayout layout.now self.old }
-        requires may { (n word : ℕ) (at : Claim) (before mid : M) (next : ClaimOp)
-            → AreClaimSteps layout.now (DrawsAndMakesNext M.draws M.makes) self.old memory.old n
-            at before
-            → claim_stage at ≡ Going → M.draws before word mid → IsNextOp layout.now at next
-            → M.can_make mid next.object next.op }
-        ensures fits { FitsLayout layout.now self.new }
-        ensures consumer { consumer_of self.new ≡ consumer_of self.old }
-        ensures goes { result ≡ true → claim_stage self.new ≡ Going }
-        ensures ends { result ≡ false → claim_stage self.new ≡ Going → left.new ≡ 0 }
-        ensures steps { (n : ℕ) × (n + left.new ≡ left.old)
-            × AreClaimSteps layout.now (DrawsAndMakesNext M.draws M.makes) self.old memory.old n
-            self.new memory.new }
-    {
-        if let Pc::InConciliator(
-            ConciliatorPlace::Draw {
-                input,
-                limit,
-                modulus,
-            },
-        ) = self.place
-        {
-            let place = ConciliatorPlace::Draw {
-                input,
-                limit,
-                modulus,
-            };
-            return self.run_conciliator(layout, memory, left, place);
-        }
-        true
-    }
-
-    /// Goes through the claim's object, if that is a ratifier in which the consumer announces its input. Else it makes
-    /// one access. Returns whether the claim can make more accesses.
-    #[inline(always)]
-    fn ratify<M: Drawing>(&mut self, layout: &Layout, memory: &mut M, left: &mut u64) -> bool
-        requires going { claim_stage self.old ≡ Going }
-        requires fits { FitsLayout layout.now self.old }
-        requires may { (n word : ℕ) (at : Claim) (before mid : M) (next : ClaimOp)
-            → AreClaimSteps layout.now (DrawsAndMakesNext M.draws M.makes) self.old memory.old n
-            at before
-            → claim_stage at ≡ Going → M.draws before word mid → IsNextOp layout.now at next
-            → M.can_make mid next.object next.op }
-        ensures fits { FitsLayout layout.now self.new }
-        ensures consumer { consumer_of self.new ≡ consumer_of self.old }
-        ensures goes { result ≡ true → claim_stage self.new ≡ Going }
-        ensures ends { result ≡ false → claim_stage self.new ≡ Going → left.new ≡ 0 }
-        ensures moves { left.old ≢ 0 → left.new < left.old }
-        ensures steps { (n : ℕ) × (n + left.new ≡ left.old)
-            × AreClaimSteps layout.now (DrawsAndMakesNext M.draws M.makes) self.old memory.old n
-            self.new memory.new }
-    {
-        if let Pc::InRatifier(RatifierPlace::Announce { input, left: mask }) = self.place {
-            let place = RatifierPlace::Announce { input, left: mask };
-            return self.run_ratifier(layout, memory, left, place);
-        }
-        if *left == 0 {
-            return false;
-        }
-        *left -= 1;
-        let word = memory.draw();
-        self.step(layout, memory, word).is_going()
-    }
-
-    /// Makes accesses on the claim's object, a conciliator, from this place on. It stops if that leads to the next
-    /// object, or if the budget `left` is used up. Returns whether the claim can make more.
-    #[inline(always)]
-    fn run_conciliator<M: Drawing>(
-        &mut self,
-        layout: &Layout,
-        memory: &mut M,
-        left: &mut u64,
-        place: ConciliatorPlace,
-    ) -> bool
-        requires going { claim_stage self.old ≡ Going }
-        requires place { self.old.place ≡ InConciliator place }
-        requires fits { FitsLayout layout.now self.old }
-        requires may { (n word : ℕ) (at : Claim) (before mid : M) (next : ClaimOp)
-            → AreClaimSteps layout.now (DrawsAndMakesNext M.draws M.makes) self.old memory.old n
-            at before
-            → claim_stage at ≡ Going → M.draws before word mid → IsNextOp layout.now at next
-            → M.can_make mid next.object next.op }
-        ensures fits { FitsLayout layout.now self.new }
-        ensures consumer { consumer_of self.new ≡ consumer_of self.old }
-        ensures goes { result ≡ true → claim_stage self.new ≡ Going }
-        ensures ends { result ≡ false → claim_stage self.new ≡ Going → left.new ≡ 0 }
-        ensures steps { (n : ℕ) × (n + left.new ≡ left.old)
-            × AreClaimSteps layout.now (DrawsAndMakesNext M.draws M.makes) self.old memory.old n
-            self.new memory.new }
-    {
-        places_show_prefixes();
-        let most = *left;
-        match place.run(&layout.table, memory, self.object, left) {
-            Next::Go(at) => {
-                self.place = at;
-                if *left == most {
-                    return most != 0;
-                }
-                self.begun = true;
-                *left != 0
-            }
-            Next::Out(out) => self.follow(layout, Some(out)).is_going(),
-        }
-    }
-
-    /// Makes accesses on the claim's object, a ratifier, from this place on. It stops if that leads to the next object
-    /// or to the claim's end, or if the budget `left` is used up. Returns whether the claim can make more.
-    #[inline(always)]
-    fn run_ratifier<M: Drawing>(
-        &mut self,
-        layout: &Layout,
-        memory: &mut M,
-        left: &mut u64,
-        place: RatifierPlace,
-    ) -> bool
-        requires going { claim_stage self.old ≡ Going }
-        requires place { self.old.place ≡ InRatifier place }
-        requires fits { FitsLayout layout.now self.old }
-        requires may { (n word : ℕ) (at : Claim) (before mid : M) (next : ClaimOp)
-            → AreClaimSteps layout.now (DrawsAndMakesNext M.draws M.makes) self.old memory.old n
-            at before
-            → claim_stage at ≡ Going → M.draws before word mid → IsNextOp layout.now at next
-            → M.can_make mid next.object next.op }
-        ensures fits { FitsLayout layout.now self.new }
-        ensures consumer { consumer_of self.new ≡ consumer_of self.old }
-        ensures goes { result ≡ true → claim_stage self.new ≡ Going }
-        ensures ends { result ≡ false → claim_stage self.new ≡ Going → left.new ≡ 0 }
-        ensures moves { (input mask : ℕ) → place ≡ Announce input mask → left.old ≢ 0
-            → left.new < left.old }
-        ensures steps { (n : ℕ) × (n + left.new ≡ left.old)
-            × AreClaimSteps layout.now (DrawsAndMakesNext M.draws M.makes) self.old memory.old n
-            self.new memory.new }
-    {
-        places_show_prefixes();
-        let most = *left;
-        match place.run(&layout.table, memory, self.object, left) {
-            Next::Go(at) => {
-                self.place = at;
-                if *left == most {
-                    return most != 0;
-                }
-                self.begun = true;
-                *left != 0
-            }
-            Next::Out(out) => self.follow(layout, Some(out)).is_going(),
-        }
-    }
-
     /// How far the claim has come.
     #[inline(always)]
     pub fn stage(&self) -> Stage
@@ -342,20 +156,20 @@ impl Claim {
             None => Stage::Going,
             Some(out) if !out.decided => self.pass(layout, out.value),
             Some(out) => {
-                let stage = self.stage_for(out.value);
+                let stage = Claim::stage_for(self.consumer, out.value);
                 self.stage = stage;
                 stage
             }
         }
     }
 
-    /// The stage of the claim if its object decided this value.
+    /// The stage of a consumer's claim if its object decided this value.
     #[inline(always)]
-    fn stage_for(&self, value: u32) -> Stage
-        ensures exact { result ≡ stage_for self.now.consumer value }
+    fn stage_for(consumer: u32, value: u32) -> Stage
+        ensures exact { result ≡ stage_for consumer value }
         ensures ended { result ≢ Going }
     {
-        if value == self.consumer {
+        if value == consumer {
             Stage::Won
         } else {
             Stage::Lost(value)

@@ -7,7 +7,7 @@ ghost use Rattle.mb_claim.specs.declared.layout.TheConstants.{MAX_PAIRS};
 
 use crate::shape::Shape;
 use crate::steps::addresses_are_apart;
-use mb_deciding::{Kind, Reg, spread};
+use mb_deciding::{Kind, Reg, Site, spread};
 use mb_quorum::{Quorums, Table, TableName};
 use std::error::Error;
 use std::fmt;
@@ -74,7 +74,7 @@ impl Layout {
     ghost use Rattle.mb_deciding.specs.Course.{IsFitKind};
     ghost use Rattle.mb_deciding.specs.Vocabulary.{spread};
     ghost use Rattle.mb_claim.specs.{Reg, width, quorums_of, kinds_of, pairs_of, row_of, plain, pair_count, shape_of, offset};
-    ghost use Rattle.mb_claim.specs.{consumer_count, cell_words, word_address, IsWordInLayout, most_accesses, layout_refusal};
+    ghost use Rattle.mb_claim.specs.{consumer_count, cell_words, word_address, IsWordInLayout, most_accesses, layout_refusal, site_of};
     ghost use Rattle.mb_claim.specs.declared.layout.TheConstants.{MAX_LARGE_CELLS, MAX_OBJECTS};
 
     /// The layout for `consumers` consumers, with `pairs` pairs of objects and nothing beside them, over the quorum
@@ -235,6 +235,32 @@ impl Layout {
         cell as usize * self.words_of_cell() + (begin + Layout::place_in_object(reg)) as usize
     }
 
+    /// Where the words of the cell begin.
+    #[inline(always)]
+    pub fn begin(&self, cell: u32) -> usize
+        requires { cell < MAX_LARGE_CELLS }
+        ensures exact { result ≡ cell * cell_words self.now }
+
+        // The words of the cell can be addressed.
+        ensures room { result + cell_words self.now < 2 ^ 64 }
+    {
+        let words = self.words_of_cell();
+        cell as usize * words
+    }
+
+    /// An object of a cell whose words begin there.
+    #[inline(always)]
+    pub(crate) fn site(&self, begin: usize, object: u32) -> Site
+        requires object { object < length (kinds_of self.now) }
+        requires begin { begin + cell_words self.now < 2 ^ 64 }
+        ensures { result ≡ site_of self.now begin object }
+    {
+        Site {
+            object,
+            begin: begin + self.begins[object as usize] as usize,
+        }
+    }
+
     /// The most accesses that a claim can make.
     pub fn max_steps(&self) -> u64
         ensures { result ≡ most_accesses self.now }
@@ -277,6 +303,14 @@ impl Layout {
         self.kinds[object as usize]
     }
 
+    /// How many objects each cell has.
+    #[inline(always)]
+    pub(crate) fn objects(&self) -> u32
+        ensures { result ≡ length (kinds_of self.now) }
+    {
+        self.objects
+    }
+
     #[inline(always)]
     /// How many words each cell has.
     fn words_of_cell(&self) -> usize
@@ -288,7 +322,7 @@ impl Layout {
 
     /// The place of a word within its object.
     #[inline(always)]
-    fn place_in_object(reg: Reg) -> u32
+    pub fn place_in_object(reg: Reg) -> u32
         requires { offset reg < 2 ^ 32 }
         ensures { result ≡ offset reg }
     {

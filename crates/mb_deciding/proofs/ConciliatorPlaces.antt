@@ -1,10 +1,11 @@
 -- The places of a conciliator: where each next turn leads.
 use Rattle.std.proofs.Common.{◌≡◌, ℕ, suc, ◌+◌, ◌-◌, ◌*◌, ◌<◌, ◌≤◌, ◌%◌, ◌^◌, false, List, [], ◌∷◌, inl, inr, refl, ap}
-use Rattle.std.proofs.Common.{subst, arith}
+use Rattle.std.proofs.Common.{subst, arith, bit_and}
 use Rattle.std.proofs.Math.Numerals.{one-add}
 use Rattle.std.proofs.Math.Pow.{pow_mono, pow_pos, pow-add}
 use Rattle.std.proofs.Math.Nat.{mod-lt}
 use Rattle.std.proofs.lemmas.Bool.{cases_lt}
+use Rattle.std.proofs.lemmas.Nat.{and_mask}
 use Rattle.mb_quorum.specs.Quorum.{QuorumTable}
 use Rattle.mb_deciding.specs.{Value, Load, Store, Turn, Conciliator, ConciliatorPlace, Draw, Put, Look}
 use Rattle.mb_deciding.specs.{IsConciliatorPath, answer, IsOpen, HasLimits, IsInConciliator}
@@ -19,6 +20,10 @@ never a b l m = omega arith
 attempts_remain : (k s n : ℕ) → 2 ^ k ≤ n → n < 2 ^ s → suc k ≤ s
 attempts_remain k s n a b =
     elim (cases_lt k s) [ inl l ↦ l | inr l ↦ absurd (let m : 2 ^ s ≤ 2 ^ k = pow_mono l in omega arith) ]
+
+-- the low bits of a word are the word modulo a power of two
+pub low_bits : (s k limit modulus word : ℕ) → HasLimits s k limit modulus → bit_and word (modulus - 1) ≡ word % modulus
+low_bits s k limit modulus word limits = rw (limits.2) (and_mask word s)
 
 -- a random word that is not below the limit does not store on attempt k
 above_limit : (s k limit modulus word : ℕ) → HasLimits s k limit modulus → limit ≤ word % modulus → 2 ^ k ≤ word % 2 ^ s

@@ -24,6 +24,7 @@ pub mod Owed
 pub mod Advances
 mod OneStep
 mod ManySteps
+mod StraightSteps
 pub mod RatifierStepping
 pub mod ConciliatorStepping
 pub mod Stepping

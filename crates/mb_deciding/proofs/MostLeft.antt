@@ -1,14 +1,15 @@
 -- No more accesses are left at a place than its object allows.
-use Rattle.std.proofs.Common.{◌≡◌, ℕ, zero, suc, ◌<◌, ◌≤◌, ◌==◌, count_ones, cond, Bool, true, false, List}
+use Rattle.std.proofs.Common.{◌≡◌, ℕ, zero, suc, ◌+◌, ◌*◌, ◌^◌, ◌<◌, ◌≤◌, ◌==◌, count_ones, cond, Bool, true, false, List}
 use Rattle.std.proofs.Common.{◌∷◌, length, sym, refl, ap, ◌∙◌, arith}
 use Rattle.std.specs.Int.{bit_at}
-use Rattle.std.proofs.Math.Nat.{mod-eq_of_lt}
+use Rattle.std.proofs.Math.Nat.{mod-eq_of_lt, max-le}
 use Rattle.std.proofs.lemmas.Bool.{eq-eqb, eqb-true}
-use Rattle.mb_quorum.specs.Quorum.{QuorumTable, IsMember}
+use Rattle.std.proofs.lemmas.Nat.{ones-le}
+use Rattle.mb_quorum.specs.Quorum.{QuorumTable, IsQuorumTable, IsMember}
 use Rattle.mb_quorum.specs.WidthLaw.{self_below}
 use Rattle.mb_deciding.specs.{Quorum, Act, Load, Turn, Kind, Conciliator, Ratifier, LastObject, Pc, InRatifier, InConciliator}
 use Rattle.mb_deciding.specs.{InLast, Begin, Announce, Propose, Check, Draw, Put, Look, acts_below, IsRest, PcIsAt}
-use Rattle.mb_deciding.specs.{most_turns, turns_left}
+use Rattle.mb_deciding.specs.{most_turns, turns_left, largest_quorum}
 use Rattle.mb_deciding.proofs.Sizes.{each_exact, each_size, largest_bound}
 use Rattle.mb_deciding.proofs.TurnsLeft.{attempts_left}
 
@@ -70,3 +71,20 @@ most_left t LastObject v (InConciliator place) turns value at = absurd at
 most_left t LastObject v (InRatifier place) turns value at = absurd at
 most_left t Ratifier v (InLast place) turns value at = absurd at
 most_left t (Conciliator s) v (InLast place) turns value at = absurd at
+
+-- ---- whole paths
+-- quorums below 2 ^ r have at most r registers
+largest_within : (quorum : ℕ → ℕ) (r n : ℕ) → ((v : ℕ) → v < n → quorum v < 2 ^ r) → largest_quorum quorum n ≤ r
+largest_within quorum r zero within = omega arith
+largest_within quorum r (suc n) within =
+    max-le (ones-le r (quorum n) (within n (omega arith)))
+    (largest_within quorum r n (λ v below. within v (omega arith)))
+
+-- a ratifier takes at most as many accesses as it has registers, twice, and two more
+pub ratifier_short : (t : QuorumTable) → IsQuorumTable t → most_turns t Ratifier ≤ 2 * t.registers + 2
+ratifier_short t q =
+    omega (
+      arith,
+      largest_within t.write t.registers t.values q.write_within,
+      largest_within t.read t.registers t.values q.read_within,
+    )

@@ -9,6 +9,8 @@ pub mod Deciding
 pub mod Place
 pub mod OneStep
 pub mod ManySteps
+pub mod FirstPlaces
+pub mod Checks
 pub mod Bounds
 pub mod Trace
 pub mod Spread
@@ -29,6 +31,8 @@ pub use Deciding.*
 pub use Place.*
 pub use OneStep.*
 pub use ManySteps.*
+pub use FirstPlaces.*
+pub use Checks.*
 pub use Bounds.*
 pub use Trace.*
 pub use Spread.*

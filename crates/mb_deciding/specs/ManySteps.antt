@@ -3,7 +3,6 @@ use Rattle.std.specs.Prelude.{ℕ, zero, suc, ◌≡◌}
 use Rattle.mb_quorum.specs.Quorum.{QuorumTable}
 use Rattle.mb_deciding.specs.Types.{Op, Pc, Next}
 use Rattle.mb_deciding.specs.declared.place.pc.Next.TheVariants as leads
-use Rattle.mb_deciding.specs.Place.{IsPlace}
 use Rattle.mb_deciding.specs.OneStep.{IsStep}
 
 module _ {M : Type 0} where

@@ -4,6 +4,7 @@ pub use Rattle.mb_deciding.specs.declared.access.{Reg.Reg, Act.Act, Op.Op, Turn.
 pub use Rattle.mb_deciding.specs.declared.access.Reg.TheVariants.{Value, Proposal, Quorum, Last}
 pub use Rattle.mb_deciding.specs.declared.access.Act.TheVariants.{Load, Store, Exchange}
 pub use Rattle.mb_deciding.specs.declared.object.{Out.Out, Kind.Kind}
+pub use Rattle.mb_deciding.specs.declared.memory.Site.{Site}
 pub use Rattle.mb_deciding.specs.declared.object.Kind.TheVariants.{Conciliator, Ratifier, LastObject}
 pub use Rattle.mb_deciding.specs.declared.place.pc.{Pc.Pc, Next.Next}
 pub use Rattle.mb_deciding.specs.declared.place.pc.Pc.TheVariants.{InRatifier, InConciliator, InLast}

@@ -12,6 +12,7 @@ pub use Rattle.mb_deciding.specs.Place.{IsLeast, IsRest, IsRatifierPlace, HasLim
 pub use Rattle.mb_deciding.specs.Place.{IsRatifierOp, IsConciliatorOp, IsLastOp, IsOpAt, act_of, reg_of, HasReg, CanFind, IsReached, IsNext, seen_by}
 pub use Rattle.mb_deciding.specs.Place.{turn_after}
 pub use Rattle.mb_deciding.specs.OneStep.{next_from, IsStep}
+pub use Rattle.mb_deciding.specs.FirstPlaces.{first_place}
 pub use Rattle.mb_deciding.specs.Bounds.{turns_left, turns_after}
 pub use Rattle.mb_deciding.specs.Trace.{process_of, with_entry, history_from, history_of, plain_schedule, HasEnded, IsOutputOf, IsEntryAfter, AreEntriesOf}
 pub use Rattle.mb_deciding.specs.Trace.{IsTrace}

@@ -20,14 +20,32 @@ pub trait Memory {
         ensures { makes self.old object op result self.new };
 }
 
+/// An object, and where its words begin in a memory.
+#[derive(Clone, Copy, PartialEq, Eq, Debug)]
+pub struct Site {
+    /// The number of the object.
+    pub object: u32,
+    /// The place of its first word.
+    pub begin: usize,
+}
+
 /// A memory with a source of random words.
 pub trait Drawing: Memory {
     ghost use Rattle.std.specs.Prelude.{ℕ};
+    ghost use Rattle.mb_deciding.specs.{Op, Site};
 
     /// This random word was drawn. The last argument is the memory after that.
     ghost draws: { Self → ℕ → Self → Type 0 };
 
+    /// This access to the object of this site may be made.
+    ghost can_make_at: { Self → Site → Op → Type 0 };
+
     /// Draws the random word of the next access.
     fn draw(&mut self) -> u64
         ensures { draws self.old result self.new };
+
+    /// Makes the access to the object of the site. Returns what [`Memory::perform`] does.
+    fn perform_at(&mut self, site: Site, op: Op) -> u64
+        requires { can_make_at self.old site op }
+        ensures { Self.makes self.old site.object op result self.new };
 }

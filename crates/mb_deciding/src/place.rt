@@ -11,17 +11,20 @@ mod mask;
 mod pc;
 mod ratifier;
 mod ratifier_steps;
+mod straight;
 
 pub use conciliator::ConciliatorPlace;
 pub use last::LastPlace;
 pub use pc::{Next, Pc};
 pub use ratifier::RatifierPlace;
+pub use straight::{through_conciliator, through_ratifier};
 
 impl Pc {
     ghost use Rattle.std.specs.Prelude.{◌≡◌, ◌<◌, ◌≤◌, ℕ, List, [], ◌∷◌};
     ghost use Rattle.mb_quorum.specs.Quorum.{QuorumTable};
     ghost use Rattle.mb_deciding.specs.{Op, Turn, Kind, Conciliator, Ratifier, LastObject, PcIsAt, IsPlace, IsOpAt, IsNext};
     ghost use Rattle.mb_deciding.specs.{IsReached, CanFind, act_of, IsStep, next_from, turns_left, turns_after, most_turns};
+    ghost use Rattle.mb_deciding.specs.{first_place};
 
     /// The place of a process with this input before its first access to a ratifier.
     pub fn ratifier(input: u32) -> Pc
@@ -41,6 +44,7 @@ impl Pc {
         ensures begins { PcIsAt (Q.table q.now) Ratifier input result [] }
         ensures fits { IsPlace (Q.table q.now) result }
         ensures bound { turns_left (Q.table q.now) result ≤ most_turns (Q.table q.now) Ratifier }
+        ensures exact { result ≡ first_place (Q.table q.now) Ratifier input }
     {
         let left = q.write_quorum(input);
         Pc::InRatifier(RatifierPlace::Announce { input, left })
@@ -54,6 +58,7 @@ impl Pc {
             → PcIsAt t (Conciliator s) input result [] }
         ensures fits { (t : QuorumTable) → input < t.values → IsPlace t result }
         ensures bound { (t : QuorumTable) → turns_left t result ≤ most_turns t (Conciliator s) }
+        ensures exact { (t : QuorumTable) → result ≡ first_place t (Conciliator s) input }
     {
         Pc::InConciliator(ConciliatorPlace::Draw {
             input,
@@ -69,6 +74,7 @@ impl Pc {
             → PcIsAt t LastObject input result [] }
         ensures fits { (t : QuorumTable) → input < t.values → IsPlace t result }
         ensures bound { (t : QuorumTable) → turns_left t result ≤ most_turns t LastObject }
+        ensures exact { (t : QuorumTable) → result ≡ first_place t LastObject input }
     {
         Pc::InLast(LastPlace { input })
     }
@@ -150,8 +156,8 @@ impl Pc {
 }
 
 impl Kind {
-    ghost use Rattle.std.specs.Prelude.{◌<◌, ◌≤◌, []};
-    ghost use Rattle.mb_deciding.specs.{PcIsAt, IsPlace, IsFitKind, turns_left, most_turns};
+    ghost use Rattle.std.specs.Prelude.{◌≡◌, ◌<◌, ◌≤◌, []};
+    ghost use Rattle.mb_deciding.specs.{PcIsAt, IsPlace, IsFitKind, turns_left, most_turns, first_place};
 
     /// The place of a process with this input before its first access to an object of this kind over the table.
     #[inline(always)]
@@ -161,6 +167,7 @@ impl Kind {
         ensures begins { PcIsAt (Q.table q.now) self input result [] }
         ensures fits { IsPlace (Q.table q.now) result }
         ensures bound { turns_left (Q.table q.now) result ≤ most_turns (Q.table q.now) self }
+        ensures exact { result ≡ first_place (Q.table q.now) self input }
     {
         match self {
             Kind::Conciliator { s } => Pc::conciliator(input, s),

@@ -2,12 +2,12 @@
 //! processes. A table that keeps the words of an object needs `history_extends` for its rule, and `places_lead_on` for
 //! the step that a place makes there. The functions compute nothing: their contracts are the laws. The proofs begin in
 //! `proofs/steps`, in a folder of the law's name.
-ghost use Rattle.std.specs.Prelude.{ℕ, ◌≡◌, ◌<◌, ◌≤◌, List, [], ◌∷◌};
+ghost use Rattle.std.specs.Prelude.{ℕ, ◌≡◌, ◌+◌, ◌*◌, ◌<◌, ◌≤◌, List, [], ◌∷◌};
 ghost use Rattle.mb_quorum.specs.Quorum.{QuorumTable, IsQuorumTable};
 ghost use Rattle.mb_deciding.specs.{Object, ObjectIsSound, Kind, Access, Turn, Act, Op, Pc, Out};
 ghost use Rattle.mb_deciding.specs.{ReadsLast, IsInWords, part, IsObjectLawful, IsPrefix, IsOpen, IsPath};
 ghost use Rattle.mb_deciding.specs.{HasReg, PcIsAt, IsOpAt, CanFind, turn_after, seen_by, reg_of};
-ghost use Rattle.mb_deciding.specs.{IsSameOp, IsPlace, most_turns, turns_left};
+ghost use Rattle.mb_deciding.specs.{IsSameOp, IsPlace, most_turns, turns_left, Conciliator, Ratifier};
 
 /// The empty history is lawful, and one more turn of a process whose path goes on keeps a history lawful.
 pub fn history_extends()
@@ -74,4 +74,12 @@ pub fn places_have_turns_left()
     // No more accesses are left than a whole path through the object may have.
     ensures most { (t : QuorumTable) (kind : Kind) (v : ℕ) (pc : Pc) (turns : List Turn)
         → v < t.values → PcIsAt t kind v pc turns → turns_left t pc ≤ most_turns t kind }
+{}
+
+/// How many accesses a process makes at most on a whole object, by the number of registers or of attempts alone. A
+/// budget with room for so many is enough to go through the object.
+pub fn paths_are_short()
+    ensures ratifier { (t : QuorumTable)
+        → IsQuorumTable t → most_turns t Ratifier ≤ 2 * t.registers + 2 }
+    ensures conciliator { (t : QuorumTable) (s : ℕ) → most_turns t (Conciliator s) ≡ s + 3 }
 {}

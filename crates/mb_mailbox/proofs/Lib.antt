@@ -25,6 +25,9 @@ pub mod Competing
 pub mod Pursuing
 pub mod Starts
 pub mod Ending
+pub mod Beginnings
+pub mod Straight
+pub mod Taking
 -- A consumer at the end of a lane
 pub mod Endings
 pub mod EndsMet

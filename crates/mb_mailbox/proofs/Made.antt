@@ -1,11 +1,11 @@
 -- What the steps of a consumer come to, from the contracts of the two tables.
-use Rattle.std.proofs.Common.{◌≡◌, ℕ, List, refl, sym, ap, ◌∙◌, subst, arith}
+use Rattle.std.proofs.Common.{◌≡◌, ◌<◌, ℕ, List, refl, sym, ap, ◌∙◌, subst, arith}
 use Rattle.std.specs.Prelude.{Option, Some, None, slice_set}
 use Rattle.mb_claim.specs.declared.access.Stage.TheVariants as stage
 use Rattle.mb_cells.specs.declared.answer.Look.{Look}
 use Rattle.mb_shared_cells.specs.Vocabulary.{ItemMakes, LookMakes}
 use Rattle.mb_mailbox.specs.Imports.{CellsName, ClaimAccess, ClaimTable, Cursor, History, Item, Look, Note, ReaderSeatView, SeatView, Stage, Stream}
-use Rattle.mb_mailbox.specs.Imports.{ToCells, ToClaims, Took, claims_at, load, look_of, next_u64, note_of, with_access, word_of}
+use Rattle.mb_mailbox.specs.Imports.{ToCells, ToClaims, Took, claims_at, consumer_count, load, look_of, next_u64, note_of, with_access, word_of}
 use Rattle.mb_mailbox.specs.declared.consumer.Poll.{Poll}
 use Rattle.mb_mailbox.specs.declared.consumer.Poll.TheVariants as poll
 use Rattle.mb_mailbox.specs.Consumers.{ConsumerView, IsConsumerOf, parts_of}
@@ -121,3 +121,12 @@ claims_size m s now is of = ap (λ (v : ConsumerView). v.seat.table.size) is ∙
 pub cells_size : (m : MailboxView) (s now : ConsumerView) → s ≡ now → IsConsumerOf m now
     → s.reader.table.size ≡ m.cells.size
 cells_size m s now is of = ap (λ (v : ConsumerView). v.reader.table.size) is ∙ ap (λ (t : CellsName). t.size) of.cells
+
+-- a number of the seat's consumer that is one of its table's is one of the mailbox's
+pub known_in : (m : MailboxView) (s now : ConsumerView) → s ≡ now → IsConsumerOf m now
+    → (n : ℕ) → n ≡ s.seat.consumer → n < (claims_at s.seat.table).table.values
+    → s.seat.consumer < consumer_count m.claims.layout
+known_in m s now is of n exact known =
+    subst (λ (t : ClaimTable). s.seat.consumer < (claims_at t).table.values)
+    (ap (λ (v : ConsumerView). v.seat.table) is ∙ of.claims)
+    (subst (λ x. x < (claims_at s.seat.table).table.values) exact known)

@@ -2,9 +2,9 @@
 -- name stand in their own modules.
 pub use Rattle.rand_core.specs.Stream.{Stream, next_u64}
 pub use Rattle.mb_claim.specs.declared.access.{ClaimAccess.ClaimAccess, ObjectTurn.ObjectTurn, Stage.Stage}
-pub use Rattle.mb_claim.specs.declared.claim.Claim.{Claim}
-pub use Rattle.mb_claim.specs.declared.layout.Layout.{Layout}
-pub use Rattle.mb_claim.specs.Vocabulary.{Claims, IsClaimIn, IsClaimPrefix, claim_stage, claims_in, consumer_count, consumer_of, is_begun, most_accesses, part as consumer_part, part_on, shape_of}
+pub use Rattle.mb_claim.specs.declared.{claim.Claim.Claim, claim.straight.Stretch.Stretch, layout.Layout.Layout}
+pub use Rattle.mb_claim.specs.Vocabulary.{Claims, HasEnd, IsClaimIn, IsClaimPrefix, IsStanding, claim_stage, claims_in, consumer_count, consumer_of}
+pub use Rattle.mb_claim.specs.Vocabulary.{is_begun, kinds_of, most_accesses, part as consumer_part, part_on, shape_of}
 pub use Rattle.mb_cells.specs.declared.access.{PoolAccess.PoolAccess, PoolAct.{PoolAct, TheVariants.{FetchAdd, Load, Store}}, TheConstants.END}
 pub use Rattle.mb_cells.specs.declared.access.{Process.TheVariants.{Producer, Reader}, Word.{Word, TheVariants.{Counter, Head, Item, Link}}}
 pub use Rattle.mb_cells.specs.declared.answer.Look.{Look}
@@ -12,7 +12,7 @@ pub use Rattle.mb_cells.specs.declared.cursor.Cursor.{Cursor}
 pub use Rattle.mb_cells.specs.declared.size.PoolSize.{PoolSize}
 pub use Rattle.mb_cells.specs.Vocabulary.{Gave, Has, HasFoundNone, HasLoaded, HasMet, History, IsOnceEach, IsPoolLawful, MayRead, has_ended, linked_cells, load, look_of, part, place_past, word_of}
 pub use Rattle.mb_shared_cells.specs.Vocabulary.{CellsName, IsAccessAfter, ItemMakes, ReaderSeatView}
-pub use Rattle.mb_shared_claims.specs.Vocabulary.{ClaimTable, IsLawfulPart, SeatView, TableView, access_of, claims_at, name_of, taken_part, with_access}
+pub use Rattle.mb_shared_claims.specs.Vocabulary.{AreSeatSteps, ClaimTable, IsLawfulPart, SeatView, TableView, access_of, claims_at, name_of, taken_part, with_access}
 pub use Rattle.mb_shared_claims.specs.declared.view.TableSize.{TableSize}
 pub use Rattle.mb_world.specs.declared.report.Note.{Note, TheVariants.{Took, Lost, Undecided}}
 pub use Rattle.mb_world.specs.Plan.{Plan}

@@ -1,6 +1,6 @@
 -- A poll that keeps the claim of its lane in a variable, while the place there is out of date.
 use Rattle.std.specs.Prelude.{ℕ, ◌≡◌, ◌≢◌, ◌+◌, ◌≤◌, slice_set}
-use Rattle.mb_mailbox.specs.Imports.{Claim, SeatView, Stream, claim_stage, note_of}
+use Rattle.mb_mailbox.specs.Imports.{Claim, IsStanding, Layout, SeatView, Stream, claim_stage, note_of}
 use Rattle.mb_mailbox.specs.declared.consumer.ConsumerFields.{ConsumerFields}
 use Rattle.mb_mailbox.specs.declared.consumer.Poll.{Poll}
 use Rattle.mb_mailbox.specs.declared.consumer.Poll.TheVariants as poll
@@ -19,6 +19,13 @@ with_fields f = record { reader = f.reader; seat = f.seat; places = f.places.ite
 -- the consumer at cell k of lane p with this claim there
 abbrev pub holding : ℕ → ℕ → Claim → ConsumerView → ConsumerView
 holding p k claim s = record s { places = slice_set s.places p (At k claim) }
+
+-- the consumer with these fields is at cell k of lane p with a claim that is about to make its first access to object o,
+-- where its input is v. Its place there may be out of date
+pub record IsBeforeObject (layout : Layout) (p k o v : ℕ) (s : ConsumerView) : Type 0 where
+  pub claim : Claim
+  pub standing : IsStanding layout s.seat.consumer o v claim
+  pub is : IsConsumer (holding p k claim s)
 
 -- ---- accesses of the claim
 -- the consumer after accesses of the claim on cell k, by the stage that the claim has then

@@ -3,6 +3,7 @@ mod moves;
 mod places;
 mod polls;
 mod pursuit;
+mod standing;
 
 use crate::notes::Notes;
 use arrayvec::ArrayVec;

@@ -49,6 +49,7 @@ impl<A: Allocator + Drop> Producer<A> {
 
     /// Puts an item, any number, at the end of the lane. It takes a cell, stores the item there, and links the cell.
     /// It makes at most these three accesses, waits for nobody and takes no memory.
+    #[inline(always)]
     pub fn put<B: Allocator + Drop>(&mut self, mailbox: &Mailbox<B>, x: u64) -> Put
         requires of { IsProducerOf mailbox.now self.old }
         ensures linked { result ≡ Linked → (k : ℕ) × IsPutInto k x self.old self.new }

@@ -69,22 +69,20 @@ store_same own cell word m n value next reg e =
 -- the access of a seat may be made at the address of its word, which is one of the table's words
 pub access_may :
     OwnPart → OtherParts → (t : TableView) (seat : SeatView) (key inside size : TableSize) (me : Seated)
-    (slots count id address cell word : ℕ) (next : ClaimOp) (reg : Reg) (f : ℕ → ℕ) (access : ℕ → ClaimAccess)
+    (slots count id address cell word : ℕ) (next : ClaimOp) (f : ℕ → ℕ) (access : ℕ → ClaimAccess)
     → key ≡ inside → inside ≡ record { layout = t.layout; cells = t.cells } → count ≡ roster inside + 1
     → me ≡ (Standing size seat.consumer seat.part, [])
-    → address ≡ word_address inside.layout cell next.object reg → reg ≡ reg_of next.op
+    → address ≡ word_address t.layout cell next.object (reg_of next.op)
     → word_address t.layout cell next.object (reg_of next.op) < t.cells * cell_words t.layout
     → MayComeNext (claims_in t.layout t.cells) seat.consumer cell seat.part next
     → ((n : ℕ) → f n ≡ after_op next.op n) → ((n : ℕ) → access n ≡ access_of seat.consumer cell next n word)
     → ((n : ℕ) → n < 18446744073709551616 → IsInWords (step_of next.object next.op n word).turn)
     → (address < count)
     × Allows (rule_of key) slots id me address f (λ found now. makes (access found) me now)
-access_may own_part other_parts t seat key inside size me slots count id address cell word next reg
+access_may own_part other_parts t seat key inside size me slots count id address cell word next
     f access told is wide
-    stands at of_op within may is_f is_access small =
+    stands place within may is_f is_access small =
     let k : TableSize = record { layout = t.layout; cells = t.cells } in
-    let place : address ≡ word_address t.layout cell next.object (reg_of next.op) =
-    at ∙ (λ i. word_address (is i).layout cell next.object (of_op i)) in
     let low : address < roster k = subst (λ a. a < roster k) (sym place) within in
     let count_is : count ≡ roster k + 1 = wide ∙ ap (λ (z : TableSize). roster z + 1) is in (
       omega (arith, low, count_is),

@@ -23,7 +23,7 @@ const CELLS: u32 = 100;
 const ROUNDS: u32 = 200;
 
 /// A table of claims on so many cells of this layout, with its hub.
-fn new_table<A: Allocator + Clone + Drop>(
+pub(crate) fn new_table<A: Allocator + Clone + Drop>(
     rt: &impl Abort,
     alloc: A,
     layout: Layout,
@@ -41,7 +41,7 @@ fn new_table<A: Allocator + Clone + Drop>(
 }
 
 /// The next seat at a table.
-fn new_seat<A: Allocator + Drop>(
+pub(crate) fn new_seat<A: Allocator + Drop>(
     rt: &impl Abort,
     table: &SharedClaims<A>,
     hub: &mut ClaimHub,

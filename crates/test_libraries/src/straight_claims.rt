@@ -1,12 +1,12 @@
-//! A claim that makes many accesses in one call makes the same ones as step by step: the same words, values and random
-//! words.
-ghost use Rattle.std.specs.Prelude.{◌≤◌};
-ghost use Rattle.mb_claim.specs.Vocabulary.{FitsLayout};
+//! A claim that goes straight makes the same accesses as step by step: the same words, values and random words.
+ghost use Rattle.std.specs.Prelude.{◌≡◌, ◌<◌, ◌≤◌, length};
+ghost use Rattle.mb_claim.specs.Vocabulary.{FitsLayout, consumer_count, kinds_of};
+ghost use Rattle.mb_claim.specs.declared.access.Stage.TheVariants.{Going};
 
 use crate::compare::same_at;
-use mb_claim::{Claim, Layout, Shape, Stage};
-use mb_deciding::{Drawing, Memory, Op, Reg};
-use mb_quorum::TableName;
+use mb_claim::{Claim, Layout, Shape, Stage, Stretch};
+use mb_deciding::{Drawing, Memory, Op, Reg, Site};
+use mb_quorum::{Quorums, Table, TableName};
 use std::process::Abort;
 
 /// How many words each object has here.
@@ -18,27 +18,31 @@ const OBJECTS: usize = 19;
 /// How many layouts are played.
 const ROUNDS: u64 = 1000;
 
-/// How often each consumer calls.
-const CALLS: u64 = 40;
+/// How often each consumer calls after its straight accesses.
+const CALLS: u64 = 8;
 
 /// All budgets are below this.
-const MOST: u64 = 24;
+const MOST: u64 = 160;
 
 /// The words of one cell and a source of random words, with a sum over all accesses and words so far, in their order.
 #[derive(Drop)]
 struct Recorder {
     words: [u64; OBJECT * OBJECTS],
+    begins: [usize; OBJECTS],
     state: u64,
     sum: u64,
+    misplaced: u64,
 }
 
 impl Recorder {
-    /// Words that are all 0, and the source that begins with this state.
-    fn new(state: u64) -> Recorder {
+    /// Words that are all 0, of objects that begin there in their layout, and the source that begins with this state.
+    fn new(begins: [usize; OBJECTS], state: u64) -> Recorder {
         Recorder {
             words: [0; OBJECT * OBJECTS],
+            begins,
             state,
             sum: 0,
+            misplaced: 0,
         }
     }
 
@@ -88,12 +92,44 @@ impl Memory for Recorder {
 impl Drawing for Recorder {
     ghost draws = { λ m word after. Unit {0} };
 
+    ghost can_make_at = { λ m site op. Unit {0} };
+
     fn draw(&mut self) -> u64 {
         let word = next_word(self.state);
         self.state = word;
         self.add(word);
         word
     }
+
+    // Counts the sites that are not where their objects begin.
+    fn perform_at(&mut self, site: Site, op: Op) -> u64 {
+        let is_placed = match self.begins.get(site.object as usize) {
+            Some(begin) => *begin == site.begin,
+            None => false,
+        };
+        if !is_placed {
+            self.misplaced = self.misplaced.wrapping_add(1);
+        }
+        self.perform(site.object, op)
+    }
+}
+
+/// Where objects begin in a cell, if ratifiers have so many registers. With a fast path the first two are ratifiers.
+/// Then come conciliators and ratifiers in turn. A last object has one word, as a conciliator has.
+fn begins_of(registers: usize, fast: bool) -> [usize; OBJECTS] {
+    let mut begins = [0; OBJECTS];
+    let mut begin = 0usize;
+    for object in 0..OBJECTS {
+        begins[object] = begin;
+        let is_ratifier = object % 2 == 1 || fast && object == 0;
+        let width = if is_ratifier {
+            registers.wrapping_add(1)
+        } else {
+            1
+        };
+        begin = begin.wrapping_add(width);
+    }
+    begins
 }
 
 /// The random word after this one.
@@ -119,47 +155,80 @@ fn by_steps(claim: &mut Claim, layout: &Layout, memory: &mut Recorder, most: u64
 }
 
 /// What callers see of a claim, and all of it while it goes on. The place of an ended claim does not count.
-fn seen(claim: &Claim) -> (Stage, bool, Option<Claim>) {
+fn seen(claim: &Claim) -> (Stage, Option<Claim>) {
     let all = match claim.stage() {
         Stage::Going => Some(*claim),
         _ => None,
     };
-    (claim.stage(), claim.begun(), all)
+    (claim.stage(), all)
 }
 
-/// Plays the claims of all consumers on a cell of this layout twice, one consumer after another, with random budgets.
-/// Now and then a word of the cell changes between two calls, as if somebody else had stored there.
-fn play_twice(rt: &impl Abort, layout: &Layout, seed: u64) {
-    let mut straight = Recorder::new(seed);
-    let mut stepped = Recorder::new(seed);
+/// What is seen of the claim at the end of straight accesses.
+fn seen_at(layout: &Layout, consumer: u32, end: &Stretch) -> (Stage, Option<Claim>)
+    requires object { end.now.stage ≡ Going → end.now.object < length (kinds_of layout.now) }
+    requires value { end.now.value < consumer_count layout.now }
+{
+    let all = match end.stage {
+        Stage::Going => Some(Claim::standing(layout, consumer, end.object, end.value)),
+        _ => None,
+    };
+    (end.stage, all)
+}
+
+/// Plays a consumer's new claim twice: straight, and by single steps. Then goes on by single steps with random budgets
+/// on both words. Now and then a word changes between two calls, as if somebody else had stored there.
+fn claim_twice(
+    rt: &impl Abort,
+    layout: &Layout,
+    consumer: u32,
+    straight: &mut Recorder,
+    stepped: &mut Recorder,
+    mut dice: u64,
+)
+    requires { consumer < consumer_count layout.now }
+{
+    let most = dice % MOST;
+    let end = Claim::straight(layout, straight, layout.begin(0), consumer, most);
+    let mut one = Claim::new(layout, consumer);
+    let made = by_steps(&mut one, layout, stepped, most.saturating_sub(end.left));
+    let told = (seen_at(layout, consumer, &end), most, straight.sum);
+    let want = (seen(&one), end.left.wrapping_add(made), stepped.sum);
+    same_at(rt, &told, &want, &(dice, consumer));
+    let mut other = one;
+    for _ in 0..CALLS {
+        dice = next_word(dice);
+        let at = (dice >> 8) as usize % (OBJECT * OBJECTS);
+        if dice >> 60 == 0 {
+            straight.words[at] = 1;
+            stepped.words[at] = 1;
+        }
+        let more = by_steps(&mut one, layout, straight, dice % MOST);
+        let same = by_steps(&mut other, layout, stepped, dice % MOST);
+        let told = (more, seen(&one), straight.sum);
+        same_at(
+            rt,
+            &told,
+            &(same, seen(&other), stepped.sum),
+            &(dice, consumer),
+        );
+    }
+}
+
+/// Plays the claims of all consumers on a cell of this layout twice, one consumer after another.
+fn play_twice(rt: &impl Abort, layout: &Layout, begins: [usize; OBJECTS], seed: u64) {
+    let mut straight = Recorder::new(begins, seed);
+    let mut stepped = Recorder::new(begins, seed);
     let mut dice = seed;
     for consumer in 0..layout.consumers() {
-        let mut one = Claim::new(layout, consumer);
-        let mut other = one;
-        for _ in 0..CALLS {
-            dice = next_word(dice);
-            let most = dice % MOST;
-            let made = one.run(layout, &mut straight, most);
-            let same = by_steps(&mut other, layout, &mut stepped, most);
-            let told = (made, seen(&one), straight.sum);
-            same_at(
-                rt,
-                &told,
-                &(same, seen(&other), stepped.sum),
-                &(seed, consumer),
-            );
-            let at = (dice >> 8) as usize % (OBJECT * OBJECTS);
-            if dice >> 60 == 0 {
-                straight.words[at] = 1;
-                stepped.words[at] = 1;
-            }
-        }
+        dice = next_word(dice);
+        claim_twice(rt, layout, consumer, &mut straight, &mut stepped, dice);
     }
+    same_at(rt, &straight.misplaced, &0, &seed);
 }
 
 // Layouts, shapes and budgets are drawn from one source that always begins alike.
 #[test]
-fn rows_of_accesses_are_those_of_steps(rt: HostRuntime) {
+fn straight_accesses_are_those_of_steps(rt: HostRuntime) {
     let mut dice = 0x9E37_79B9_7F4A_7C15;
     for _ in 0..ROUNDS {
         dice = next_word(dice);
@@ -172,10 +241,10 @@ fn rows_of_accesses_are_those_of_steps(rt: HostRuntime) {
             fast: dice & 2 != 0,
             last: dice & 4 != 0,
         };
-        let layout = Layout::new(1 + (dice >> 8) % 16, 1 + (dice >> 16) % 4, name).expect(
-            &rt,
-            "no layout",
-        );
-        play_twice(&rt, &layout.shaped(shape), dice);
+        let consumers = 1 + (dice >> 8) % 16;
+        let layout = Layout::new(consumers, 1 + (dice >> 16) % 4, name).expect(&rt, "no layout");
+        let table = Table::new(name, consumers).expect(&rt, "no table");
+        let begins = begins_of(table.registers() as usize, shape.fast);
+        play_twice(&rt, &layout.shaped(shape), begins, dice);
     }
 }

@@ -1,10 +1,8 @@
 //! What one process does in a conciliator.
 use super::conciliator::ConciliatorPlace;
-use super::pc::{Next, Pc};
 use crate::access::{Op, Reg};
-use crate::memory::{Drawing, Memory};
+use crate::memory::Memory;
 use crate::object::Out;
-use mb_quorum::Quorums;
 
 /// The odds that a process stores, after a load of 0: `limit` in `modulus`.
 #[derive(Clone, Copy)]
@@ -14,13 +12,10 @@ struct Odds {
 }
 
 impl ConciliatorPlace {
-    ghost use Rattle.std.specs.Prelude.{◌≡◌, ◌<◌, ◌≤◌, ◌+◌, false, ℕ, None};
+    ghost use Rattle.std.specs.Prelude.{◌≡◌, ◌<◌, ◌≤◌, ◌+◌, false, ℕ};
     ghost use Rattle.mb_quorum.specs.Vocabulary.{QuorumTable};
-    ghost use Rattle.mb_deciding.specs.{Op, Pc, InConciliator, Draw, Put, Look, next_from, turns_left};
-    ghost use Rattle.mb_deciding.specs.{turns_after};
+    ghost use Rattle.mb_deciding.specs.{Op, Pc, InConciliator, Draw, Put, Look, next_from, turns_left, turns_after};
     ghost use Rattle.mb_deciding.specs.{IsConciliatorPlace, IsConciliatorOp, IsNext, ConciliatorReaches, IsStep};
-    ghost use Rattle.mb_deciding.specs.{IsOpAt, AreSteps, DrawsAndMakes};
-    ghost use Rattle.mb_deciding.specs.declared.place.pc.Next.TheVariants as leads;
 
     /// The access that the process makes next.
     #[inline(always)]
@@ -99,103 +94,6 @@ impl ConciliatorPlace {
         }
     }
 
-    /// Makes accesses in a conciliator until the process has its output or the budget `left` is used up. It begins
-    /// before the store: a process that is about to store, or has stored, makes no access.
-    #[inline(always)]
-    pub fn run<Q: Quorums, M: Drawing>(
-        self,
-        q: &Q,
-        memory: &mut M,
-        object: u32,
-        left: &mut u64,
-    ) -> Next
-        requires place { IsConciliatorPlace (Q.table q.now).values self }
-        requires may { (n word : ℕ) (at : Pc) (before mid : M) (op : Op)
-            → AreSteps (Q.table q.now) (DrawsAndMakes M.draws M.makes object) (InConciliator self)
-            memory.old n (leads.Go at) before
-            → M.draws before word mid → IsOpAt (Q.table q.now) at op → M.can_make mid object op }
-        ensures fits { IsNext (Q.table q.now) result }
-        ensures steps { (n : ℕ) × (n + left.new ≡ left.old)
-            × AreSteps (Q.table q.now) (DrawsAndMakes M.draws M.makes object) (InConciliator self)
-            memory.old n result memory.new }
-    {
-        let Self::Draw {
-            input,
-            limit,
-            modulus,
-        } = self
-        else {
-            return Next::Go(Pc::InConciliator(self));
-        };
-        let values = q.values();
-        let mut limit = limit;
-        'draws: while *left != 0 {
-            *left -= 1;
-            let word = memory.draw();
-            let seen = memory.perform(object, Op::Load(Reg::Value));
-            let mut place = Self::Draw {
-                input,
-                limit,
-                modulus,
-            };
-            if let Some(out) = place.drawn(values, input, Odds { limit, modulus }, seen, word) {
-                return Next::Out(out);
-            }
-            let Self::Draw { limit: next, .. } = place else {
-                return place.finish(q, memory, object, left);
-            };
-            limit = next;
-        }
-        Next::Go(Pc::InConciliator(Self::Draw {
-            input,
-            limit,
-            modulus,
-        }))
-    }
-
-    /// Goes on from the store of the input, until the process has its output or the budget `left` is used up.
-    #[inline(always)]
-    fn finish<Q: Quorums, M: Drawing>(
-        self,
-        q: &Q,
-        memory: &mut M,
-        object: u32,
-        left: &mut u64,
-    ) -> Next
-        requires place { IsConciliatorPlace (Q.table q.now).values self }
-        requires may { (n word : ℕ) (at : Pc) (before mid : M) (op : Op)
-            → AreSteps (Q.table q.now) (DrawsAndMakes M.draws M.makes object) (InConciliator self)
-            memory.old n (leads.Go at) before
-            → M.draws before word mid → IsOpAt (Q.table q.now) at op → M.can_make mid object op }
-        ensures fits { IsNext (Q.table q.now) result }
-        ensures steps { (n : ℕ) × (n + left.new ≡ left.old)
-            × AreSteps (Q.table q.now) (DrawsAndMakes M.draws M.makes object) (InConciliator self)
-            memory.old n result memory.new }
-    {
-        let mut place = self;
-        'puts: while let Self::Put { .. } = place {
-            if *left == 0 {
-                return Next::Go(Pc::InConciliator(place));
-            }
-            *left -= 1;
-            let word = memory.draw();
-            if let Some(out) = place.step(q.values(), memory, object, word) {
-                return Next::Out(out);
-            }
-        }
-        'looks: while let Self::Look { .. } = place {
-            if *left == 0 {
-                return Next::Go(Pc::InConciliator(place));
-            }
-            *left -= 1;
-            let word = memory.draw();
-            if let Some(out) = place.step(q.values(), memory, object, word) {
-                return Next::Out(out);
-            }
-        }
-        Next::Go(Pc::InConciliator(place))
-    }
-
     /// What follows the load of a process that has not stored.
     #[inline(always)]
     fn drawn(&mut self, values: u32, input: u32, odds: Odds, seen: u64, word: u64) -> Option<Out>
@@ -208,8 +106,6 @@ impl ConciliatorPlace {
         ensures reached { (t : QuorumTable) → t.values ≡ values
             → ConciliatorReaches t (Draw input odds.limit odds.modulus) seen word
             (next_from result (InConciliator self.new)) }
-        ensures same { (i l m : ℕ) → result ≡ None → self.new ≡ Draw i l m
-            → (i ≡ input) × (m ≡ odds.modulus) }
     {
         if seen != 0 {
             Some(Self::met(values, input, seen))

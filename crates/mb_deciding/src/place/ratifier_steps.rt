@@ -1,21 +1,18 @@
 //! What one process does in a ratifier.
 use super::mask::{least, without};
-use super::pc::{Next, Pc};
 use super::ratifier::RatifierPlace;
 use crate::access::{Op, Reg};
-use crate::memory::{Drawing, Memory};
+use crate::memory::Memory;
 use crate::object::Out;
 use mb_quorum::Quorums;
 
 impl RatifierPlace {
-    ghost use Rattle.std.specs.Prelude.{◌≡◌, ◌≢◌, ◌<◌, ◌≤◌, ◌+◌, ℕ, count_ones, List, ◌∷◌};
+    ghost use Rattle.std.specs.Prelude.{◌≡◌, ◌≢◌, ◌<◌, ◌≤◌, ℕ, count_ones, List, ◌∷◌};
     ghost use Rattle.mb_quorum.specs.Quorum.{QuorumTable};
     ghost use Rattle.mb_deciding.specs.{Op, Turn, Ratifier, Announce, Propose, Check, InRatifier};
     ghost use Rattle.mb_deciding.specs.{acts, ReadsClear, PcIsAt, IsRatifierPlace, IsRatifierOp, IsRest, IsNext};
     ghost use Rattle.mb_deciding.specs.{IsReached, CanFind, act_of, RatifierReaches, IsStep, next_from};
     ghost use Rattle.mb_deciding.specs.{turns_left, turns_after};
-    ghost use Rattle.mb_deciding.specs.{Pc, IsOpAt, AreSteps, DrawsAndMakes};
-    ghost use Rattle.mb_deciding.specs.declared.place.pc.Next.TheVariants as leads;
 
     /// The access that the process makes next.
     #[inline(always)]
@@ -81,123 +78,6 @@ impl RatifierPlace {
                 self.checked(q, preference, left, seen)
             }
         }
-    }
-
-    /// Makes accesses in a ratifier until the process has its output or the budget `left` is used up. It begins at the
-    /// announcement: a process at another place makes no access.
-    #[inline(always)]
-    pub fn run<Q: Quorums, M: Drawing>(
-        self,
-        q: &Q,
-        memory: &mut M,
-        object: u32,
-        left: &mut u64,
-    ) -> Next
-        requires place { IsRatifierPlace (Q.table q.now) self }
-        requires may { (n word : ℕ) (at : Pc) (before mid : M) (op : Op)
-            → AreSteps (Q.table q.now) (DrawsAndMakes M.draws M.makes object) (InRatifier self)
-            memory.old n (leads.Go at) before
-            → M.draws before word mid → IsOpAt (Q.table q.now) at op → M.can_make mid object op }
-        ensures fits { IsNext (Q.table q.now) result }
-        ensures steps { (n : ℕ) × (n + left.new ≡ left.old)
-            × AreSteps (Q.table q.now) (DrawsAndMakes M.draws M.makes object) (InRatifier self)
-            memory.old n result memory.new }
-
-        // A process that announces makes at least one access, if the budget is not 0.
-        ensures moves { (input mask : ℕ) → self ≡ Announce input mask → left.old ≢ 0
-            → left.new < left.old }
-    {
-        let Self::Announce { input, left: mask } = self else {
-            return Next::Go(Pc::InRatifier(self));
-        };
-        let mut mask = mask;
-        'announces: while mask != 0 {
-            if *left == 0 {
-                return Next::Go(Pc::InRatifier(Self::Announce { input, left: mask }));
-            }
-            *left -= 1;
-            memory.draw();
-            let register = least(mask);
-            memory.perform(object, Op::Store(Reg::Quorum(register), 1));
-            mask = without(mask, register);
-        }
-        Self::Announce { input, left: mask }.find(q, memory, object, left)
-    }
-
-    /// Makes one access more, and goes on from there. After the announcement this is the load of the proposal.
-    #[inline(always)]
-    fn find<Q: Quorums, M: Drawing>(
-        self,
-        q: &Q,
-        memory: &mut M,
-        object: u32,
-        left: &mut u64,
-    ) -> Next
-        requires place { IsRatifierPlace (Q.table q.now) self }
-        requires may { (n word : ℕ) (at : Pc) (before mid : M) (op : Op)
-            → AreSteps (Q.table q.now) (DrawsAndMakes M.draws M.makes object) (InRatifier self)
-            memory.old n (leads.Go at) before
-            → M.draws before word mid → IsOpAt (Q.table q.now) at op → M.can_make mid object op }
-        ensures fits { IsNext (Q.table q.now) result }
-        ensures steps { (n : ℕ) × (n + left.new ≡ left.old)
-            × AreSteps (Q.table q.now) (DrawsAndMakes M.draws M.makes object) (InRatifier self)
-            memory.old n result memory.new }
-        ensures moves { left.old ≢ 0 → left.new < left.old }
-    {
-        if *left == 0 {
-            return Next::Go(Pc::InRatifier(self));
-        }
-        *left -= 1;
-        memory.draw();
-        let mut place = self;
-        if let Some(out) = place.step(q, memory, object) {
-            return Next::Out(out);
-        }
-        place.check(q, memory, object, left)
-    }
-
-    /// Goes on from the store of a proposal or the check of a preference, until the process has its output or the
-    /// budget `left` is used up.
-    #[inline(always)]
-    fn check<Q: Quorums, M: Drawing>(
-        self,
-        q: &Q,
-        memory: &mut M,
-        object: u32,
-        left: &mut u64,
-    ) -> Next
-        requires place { IsRatifierPlace (Q.table q.now) self }
-        requires may { (n word : ℕ) (at : Pc) (before mid : M) (op : Op)
-            → AreSteps (Q.table q.now) (DrawsAndMakes M.draws M.makes object) (InRatifier self)
-            memory.old n (leads.Go at) before
-            → M.draws before word mid → IsOpAt (Q.table q.now) at op → M.can_make mid object op }
-        ensures fits { IsNext (Q.table q.now) result }
-        ensures steps { (n : ℕ) × (n + left.new ≡ left.old)
-            × AreSteps (Q.table q.now) (DrawsAndMakes M.draws M.makes object) (InRatifier self)
-            memory.old n result memory.new }
-    {
-        let mut place = self;
-        'proposes: while let Self::Propose { .. } = place {
-            if *left == 0 {
-                return Next::Go(Pc::InRatifier(place));
-            }
-            *left -= 1;
-            memory.draw();
-            if let Some(out) = place.step(q, memory, object) {
-                return Next::Out(out);
-            }
-        }
-        'checks: while let Self::Check { .. } = place {
-            if *left == 0 {
-                return Next::Go(Pc::InRatifier(place));
-            }
-            *left -= 1;
-            memory.draw();
-            if let Some(out) = place.step(q, memory, object) {
-                return Next::Out(out);
-            }
-        }
-        Next::Go(Pc::InRatifier(place))
     }
 
     /// The next access of a process that still has to set these registers.

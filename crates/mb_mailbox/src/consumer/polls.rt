@@ -1,12 +1,12 @@
 //! A poll: the consumer's place, and what it does from there.
 use super::moves::{answers_tell_lanes, consumers_move_on, places_tell_steps};
 use super::places::place_at;
-use super::pursuit::{PendingClaim, run_claim};
+use super::pursuit::{PendingClaim, run_claim, run_new};
+use super::standing::claims_begin_objects;
 use super::{Consumer, Poll};
 use crate::mailbox::Mailbox;
 use mb_cells::Look;
 use mb_cells::laws::looks_tell_links;
-use mb_claim::Claim;
 use mb_world::Place;
 use rand_core::Rng;
 use std::alloc::Allocator;
@@ -57,6 +57,7 @@ impl<A: Allocator + Drop> Consumer<A> {
         places_tell_steps();
         answers_tell_lanes();
         looks_tell_links();
+        claims_begin_objects();
         self.fields.reader.has_history();
         let lane = lane as u32;
         let Consumer { fields } = self;
@@ -72,8 +73,9 @@ impl<A: Allocator + Drop> Consumer<A> {
             Look::Ended => return Poll::Ended,
             Look::Cell(cell) => cell,
         };
-        let claim = Claim::new(mailbox.claims.layout(), fields.seat.consumer());
-        let held = PendingClaim { lane, cell, claim };
-        run_claim(fields, mailbox, held, budget - 1, rng)
+
+        // This call's contract says that the consumer is one of the mailbox's. So it may begin a claim.
+        fields.seat.consumer();
+        run_new(fields, mailbox, lane, cell, budget - 1, rng)
     }
 }

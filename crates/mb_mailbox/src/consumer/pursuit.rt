@@ -1,22 +1,23 @@
 //! What a poll does with a claim. It keeps the claim in a variable of its own, and writes the consumer's place once.
 //! So an item with four consumers costs a seventh fewer instructions than if each step wrote the claim into its
-//! place.
-ghost use Rattle.std.specs.Prelude.{ℕ, ◌≡◌, ◌≢◌, ◌<◌, ◌≤◌, None, Some, slice_set, true};
+//! place. A new claim goes straight through whole objects, and is kept nowhere on this way.
+ghost use Rattle.std.specs.Prelude.{ℕ, ◌≡◌, ◌≢◌, ◌+◌, ◌<◌, ◌≤◌, None, Some, length, slice_set, true};
 ghost use Rattle.arrayvec.specs.ArrayVec.{array_vec_len};
 ghost use Rattle.mb_claim.specs.declared.access.Stage.TheVariants as stage;
 ghost use Rattle.mb_cells.specs.declared.cursor.Cursor.TheVariants.{Past};
-ghost use Rattle.mb_mailbox.specs.Imports.{Gave, ItemMakes, Stream, Took, claim_stage, most_accesses, shape_of};
-ghost use Rattle.mb_mailbox.specs.ConsumerWords.{ConsumerView, IsConsumer, IsConsumerOf, HasAllRoom, HasRoom, NotesGrow, IsPursuit, with_fields, holding, AreSteps};
+ghost use Rattle.mb_mailbox.specs.Imports.{Claim, Gave, IsStanding, ItemMakes, Stream, Took, claim_stage, most_accesses, part_on, shape_of};
+ghost use Rattle.mb_mailbox.specs.ConsumerWords.{ConsumerView, IsConsumer, IsConsumerOf, HasAllRoom, HasRoom, NotesGrow, IsBeforeObject, IsPursuit, with_fields, holding, AreSteps};
 ghost use Rattle.mb_mailbox.specs.declared.consumer.Poll.TheVariants as poll;
 ghost use Rattle.mb_world.specs.declared.place.Place.TheVariants.{Before};
 
 use super::moves::{consumers_move_on, places_tell_steps};
 use super::places::{leave, stay};
+use super::standing::{accesses_are_counted, claims_begin_objects};
 use super::{ConsumerFields, Poll};
 use crate::mailbox::Mailbox;
 use crate::notes::Notes;
 use arrayvec::ArrayVec;
-use mb_claim::{Claim, Stage};
+use mb_claim::{Claim, Stage, Stretch};
 use mb_shared_cells::ReaderSeat;
 use mb_world::{Note, Place};
 use rand_core::Rng;
@@ -77,13 +78,16 @@ pub(super) fn run_claim<A: Allocator + Drop, B: Allocator + Drop, R: Rng>(
         → IsPursuit held.lane n most result t (R.stream rng.new) from (with_fields fields.new) }
     ensures wide { HasAllRoom fields.new.reader.table.size.cells fields.new.notes }
 
-    // A claim ends after no more accesses than its layout allows. If its cell has a last object, the claim is decided
-    // then.
-    ensures few { result ≡ poll.Spent → most ≤ most_accesses mailbox.now.claims.layout }
+    // A claim ends after no more accesses than its layout allows, with those made before. If its cell has a last
+    // object, the claim is decided then.
+    ensures few { result ≡ poll.Spent
+        → most + length (part_on fields.old.seat.consumer held.cell fields.old.seat.part)
+        ≤ most_accesses mailbox.now.claims.layout }
     ensures decided { (shape_of mailbox.now.claims.layout).last ≡ true → result ≢ poll.Undecided }
 {
     consumers_move_on();
     places_tell_steps();
+    accesses_are_counted();
     let ConsumerFields {
         reader,
         seat,
@@ -91,16 +95,14 @@ pub(super) fn run_claim<A: Allocator + Drop, B: Allocator + Drop, R: Rng>(
         notes,
     } = fields;
     reader.has_history();
-    let PendingClaim {
-        lane,
-        cell,
-        mut claim,
-    } = held;
+    let PendingClaim { lane, cell, claim } = held;
+    let mut claim = claim;
     let p = lane as usize;
     if let Stage::Won = claim.stage() {
         return Poll::Took(take(places, notes, reader, mailbox, lane, cell));
     }
     let made = mailbox.claims.run(seat, &mut claim, cell, rng, most);
+    seat.has_history();
     match claim.stage() {
         Stage::Going => {
             stay(places, p, cell, claim);
@@ -122,4 +124,107 @@ pub(super) fn run_claim<A: Allocator + Drop, B: Allocator + Drop, R: Rng>(
             Poll::Undecided
         }
     }
+}
+
+/// Makes a claim from its first access on, with the clauses of [`run_claim`]. As long as `most` has room for whole
+/// objects, it goes straight through them. [`run_rest`] makes the other accesses.
+#[inline(always)]
+pub(super) fn run_new<A: Allocator + Drop, B: Allocator + Drop, R: Rng>(
+    fields: &mut ConsumerFields<A>,
+    mailbox: &Mailbox<B>,
+    lane: u32,
+    cell: u32,
+    most: u64,
+    rng: &mut R,
+) -> Poll
+    requires held { IsBeforeObject mailbox.now.claims.layout lane cell 0 fields.old.seat.consumer
+        (with_fields fields.old) }
+    requires of { IsConsumerOf mailbox.now (with_fields fields.old) }
+    requires lane { lane < array_vec_len fields.old.places }
+    requires wide { HasAllRoom fields.old.reader.table.size.cells fields.old.notes }
+    ensures pursued { (from : ConsumerView) (n : ℕ) (t : Stream) (claim : Claim)
+        → IsStanding mailbox.now.claims.layout fields.old.seat.consumer 0 fields.old.seat.consumer
+        claim
+        → AreSteps lane n None t (R.stream rng.old) from
+        (holding lane cell claim (with_fields fields.old))
+        → IsPursuit lane n most result t (R.stream rng.new) from (with_fields fields.new) }
+    ensures wide { HasAllRoom fields.new.reader.table.size.cells fields.new.notes }
+    ensures few { result ≡ poll.Spent → most ≤ most_accesses mailbox.now.claims.layout }
+    ensures decided { (shape_of mailbox.now.claims.layout).last ≡ true → result ≢ poll.Undecided }
+{
+    consumers_move_on();
+    places_tell_steps();
+    accesses_are_counted();
+    fields.reader.has_history();
+
+    // One access is kept for the item.
+    let room = most.saturating_sub(1);
+    let mut end = mailbox.claims.straight(&mut fields.seat, cell, rng, room);
+    match end.stage {
+        Stage::Won => {
+            let places = &mut fields.places;
+            let notes = &mut fields.notes;
+            Poll::Took(take(places, notes, &mut fields.reader, mailbox, lane, cell))
+        }
+        Stage::Lost(winner) => {
+            leave(
+                &mut fields.places,
+                &mut fields.notes,
+                lane,
+                cell,
+                Note::Lost(winner),
+            );
+            Poll::Lost(winner)
+        }
+        Stage::Undecided => {
+            leave(
+                &mut fields.places,
+                &mut fields.notes,
+                lane,
+                cell,
+                Note::Undecided,
+            );
+            Poll::Undecided
+        }
+        Stage::Going => {
+            end.left += most - room;
+            run_rest(fields, mailbox, lane, cell, end, rng)
+        }
+    }
+}
+
+/// Goes on with a claim from where its straight accesses ended, with the clauses of [`run_claim`].
+#[inline(always)]
+fn run_rest<A: Allocator + Drop, B: Allocator + Drop, R: Rng>(
+    fields: &mut ConsumerFields<A>,
+    mailbox: &Mailbox<B>,
+    lane: u32,
+    cell: u32,
+    end: Stretch,
+    rng: &mut R,
+) -> Poll
+    requires held { IsBeforeObject mailbox.now.claims.layout lane cell end.object end.value
+        (with_fields fields.old) }
+    requires of { IsConsumerOf mailbox.now (with_fields fields.old) }
+    requires lane { lane < array_vec_len fields.old.places }
+    requires wide { HasAllRoom fields.old.reader.table.size.cells fields.old.notes }
+    ensures pursued { (from : ConsumerView) (n : ℕ) (t : Stream) (claim : Claim)
+        → IsStanding mailbox.now.claims.layout fields.old.seat.consumer end.object end.value claim
+        → AreSteps lane n None t (R.stream rng.old) from
+        (holding lane cell claim (with_fields fields.old))
+        → IsPursuit lane n end.left result t (R.stream rng.new) from (with_fields fields.new) }
+    ensures wide { HasAllRoom fields.new.reader.table.size.cells fields.new.notes }
+    ensures few { result ≡ poll.Spent
+        → end.left + length (part_on fields.old.seat.consumer cell fields.old.seat.part)
+        ≤ most_accesses mailbox.now.claims.layout }
+    ensures decided { (shape_of mailbox.now.claims.layout).last ≡ true → result ≢ poll.Undecided }
+{
+    consumers_move_on();
+    claims_begin_objects();
+    fields.reader.has_history();
+    let consumer = fields.seat.consumer();
+    let layout = mailbox.claims.layout();
+    let claim = Claim::standing(layout, consumer, end.object, end.value);
+    let held = PendingClaim { lane, cell, claim };
+    run_claim(fields, mailbox, held, end.left, rng)
 }

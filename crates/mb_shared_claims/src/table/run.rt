@@ -4,23 +4,24 @@ ghost use Rattle.std.specs.Prelude.{◌<◌, ◌^◌};
 use crate::rule::MakeAccess;
 use crate::seat::ClaimSeat;
 use crate::table::SharedClaims;
-use mb_claim::laws::{claims_are_bounded, last_objects_decide_claims};
-use mb_claim::steps::{accesses_lengthen_one_part, claims_make_steps};
-use mb_claim::{Claim, ClaimOp};
-use mb_deciding::{Drawing, Memory, Op};
+use mb_claim::laws::{claims_are_bounded, last_objects_decide_claims, layouts_are_sound};
+use mb_claim::steps::{accesses_lengthen_one_part, addresses_are_apart, claims_make_steps};
+use mb_claim::{Claim, ClaimOp, Layout, Stage, Stretch};
+use mb_deciding::{Drawing, Memory, Op, Site};
 use rand_core::Rng;
 use std::alloc::Allocator;
 use std::marker::Brand;
 
 impl<A: Allocator + Drop> SharedClaims<A> {
-    ghost use Rattle.std.specs.Prelude.{◌≡◌, ◌≢◌, ◌<◌, ◌≤◌, true};
-    ghost use Rattle.mb_claim.specs.Vocabulary.{IsClaimIn, claim_stage, consumer_of, most_accesses, part_on, shape_of};
+    ghost use Rattle.std.specs.Prelude.{◌≡◌, ◌≢◌, ◌<◌, ◌≤◌, ◌+◌, ℕ, true, length};
+    ghost use Rattle.mb_claim.specs.Vocabulary.{IsClaimIn, IsStanding, HasEnd, claim_stage, consumer_count, consumer_of, kinds_of};
+    ghost use Rattle.mb_claim.specs.Vocabulary.{most_accesses, part_on, shape_of};
     ghost use Rattle.mb_claim.specs.declared.access.Stage.TheVariants.{Undecided};
-    ghost use Rattle.mb_shared_claims.specs.{Going, name_of, AreSeatSteps};
+    ghost use Rattle.mb_shared_claims.specs.{Claim, Going, name_of, AreSeatSteps, IsSeatStep};
 
     /// Makes accesses of a claim of the seat's consumer on a cell, each with the next word of `rng`. It stops if the
     /// claim has ended or `most` were made. Returns how many it made. As many calls of [`SharedClaims::step`] make the
-    /// same accesses.
+    /// same accesses. It goes by single steps, out of line. A new claim goes faster by [`SharedClaims::straight`].
     #[inline(always)]
     pub fn run<R: Rng>(
         &self,
@@ -53,10 +54,62 @@ impl<A: Allocator + Drop> SharedClaims<A> {
         ensures decided { (shape_of self.now.layout).last ≡ true
             → claim_stage claim.new ≢ Undecided }
     {
+        claims_are_bounded();
+        accesses_lengthen_one_part();
+        last_objects_decide_claims();
+        let mut left = most;
+        'steps: while left != 0 && claim.stage() == Stage::Going {
+            left -= 1;
+            self.single(seat, claim, cell, rng.next_u64());
+        }
+        most - left
+    }
+
+    /// Makes the accesses of a new claim of the seat's consumer on a cell, each with the next word of `rng`. It goes pair
+    /// by pair as long as `most` has room for all accesses to a pair. As many calls of [`SharedClaims::step`] make the
+    /// same accesses. The rest is for [`SharedClaims::run`], with the claim of [`Claim::standing`].
+    #[inline(always)]
+    pub fn straight<R: Rng>(
+        &self,
+        seat: &mut ClaimSeat,
+        cell: u32,
+        rng: &mut R,
+        most: u64,
+    ) -> Stretch
+        requires table { seat.old.table ≡ name_of self.now }
+        requires cell { cell < self.now.cells }
+
+        // The consumer has done nothing on the cell.
+        requires standing { (start : Claim)
+            → IsStanding self.now.layout seat.old.consumer 0 seat.old.consumer start
+            → IsClaimIn self.now.layout start (part_on seat.old.consumer cell seat.old.part) }
+
+        // Each access is the next one of the claim, with the next word of `rng`. The claim has then made all that its
+        // consumer has done on the cell, and at most what its layout allows.
+        ensures steps { (start : Claim)
+            → IsStanding self.now.layout seat.old.consumer 0 seat.old.consumer start
+            → (n : ℕ) × (end : Claim) × (n + result.left ≡ most)
+            × AreSeatSteps self.now.layout cell start seat.old (R.stream rng.old) n
+            end seat.new (R.stream rng.new)
+            × HasEnd self.now.layout seat.old.consumer result end
+            × IsClaimIn self.now.layout end (part_on seat.new.consumer cell seat.new.part)
+            × (n ≤ most_accesses self.now.layout) }
+
+        // A claim that is still going can be made.
+        ensures object { result.stage ≡ Going → result.object < length (kinds_of self.now.layout) }
+        ensures value { result.value < consumer_count self.now.layout }
+
+        // With a last object no claim is undecided.
+        ensures decided { (shape_of self.now.layout).last ≡ true → result.stage ≢ Undecided }
+    {
         claims_make_steps();
         claims_are_bounded();
         accesses_lengthen_one_part();
         last_objects_decide_claims();
+        layouts_are_sound();
+        addresses_are_apart();
+        let consumer = seat.consumer;
+        let layout = &self.size.layout;
         let mut memory = DrawingWords {
             table: self,
             seat: &mut *seat,
@@ -64,7 +117,25 @@ impl<A: Allocator + Drop> SharedClaims<A> {
             word: 0,
             rng: &mut *rng,
         };
-        claim.run(&self.size.layout, &mut memory, most)
+        Claim::straight(layout, &mut memory, layout.begin(cell), consumer, most)
+    }
+
+    /// Makes one step of a claim, out of line.
+    #[cold]
+    #[inline(never)]
+    fn single(&self, seat: &mut ClaimSeat, claim: &mut Claim, cell: u32, word: u64)
+        requires table { seat.old.table ≡ name_of self.now }
+        requires cell { cell < self.now.cells }
+        requires consumer { consumer_of claim.old ≡ seat.old.consumer }
+        requires standing { IsClaimIn self.now.layout claim.old
+            (part_on seat.old.consumer cell seat.old.part) }
+        requires going { claim_stage claim.old ≡ Going }
+        ensures step { IsSeatStep self.now.layout cell word claim.old seat.old claim.new seat.new }
+        ensures standing { IsClaimIn self.now.layout claim.new
+            (part_on seat.new.consumer cell seat.new.part) }
+        ensures consumer { consumer_of claim.new ≡ consumer_of claim.old }
+    {
+        self.step(seat, claim, cell, word);
     }
 }
 
@@ -109,8 +180,11 @@ impl<'a, A: Allocator + Drop, R: Rng> Memory for DrawingWords<'a, A, R> {
 }
 
 impl<'a, A: Allocator + Drop, R: Rng> Drawing for DrawingWords<'a, A, R> {
-    ghost use Rattle.std.specs.Prelude.{◌≡◌};
+    ghost use Rattle.std.specs.Prelude.{◌≡◌, ◌<◌, ◌+◌, ◌*◌, ◌^◌};
     ghost use Rattle.rand_core.specs.Stream.{next_u64};
+    ghost use Rattle.mb_deciding.specs.Vocabulary.{reg_of};
+    ghost use Rattle.mb_claim.specs.Vocabulary.{IsWordInLayout, cell_words, claims_in, site_of};
+    ghost use Rattle.mb_shared_claims.specs.{name_of, MayComeNext};
 
     // The random word is the source's next one. Nothing else changes.
     ghost draws = { λ m word after.
@@ -119,10 +193,33 @@ impl<'a, A: Allocator + Drop, R: Rng> Drawing for DrawingWords<'a, A, R> {
         × (after.table.now ≡ m.table.now) × (after.cell ≡ m.cell)
         × (after.seat.ghost_name ≡ m.seat.ghost_name) × (after.rng.ghost_name ≡ m.rng.ghost_name) };
 
+    // The op is one that the seat's consumer may make next on the cell, to a word of the site's object. The site is
+    // where that object is in the cell, whose words can be addressed.
+    ghost can_make_at = { λ m site op. (m.seat.now.table ≡ name_of m.table.now)
+        × (m.cell < m.table.now.cells)
+        × IsWordInLayout m.table.now.layout site.object (reg_of op)
+        × MayComeNext (claims_in m.table.now.layout m.table.now.cells) m.seat.now.consumer m.cell
+        m.seat.now.part (record { object = site.object; op = op })
+        × (site ≡ site_of m.table.now.layout (m.cell * cell_words m.table.now.layout) site.object)
+        × (m.cell * cell_words m.table.now.layout + cell_words m.table.now.layout < 2 ^ 64) };
+
     #[inline(always)]
     fn draw(&mut self) -> u64 {
         let word = self.rng.next_u64();
         self.word = word;
         word
+    }
+
+    #[inline(always)]
+    fn perform_at(&mut self, site: Site, op: Op) -> u64 {
+        layouts_are_sound();
+        addresses_are_apart();
+        let address = site.begin + Layout::place_in_object(op.reg()) as usize;
+        let next = ClaimOp {
+            object: site.object,
+            op,
+        };
+        self.table
+            .make_at::<Brand>(self.seat, address, self.cell, next, self.word)
     }
 }

@@ -15,7 +15,7 @@ impl<A: Allocator + Drop> SharedClaims<A> {
     ghost use Rattle.std.specs.Prelude.{◌≡◌, ◌≢◌, ◌<◌, ℕ, true};
     ghost use Rattle.mb_deciding.specs.Vocabulary.{reg_of};
     ghost use Rattle.mb_claim.specs.Vocabulary.{IsWordInLayout, IsClaimIn, claim_stage, claims_in, consumer_of, is_begun};
-    ghost use Rattle.mb_claim.specs.Vocabulary.{part_on, shape_of, steps_left};
+    ghost use Rattle.mb_claim.specs.Vocabulary.{part_on, shape_of, steps_left, word_address};
     ghost use Rattle.mb_claim.specs.declared.access.Stage.TheVariants.{Undecided};
     ghost use Rattle.mb_shared_claims.specs.{Going, name_of, IsSeatStep, MayComeNext, ComesAfter, access_of, with_access};
 
@@ -80,11 +80,40 @@ impl<A: Allocator + Drop> SharedClaims<A> {
         ensures comes { ComesAfter (claims_in self.now.layout self.now.cells)
             (access_of seat.old.consumer cell next result word) seat.old.part }
     {
+        addresses_are_apart();
+        let address = self.size.layout.address(cell, next.object, next.op.reg());
+        self.make_at::<W>(seat, address, cell, next, word)
+    }
+
+    /// Makes an access of a claim that may come next, at the address of its word. Returns what [`SharedClaims::make`]
+    /// does.
+    #[inline(always)]
+    pub(super) fn make_at<W: AccessSpec>(
+        &self,
+        seat: &mut ClaimSeat,
+        address: usize,
+        cell: u32,
+        next: ClaimOp,
+        word: u64,
+    ) -> u64
+        requires table { seat.old.table ≡ name_of self.now }
+        requires cell { cell < self.now.cells }
+        requires word { IsWordInLayout self.now.layout next.object (reg_of next.op) }
+        requires address { address ≡ word_address self.now.layout cell next.object
+            (reg_of next.op) }
+        requires next { MayComeNext (claims_in self.now.layout self.now.cells) seat.old.consumer
+            cell seat.old.part next }
+        requires access { (found : ℕ) → W.access found ≡ access_of
+            seat.old.consumer cell next found word }
+        ensures seat { seat.new ≡ with_access (access_of
+            seat.old.consumer cell next result word) seat.old }
+        ensures comes { ComesAfter (claims_in self.now.layout self.now.cells)
+            (access_of seat.old.consumer cell next result word) seat.old.part }
+    {
         accesses_lengthen_one_part();
         addresses_are_apart();
-        // Only the contract uses the random word.
-        let _ = word;
-        let address = self.size.layout.address(cell, next.object, next.op.reg());
+        // Only the contract uses the cell and the random word.
+        let _ = (cell, word);
         match next.op {
             Op::Load(_) => self
                 .table

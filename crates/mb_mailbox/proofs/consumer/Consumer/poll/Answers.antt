@@ -1,22 +1,22 @@
-use Rattle.std.proofs.Common.{[], ◌≡◌, ◌∙◌, ◌+◌, ◌-◌, ◌≤◌, ◌≢◌, ◌⊎◌, ℕ, List, ap, arith, inl, inr, refl, subst, sym}
+use Rattle.std.proofs.Common.{[], ◌≡◌, ◌∙◌, ◌+◌, ◌-◌, ◌<◌, ◌≤◌, ◌≢◌, ◌⊎◌, ℕ, List, ap, arith, inl, inr, refl, subst, sym}
 use Rattle.std.specs.Prelude.{None, Some, slice_set}
 use Rattle.mb_cells.specs.declared.answer.Look.TheVariants as look
 use Rattle.mb_mailbox.specs.declared.consumer.Poll.TheVariants as poll
 use Rattle.mb_shared_cells.specs.Vocabulary.{LookMakes}
-use Rattle.mb_world.specs.declared.place.Place.{Place}
-use Rattle.mb_world.specs.declared.place.Place.TheVariants.{At, Before}
-use Rattle.mb_mailbox.specs.Imports.{END, IsAccessAfter, IsClaimIn, Look, MayRead, PoolSize, ReaderSeatView, TableSize, load, word_of}
+use Rattle.mb_world.specs.declared.place.Place.{Place, TheVariants.At, TheVariants.Before}
+use Rattle.mb_mailbox.specs.Imports.{Claim, END, IsAccessAfter, IsClaimIn, IsStanding, Look, MayRead, PoolSize, ReaderSeatView, TableSize, consumer_count, load, word_of}
 use Rattle.mb_mailbox.specs.Consumers.{ConsumerView, IsConsumer, IsConsumerOf}
 use Rattle.mb_mailbox.specs.ConsumerStep.{link_answer}
 use Rattle.mb_mailbox.specs.Mailboxes.{MailboxView}
 use Rattle.mb_mailbox.specs.Moves.{HasPlace, reads_with_link}
 use Rattle.mb_mailbox.specs.Steps.{AnswerTells, AreSteps, IsPollOf, note_with}
 use Rattle.mb_mailbox.specs.Pursuits.{IsPursuit, holding, with_fields}
+use Rattle.mb_mailbox.proofs.Beginnings.{standing_going, standing_own}
 use Rattle.mb_mailbox.proofs.Ending.{holds_it, not_no_lane, poll_by, pursuit_tells, still_of}
 use Rattle.mb_mailbox.proofs.Lists.{set_same, some_same}
-use Rattle.mb_mailbox.proofs.Made.{at_views, cells_size, claims_size, look_made, moved_has}
+use Rattle.mb_mailbox.proofs.Made.{at_views, cells_size, claims_size, known_in, look_made, moved_has}
 use Rattle.mb_mailbox.proofs.Polls.{no_steps, history_extends, poll_of}
-use Rattle.mb_mailbox.proofs.consumer.Consumer.poll.{Given.Over, Goals.After-look}
+use Rattle.mb_mailbox.proofs.consumer.Consumer.poll.{Given.Over, Goals.After-consumer, Goals.After-look}
 use Rattle.mb_mailbox.proofs.consumer.Consumer.poll.Goals as goal
 
 -- a poll that goes on with the claim of its place
@@ -75,19 +75,35 @@ module _ (g : Over) (c : After-look g) where
     subst (λ (r : ReaderSeatView). r.table.size.cells ≤ c.self.inside.fields.notes.room) (sym there) c.self.invariant.1,
   )
 
--- a poll that then goes on with a new claim
-module _ (g : Over) (c : goal.After-run_claim-2 g) where
+-- a poll that then makes a new claim
+module _ (g : Over) (c : After-consumer g) where
+  -- the consumer's number is one of the mailbox's
+  known : c.self.inside.fields.seat.consumer < consumer_count c.args.mailbox.now.claims.layout
+  known =
+      known_in c.args.mailbox.now (with_fields c.self.inside.fields) c.args.self.now c.self.view_is c.requires.of
+      c.consumer.result c.consumer.ensures.exact c.consumer.ensures.known
+
+  -- the claim, which has made no access
+  first : (claim : Claim)
+      × IsStanding c.args.mailbox.now.claims.layout c.self.inside.fields.seat.consumer 0
+      c.self.inside.fields.seat.consumer claim
+      × IsClaimIn c.args.mailbox.now.claims.layout claim []
+  first = c.claims_begin_objects.ensures.new c.args.mailbox.now.claims.layout c.self.inside.fields.seat.consumer known
+
+-- that poll with its claim
+module _ (g : Over) (c : goal.After-run_new g) where
   -- the consumer after the poll
   abbrev past_new : ConsumerView
-  past_new = with_fields c.run_claim-2.new.fields
+  past_new = with_fields c.run_new.new.fields
 
   -- the poll is the rest of a poll, after one access: the load of the link
-  goes_on_new : IsPursuit c.args.lane 1 (c.args.budget - 1) c.run_claim-2.result (g.R.Rng.stream c.args.rng.now)
-      (g.R.Rng.stream c.run_claim-2.new.rng) c.args.self.now past_new
+  goes_on_new : IsPursuit c.args.lane 1 (c.args.budget - 1) c.run_new.result (g.R.Rng.stream c.args.rng.now)
+      (g.R.Rng.stream c.run_new.new.rng) c.args.self.now past_new
   goes_on_new =
-      c.run_claim-2.ensures.pursued c.args.self.now 1 (g.R.Rng.stream c.args.rng.now)
+      let new = first g (goal.at.returns-clause-of g c).After-consumer in
+      c.run_new.ensures.pursued c.args.self.now 1 (g.R.Rng.stream c.args.rng.now) new.0 new.1
       (look_steps g (goal.at.returns-clause-of g c).After-look
-      (slice_set c.self.inside.fields.places.items c.args.lane (At c.in-Cell.cell c.new-claim.result))
+      (slice_set c.self.inside.fields.places.items c.args.lane (At c.in-Cell.cell new.0))
       (look.Cell c.in-Cell.cell) c.in-Cell.ensures.makes refl)
 
 -- The clauses in `At` are of a poll that goes on with a held claim. Those in `Nothing` and `Ended` are of a link that
@@ -193,38 +209,38 @@ returns-in-Ended-clause-told g c =
     (c.answers_tell_lanes.ensures.ended (seen g at) c.args.lane c.in-Before.at c.look.new.seat
     c.self.invariant.0 c.has_history.ensures (place_is g at) c.in-Ended.ensures.makes)
 
-pub run_claim-requires-2-clause-held : goal.run_claim-requires-2-clause-held
-run_claim-requires-2-clause-held g c =
+pub run_new-requires-clause-held : goal.run_new-requires-clause-held
+run_new-requires-clause-held g c =
     let s = with_fields c.self.inside.fields in
     let e = c.place_at.ensures ∙ ap (λ (z : Place). Some z) c.in-Before.is in
     let m = c.in-Cell.ensures.makes in
     let k = c.in-Cell.cell in
-    let claim = c.new-claim.result in
+    let new = first g (goal.at.run_new-requires-clause-held g c).After-consumer in
+    let layout = c.args.mailbox.now.claims.layout in
+    let d = s.seat.consumer in
     let is = c.looks_tell_links.ensures.cell m.0 k (sym m.1) in
     let real : k + 1 ≢ END = λ z. is.1 (is.0 ∙ z) in
     let comes = subst (λ n. IsAccessAfter s.reader.table.size s.reader.known
     (load s.reader.reader (word_of c.in-Before.at) n) s.reader.part) is.0 m.2.0 in
-    let size : TableSize = record {
-      layout = c.args.mailbox.now.claims.layout;
-      cells = c.args.mailbox.now.claims.cells;
-    } in
+    let size : TableSize = record { layout = layout; cells = c.args.mailbox.now.claims.cells } in
     let is_size = claims_size c.args.mailbox.now s c.args.self.now c.self.view_is c.requires.of in
     let turns = λ (z : TableSize) (there : s.seat.table.size ≡ Some z).
-    subst (λ (y : TableSize). IsClaimIn y.layout claim [])
-    (some_same size z (sym is_size ∙ there))
-    (subst (λ (y : MailboxView). IsClaimIn y.claims.layout claim []) c.mailbox.view_is
-    (subst (λ l. IsClaimIn l claim []) c.layout.ensures c.new-claim.ensures.path)) in
-    let done = c.consumers_move_on.ensures.finds s c.args.lane k c.in-Before.at claim
+    subst (λ (y : TableSize). IsClaimIn y.layout new.0 []) (some_same size z (sym is_size ∙ there)) new.2 in
+    let done = c.consumers_move_on.ensures.finds s c.args.lane k c.in-Before.at new.0
     c.self.invariant.0 c.has_history.ensures e real comes
-    (c.new-claim.ensures.consumer ∙ c.consumer.ensures.exact) c.new-claim.ensures.going turns in
+    (standing_own layout d 0 d new.0 new.1) (standing_going layout d 0 d new.0 new.1) turns in
     let there : c.look.new.seat ≡ record s.reader { part = reads_with_link s c.in-Before.at (k + 1) } =
     m.2.1 ∙ ap (λ (n : ℕ). record s.reader { part = reads_with_link s c.in-Before.at n }) is.0 in
-    moved_has IsConsumer s c.args.lane (At k claim) None (reads_with_link s c.in-Before.at (k + 1))
-    s.seat.part c.look.new.seat s.seat
-    (slice_set s.places c.args.lane (At k claim)) s.notes done there refl refl refl
+    record {
+      claim = new.0;
+      standing = new.1;
+      is = moved_has IsConsumer s c.args.lane (At k new.0) None (reads_with_link s c.in-Before.at (k + 1))
+          s.seat.part c.look.new.seat s.seat
+          (slice_set s.places c.args.lane (At k new.0)) s.notes done there refl refl refl;
+    }
 
 pub invariant_of-self-2 : goal.invariant_of-self-2
-invariant_of-self-2 g c = ((goes_on_new g c).is, c.run_claim-2.ensures.wide)
+invariant_of-self-2 g c = ((goes_on_new g c).is, c.run_new.ensures.wide)
 
 pub returns-clause-no_lane : goal.returns-clause-no_lane
 returns-clause-no_lane g c =
@@ -232,34 +248,34 @@ returns-clause-no_lane g c =
     let lanes : c.len.result ≡ c.args.mailbox.now.cells.size.lanes =
     c.len.ensures.value ∙ c.self.invariant.0.places_count
     ∙ ap (λ (z : PoolSize). z.lanes) (cells_size c.args.mailbox.now s c.args.self.now c.self.view_is c.requires.of) in (
-      (λ f. absurd (not_no_lane c.args.lane 1 (c.args.budget - 1) c.run_claim-2.result (g.R.Rng.stream c.args.rng.now)
-          (g.R.Rng.stream c.run_claim-2.new.rng) c.args.self.now (past_new g c) (goes_on_new g c) f)),
+      (λ f. absurd (not_no_lane c.args.lane 1 (c.args.budget - 1) c.run_new.result (g.R.Rng.stream c.args.rng.now)
+          (g.R.Rng.stream c.run_new.new.rng) c.args.self.now (past_new g c) (goes_on_new g c) f)),
       (λ wide. let low = c.if-lane-len.false in absurd (omega (arith, low, wide, lanes))),
     )
 
 pub returns-clause-refused : goal.returns-clause-refused
 returns-clause-refused g c =
-    λ f. absurd (not_no_lane c.args.lane 1 (c.args.budget - 1) c.run_claim-2.result
-    (g.R.Rng.stream c.args.rng.now) (g.R.Rng.stream c.run_claim-2.new.rng) c.args.self.now (past_new g c)
+    λ f. absurd (not_no_lane c.args.lane 1 (c.args.budget - 1) c.run_new.result
+    (g.R.Rng.stream c.args.rng.now) (g.R.Rng.stream c.run_new.new.rng) c.args.self.now (past_new g c)
     (goes_on_new g c) f)
 
 pub returns-clause-polled : goal.returns-clause-polled
 returns-clause-polled g c =
     let some = c.if-budget-eq0.false in
     let sum : c.args.budget - 1 + 1 ≡ c.args.budget = omega (arith, some) in
-    λ _. poll_by c.args.lane 1 (c.args.budget - 1) c.args.budget c.run_claim-2.result
-    (g.R.Rng.stream c.args.rng.now) (g.R.Rng.stream c.run_claim-2.new.rng) c.args.self.now (past_new g c) sum
+    λ _. poll_by c.args.lane 1 (c.args.budget - 1) c.args.budget c.run_new.result
+    (g.R.Rng.stream c.args.rng.now) (g.R.Rng.stream c.run_new.new.rng) c.args.self.now (past_new g c) sum
     (goes_on_new g c)
 
 pub returns-clause-told : goal.returns-clause-told
 returns-clause-told g c =
-    λ _. pursuit_tells c.args.lane 1 (c.args.budget - 1) c.run_claim-2.result (g.R.Rng.stream c.args.rng.now)
-    (g.R.Rng.stream c.run_claim-2.new.rng) c.args.self.now c.args.self.now (past_new g c) (goes_on_new g c)
+    λ _. pursuit_tells c.args.lane 1 (c.args.budget - 1) c.run_new.result (g.R.Rng.stream c.args.rng.now)
+    (g.R.Rng.stream c.run_new.new.rng) c.args.self.now c.args.self.now (past_new g c) (goes_on_new g c)
 
 pub returns-clause-of : goal.returns-clause-of
 returns-clause-of g c =
-    still_of c.args.mailbox.now c.args.lane 1 (c.args.budget - 1) c.run_claim-2.result
-    (g.R.Rng.stream c.args.rng.now) (g.R.Rng.stream c.run_claim-2.new.rng) c.args.self.now (past_new g c)
+    still_of c.args.mailbox.now c.args.lane 1 (c.args.budget - 1) c.run_new.result
+    (g.R.Rng.stream c.args.rng.now) (g.R.Rng.stream c.run_new.new.rng) c.args.self.now (past_new g c)
     (goes_on_new g c) c.requires.of
 
 pub returns-in-At-clause-unspent : goal.returns-in-At-clause-unspent
@@ -271,8 +287,8 @@ returns-in-At-clause-decided g c = c.run_claim.ensures.decided
 
 pub returns-clause-unspent : goal.returns-clause-unspent
 returns-clause-unspent g c = λ more spent.
-    let few = c.run_claim-2.ensures.few spent in let some = c.if-budget-eq0.false
+    let few = c.run_new.ensures.few spent in let some = c.if-budget-eq0.false
     in absurd (omega (arith, more, few, some))
 
 pub returns-clause-decided : goal.returns-clause-decided
-returns-clause-decided g c = c.run_claim-2.ensures.decided
+returns-clause-decided g c = c.run_new.ensures.decided

@@ -1,4 +1,4 @@
-use Rattle.std.proofs.Common.{◌≡◌, ◌∙◌, ◌+◌, ◌≢◌, ◌<◌, ◌≤◌, ℕ, List, true, arith, ap, refl, subst, sym}
+use Rattle.std.proofs.Common.{◌≡◌, ◌∙◌, ◌+◌, ◌≢◌, ◌<◌, ◌≤◌, ℕ, List, length, true, arith, ap, refl, subst, sym}
 use Rattle.std.specs.Prelude.{None, Some, slice_get, slice_set}
 use Rattle.mb_claim.specs.declared.access.Stage.TheVariants as stage
 use Rattle.mb_claim.specs.Vocabulary.{claim_stage, most_accesses, shape_of}
@@ -6,17 +6,17 @@ use Rattle.mb_cells.specs.declared.cursor.Cursor.TheVariants.{Past}
 use Rattle.mb_shared_cells.specs.Vocabulary.{ItemMakes}
 use Rattle.mb_mailbox.specs.declared.consumer.Poll.TheVariants as poll
 use Rattle.mb_world.specs.declared.place.Place.{Place, TheVariants.At, TheVariants.Before}
-use Rattle.mb_mailbox.specs.Imports.{CellsName, Claim, Gave, IsClaimIn, Lost, Note, ReaderSeatView, SeatView, Stream, TableSize, Took, Undecided, name_of, part_on}
+use Rattle.mb_mailbox.specs.Imports.{AreSeatSteps, CellsName, Claim, Gave, IsClaimIn, Lost, Note, ReaderSeatView, SeatView, Stream, TableSize, Took, Undecided, name_of, part_on}
 use Rattle.mb_mailbox.specs.Consumers.{ConsumerView}
 use Rattle.mb_mailbox.specs.Mailboxes.{MailboxView}
-use Rattle.mb_mailbox.specs.Moves.{HasPlace, moved_to}
-use Rattle.mb_mailbox.specs.NoteLists.{HasRoom}
+use Rattle.mb_mailbox.specs.ConsumerWords.{HasPlace, HasRoom}
 use Rattle.mb_mailbox.specs.Pursuits.{HasCompeted, IsPursuit, holding, with_fields}
 use Rattle.mb_mailbox.specs.Steps.{AreSteps, with_note}
 use Rattle.mb_mailbox.proofs.Made.{at_views, room_stays}
-use Rattle.mb_mailbox.proofs.Pursuing.{mid_at, mid_consumer, pursued_past, pursued_spent, pursued_took}
+use Rattle.mb_mailbox.proofs.Pursuing.{pursued_past, pursued_spent}
 use Rattle.mb_mailbox.proofs.Starts.{Start, begun, here, ran, start_room, table, there}
-use Rattle.mb_mailbox.proofs.consumer.pursuit.run_claim.{Given.Over, Goals.After-has_history, Goals.After-run-made}
+use Rattle.mb_mailbox.proofs.Taking.{taken}
+use Rattle.mb_mailbox.proofs.consumer.pursuit.run_claim.{Given.Over, Goals.After-has_history, Goals.After-has_history-2, Goals.After-run-made}
 use Rattle.mb_mailbox.proofs.consumer.pursuit.run_claim.Goals as goal
 
 -- the consumer of these fields, with the claim in its place
@@ -67,22 +67,27 @@ module _ (g : Over) (c : After-has_history g) where
       → notes ≡ with_note c.args.held.lane (Some (Took v)) c.args.fields.now.notes.lists → made + 1 ≤ c.args.most
       → IsPursuit c.args.held.lane n c.args.most (poll.Took v) t u from (at_views reader seat places notes)
   takes v claim seat reader places notes made n all t u from count won so makes e f few =
-      let mid = moved_to c.args.held.lane (At c.args.held.cell claim) None base.reader.part seat.part with_claim in
-      let is = mid_consumer base c.args.held.lane c.args.held.cell c.args.held.claim v claim seat reader places notes t
-      u from all was_there.0 was_there.1 won so makes e f in
-      let at = mid_at base c.args.held.lane c.args.held.cell c.args.held.claim v claim seat reader places notes t u
-      from all was_there.0 was_there.1 won so makes e f in
-      pursued_took base c.args.held.lane c.args.held.cell c.args.held.claim v claim seat reader places notes t u
-      from all was_there.0 was_there.1 won so makes e f c.args.most made n count few
-      (c.places_tell_steps.ensures.takes mid c.args.held.lane c.args.held.cell v claim is at won)
-      (c.consumers_move_on.ensures.takes mid c.args.held.lane c.args.held.cell v claim is start.loads at won)
+      taken base c.args.held.lane c.args.held.cell c.args.held.claim c.places_tell_steps.ensures.takes
+      c.consumers_move_on.ensures.takes start.loads v claim seat reader places notes made n c.args.most t u from
+      was_there.0 was_there.1 won
+      (subst (λ z. HasCompeted c.args.held.lane c.args.held.cell z claim t u from with_claim seat) count so) makes e f
+      few
 
--- if the run made as many accesses as it may, the claim's layout allows that many
-few_made : (g : Over) (c : After-run-made g) → c.run-made.result ≡ c.args.most
-    → c.args.most ≤ most_accesses c.args.mailbox.now.claims.layout
-few_made g c all = subst (λ z. z ≤ most_accesses c.args.mailbox.now.claims.layout) all
-    (subst (λ (y : MailboxView). c.run-made.result ≤ most_accesses y.claims.layout) c.mailbox.view_is
-    c.run-made.ensures.few)
+-- if as many accesses were made as may be, the claim's layout allows that many, with those before
+few_made : (g : Over) (c : After-has_history-2 g) → Start c.args.mailbox.now c.args.held c.args.fields.now
+    → c.run-made.result ≡ c.args.most
+    → c.args.most + length (part_on c.args.fields.now.seat.consumer c.args.held.cell c.args.fields.now.seat.part)
+    ≤ most_accesses c.args.mailbox.now.claims.layout
+few_made g c start all =
+    let m = c.args.mailbox.now in
+    let seat = c.args.fields.now.seat in
+    subst (λ z. z + length (part_on seat.consumer c.args.held.cell seat.part) ≤ most_accesses m.claims.layout) all
+    (c.accesses_are_counted.ensures.few m.claims.layout m.claims.cells c.args.held.cell c.run-made.result
+    c.args.held.claim c.run-made.new.claim seat c.run-made.new.seat (g.R.Rng.stream c.args.rng.now)
+    (g.R.Rng.stream c.run-made.new.rng) (table m c.args.held c.args.fields.now start)
+    (subst (λ (y : MailboxView). AreSeatSteps y.claims.layout c.args.held.cell c.args.held.claim seat
+    (g.R.Rng.stream c.args.rng.now) c.run-made.result c.run-made.new.claim c.run-made.new.seat
+    (g.R.Rng.stream c.run-made.new.rng)) c.mailbox.view_is c.run-made.ensures.steps) c.has_history-2.ensures)
 
 -- after accesses of the claim
 module _ (g : Over) (c : After-run-made g) (start : Start c.args.mailbox.now c.args.held c.args.fields.now) where
@@ -183,10 +188,10 @@ returns-in-Going g c =
     let all : c.run-made.result ≡ c.args.most = c.run-made.ensures.all going in
     record {
       pursued = λ from n t m. pursued_spent (base g at.After-has_history) c.args.held.lane c.args.held.cell
-          c.args.held.claim c.args.most n c.run-made.new.claim stage.Going t (g.R.Rng.stream c.run-made.new.rng) from
-          c.run-made.new.seat c.stay.new.places.items going refl refl refl
+          c.args.held.claim c.args.most n c.run-made.new.claim stage.Going t (g.R.Rng.stream c.run-made.new.rng)
+          from c.run-made.new.seat c.stay.new.places.items going refl refl refl
           (ran_on g at.After-run-made (start g at.After-has_history) c.args.most all from n t m) c.stay.ensures;
-      few = λ e. few_made g at.After-run-made all;
+      few = λ e. few_made g at.After-has_history-2 (start g at.After-has_history) all;
       decided = λ last e. cc;
       wide = c.requires.wide;
     }
@@ -202,7 +207,7 @@ returns-else-made-most g c =
           c.run-made.new.seat c.stay-in-Won-stage.new.places.items won refl refl refl
           (ran_on g at.After-run-made (start g at.After-has_history) c.args.most all from n t m)
           c.stay-in-Won-stage.ensures;
-      few = λ e. few_made g at.After-run-made all;
+      few = λ e. few_made g at.After-has_history-2 (start g at.After-has_history) all;
       decided = λ last e. cc;
       wide = c.requires.wide;
     }

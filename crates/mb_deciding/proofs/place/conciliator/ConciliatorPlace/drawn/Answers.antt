@@ -1,16 +1,11 @@
 -- Proof of `ConciliatorPlace::drawn`: what follows the load of a process that has not stored.
-use Rattle.std.proofs.Common.{◌≡◌, ◌≤◌, ◌<◌, ◌-◌, ◌*◌, ◌%◌, ℕ, suc, ◌∷◌, sym, ap, ◌∙◌, subst, bit_and}
-use Rattle.std.proofs.lemmas.Nat.{and_mask}
+use Rattle.std.proofs.Common.{◌≡◌, ◌≤◌, ◌<◌, ◌*◌, ◌%◌, ℕ, suc, ◌∷◌, sym, ap, ◌∙◌, subst}
 use Rattle.mb_deciding.specs.{Value, Op, Act, Load, Conciliator, Draw, Put, InConciliator, PcIsAt, IsConciliatorPlace}
-use Rattle.mb_deciding.specs.{IsInConciliator, HasLimits, act_of}
+use Rattle.mb_deciding.specs.{IsInConciliator, act_of}
 use Rattle.mb_deciding.specs.declared.access.Op.TheVariants as to
-use Rattle.mb_deciding.proofs.ConciliatorPlaces.{next_limits, draw_missed, draw_found}
+use Rattle.mb_deciding.proofs.ConciliatorPlaces.{low_bits, next_limits, draw_missed, draw_found}
 use Rattle.mb_deciding.proofs.TurnsLeft.{attempts_fewer}
 use Rattle.mb_deciding.proofs.place.conciliator.ConciliatorPlace.drawn.Goals as goal
-
--- the low bits of a word are the word modulo a power of two
-low_bits : (s k limit modulus word : ℕ) → HasLimits s k limit modulus → bit_and word (modulus - 1) ≡ word % modulus
-low_bits s k limit modulus word limits = rw (limits.2) (and_mask word s)
 
 -- the load of a conciliator's word that finds 0 is a load of 0
 empty_load : (op : Op) (seen : ℕ) → op ≡ to.Load Value → seen ≡ 0 → act_of op seen ≡ Load Value 0

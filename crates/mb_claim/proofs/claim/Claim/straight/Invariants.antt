@@ -1,0 +1,19 @@
+-- Loop invariants of `Claim::straight`: makes the accesses of a new claim on a cell, object by object.
+use Rattle.std.proofs.Common.{◌≡◌, ◌+◌, ◌-◌, ◌<◌, ℕ, length}
+use Rattle.mb_claim.specs.{Claim, Going, kinds_of, consumer_count, IsStanding, AreClaimSteps, DrawsAndMakesNext}
+use Rattle.mb_claim.proofs.claim.Claim.straight.Given as goal
+
+abbrev pub decreases-pairs : goal.decreases-pairs
+decreases-pairs g l = length (kinds_of l.layout) - l.at.object
+
+-- The claim stands before an object.
+abbrev pub invariant-pairs : goal.invariant-pairs
+invariant-pairs g l = record {
+  going : l.at.stage ≡ Going;
+  object : l.at.object < length (kinds_of l.layout);
+  value : l.at.value < consumer_count l.layout;
+  steps : (start : Claim) → IsStanding l.layout l.consumer 0 l.consumer start
+      → (n : ℕ) × (mid : Claim) × (n + l.at.left ≡ l.most)
+      × AreClaimSteps l.layout (DrawsAndMakesNext g.M.Drawing.draws g.M.Memory.makes) start l.fn.memory n mid l.memory
+      × IsStanding l.layout l.consumer l.at.object l.at.value mid;
+}

@@ -1,0 +1,39 @@
+-- A claim that goes straight through whole objects: where it stands before one, and where its accesses ended.
+use Rattle.std.specs.Prelude.{ℕ, zero, suc, ◌≡◌, ◌+◌, Bool, true, false, MatchOption, slice_get}
+use Rattle.mb_deciding.specs.Vocabulary.{first_place}
+use Rattle.mb_claim.specs.ObjectTypes.{Kind, Site}
+use Rattle.mb_claim.specs.Types.{Claim, Going, Layout, Stretch}
+use Rattle.mb_claim.specs.Layouts.{quorums_of, kinds_of, words_before}
+use Rattle.mb_claim.specs.OneClaim.{claim_stage, consumer_of, FitsLayout}
+
+-- whether a claim that has made no access to object o has made one before: there is an object before it
+abbrev pub is_past : ℕ → Bool
+is_past zero = false
+is_past (suc o) = true
+
+-- the claim of consumer c before its first access to object o, which is of this kind, where its input is v
+abbrev pub standing : Layout → ℕ → ℕ → ℕ → Kind → Claim
+standing layout c o v kind =
+    record {
+      consumer = c;
+      object = o;
+      place = first_place (quorums_of layout) kind v;
+      stage = Going;
+      begun = is_past o;
+    }
+
+-- the claim is that of consumer c before its first access to object o, where its input is v
+abbrev pub IsStanding : Layout → ℕ → ℕ → ℕ → Claim → Type 0
+IsStanding layout c o v claim =
+    MatchOption (slice_get (kinds_of layout) o) ⊥ (λ kind. claim ≡ standing layout c o v kind)
+
+-- object o of a cell whose words begin there
+abbrev pub site_of : Layout → ℕ → ℕ → Site
+site_of layout begin o =
+    record { object = o; begin = begin + words_before (quorums_of layout).registers (kinds_of layout) o }
+
+-- straight accesses of consumer c ended with this claim. It has the stage. If it is going, it is about to make its
+-- first access to the object, where its input is the value
+abbrev pub HasEnd : Layout → ℕ → Stretch → Claim → Type 0
+HasEnd layout c stretch end = (claim_stage end ≡ stretch.stage) × (consumer_of end ≡ c) × FitsLayout layout end
+    × (stretch.stage ≡ Going → IsStanding layout c stretch.object stretch.value end)

@@ -1,0 +1,7 @@
+-- Proof of `steps::paths_are_short`: how many accesses a process makes at most on a whole object, by the number of
+-- registers or of attempts alone.
+use Rattle.mb_deciding.proofs.MostLeft.{ratifier_short}
+use Rattle.mb_deciding.proofs.steps.paths_are_short.Goals as goal
+
+pub returns-clause-ratifier : goal.returns-clause-ratifier
+returns-clause-ratifier c = ratifier_short

@@ -1,0 +1,97 @@
+-- A claim before its first access to an object, and the first claim of a consumer on a cell.
+use Rattle.std.proofs.Common.{◌≡◌, ◌<◌, ℕ, List, [], refl, sym, ◌∙◌, ap, subst, arith, length}
+use Rattle.std.specs.Prelude.{Option, Some, None, MatchOption, slice_get}
+use Rattle.std.proofs.lemmas.Bool.{false≢true}
+use Rattle.std.proofs.lemmas.Option.{slice_get_within}
+use Rattle.mb_quorum.specs.Vocabulary.{QuorumTable}
+use Rattle.mb_deciding.specs.Course.{IsFitKind}
+use Rattle.mb_deciding.specs.declared.object.Kind.{Kind, TheVariants.{Conciliator, Ratifier, LastObject}}
+use Rattle.mb_deciding.specs.Vocabulary.{IsPlace, PcIsAt, first_place, spread}
+use Rattle.mb_claim.specs.declared.access.Stage.TheVariants as stage
+use Rattle.mb_claim.specs.Vocabulary.{FitsLayout, IsClaimPrefix, StandsAt, pair_count, quorums_of, shape_of, standing}
+use Rattle.mb_claim.proofs.ClaimSteps.{stands_first}
+use Rattle.mb_claim.proofs.LayoutObjects.{fit_in_row, last_turn_small, length-row_of}
+use Rattle.mb_mailbox.specs.Imports.{Claim, IsClaimIn, IsStanding, Layout, claim_stage, claims_in, consumer_count, consumer_of, kinds_of}
+use Rattle.mb_mailbox.proofs.Lists.{get_some, some_same}
+
+-- ---- which claim it is
+-- if there is an object, the claim is the one that stands before it
+picked : (x : Option Kind) (f : Kind → Claim) (claim : Claim) → MatchOption x ⊥ (λ kind. claim ≡ f kind)
+    → (kind : Kind) × (x ≡ Some kind) × (claim ≡ f kind)
+picked None f claim is = absurd is
+picked (Some kind) f claim is = (kind, refl, is)
+
+module _ (layout : Layout) (c o v : ℕ) (claim : Claim) (is : IsStanding layout c o v claim) where
+  -- the object's kind, and the claim by it
+  standing_is : (kind : Kind) × (slice_get (kinds_of layout) o ≡ Some kind) × (claim ≡ standing layout c o v kind)
+  standing_is = picked (slice_get (kinds_of layout) o) (standing layout c o v) claim is
+
+  -- the claim is its consumer's, and goes on
+  pub standing_own : consumer_of claim ≡ c
+  standing_own = ap consumer_of standing_is.2
+
+  pub standing_going : claim_stage claim ≡ stage.Going
+  standing_going = ap claim_stage standing_is.2
+
+  -- there is one such claim only
+  pub standing_same : (other : Claim) → IsStanding layout c o v other → claim ≡ other
+  standing_same other also =
+      let x = picked (slice_get (kinds_of layout) o) (standing layout c o v) other also in
+      standing_is.2 ∙ ap (standing layout c o v) (some_same standing_is.0 x.0 (sym standing_is.1 ∙ x.1)) ∙ sym x.2
+
+  -- if the claim can be called with the layout, its object is one of the layout's, and its input one of the values
+  pub standing_object : o < length (kinds_of layout)
+  standing_object = slice_get_within (kinds_of layout) o standing_is.0 standing_is.1
+
+  pub standing_value : FitsLayout layout claim → v < consumer_count layout
+  standing_value fits =
+      value_at (quorums_of layout) standing_is.0
+      (subst (λ (z : Claim). IsPlace (quorums_of layout) z.place) standing_is.2 (fits standing_going).place)
+    where
+      -- the input of the first place in an object is one of the table's values
+      value_at : (t : QuorumTable) (kind : Kind) → IsPlace t (first_place t kind v) → v < t.values
+      value_at t (Conciliator s) at = at.0
+      value_at t Ratifier at = at
+      value_at t LastObject at = at
+
+-- ---- the claim of a consumer that has made no access
+-- the first place in an object is that of a process that has made no turn there
+begins : (t : QuorumTable) (kind : Kind) (v : ℕ) → IsFitKind kind → v < t.values
+    → PcIsAt t kind v (first_place t kind v) []
+begins t (Conciliator s) v fit low =
+    ((low, (s, 0, fit, (omega arith, refl, refl))), (refl, (0, (omega arith, refl, refl), tt)))
+begins t Ratifier v fit low = (low, (refl, (0, omega arith, (λ k. (λ m. (omega arith, m), λ x. x.1)), refl)))
+begins t LastObject v fit low = (low, (refl, refl))
+
+module _ (layout : Layout) (c : ℕ) (low : c < consumer_count layout) where
+  -- the first object
+  pub first_kind : (kind : Kind) × (slice_get (kinds_of layout) 0 ≡ Some kind)
+  first_kind =
+      let all = length-row_of layout.shape (spread (quorums_of layout).values) layout.pairs in
+      get_some (kinds_of layout) 0 (omega (arith, all, layout.some))
+
+  -- the consumer stands there
+  stands : StandsAt (quorums_of layout) (kinds_of layout) c 0 (first_place (quorums_of layout) first_kind.0 c) []
+  stands =
+      stands_first (quorums_of layout) (kinds_of layout) first_kind.0 c (first_place (quorums_of layout) first_kind.0 c)
+      first_kind.1 low
+      (begins (quorums_of layout) first_kind.0 c
+      (fit_in_row (shape_of layout) (spread (quorums_of layout).values) (pair_count layout) 0 first_kind.0
+      (last_turn_small layout) first_kind.1) low)
+
+  -- its claim begins the first object, and has made no turn
+  pub new_claim : (StandsAt (quorums_of layout) (kinds_of layout) c 0
+      (first_place (quorums_of layout) first_kind.0 c) []
+      → IsClaimPrefix (claims_in layout 0) c [] stage.Going)
+      → (claim : Claim) × IsStanding layout c 0 c claim × IsClaimIn layout claim []
+  new_claim prefix = (
+    standing layout c 0 c first_kind.0,
+    subst (λ x. MatchOption x ⊥ (λ kind. standing layout c 0 c first_kind.0 ≡ standing layout c 0 c kind))
+        (sym first_kind.1) refl,
+    record {
+      known = low;
+      prefix = prefix stands;
+      begun = (λ b. absurd (false≢true b), λ some. absurd (some refl));
+      stands = λ g. stands;
+    },
+  )

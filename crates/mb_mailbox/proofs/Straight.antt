@@ -1,0 +1,54 @@
+-- Accesses of a claim in a row: how many they are.
+use Rattle.std.proofs.Common.{◌≡◌, ◌+◌, ◌≤◌, ℕ, zero, suc, List, ◌∷◌, length, refl, sym, ◌∙◌, ap, subst, arith}
+use Rattle.std.specs.Prelude.{Some}
+use Rattle.mb_claim.specs.Vocabulary.{IsClaimLawful, part}
+use Rattle.mb_shared_claims.specs.Seats.{claims_at_size}
+use Rattle.mb_mailbox.specs.Imports.{AreSeatSteps, Claim, ClaimAccess, ClaimTable, IsLawfulPart, Layout, SeatView, Stream, access_of, claims_at, claims_in, most_accesses, part_on}
+
+-- an access of a consumer on a cell lengthens its part there. This is a clause of a law of mb_claim
+abbrev pub OwnCell : Type 0
+OwnCell = (a : ClaimAccess) (h : List ClaimAccess)
+    → part_on a.consumer a.cell (a ∷ h) ≡ a.step ∷ part_on a.consumer a.cell h
+
+-- the part on a cell can be taken from the whole part, and is bounded. These are clauses of laws of mb_claim, too
+abbrev pub CutPart : Type 0
+CutPart = (c k : ℕ) (h : List ClaimAccess) → part_on c k (part c h) ≡ part_on c k h
+
+abbrev pub IsBounded : Type 0
+IsBounded = (layout : Layout) (cells : ℕ) (h : List ClaimAccess) (c k : ℕ) → IsClaimLawful (claims_in layout cells) h
+    → length (part_on c k h) ≤ most_accesses layout
+
+-- accesses in a row lengthen the part on their cell
+pub counted : OwnCell → (layout : Layout) (k n : ℕ) (claim now : Claim) (seat after : SeatView) (s t : Stream)
+    → AreSeatSteps layout k claim seat s n now after t
+    → length (part_on after.consumer k after.part) ≡ n + length (part_on seat.consumer k seat.part)
+counted own layout k zero claim now seat after s t (is, keeps, e) =
+    ap (λ (z : SeatView). length (part_on z.consumer k z.part)) keeps ∙ omega arith
+counted own layout k (suc n) claim now seat after s t (at, before, u, word, older, going, drawn, step, still, stands) =
+    let a = access_of before.consumer k step.next step.seen word in
+    let was = counted own layout k n claim at seat before s u older in
+    let longer = own a before.part in
+    ap (λ (z : SeatView). length (part_on z.consumer k z.part)) step.adds ∙ ap length longer ∙ omega (arith, was)
+
+-- accesses in a row keep the seat's table
+kept : (layout : Layout) (k n : ℕ) (claim now : Claim) (seat after : SeatView) (s t : Stream)
+    → AreSeatSteps layout k claim seat s n now after t → after.table ≡ seat.table
+kept layout k zero claim now seat after s t (is, keeps, e) = ap (λ (z : SeatView). z.table) keeps
+kept layout k (suc n) claim now seat after s t (at, before, u, word, older, going, drawn, step, still, stands) =
+    ap (λ (z : SeatView). z.table) step.adds ∙ kept layout k n claim at seat before s u older
+
+-- with those that the seat made there before, accesses in a row are no more than the layout allows
+pub few_in_row : OwnCell → CutPart → IsBounded → (layout : Layout) (cells k n : ℕ) (claim now : Claim)
+    (seat after : SeatView) (s t : Stream) → seat.table.size ≡ Some (record { layout = layout; cells = cells })
+    → AreSeatSteps layout k claim seat s n now after t → IsLawfulPart (claims_at after.table) after.consumer after.part
+    → n + length (part_on seat.consumer k seat.part) ≤ most_accesses layout
+few_in_row own cut bounded layout cells k n claim now seat after s t table steps lawful =
+    let name : after.table.size ≡ Some (record { layout = layout; cells = cells }) =
+    ap (λ (z : ClaimTable). z.size) (kept layout k n claim now seat after s t steps) ∙ table in
+    let has : IsLawfulPart (claims_in layout cells) after.consumer after.part =
+    subst (λ z. IsLawfulPart (claims_at_size z) after.consumer after.part) name lawful in
+    let few : length (part_on after.consumer k after.part) ≤ most_accesses layout =
+    subst (λ xs. length xs ≤ most_accesses layout)
+    (sym (cut after.consumer k has.0) ∙ ap (part_on after.consumer k) has.2)
+    (bounded layout cells has.0 after.consumer k has.1) in
+    omega (arith, counted own layout k n claim now seat after s t steps, few)

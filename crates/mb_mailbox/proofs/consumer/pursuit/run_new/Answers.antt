@@ -1,0 +1,292 @@
+use Rattle.std.proofs.Common.{◌≡◌, ◌∙◌, ◌+◌, ◌-◌, ◌≢◌, ◌<◌, ◌≤◌, ℕ, List, length, true, arith, ap, refl, subst, sym}
+use Rattle.std.specs.Prelude.{None, Some, slice_get}
+use Rattle.mb_claim.specs.declared.access.Stage.TheVariants as stage
+use Rattle.mb_mailbox.specs.declared.consumer.Poll.TheVariants as poll
+use Rattle.mb_mailbox.specs.declared.consumer.pursuit.PendingClaim.{PendingClaim}
+use Rattle.mb_world.specs.declared.place.Place.{Place, TheVariants.At}
+use Rattle.mb_mailbox.specs.Imports.{CellsName, Claim, Gave, IsClaimIn, IsStanding, Lost, ReaderSeatView, SeatView, Stream, TableSize, Took, Undecided, claim_stage, name_of, part_on, shape_of}
+use Rattle.mb_mailbox.specs.ConsumerWords.{AreSteps, ConsumerView, HasPlace, HasRoom, holding, with_fields}
+use Rattle.mb_mailbox.specs.Mailboxes.{MailboxView}
+use Rattle.mb_mailbox.specs.Pursuits.{HasCompeted}
+use Rattle.mb_mailbox.proofs.Beginnings.{standing_going, standing_same}
+use Rattle.mb_mailbox.proofs.Made.{at_views, room_stays}
+use Rattle.mb_mailbox.proofs.Polls.{no_steps}
+use Rattle.mb_mailbox.proofs.Pursuing.{pursued_past}
+use Rattle.mb_mailbox.proofs.Starts.{Start, here, ran, start_room, table, there}
+use Rattle.mb_mailbox.proofs.Taking.{AreStraight, pursued_on, some_made, still_consumer, still_steps, taken}
+use Rattle.mb_mailbox.proofs.consumer.pursuit.run_new.{Given.Over, Goals.After-has_history, Goals.After-straight-end}
+use Rattle.mb_mailbox.proofs.consumer.pursuit.run_new.Goals as goal
+
+-- the consumer of these fields, with the claim in its place
+module _ (g : Over) (c : After-has_history g) where
+  -- `claim` begins the first object, `base` is a consumer of these fields, and `with_claim` holds the claim
+  abbrev claim : Claim
+  claim = c.requires.held.claim
+
+  abbrev pending : PendingClaim
+  pending = record { lane = c.args.lane; cell = c.args.cell; claim = claim }
+
+  abbrev base : ConsumerView
+  base = with_fields c.args.fields.now
+
+  abbrev with_claim : ConsumerView
+  with_claim = holding c.args.lane c.args.cell claim base
+
+  -- the claim may go on from these fields
+  start : Start c.args.mailbox.now pending c.args.fields.now
+  start = record {
+    held = c.requires.held.is;
+    of = c.requires.of;
+    lane = c.requires.lane;
+    wide = c.requires.wide;
+    loads = c.has_history.ensures;
+  }
+
+  -- the consumer stands at the claim
+  stands : HasPlace c.args.lane (At c.args.cell claim) with_claim
+  stands = here c.args.mailbox.now pending c.args.fields.now start
+
+  -- the consumer's loads gave it the cell
+  given : Gave c.args.cell c.args.fields.now.reader.part
+  given = c.consumers_move_on.ensures.given with_claim c.args.lane c.args.cell claim start.held start.loads stands
+
+  -- there is room for the claim's note
+  has_room : HasRoom c.args.lane c.args.fields.now.notes
+  has_room = start_room c.args.mailbox.now pending c.args.fields.now start
+      (c.consumers_move_on.ensures.room with_claim c.args.lane c.args.cell claim start.held start.loads stands)
+
+  -- the lane has some place
+  was_there : (place : Place) × (slice_get c.args.fields.now.places.items c.args.lane ≡ Some place)
+  was_there = there c.args.mailbox.now pending c.args.fields.now start
+
+  -- a claim that begins the first object has made all that its consumer did on the cell
+  begun : (other : Claim)
+      → IsStanding c.args.mailbox.now.claims.layout c.args.fields.now.seat.consumer 0 c.args.fields.now.seat.consumer
+      other
+      → IsClaimIn c.args.mailbox.now.claims.layout other
+      (part_on c.args.fields.now.seat.consumer c.args.cell c.args.fields.now.seat.part)
+  begun other is =
+      let m = c.args.mailbox.now in
+      let d = c.args.fields.now.seat.consumer in
+      let z : TableSize = record { layout = m.claims.layout; cells = m.claims.cells } in
+      subst (λ (x : Claim). IsClaimIn m.claims.layout x (part_on d c.args.cell c.args.fields.now.seat.part))
+      (standing_same m.claims.layout d 0 d claim c.requires.held.standing other is)
+      (c.consumers_move_on.ensures.turns with_claim c.args.lane c.args.cell claim start.held stands z
+      (table m pending c.args.fields.now start))
+
+-- after the straight accesses
+module _ (g : Over) (c : After-straight-end g) (start : Start c.args.mailbox.now
+    (record { lane = c.args.lane; cell = c.args.cell; claim = c.requires.held.claim }) c.args.fields.now) where
+  -- the claim at the start, the consumer that holds it, and the seat after the accesses
+  abbrev first : Claim
+  first = c.requires.held.claim
+
+  abbrev held : ConsumerView
+  held = holding c.args.lane c.args.cell first (with_fields c.args.fields.now)
+
+  -- the straight accesses, by the layout of the mailbox
+  straight_on : AreStraight c.args.mailbox.now.claims.layout c.args.cell c.args.fields.now.seat
+      (g.R.Rng.stream c.args.rng.now) c.saturating_sub-room.result c.straight-end.result
+      c.straight-end.new.seat (g.R.Rng.stream c.straight-end.new.rng)
+  straight_on = subst (λ (y : MailboxView). AreStraight y.claims.layout c.args.cell c.args.fields.now.seat
+      (g.R.Rng.stream c.args.rng.now) c.saturating_sub-room.result c.straight-end.result
+      c.straight-end.new.seat (g.R.Rng.stream c.straight-end.new.rng)) c.mailbox.view_is c.straight-end.ensures.steps
+
+  -- how many they are, and the claim at their end
+  abbrev made : ℕ
+  made = (straight_on first c.requires.held.standing).0
+
+  abbrev last : Claim
+  last = (straight_on first c.requires.held.standing).1
+
+  -- with what is left they are the budget of the straight accesses
+  sum : made + c.straight-end.result.left ≡ c.saturating_sub-room.result
+  sum = (straight_on first c.requires.held.standing).2
+
+  -- the claim at their end has the stage
+  stage_is : claim_stage last ≡ c.straight-end.result.stage
+  stage_is = (straight_on first c.requires.held.standing).4.0
+
+  -- if the claim is won, an access is left of the whole budget
+  item_left : c.straight-end.result.stage ≡ stage.Won → made + 1 ≤ c.args.most
+  item_left won =
+      let d = c.args.fields.now.seat.consumer in
+      let some = some_made c.args.mailbox.now.claims.layout c.args.cell made first last c.args.fields.now.seat
+      c.straight-end.new.seat (g.R.Rng.stream c.args.rng.now) (g.R.Rng.stream c.straight-end.new.rng)
+      (straight_on first c.requires.held.standing).3
+      (standing_going c.args.mailbox.now.claims.layout d 0 d first c.requires.held.standing) (stage_is ∙ won) in
+      let all = sum in
+      omega (arith, some, all, c.saturating_sub-room.ensures)
+
+  -- accesses that led to the start of these lead on
+  ran_on : (from : ConsumerView) (n : ℕ) (t : Stream) (other : Claim)
+      → IsStanding c.args.mailbox.now.claims.layout c.args.fields.now.seat.consumer 0 c.args.fields.now.seat.consumer
+      other
+      → AreSteps c.args.lane n None t (g.R.Rng.stream c.args.rng.now) from
+      (holding c.args.lane c.args.cell other (with_fields c.args.fields.now))
+      → HasCompeted c.args.lane c.args.cell (made + n) last t (g.R.Rng.stream c.straight-end.new.rng) from held
+      c.straight-end.new.seat
+  ran_on from n t other is m =
+      let d = c.args.fields.now.seat.consumer in
+      let pending : PendingClaim = record { lane = c.args.lane; cell = c.args.cell; claim = first } in
+      let own = c.consumers_move_on.ensures.own held c.args.lane c.args.cell first start.held
+      (here c.args.mailbox.now pending c.args.fields.now start) in
+      let same = standing_same c.args.mailbox.now.claims.layout d 0 d other is first c.requires.held.standing in
+      ran c.args.mailbox.now pending c.args.fields.now start c.consumers_move_on.ensures.competes
+      c.places_tell_steps.ensures.competes c.args.mailbox.now refl own from n t (g.R.Rng.stream c.args.rng.now)
+      (subst (λ (z : Claim). AreSteps c.args.lane n None t (g.R.Rng.stream c.args.rng.now) from
+      (holding c.args.lane c.args.cell z (with_fields c.args.fields.now))) same m)
+      made last c.straight-end.new.seat (g.R.Rng.stream c.straight-end.new.rng)
+      (straight_on first c.requires.held.standing).3
+
+pub straight-end-requires : goal.straight-end-requires
+straight-end-requires g c =
+    let at = (goal.at.straight-end-requires g c).After-has_history in
+    let low = c.consumers_move_on.ensures.within (with_claim g at) c.args.lane c.args.cell (claim g at)
+    c.requires.held.is c.has_history.ensures (stands g at) in
+    let cells : c.args.fields.now.reader.table.size.cells ≡ c.mailbox.inside.claims.cells =
+    ap (λ (n : CellsName). n.size.cells) (c.requires.of.cells
+    ∙ sym (ap (λ (v : MailboxView). v.cells) c.mailbox.view_is)) ∙ sym c.mailbox.invariant.0.cells in
+    record {
+      table = c.requires.of.claims ∙ sym (ap (λ (v : MailboxView). name_of v.claims) c.mailbox.view_is);
+      cell = subst (λ n. c.args.cell < n) cells low;
+      standing = subst (λ (y : MailboxView). (other : Claim)
+          → IsStanding y.claims.layout c.args.fields.now.seat.consumer 0 c.args.fields.now.seat.consumer other
+          → IsClaimIn y.claims.layout other
+          (part_on c.args.fields.now.seat.consumer c.args.cell c.args.fields.now.seat.part))
+          (sym c.mailbox.view_is) (begun g at);
+    }
+
+pub take-requires : goal.take-requires
+take-requires g c =
+    let at = (goal.at.take-requires g c).After-has_history in
+    record { table = c.requires.of.cells; may = given g at; place = c.requires.lane; room = has_room g at }
+
+pub returns-in-Won : goal.returns-in-Won
+returns-in-Won g c =
+    let at = goal.at.returns-in-Won g c in
+    let s = start g at.After-has_history in
+    let was = was_there g at.After-has_history in
+    record {
+      pursued = λ from n t other is m. taken (base g at.After-has_history) c.args.lane c.args.cell
+          c.requires.held.claim c.places_tell_steps.ensures.takes c.consumers_move_on.ensures.takes s.loads
+          c.take.result (last g at.After-straight-end s) c.straight-end.new.seat c.take.new.reader
+          c.take.new.places.items c.take.new.notes.lists (made g at.After-straight-end s) n c.args.most t
+          (g.R.Rng.stream c.straight-end.new.rng) from was.0 was.1
+          (stage_is g at.After-straight-end s ∙ c.in-Won.is) (ran_on g at.After-straight-end s from n t other is m)
+          c.take.ensures.makes c.take.ensures.place c.take.ensures.notes.lists
+          (item_left g at.After-straight-end s c.in-Won.is);
+      few = λ e. cc;
+      decided = λ last e. cc;
+      wide = subst (λ (r : ReaderSeatView). r.table.size.cells ≤ c.take.new.notes.room) (sym c.take.ensures.makes.1)
+          (room_stays c.args.lane c.args.fields.now.reader.table.size.cells (Some (Took c.take.result))
+          c.args.fields.now.notes c.take.new.notes c.take.ensures.notes c.requires.wide);
+    }
+
+pub leave-requires : goal.leave-requires
+leave-requires g c =
+    let at = goal.at.leave-requires g c in
+    record { place = c.requires.lane; room = has_room g at.After-has_history }
+
+pub returns-in-Lost : goal.returns-in-Lost
+returns-in-Lost g c =
+    let at = goal.at.returns-in-Lost g c in
+    let s = start g at.After-has_history in
+    let was = was_there g at.After-has_history in
+    let all = sum g at.After-straight-end s in
+    record {
+      pursued = λ from n t other is m. pursued_past (base g at.After-has_history) c.args.lane c.args.cell
+          c.requires.held.claim c.args.most (made g at.After-straight-end s) n (last g at.After-straight-end s)
+          (stage.Lost c.in-Lost.winner) (Lost c.in-Lost.winner) (poll.Lost c.in-Lost.winner) t
+          (g.R.Rng.stream c.straight-end.new.rng) from c.straight-end.new.seat
+          c.leave.new.places.items c.leave.new.notes.lists was.0 was.1
+          (stage_is g at.After-straight-end s ∙ c.in-Lost.is) refl refl tt (λ f. cc) refl
+          (omega (arith, all, c.saturating_sub-room.ensures))
+          (ran_on g at.After-straight-end s from n t other is m) c.leave.ensures.place c.leave.ensures.notes.lists;
+      few = λ e. cc;
+      decided = λ last e. cc;
+      wide = room_stays c.args.lane c.args.fields.now.reader.table.size.cells (Some (Lost c.in-Lost.winner))
+          c.args.fields.now.notes c.leave.new.notes c.leave.ensures.notes c.requires.wide;
+    }
+
+pub leave-requires-in-Undecided : goal.leave-requires-in-Undecided
+leave-requires-in-Undecided g c =
+    let at = goal.at.leave-requires-in-Undecided g c in
+    record { place = c.requires.lane; room = has_room g at.After-has_history }
+
+pub returns-in-Undecided : goal.returns-in-Undecided
+returns-in-Undecided g c =
+    let at = goal.at.returns-in-Undecided g c in
+    let s = start g at.After-has_history in
+    let was = was_there g at.After-has_history in
+    let all = sum g at.After-straight-end s in
+    record {
+      pursued = λ from n t other is m. pursued_past (base g at.After-has_history) c.args.lane c.args.cell
+          c.requires.held.claim c.args.most (made g at.After-straight-end s) n (last g at.After-straight-end s)
+          stage.Undecided Undecided poll.Undecided t (g.R.Rng.stream c.straight-end.new.rng) from
+          c.straight-end.new.seat c.leave-in-Undecided.new.places.items c.leave-in-Undecided.new.notes.lists was.0 was.1
+          (stage_is g at.After-straight-end s ∙ c.in-Undecided.is) refl refl tt (λ f. cc) refl
+          (omega (arith, all, c.saturating_sub-room.ensures))
+          (ran_on g at.After-straight-end s from n t other is m) c.leave-in-Undecided.ensures.place
+          c.leave-in-Undecided.ensures.notes.lists;
+      few = λ e. cc;
+      decided = λ last e. absurd (subst (λ (y : MailboxView). (shape_of y.claims.layout).last ≡ true
+          → c.straight-end.result.stage ≢ stage.Undecided) c.mailbox.view_is c.straight-end.ensures.decided last
+          c.in-Undecided.is);
+      wide = room_stays c.args.lane c.args.fields.now.reader.table.size.cells (Some Undecided)
+          c.args.fields.now.notes c.leave-in-Undecided.new.notes c.leave-in-Undecided.ensures.notes c.requires.wide;
+    }
+
+-- after straight accesses the consumer is at the cell with a claim that begins an object
+pub run_rest-requires-clause-held : goal.run_rest-requires-clause-held
+run_rest-requires-clause-held g c =
+    let at = goal.at.run_rest-requires-clause-held g c in
+    let s = start g at.After-has_history in
+    let m = c.args.mailbox.now in
+    let first = c.requires.held.claim in
+    let rng = g.R.Rng.stream c.args.rng.now in
+    let end = last g at.After-straight-end s in
+    let going : claim_stage end ≡ stage.Going = stage_is g at.After-straight-end s ∙ c.in-Going.is in
+    let so = ran_on g at.After-straight-end s (with_claim g at.After-has_history) 0 rng first c.requires.held.standing
+    (no_steps c.args.lane rng (with_claim g at.After-has_history)) in
+    record {
+      claim = end;
+      standing = subst (λ x. IsStanding m.claims.layout x c.straight-end.result.object c.straight-end.result.value end)
+          (sym (ap (λ (z : SeatView). z.consumer) so.same))
+          ((straight_on g at.After-straight-end s first c.requires.held.standing).4.3 c.in-Going.is);
+      is = still_consumer (base g at.After-has_history) c.args.lane c.args.cell first
+          (made g at.After-straight-end s + 0) end rng (g.R.Rng.stream c.straight-end.new.rng)
+          (with_claim g at.After-has_history) c.straight-end.new.seat going so;
+    }
+
+pub run_rest-requires-clause-of : goal.run_rest-requires-clause-of
+run_rest-requires-clause-of g c =
+    let at = goal.at.run_rest-requires-clause-of g c in
+    let s = start g at.After-has_history in
+    let rng = g.R.Rng.stream c.args.rng.now in
+    let so = ran_on g at.After-straight-end s (with_claim g at.After-has_history) 0 rng c.requires.held.claim
+    c.requires.held.standing (no_steps c.args.lane rng (with_claim g at.After-has_history)) in
+    record {
+      cells = c.requires.of.cells;
+      claims = ap (λ (z : SeatView). z.table) so.same ∙ c.requires.of.claims;
+    }
+
+pub returns-in-Going-clause-pursued : goal.returns-in-Going-clause-pursued
+returns-in-Going-clause-pursued g c from n t other is m =
+    let at = goal.at.returns-in-Going-clause-pursued g c in
+    let s = start g at.After-has_history in
+    let first = c.requires.held.claim in
+    let end = last g at.After-straight-end s in
+    let so = ran_on g at.After-straight-end s from n t other is m in
+    let going : claim_stage end ≡ stage.Going = stage_is g at.After-straight-end s ∙ c.in-Going.is in
+    let all = sum g at.After-straight-end s in
+    pursued_on c.args.lane (made g at.After-straight-end s) n
+    (c.straight-end.result.left + (c.args.most - c.saturating_sub-room.result)) c.args.most
+    c.run_rest.result t (g.R.Rng.stream c.run_rest.new.rng) from (with_fields c.run_rest.new.fields)
+    (omega (arith, all, c.saturating_sub-room.ensures))
+    (c.run_rest.ensures.pursued from (made g at.After-straight-end s + n) t end
+    (subst (λ x. IsStanding c.args.mailbox.now.claims.layout x c.straight-end.result.object
+    c.straight-end.result.value end) (sym (ap (λ (z : SeatView). z.consumer) so.same))
+    ((straight_on g at.After-straight-end s first c.requires.held.standing).4.3 c.in-Going.is))
+    (still_steps (base g at.After-has_history) c.args.lane c.args.cell first (made g at.After-straight-end s + n) end t
+    (g.R.Rng.stream c.straight-end.new.rng) from c.straight-end.new.seat going so))

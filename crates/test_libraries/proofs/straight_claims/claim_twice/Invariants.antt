@@ -1,0 +1,7 @@
+-- Loop invariants of `claim_twice`: plays a consumer's new claim twice.
+use Rattle.mb_claim.specs.Vocabulary.{FitsLayout}
+use Rattle.test_libraries.proofs.straight_claims.claim_twice.Given as goal
+
+-- both claims fit the layout
+abbrev pub invariant-loop : goal.invariant-loop
+invariant-loop g l = record { one : FitsLayout l.layout l.one; other : FitsLayout l.layout l.other }

@@ -1,7 +1,0 @@
--- Loop invariants of `play_twice`: plays the claims of all consumers on a cell of this layout twice.
-use Rattle.mb_claim.specs.Vocabulary.{FitsLayout}
-use Rattle.test_libraries.proofs.straight_claims.play_twice.Given as goal
-
--- both claims fit the layout
-abbrev pub invariant-loop : goal.invariant-loop
-invariant-loop g l = record { one : FitsLayout l.layout l.one; other : FitsLayout l.layout l.other }

@@ -1,0 +1,76 @@
+-- Proof of `straight_and_on`: makes a claim of a seat straight, and then by single steps.
+use Rattle.std.proofs.Common.{◌≡◌, ℕ, [], zero, suc, Option, Some, None, MatchOption, slice_get, ◌∙◌, ap, sym, subst}
+use Rattle.rand_core.specs.Stream.{Stream}
+use Rattle.mb_deciding.specs.declared.object.Kind.{Kind}
+use Rattle.mb_claim.specs.declared.claim.Claim.{Claim}
+use Rattle.mb_claim.specs.declared.layout.Layout.{Layout}
+use Rattle.mb_claim.specs.Vocabulary.{IsClaimIn, IsStanding, kinds_of, part_on, standing}
+use Rattle.mb_shared_claims.specs.Vocabulary.{AreSeatSteps, SeatView}
+use Rattle.test_libraries.proofs.straight_seats.straight_and_on.Goals as goal
+
+-- claims that are given by the kind of one object are one
+by_kind :
+    (kind : Option Kind) (f : Kind → Claim) (a b : Claim) → MatchOption kind ⊥ (λ k. a ≡ f k)
+    → MatchOption kind ⊥ (λ k. b ≡ f k) → a ≡ b
+by_kind None f a b is also = absurd is
+by_kind (Some k) f a b is also = is ∙ sym also
+
+-- claims of a consumer that stand before one object with one input are one
+one_claim :
+    (layout : Layout) (c o v : ℕ) (a b : Claim) → IsStanding layout c o v a → IsStanding layout c o v b → a ≡ b
+one_claim layout c o v = by_kind (slice_get (kinds_of layout) o) (standing layout c o v)
+
+-- steps of a claim leave the table and the consumer of the seat as they were
+steps_keep :
+    (layout : Layout) (cell : ℕ) (claim : Claim) (seat : SeatView) (s : Stream) (n : ℕ) (at : Claim) (now : SeatView)
+    (t : Stream) → AreSeatSteps layout cell claim seat s n at now t
+    → (now.table ≡ seat.table) × (now.consumer ≡ seat.consumer)
+steps_keep layout cell claim seat s zero at now t (is, same, e) =
+    (ap (λ (v : SeatView). v.table) same, ap (λ (v : SeatView). v.consumer) same)
+steps_keep layout cell claim seat s (suc n) at now t (was, before, u, word, older, going, drawn, step, own, rest) =
+    let p = steps_keep layout cell claim seat s n was before u older in
+    (ap (λ (v : SeatView). v.table) step.adds ∙ p.0, ap (λ (v : SeatView). v.consumer) step.adds ∙ p.1)
+
+pub straight-end-requires-clause-standing : goal.straight-end-requires-clause-standing
+straight-end-requires-clause-standing g c start stands =
+    let layout = c.args.table.now.layout in
+    let own = c.args.seat.now.consumer in
+    let new = subst (λ k. IsStanding layout k 0 k c.new.result) c.consumer.ensures.exact c.new.ensures.first in
+    subst (λ xs. IsClaimIn layout start (part_on own 0 xs)) (sym c.requires.table.1)
+    (subst (λ d. IsClaimIn layout d []) (one_claim layout own 0 own c.new.result start new stands) c.new.ensures.path)
+
+-- the claim where the straight accesses ended is the one that goes on
+pub run-made-requires-clause-standing : goal.run-made-requires-clause-standing
+run-made-requires-clause-standing g c =
+    let layout = c.args.table.now.layout in
+    let own = c.args.seat.now.consumer in
+    let new = subst (λ k. IsStanding layout k 0 k c.new.result) c.consumer.ensures.exact c.new.ensures.first in
+    let end = c.straight-end.ensures.steps c.new.result new in
+    let p = steps_keep layout 0 c.new.result c.args.seat.now _ end.0 end.1 c.straight-end.new.seat _ end.3 in
+    let at = c.straight-end.result in
+    let there = subst (λ k. IsStanding layout k at.object at.value c.standing-claim.result) c.consumer.ensures.exact
+    c.standing-claim.ensures in
+    subst (λ d. IsClaimIn layout d (part_on c.straight-end.new.seat.consumer 0 c.straight-end.new.seat.part))
+    (one_claim layout own at.object at.value end.1 c.standing-claim.result (end.4.3 c.if-ne.false) there) end.5
+
+pub run-made-requires-clause-consumer : goal.run-made-requires-clause-consumer
+run-made-requires-clause-consumer g c =
+    let layout = c.args.table.now.layout in
+    let own = c.args.seat.now.consumer in
+    let new = subst (λ k. IsStanding layout k 0 k c.new.result) c.consumer.ensures.exact c.new.ensures.first in
+    let end = c.straight-end.ensures.steps c.new.result new in
+    let p = steps_keep layout 0 c.new.result c.args.seat.now _ end.0 end.1 c.straight-end.new.seat _ end.3 in
+    let at = c.straight-end.result in
+    let there = subst (λ k. IsStanding layout k at.object at.value c.standing-claim.result) c.consumer.ensures.exact
+    c.standing-claim.ensures in
+    let is = one_claim layout own at.object at.value end.1 c.standing-claim.result (end.4.3 c.if-ne.false) there in
+    subst (λ (d : Claim). d.consumer ≡ c.straight-end.new.seat.consumer) is (end.4.1 ∙ sym p.1)
+
+pub run-made-requires-clause-table : goal.run-made-requires-clause-table
+run-made-requires-clause-table g c =
+    let layout = c.args.table.now.layout in
+    let own = c.args.seat.now.consumer in
+    let new = subst (λ k. IsStanding layout k 0 k c.new.result) c.consumer.ensures.exact c.new.ensures.first in
+    let end = c.straight-end.ensures.steps c.new.result new in
+    let p = steps_keep layout 0 c.new.result c.args.seat.now _ end.0 end.1 c.straight-end.new.seat _ end.3 in
+    p.0 ∙ c.requires.table.0
