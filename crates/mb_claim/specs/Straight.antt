@@ -1,7 +1,7 @@
 -- A claim that goes straight through whole objects: where it stands before one, and where its accesses ended.
-use Rattle.std.specs.Prelude.{ℕ, zero, suc, ◌≡◌, ◌+◌, Bool, true, false, MatchOption, slice_get}
+use Rattle.std.specs.Prelude.{ℕ, zero, suc, ◌≡◌, ◌⊎◌, ◌+◌, ◌*◌, ◌<◌, Bool, true, false, Some, MatchOption, slice_get}
 use Rattle.mb_deciding.specs.Vocabulary.{first_place}
-use Rattle.mb_claim.specs.ObjectTypes.{Kind, Site}
+use Rattle.mb_claim.specs.ObjectTypes.{Kind, LastObject, Site}
 use Rattle.mb_claim.specs.Types.{Claim, Going, Layout, Stretch}
 use Rattle.mb_claim.specs.Layouts.{quorums_of, kinds_of, words_before}
 use Rattle.mb_claim.specs.OneClaim.{claim_stage, consumer_of, FitsLayout}
@@ -37,3 +37,10 @@ site_of layout begin o =
 abbrev pub HasEnd : Layout → ℕ → Stretch → Claim → Type 0
 HasEnd layout c stretch end = (claim_stage end ≡ stretch.stage) × (consumer_of end ≡ c) × FitsLayout layout end
     × (stretch.stage ≡ Going → IsStanding layout c stretch.object stretch.value end)
+
+-- straight accesses of a claim ended no sooner than they had to. If it is going, it stands before a last object, or
+-- fewer accesses are left than 2 for each register and 10: no other object takes more
+abbrev pub HasStopped : Layout → Stretch → Type 0
+HasStopped layout stretch = stretch.stage ≡ Going
+    → (slice_get (kinds_of layout) stretch.object ≡ Some LastObject)
+    ⊎ (stretch.left < 2 * (quorums_of layout).registers + 10)

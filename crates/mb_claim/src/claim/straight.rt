@@ -22,8 +22,8 @@ pub struct Stretch {
 
 impl Claim {
     ghost use Rattle.std.specs.Prelude.{◌≡◌, ◌≢◌, ◌<◌, ◌≤◌, ◌+◌, ◌*◌, ◌^◌, ℕ, true, false, length, slice_get, Some};
-    ghost use Rattle.mb_claim.specs.{Ratifier, Going, claim_stage, IsNextOp, AreClaimSteps, DrawsAndMakesNext};
-    ghost use Rattle.mb_claim.specs.{quorums_of, kinds_of, consumer_count, cell_words, IsStanding, HasEnd, site_of};
+    ghost use Rattle.mb_claim.specs.{Ratifier, LastObject, Going, claim_stage, IsNextOp, AreClaimSteps, DrawsAndMakesNext};
+    ghost use Rattle.mb_claim.specs.{quorums_of, kinds_of, consumer_count, cell_words, IsStanding, HasEnd, HasStopped, site_of};
 
     /// The claim of a consumer before its first access to an object, with this value as its input there.
     #[cold]
@@ -70,6 +70,9 @@ impl Claim {
             × AreClaimSteps layout.now (DrawsAndMakesNext M.draws M.makes) start memory.old n
             end memory.new
             × HasEnd layout.now consumer result end }
+
+        // It did not stop before it had to.
+        ensures goes { HasStopped layout.now result }
     {
         let room = 2 * u64::from(layout.table.registers()) + 10;
         let mut at = Stretch {
@@ -78,7 +81,7 @@ impl Claim {
             value: consumer,
             left: most,
         };
-        'pairs: while at.left >= room {
+        'objects: while at.left >= room {
             if !Claim::agree(layout, memory, begin, consumer, &mut at) {
                 return at;
             }
@@ -118,6 +121,8 @@ impl Claim {
         ensures value { at.new.value < consumer_count layout.now }
         ensures next { result ≡ true
             → slice_get (kinds_of layout.now) at.new.object ≡ Some Ratifier }
+        ensures last { result ≡ false
+            → slice_get (kinds_of layout.now) at.new.object ≡ Some LastObject }
         ensures steps { (start : Claim)
             → IsStanding layout.now consumer at.old.object at.old.value start
             → (n : ℕ) × (mid : Claim) × (n + at.new.left ≡ at.old.left)

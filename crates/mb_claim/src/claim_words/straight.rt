@@ -28,7 +28,7 @@ pub trait RandomWords {
 impl<A: Allocator + Drop> ClaimWords<A> {
     ghost use Rattle.std.specs.Prelude.{◌≡◌, ◌<◌, ◌+◌, ℕ, List, [], length};
     ghost use Rattle.mb_claim.specs.{Going, ClaimAccess, MAX_LARGE_CELLS, IsMemoryOf, IsClaimOn, claims_in, part_on};
-    ghost use Rattle.mb_claim.specs.{consumer_count, kinds_of, AreClaimSteps, IsStanding, HasEnd, MakesInWords};
+    ghost use Rattle.mb_claim.specs.{consumer_count, kinds_of, AreClaimSteps, IsStanding, HasEnd, HasStopped, MakesInWords};
 
     /// Makes the accesses of a new claim of a consumer on a cell, each with the next word of the source. It goes pair
     /// by pair as long as `most` has room for all accesses to a pair. As many calls of [`ClaimWords::step`] make the
@@ -61,7 +61,8 @@ impl<A: Allocator + Drop> ClaimWords<A> {
             × IsClaimOn layout.now cells cell end self.new later
             × HasEnd layout.now consumer result end }
 
-        // A claim that is still going can be made.
+        // It did not stop before it had to. A claim that is still going can be made.
+        ensures goes { HasStopped layout.now result }
         ensures object { result.stage ≡ Going → result.object < length (kinds_of layout.now) }
         ensures value { result.value < consumer_count layout.now }
     {

@@ -14,7 +14,7 @@ use std::marker::Brand;
 
 impl<A: Allocator + Drop> SharedClaims<A> {
     ghost use Rattle.std.specs.Prelude.{◌≡◌, ◌≢◌, ◌<◌, ◌≤◌, ◌+◌, ℕ, true, length};
-    ghost use Rattle.mb_claim.specs.Vocabulary.{IsClaimIn, IsStanding, HasEnd, claim_stage, consumer_count, consumer_of, kinds_of};
+    ghost use Rattle.mb_claim.specs.Vocabulary.{IsClaimIn, IsStanding, HasEnd, HasStopped, claim_stage, consumer_count, consumer_of, kinds_of};
     ghost use Rattle.mb_claim.specs.Vocabulary.{most_accesses, part_on, shape_of};
     ghost use Rattle.mb_claim.specs.declared.access.Stage.TheVariants.{Undecided};
     ghost use Rattle.mb_shared_claims.specs.{Claim, Going, name_of, AreSeatSteps, IsSeatStep};
@@ -95,7 +95,8 @@ impl<A: Allocator + Drop> SharedClaims<A> {
             × IsClaimIn self.now.layout end (part_on seat.new.consumer cell seat.new.part)
             × (n ≤ most_accesses self.now.layout) }
 
-        // A claim that is still going can be made.
+        // It did not stop before it had to. A claim that is still going can be made.
+        ensures goes { HasStopped self.now.layout result }
         ensures object { result.stage ≡ Going → result.object < length (kinds_of self.now.layout) }
         ensures value { result.value < consumer_count self.now.layout }
 

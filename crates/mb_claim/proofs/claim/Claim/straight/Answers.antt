@@ -7,19 +7,19 @@ use Rattle.mb_claim.proofs.claim.Claim.straight.Goals as goal
 pub agree-requires-clause-may : goal.agree-requires-clause-may
 agree-requires-clause-may g c =
     let layout = c.args.layout.now in
-    let at = c.pairs.at in
+    let at = c.objects.at in
     further_may layout g.M.Drawing.draws g.M.Memory.makes c.args.consumer c.args.memory.now c.args.most
-    at.object at.value c.pairs.memory at.left c.pairs.invariant.steps
+    at.object at.value c.objects.memory at.left c.objects.invariant.steps
     (λ claim mid next. g.M.Drawing.can_make_at mid (site_of layout c.args.begin next.object) next.op) c.requires.may
 
 -- Below, `first` are the accesses up to the object that `agree` leads to.
 pub decide-requires-clause-may : goal.decide-requires-clause-may
 decide-requires-clause-may g c =
     let layout = c.args.layout.now in
-    let at = c.pairs.at in
+    let at = c.objects.at in
     let on = c.agree.new.at in
     let first = further layout g.M.Drawing.draws g.M.Memory.makes c.args.consumer c.args.memory.now c.args.most
-    at.object at.value c.pairs.memory at.left c.pairs.invariant.steps
+    at.object at.value c.objects.memory at.left c.objects.invariant.steps
     (IsStanding layout c.args.consumer on.object on.value) c.agree.new.memory on.left c.agree.ensures.steps in
     further_may layout g.M.Drawing.draws g.M.Memory.makes c.args.consumer c.args.memory.now c.args.most
     on.object on.value c.agree.new.memory on.left first
@@ -28,53 +28,53 @@ decide-requires-clause-may g c =
 pub returns-then-not-agree-clause-steps : goal.returns-then-not-agree-clause-steps
 returns-then-not-agree-clause-steps g c =
     let layout = c.args.layout.now in
-    let at = c.pairs.at in
+    let at = c.objects.at in
     let on = c.agree.new.at in
     let first = further layout g.M.Drawing.draws g.M.Memory.makes c.args.consumer c.args.memory.now c.args.most
-    at.object at.value c.pairs.memory at.left c.pairs.invariant.steps
+    at.object at.value c.objects.memory at.left c.objects.invariant.steps
     (IsStanding layout c.args.consumer on.object on.value) c.agree.new.memory on.left c.agree.ensures.steps in
     led_as layout (DrawsAndMakesNext g.M.Drawing.draws g.M.Memory.makes) c.args.consumer 0 c.args.consumer
     c.args.memory.now c.args.most (IsStanding layout c.args.consumer on.object on.value)
     (HasEnd layout c.args.consumer on) c.agree.new.memory on.left first
-    (λ claim stands. standing_end layout c.args.consumer on claim (c.agree.ensures.stage ∙ c.pairs.invariant.going)
+    (λ claim stands. standing_end layout c.args.consumer on claim (c.agree.ensures.stage ∙ c.objects.invariant.going)
     c.agree.ensures.object c.agree.ensures.value stands)
 
 pub returns-then-at-room-clause-steps : goal.returns-then-at-room-clause-steps
 returns-then-at-room-clause-steps g c =
     let layout = c.args.layout.now in
-    let at = c.pairs.at in
+    let at = c.objects.at in
     let on = c.agree.new.at in
     let first = further layout g.M.Drawing.draws g.M.Memory.makes c.args.consumer c.args.memory.now c.args.most
-    at.object at.value c.pairs.memory at.left c.pairs.invariant.steps
+    at.object at.value c.objects.memory at.left c.objects.invariant.steps
     (IsStanding layout c.args.consumer on.object on.value) c.agree.new.memory on.left c.agree.ensures.steps in
     led_as layout (DrawsAndMakesNext g.M.Drawing.draws g.M.Memory.makes) c.args.consumer 0 c.args.consumer
     c.args.memory.now c.args.most (IsStanding layout c.args.consumer on.object on.value)
     (HasEnd layout c.args.consumer on) c.agree.new.memory on.left first
-    (λ claim stands. standing_end layout c.args.consumer on claim (c.agree.ensures.stage ∙ c.pairs.invariant.going)
+    (λ claim stands. standing_end layout c.args.consumer on claim (c.agree.ensures.stage ∙ c.objects.invariant.going)
     c.agree.ensures.object c.agree.ensures.value stands)
 
 pub returns-then-not-decide-clause-steps : goal.returns-then-not-decide-clause-steps
 returns-then-not-decide-clause-steps g c =
     let layout = c.args.layout.now in
-    let at = c.pairs.at in
+    let at = c.objects.at in
     let on = c.agree.new.at in
     let first = further layout g.M.Drawing.draws g.M.Memory.makes c.args.consumer c.args.memory.now c.args.most
-    at.object at.value c.pairs.memory at.left c.pairs.invariant.steps
+    at.object at.value c.objects.memory at.left c.objects.invariant.steps
     (IsStanding layout c.args.consumer on.object on.value) c.agree.new.memory on.left c.agree.ensures.steps in
     further layout g.M.Drawing.draws g.M.Memory.makes c.args.consumer c.args.memory.now c.args.most on.object on.value
     c.agree.new.memory on.left first (HasEnd layout c.args.consumer c.decide.new.at) c.decide.new.memory
     c.decide.new.at.left c.decide.ensures.steps
 
-pub pairs-preserved : goal.pairs-preserved
-pairs-preserved g c =
+pub objects-preserved : goal.objects-preserved
+objects-preserved g c =
     let layout = c.args.layout.now in
-    let at = c.pairs.at in
+    let at = c.objects.at in
     let on = c.agree.new.at in
     let now = c.decide.new.at in
     let going = c.decide.ensures.goes c.if-not-decide.false in
     let makes = DrawsAndMakesNext g.M.Drawing.draws g.M.Memory.makes in
     let first = further layout g.M.Drawing.draws g.M.Memory.makes c.args.consumer c.args.memory.now c.args.most
-    at.object at.value c.pairs.memory at.left c.pairs.invariant.steps
+    at.object at.value c.objects.memory at.left c.objects.invariant.steps
     (IsStanding layout c.args.consumer on.object on.value) c.agree.new.memory on.left c.agree.ensures.steps in
     let both = further layout g.M.Drawing.draws g.M.Memory.makes c.args.consumer c.args.memory.now c.args.most
     on.object on.value c.agree.new.memory on.left first (HasEnd layout c.args.consumer now) c.decide.new.memory
@@ -91,9 +91,9 @@ pairs-preserved g c =
 pub returns-clause-steps : goal.returns-clause-steps
 returns-clause-steps g c =
     let layout = c.args.layout.now in
-    let at = c.pairs.at in
+    let at = c.objects.at in
     led_as layout (DrawsAndMakesNext g.M.Drawing.draws g.M.Memory.makes) c.args.consumer 0 c.args.consumer
     c.args.memory.now c.args.most (IsStanding layout c.args.consumer at.object at.value)
-    (HasEnd layout c.args.consumer at) c.pairs.memory at.left c.pairs.invariant.steps
-    (λ claim stands. standing_end layout c.args.consumer at claim c.pairs.invariant.going
-    c.pairs.invariant.object c.pairs.invariant.value stands)
+    (HasEnd layout c.args.consumer at) c.objects.memory at.left c.objects.invariant.steps
+    (λ claim stands. standing_end layout c.args.consumer at claim c.objects.invariant.going
+    c.objects.invariant.object c.objects.invariant.value stands)

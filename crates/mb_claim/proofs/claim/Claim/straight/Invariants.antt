@@ -3,12 +3,12 @@ use Rattle.std.proofs.Common.{◌≡◌, ◌+◌, ◌-◌, ◌<◌, ℕ, length}
 use Rattle.mb_claim.specs.{Claim, Going, kinds_of, consumer_count, IsStanding, AreClaimSteps, DrawsAndMakesNext}
 use Rattle.mb_claim.proofs.claim.Claim.straight.Given as goal
 
-abbrev pub decreases-pairs : goal.decreases-pairs
-decreases-pairs g l = length (kinds_of l.layout) - l.at.object
+abbrev pub decreases-objects : goal.decreases-objects
+decreases-objects g l = length (kinds_of l.layout) - l.at.object
 
 -- The claim stands before an object.
-abbrev pub invariant-pairs : goal.invariant-pairs
-invariant-pairs g l = record {
+abbrev pub invariant-objects : goal.invariant-objects
+invariant-objects g l = record {
   going : l.at.stage ≡ Going;
   object : l.at.object < length (kinds_of l.layout);
   value : l.at.value < consumer_count l.layout;
