@@ -52,3 +52,4 @@ pub mod ShapedExamples
 pub mod BothExamples
 pub mod Counterexamples
 pub mod PlayedExamples
+mod StraightExamples

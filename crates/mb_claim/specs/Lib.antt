@@ -18,6 +18,7 @@ pub mod Plays
 pub mod Boards
 pub mod Examples
 pub mod ShapedExamples
+pub mod StraightExamples
 pub mod Vocabulary
 -- clauses name these definitions after `Rattle.mb_claim.specs`
 pub use ObjectTypes.*
@@ -39,3 +40,4 @@ pub use Plays.*
 pub use Boards.*
 pub use Examples.*
 pub use ShapedExamples.*
+pub use StraightExamples.*

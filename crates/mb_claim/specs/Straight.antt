@@ -32,8 +32,9 @@ abbrev pub site_of : Layout → ℕ → ℕ → Site
 site_of layout begin o =
     record { object = o; begin = begin + words_before (quorums_of layout).registers (kinds_of layout) o }
 
--- straight accesses of consumer c ended with this claim. It has the stage. If it is going, it is about to make its
--- first access to the object, where its input is the value
+-- straight accesses of consumer c ended with this claim. It is that consumer's, and has the stage told. If it is going,
+-- it stands on one of the layout's objects, at a place there. That is the place before its first access to the object
+-- told, where its input is the value told
 abbrev pub HasEnd : Layout → ℕ → Stretch → Claim → Type 0
 HasEnd layout c stretch end = (claim_stage end ≡ stretch.stage) × (consumer_of end ≡ c) × FitsLayout layout end
     × (stretch.stage ≡ Going → IsStanding layout c stretch.object stretch.value end)

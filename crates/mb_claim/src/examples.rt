@@ -1,5 +1,6 @@
-//! Small histories and plays of the claims of two consumers on one cell, and rows of accesses: what the definitions
-//! admit, and what they refuse. The functions compute nothing. The proofs begin in `proofs/examples`.
+//! Small histories and plays of the claims of two consumers on one cell, rows of accesses, and claims that go straight:
+//! what the definitions admit, and what they refuse. The functions compute nothing. The proofs begin in
+//! `proofs/examples`.
 ghost use Rattle.std.specs.Prelude.{ℕ, ◌≡◌, ◌≢◌, ◌+◌, true, false, [], ◌∷◌};
 ghost use Rattle.mb_claim.specs.{AreClaimSteps, Claim, Layout, claim_stage};
 ghost use Rattle.mb_claim.specs.declared.run.ClaimEntry.TheVariants as entry;
@@ -8,6 +9,7 @@ ghost use Rattle.mb_claim.specs.{Lost, Undecided, two_consumers, won_and_lost, b
 ghost use Rattle.mb_claim.specs.{after_winning, own_number_again, of_a_stranger, IsPlayedByTwo, step, eight_steps};
 ghost use Rattle.mb_claim.specs.{won_and, two_with, lost_at_second, skip_both_ratifiers, skip_one_ratifier};
 ghost use Rattle.mb_claim.specs.{last_decides, last_found_empty_twice, last_comes_first, through_all, skip_the_pair};
+ghost use Rattle.mb_claim.specs.{IsStanding, HasEnd, HasStopped, site_of, IsOfTwo, on_ratifier, told};
 
 use crate::laws::last_objects_decide_claims;
 use mb_deciding::examples::small_histories;
@@ -135,4 +137,39 @@ pub fn rows_of_accesses()
         → claim_stage claim ≢ Going
         → AreClaimSteps layout (λ before word next seen now. now ≡ before + 1) claim m 1 follows now
         → ⊥ }
+{}
+
+/// Where consumer 1 of two stands between the conciliator and the ratifier of one pair.
+pub fn straight_claims_stand_before_objects()
+    // Its claim is begun.
+    ensures stands { (layout : Layout) → IsOfTwo layout
+        → IsStanding layout 1 1 0 (on_ratifier true Going) }
+    ensures fresh { (layout : Layout) → IsOfTwo layout
+        → IsStanding layout 1 1 0 (on_ratifier false Going) → ⊥ }
+
+    // Accesses that ended there tell the input 0, and no other.
+    ensures end { (layout : Layout) (left : ℕ) → IsOfTwo layout
+        → HasEnd layout 1 (told Going 1 0 left) (on_ratifier true Going) }
+    ensures input { (layout : Layout) (left : ℕ) → IsOfTwo layout
+        → HasEnd layout 1 (told Going 1 1 left) (on_ratifier true Going) → ⊥ }
+
+    // Accesses after which the claim is lost tell this, and not that it is won.
+    ensures lost { (layout : Layout) (object value left : ℕ) → IsOfTwo layout
+        → HasEnd layout 1 (told (Lost 0) object value left) (on_ratifier true (Lost 0)) }
+    ensures boast { (layout : Layout) (object value left : ℕ) → IsOfTwo layout
+        → HasEnd layout 1 (told Won object value left) (on_ratifier true (Lost 0)) → ⊥ }
+{}
+
+/// Where the ratifier of that pair lies, and with how much left a claim may stop before the conciliator.
+pub fn straight_claims_go_on()
+    // In a cell whose words begin at 4 the conciliator has that word, and the ratifier begins at the next.
+    ensures site { (layout : Layout) → IsOfTwo layout
+        → site_of layout 4 1 ≡ record { object = 1; begin = 5 } }
+    ensures early { (layout : Layout) → IsOfTwo layout
+        → site_of layout 4 1 ≡ record { object = 1; begin = 4 } → ⊥ }
+
+    // With 13 accesses left it may stop, and with 14 it may not.
+    ensures few { (layout : Layout) → IsOfTwo layout → HasStopped layout (told Going 0 1 13) }
+    ensures many { (layout : Layout) → IsOfTwo layout
+        → HasStopped layout (told Going 0 1 14) → ⊥ }
 {}

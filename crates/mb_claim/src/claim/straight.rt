@@ -12,9 +12,9 @@ use mb_quorum::Quorums;
 pub struct Stretch {
     /// How far the claim has come. If it is going, it is about to make its first access to the object.
     pub stage: Stage,
-    /// The number of the object.
+    /// The number of the object, if the claim is going.
     pub object: u32,
-    /// The input to that object, or what the last object returned.
+    /// The claim's input to the object, if it is going. It is some consumer's number even if the claim has ended.
     pub value: u32,
     /// What is left of the budget.
     pub left: u64,
@@ -43,7 +43,7 @@ impl Claim {
     }
 
     /// Makes the accesses of a new claim on a cell whose words begin at `begin`. It goes object by object, as long as
-    /// the budget has room for all accesses to one more, and stops before a last object. These are the accesses of as
+    /// 10 accesses and 2 for each quorum register are left. It stops before a last object. These are the accesses of as
     /// many calls of [`Claim::step`].
     #[inline(always)]
     pub fn straight<M: Drawing>(

@@ -30,9 +30,10 @@ impl<A: Allocator + Drop> ClaimWords<A> {
     ghost use Rattle.mb_claim.specs.{Going, ClaimAccess, MAX_LARGE_CELLS, IsMemoryOf, IsClaimOn, claims_in, part_on};
     ghost use Rattle.mb_claim.specs.{consumer_count, kinds_of, AreClaimSteps, IsStanding, HasEnd, HasStopped, MakesInWords};
 
-    /// Makes the accesses of a new claim of a consumer on a cell, each with the next word of the source. It goes pair
-    /// by pair as long as `most` has room for all accesses to a pair. As many calls of [`ClaimWords::step`] make the
-    /// same accesses. The rest is for that call, with the claim of [`Claim::standing`].
+    /// Makes the accesses of a new claim of a consumer on a cell, each with the next word of the source. It goes object
+    /// by object, as long as 10 of `most` accesses and 2 for each quorum register are left. It stops before a last
+    /// object. As many calls of [`ClaimWords::step`] make the same accesses. The rest is for that call, with the claim
+    /// of [`Claim::standing`].
     #[inline(always)]
     pub fn straight<S: RandomWords>(
         &mut self,

@@ -65,9 +65,10 @@ impl<A: Allocator + Drop> SharedClaims<A> {
         most - left
     }
 
-    /// Makes the accesses of a new claim of the seat's consumer on a cell, each with the next word of `rng`. It goes pair
-    /// by pair as long as `most` has room for all accesses to a pair. As many calls of [`SharedClaims::step`] make the
-    /// same accesses. The rest is for [`SharedClaims::run`], with the claim of [`Claim::standing`].
+    /// Makes the accesses of a new claim of the seat's consumer on a cell, each with the next word of `rng`. It goes
+    /// object by object, as long as 10 of `most` accesses and 2 for each quorum register are left. It stops before a
+    /// last object. As many calls of [`SharedClaims::step`] make the same accesses. The rest is for
+    /// [`SharedClaims::run`], with the claim of [`Claim::standing`].
     #[inline(always)]
     pub fn straight<R: Rng>(
         &self,

@@ -1,4 +1,4 @@
--- Proof of `ClaimWords::straight`: makes the accesses of a new claim of a consumer on a cell, pair by pair.
+-- Proof of `ClaimWords::straight`: makes the accesses of a new claim of a consumer on a cell, object by object.
 use Rattle.std.proofs.Common.{◌≡◌, ◌<◌, ◌≤◌, ◌*◌, ℕ, List, [], length, refl, sym, ap, ◌∙◌, subst, slice_index, slice_set, arith}
 use Rattle.mb_deciding.specs.Vocabulary.{reg_of}
 use Rattle.mb_claim.specs.{Claim, ClaimAccess, Layout, IsMemoryOf, IsClaimOn, IsClaimIn, IsStanding, claims_in, part_on, cell_words}
@@ -55,9 +55,10 @@ straight-requires-clause-may g c start stands n word at before mid next steps go
     let word_is : IsWordInLayout layout next.object (reg_of next.op) =
     c.claims_make_steps.ensures.word layout at next (part_on (consumer_of at) cell p.history) p.on.standing going is in
     let room : cells * cell_words layout ≤ length mid.words.now.items =
-    subst (λ ws. cells * cell_words layout ≤ length ws) (sym drawn.2) p.on.memory.room in (
+    subst (λ ws. cells * cell_words layout ≤ length ws) (sym drawn.2) p.on.memory.room in
+    let wide = subst (λ l. cells * cell_words l ≤ length mid.words.now.items) there room in (
       subst (λ l. IsWordInLayout l next.object (reg_of next.op)) there word_is,
-      (cells, subst (λ k. k < cells) here low, subst (λ l. cells * cell_words l ≤ length mid.words.now.items) there room),
+      (cells, subst (λ k. k < cells) here low, wide),
       λ i. site_of (there i) (begin i) next.object,
     )
 
@@ -157,7 +158,7 @@ returns-clause-steps g c cells h low memory none =
       r.0,
       r.1,
       p.history,
-      r.2,
+      omega (arith, r.2),
       subst (λ ws. AreClaimSteps layout (MakesInWords (claims_in layout cells) own cell g.S.RandomWords.gives) start.0
           (ws, h, c.args.source.now) r.0 r.1 (c.straight.new.memory.words.now.items, p.history, c.source-1.given.0))
           c.self.view_is

@@ -1,5 +1,5 @@
--- Proof of `SharedClaims::straight`: makes the accesses of a new claim of the seat's consumer on a cell, pair by pair.
-use Rattle.std.proofs.Common.{◌≡◌, ◌<◌, ◌+◌, ◌*◌, ◌^◌, ℕ, ap, sym, ◌∙◌, subst}
+-- Proof of `SharedClaims::straight`: makes the accesses of a new claim of the seat's consumer, object by object.
+use Rattle.std.proofs.Common.{◌≡◌, ◌<◌, ◌+◌, ◌*◌, ◌^◌, ℕ, ap, sym, ◌∙◌, subst, arith}
 use Rattle.mb_deciding.specs.Vocabulary.{reg_of}
 use Rattle.mb_claim.specs.Vocabulary.{IsWordInLayout, IsClaimIn, HasEnd, IsStanding, cell_words, claims_in, part_on, site_of}
 use Rattle.mb_shared_claims.specs.Types.{Layout}
@@ -111,7 +111,7 @@ returns-clause-steps g c start first =
     let rng : c.rng-1.given.0 ≡ c.straight.new.memory.rng.now = c.rng-1.given.1 (sym (same_rng p.keeps)) in (
       r.0,
       r.1,
-      r.2,
+      omega (arith, r.2),
       subst (λ v. AreSeatSteps c.args.self.now.layout c.args.cell start c.args.seat.now
           (g.R.Rng.stream c.args.rng.now) r.0 r.1 v (g.R.Rng.stream c.rng-1.given.0)) (sym seat)
           (subst (λ s. AreSeatSteps c.args.self.now.layout c.args.cell start c.args.seat.now
