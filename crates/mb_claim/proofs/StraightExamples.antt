@@ -1,11 +1,10 @@
 -- Examples of a claim that goes straight: consumer 1 of two, over one pair and the table of bits.
-use Rattle.std.proofs.Common.{◌≡◌, ◌⊎◌, ◌+◌, ◌*◌, ◌<◌, ◌∙◌, ℕ, true, false, Some, slice_get, length, inl, inr, refl, sym, ap, arith}
+use Rattle.std.proofs.Common.{◌≡◌, ◌⊎◌, ◌+◌, ◌*◌, ◌<◌, ◌∙◌, ℕ, true, false, Some, slice_get, inl, inr, refl, sym, ap, arith}
 use Rattle.std.proofs.lemmas.Bool.{false≢true}
 use Rattle.std.proofs.lemmas.Option.{same_Some, slice_get_within}
-use Rattle.mb_quorum.specs.Bits.{bits_table}
 use Rattle.mb_quorum.specs.Vocabulary.{QuorumTable}
 use Rattle.mb_deciding.specs.Vocabulary.{first_place}
-use Rattle.mb_claim.specs.{Kind, Conciliator, Ratifier, LastObject, Pc, InRatifier, Announce, Site, Claim, Going, Won, Lost, Layout}
+use Rattle.mb_claim.specs.{Conciliator, Ratifier, LastObject, Pc, InRatifier, Announce, Site, Claim, Going, Won, Lost, Layout}
 use Rattle.mb_claim.specs.{quorums_of, kinds_of, consumer_count, standing, IsStanding, HasEnd, HasStopped, site_of, words_before}
 use Rattle.mb_claim.specs.{IsOfTwo, on_ratifier, told}
 use Rattle.mb_claim.proofs.Straight.{is_standing, standing_is, standing_end}

@@ -1,7 +1,7 @@
 -- Proof of `ClaimWords::straight`: makes the accesses of a new claim of a consumer on a cell, object by object.
-use Rattle.std.proofs.Common.{◌≡◌, ◌<◌, ◌≤◌, ◌*◌, ℕ, List, [], length, refl, sym, ap, ◌∙◌, subst, slice_index, slice_set, arith}
+use Rattle.std.proofs.Common.{◌≡◌, ◌<◌, ◌≤◌, ◌*◌, ℕ, [], length, sym, ap, ◌∙◌, subst, slice_index, slice_set, arith}
 use Rattle.mb_deciding.specs.Vocabulary.{reg_of}
-use Rattle.mb_claim.specs.{Claim, ClaimAccess, Layout, IsMemoryOf, IsClaimOn, IsClaimIn, IsStanding, claims_in, part_on, cell_words}
+use Rattle.mb_claim.specs.{Layout, IsMemoryOf, IsClaimOn, IsClaimIn, claims_in, part_on, cell_words}
 use Rattle.mb_claim.specs.{consumer_of, word_address, after_op, IsWordInLayout, site_of, AreClaimSteps, MakesInWords}
 use Rattle.mb_claim.proofs.WordSteps.{arrives, first_claim, first_path, first_owner, same_frame, same_layout, same_cell, same_words, same_source}
 use Rattle.mb_claim.proofs.claim_words.ClaimWords.straight.Goals as goal
