@@ -1,5 +1,5 @@
 -- Proof of `straight_and_on`: makes a claim of a seat straight, and then by single steps.
-use Rattle.std.proofs.Common.{◌≡◌, ℕ, [], zero, suc, Option, Some, None, MatchOption, slice_get, ◌∙◌, ap, sym, subst}
+use Rattle.std.proofs.Common.{◌≡◌, ℕ, [], zero, suc, Option, Some, None, MatchOption, slice_get, ◌∙◌, ap, sym, subst, arith}
 use Rattle.rand_core.specs.Stream.{Stream}
 use Rattle.mb_deciding.specs.declared.object.Kind.{Kind}
 use Rattle.mb_claim.specs.declared.claim.Claim.{Claim}
@@ -35,7 +35,7 @@ pub straight-end-requires-clause-standing : goal.straight-end-requires-clause-st
 straight-end-requires-clause-standing g c start stands =
     let layout = c.args.table.now.layout in
     let own = c.args.seat.now.consumer in
-    let new = subst (λ k. IsStanding layout k 0 k c.new.result) c.consumer.ensures.exact c.new.ensures.first in
+    let new = subst (λ k. IsStanding layout k 0 k c.new.result) c.consumer-consumer.ensures.exact c.new.ensures.first in
     subst (λ xs. IsClaimIn layout start (part_on own 0 xs)) (sym c.requires.table.1)
     (subst (λ d. IsClaimIn layout d []) (one_claim layout own 0 own c.new.result start new stands) c.new.ensures.path)
 
@@ -44,33 +44,35 @@ pub run-made-requires-clause-standing : goal.run-made-requires-clause-standing
 run-made-requires-clause-standing g c =
     let layout = c.args.table.now.layout in
     let own = c.args.seat.now.consumer in
-    let new = subst (λ k. IsStanding layout k 0 k c.new.result) c.consumer.ensures.exact c.new.ensures.first in
+    let new = subst (λ k. IsStanding layout k 0 k c.new.result) c.consumer-consumer.ensures.exact c.new.ensures.first in
     let end = c.straight-end.ensures.steps c.new.result new in
     let p = steps_keep layout 0 c.new.result c.args.seat.now _ end.0 end.1 c.straight-end.new.seat _ end.3 in
     let at = c.straight-end.result in
-    let there = subst (λ k. IsStanding layout k at.object at.value c.standing-claim.result) c.consumer.ensures.exact
-    c.standing-claim.ensures in
+    let going = end.4.3 (grind (arith, c.if-ne.false, c.ne.ensures)) in
+    let there = subst (λ k. IsStanding layout k at.object at.value c.standing-claim.result)
+    c.consumer-consumer.ensures.exact c.standing-claim.ensures in
     subst (λ d. IsClaimIn layout d (part_on c.straight-end.new.seat.consumer 0 c.straight-end.new.seat.part))
-    (one_claim layout own at.object at.value end.1 c.standing-claim.result (end.4.3 c.if-ne.false) there) end.5
+    (one_claim layout own at.object at.value end.1 c.standing-claim.result going there) end.5
 
 pub run-made-requires-clause-consumer : goal.run-made-requires-clause-consumer
 run-made-requires-clause-consumer g c =
     let layout = c.args.table.now.layout in
     let own = c.args.seat.now.consumer in
-    let new = subst (λ k. IsStanding layout k 0 k c.new.result) c.consumer.ensures.exact c.new.ensures.first in
+    let new = subst (λ k. IsStanding layout k 0 k c.new.result) c.consumer-consumer.ensures.exact c.new.ensures.first in
     let end = c.straight-end.ensures.steps c.new.result new in
     let p = steps_keep layout 0 c.new.result c.args.seat.now _ end.0 end.1 c.straight-end.new.seat _ end.3 in
     let at = c.straight-end.result in
-    let there = subst (λ k. IsStanding layout k at.object at.value c.standing-claim.result) c.consumer.ensures.exact
-    c.standing-claim.ensures in
-    let is = one_claim layout own at.object at.value end.1 c.standing-claim.result (end.4.3 c.if-ne.false) there in
+    let going = end.4.3 (grind (arith, c.if-ne.false, c.ne.ensures)) in
+    let there = subst (λ k. IsStanding layout k at.object at.value c.standing-claim.result)
+    c.consumer-consumer.ensures.exact c.standing-claim.ensures in
+    let is = one_claim layout own at.object at.value end.1 c.standing-claim.result going there in
     subst (λ (d : Claim). d.consumer ≡ c.straight-end.new.seat.consumer) is (end.4.1 ∙ sym p.1)
 
 pub run-made-requires-clause-table : goal.run-made-requires-clause-table
 run-made-requires-clause-table g c =
     let layout = c.args.table.now.layout in
     let own = c.args.seat.now.consumer in
-    let new = subst (λ k. IsStanding layout k 0 k c.new.result) c.consumer.ensures.exact c.new.ensures.first in
+    let new = subst (λ k. IsStanding layout k 0 k c.new.result) c.consumer-consumer.ensures.exact c.new.ensures.first in
     let end = c.straight-end.ensures.steps c.new.result new in
     let p = steps_keep layout 0 c.new.result c.args.seat.now _ end.0 end.1 c.straight-end.new.seat _ end.3 in
     p.0 ∙ c.requires.table.0
