@@ -22,10 +22,14 @@ pub fn contended<A: Allocator + Copy + Drop>(
     layouts_are_sound();
     let mut source = Source::new();
     let mut count = Count::new();
+    let mut fresh = vec![in alloc; Claim::new(layout, 0); layout.consumers() as usize]?;
+    for consumer in 0..layout.consumers() {
+        fresh[consumer as usize] = Claim::new(layout, consumer);
+    }
     let mut claims = vec![in alloc; Claim::new(layout, 0); layout.consumers() as usize]?;
     for _ in 0..times {
         let mut words = ClaimWords::new(alloc, layout, MAX_CELLS)?;
-        contend_each(layout, &mut words, &mut claims, &mut source, &mut count);
+        contend_each(layout, &mut words, &fresh, &mut claims, &mut source, &mut count);
     }
     Ok(count)
 }
@@ -34,6 +38,7 @@ pub fn contended<A: Allocator + Copy + Drop>(
 fn contend_each<A: Allocator + Drop>(
     layout: &Layout,
     words: &mut ClaimWords<A>,
+    fresh: &[Claim],
     claims: &mut [Claim],
     source: &mut Source,
     count: &mut Count,
@@ -42,8 +47,8 @@ fn contend_each<A: Allocator + Drop>(
     requires claims { length claims.old ≡ consumer_count layout.now }
 {
     for cell in 0..MAX_CELLS {
-        for consumer in 0..layout.consumers() {
-            claims[consumer as usize] = Claim::new(layout, consumer);
+        for consumer in 0..claims.len() {
+            claims[consumer] = fresh[consumer];
         }
         contend(layout, words, cell, claims, source, count);
     }
@@ -64,10 +69,9 @@ fn contend<A: Allocator + Drop>(
         → (later : List ClaimAccess) × IsContest layout.now cell claims.new words.new later
         × ChangesOnly (λ c k. k ≡ cell) h later }
 {
-    for _ in 0..u64::MAX {
-        if !turn_each(layout, words, cell, claims, source, count) {
-            break;
-        }
+    let mut going = claims.len();
+    while going != 0 {
+        going = going.wrapping_sub(turn_each(layout, words, cell, claims, source, count));
     }
 }
 
@@ -80,7 +84,7 @@ fn turn_each<A: Allocator + Drop>(
     claims: &mut [Claim],
     source: &mut Source,
     count: &mut Count,
-) -> bool
+) -> usize
     requires cell { cell < MAX_CELLS }
     requires contest { (h : List ClaimAccess) × IsContest layout.now cell claims.old words.old h }
     ensures kept { (h : List ClaimAccess) → IsContest layout.now cell claims.old words.old h
@@ -88,14 +92,16 @@ fn turn_each<A: Allocator + Drop>(
         × ChangesOnly (λ c k. k ≡ cell) h later }
 {
     accesses_lengthen_one_part();
-    let mut going = false;
+    let mut ended = 0usize;
     for consumer in 0..claims.len() {
         let claim = &mut claims[consumer];
         if let Stage::Going = claim.stage() {
             let stage = step(claim, layout, words, cell, source.word());
             count.add(1, stage);
-            going |= stage == Stage::Going;
+            if stage != Stage::Going {
+                ended = ended.wrapping_add(1);
+            }
         }
     }
-    going
+    ended
 }

@@ -52,9 +52,11 @@ fn claim_each<A: Allocator + Drop>(
     requires { IsMemoryOf (all_claims layout.now) words.old [] }
 {
     let consumers = layout.consumers();
+    let mut spare = Claim::new(layout, 0);
     let mut consumer = 0;
     for cell in 0..MAX_CELLS {
-        let (accesses, stage) = claim_through(layout, words, consumer, cell, source);
+        let own = Own { consumer, cell };
+        let (accesses, stage) = claim_through(layout, words, own, source, &mut spare);
         count.add(accesses, stage);
         consumer += 1;
         if consumer == consumers {
@@ -69,31 +71,33 @@ fn claim_each<A: Allocator + Drop>(
 fn claim_through<A: Allocator + Drop>(
     layout: &Layout,
     words: &mut ClaimWords<A>,
-    consumer: u32,
-    cell: u32,
+    own: Own,
     source: &mut Source,
+    claim: &mut Claim,
 ) -> (u64, Stage)
-    requires consumer { consumer < consumer_count layout.now }
-    requires cell { cell < MAX_CELLS }
-    requires fresh { (h : List ClaimAccess) × IsMemoryOf (all_claims layout.now) words.old h
-        × (part_on consumer cell h ≡ []) }
-    ensures kept { (h : List ClaimAccess) → IsMemoryOf (all_claims layout.now) words.old h
-        → part_on consumer cell h ≡ [] → (later : List ClaimAccess)
-        × IsMemoryOf (all_claims layout.now) words.new later
-        × ChangesOnly (λ c k. (c ≡ consumer) × (k ≡ cell)) h later }
 {
     accesses_lengthen_one_part();
+    let Own { consumer, cell } = own;
     let end = words.straight(layout, consumer, cell, source, u64::MAX);
     let mut made = u64::MAX - end.left;
     if end.stage != Stage::Going {
         return (made, end.stage);
     }
-    let mut claim = Claim::standing(layout, consumer, end.object, end.value);
+    stand(claim, layout, consumer, end.object, end.value);
     'steps: while let Stage::Going = claim.stage() {
-        single(&mut claim, layout, words, cell, source.word());
+        single(claim, layout, words, cell, source.word());
         made = made.wrapping_add(1);
     }
     (made, claim.stage())
+}
+
+#[derive(Clone, Copy)]
+struct Own { consumer: u32, cell: u32 }
+
+#[cold]
+#[inline(never)]
+fn stand(claim: &mut Claim, layout: &Layout, consumer: u32, object: u32, value: u32) {
+    *claim = Claim::standing(layout, consumer, object, value);
 }
 
 /// Makes one step of a claim, out of line, with the clauses of `step`.
