@@ -7,10 +7,9 @@ ghost use Rattle.bench_loops.specs.UnderWay.{all_claims, ChangesOnly, IsContest}
 
 use crate::count::Count;
 use crate::source::Source;
-use crate::step::step;
 use mb_claim::laws::layouts_are_sound;
 use mb_claim::steps::accesses_lengthen_one_part;
-use mb_claim::{Claim, ClaimWords, Layout, MAX_CELLS, Stage};
+use mb_claim::{CellClaim, ClaimWords, Layout, MAX_CELLS, Stage};
 use std::alloc::{AllocError, Allocator};
 
 /// Makes the claims of all consumers on each of `MAX_CELLS` cells, `times` times.
@@ -22,11 +21,11 @@ pub fn contended<A: Allocator + Copy + Drop>(
     layouts_are_sound();
     let mut source = Source::new();
     let mut count = Count::new();
-    let mut fresh = vec![in alloc; Claim::new(layout, 0); layout.consumers() as usize]?;
+    let mut fresh = vec![in alloc; CellClaim::new(layout, 0); layout.consumers() as usize]?;
     for consumer in 0..layout.consumers() {
-        fresh[consumer as usize] = Claim::new(layout, consumer);
+        fresh[consumer as usize] = CellClaim::new(layout, consumer);
     }
-    let mut claims = vec![in alloc; Claim::new(layout, 0); layout.consumers() as usize]?;
+    let mut claims = vec![in alloc; CellClaim::new(layout, 0); layout.consumers() as usize]?;
     for _ in 0..times {
         let mut words = ClaimWords::new(alloc, layout, MAX_CELLS)?;
         contend_each(layout, &mut words, &fresh, &mut claims, &mut source, &mut count);
@@ -38,17 +37,15 @@ pub fn contended<A: Allocator + Copy + Drop>(
 fn contend_each<A: Allocator + Drop>(
     layout: &Layout,
     words: &mut ClaimWords<A>,
-    fresh: &[Claim],
-    claims: &mut [Claim],
+    fresh: &[CellClaim],
+    claims: &mut [CellClaim],
     source: &mut Source,
     count: &mut Count,
 )
-    requires memory { IsMemoryOf (all_claims layout.now) words.old [] }
-    requires claims { length claims.old ≡ consumer_count layout.now }
 {
     for cell in 0..MAX_CELLS {
         for consumer in 0..claims.len() {
-            claims[consumer] = fresh[consumer];
+            claims[consumer] = fresh[consumer].on(layout, cell);
         }
         contend(layout, words, cell, claims, source, count);
     }
@@ -59,15 +56,10 @@ fn contend<A: Allocator + Drop>(
     layout: &Layout,
     words: &mut ClaimWords<A>,
     cell: u32,
-    claims: &mut [Claim],
+    claims: &mut [CellClaim],
     source: &mut Source,
     count: &mut Count,
 )
-    requires cell { cell < MAX_CELLS }
-    requires contest { (h : List ClaimAccess) × IsContest layout.now cell claims.old words.old h }
-    ensures kept { (h : List ClaimAccess) → IsContest layout.now cell claims.old words.old h
-        → (later : List ClaimAccess) × IsContest layout.now cell claims.new words.new later
-        × ChangesOnly (λ c k. k ≡ cell) h later }
 {
     let mut going = claims.len();
     while going != 0 {
@@ -81,25 +73,25 @@ fn turn_each<A: Allocator + Drop>(
     layout: &Layout,
     words: &mut ClaimWords<A>,
     cell: u32,
-    claims: &mut [Claim],
+    claims: &mut [CellClaim],
     source: &mut Source,
     count: &mut Count,
 ) -> usize
-    requires cell { cell < MAX_CELLS }
-    requires contest { (h : List ClaimAccess) × IsContest layout.now cell claims.old words.old h }
-    ensures kept { (h : List ClaimAccess) → IsContest layout.now cell claims.old words.old h
-        → (later : List ClaimAccess) × IsContest layout.now cell claims.new words.new later
-        × ChangesOnly (λ c k. k ≡ cell) h later }
 {
     accesses_lengthen_one_part();
     let mut ended = 0usize;
     for consumer in 0..claims.len() {
         let claim = &mut claims[consumer];
         if let Stage::Going = claim.stage() {
-            let stage = step(claim, layout, words, cell, source.word());
-            count.add(1, stage);
-            if stage != Stage::Going {
-                ended = ended.wrapping_add(1);
+            let stage = claim.step(layout, words, cell, source.word());
+            count.accesses = count.accesses.wrapping_add(1);
+            match stage {
+                Stage::Going => {}
+                Stage::Won => {
+                    count.won = count.won.wrapping_add(1);
+                    ended = ended.wrapping_add(1);
+                }
+                Stage::Lost(_) | Stage::Undecided => ended = ended.wrapping_add(1),
             }
         }
     }

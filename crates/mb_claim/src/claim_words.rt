@@ -18,7 +18,7 @@ pub mod straight;
 /// The words of the claims on some cells, in one block. One caller makes the accesses of the claims there, one by one.
 #[derive(Drop)]
 pub struct ClaimWords<A: Allocator + Drop> {
-    words: Vec<u64, A>,
+    pub(crate) words: Vec<u64, A>,
 }
 
 impl<A: Allocator + Drop> Model for ClaimWords<A> {

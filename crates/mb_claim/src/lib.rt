@@ -42,6 +42,7 @@ pub mod steps;
 
 pub use access::{ClaimAccess, ClaimOp, ClaimStep, ObjectTurn, Stage};
 pub use claim::Claim;
+pub use claim::on_cell::CellClaim;
 pub use claim::straight::Stretch;
 pub use claim_words::ClaimWords;
 pub use claim_words::straight::RandomWords;
