@@ -84,14 +84,9 @@ fn turn_each<A: Allocator + Drop>(
         let claim = &mut claims[consumer];
         if let Stage::Going = claim.stage() {
             let stage = claim.step(layout, words, cell, source.word());
-            count.accesses = count.accesses.wrapping_add(1);
-            match stage {
-                Stage::Going => {}
-                Stage::Won => {
-                    count.won = count.won.wrapping_add(1);
-                    ended = ended.wrapping_add(1);
-                }
-                Stage::Lost(_) | Stage::Undecided => ended = ended.wrapping_add(1),
+            count.add(1, stage);
+            if stage != Stage::Going {
+                ended = ended.wrapping_add(1);
             }
         }
     }

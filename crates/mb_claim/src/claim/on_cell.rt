@@ -41,13 +41,14 @@ struct Marks {
     spot: Spot,
     value: u32,
     modulus: u64,
+    begin: usize,
 }
 
 impl CellClaim {
     ghost use Rattle.std.specs.Prelude.{◌≡◌, ◌<◌, Bool, true, false, ℕ, List, [], ◌∷◌};
     ghost use Rattle.mb_claim.specs.{Going, ClaimAccess, ObjectTurn, MAX_LARGE_CELLS, IsClaimOn, IsClaimIn, claim_access};
     ghost use Rattle.mb_claim.specs.{consumer_of, claim_stage, is_begun, steps_left, consumer_count, FitsLayout};
-    ghost use Rattle.mb_claim.specs.{claim_of, place_of, stood_on, AreSameButPlace, IsOnCell, IsAtFirst};
+    ghost use Rattle.mb_claim.specs.{stood_at, claim_of, place_of, stood_on, AreSameButPlace, IsOnCell, IsAtFirst};
 
     /// The claim of a consumer that has made no access, on the first cell.
     pub fn new(layout: &Layout, consumer: u32) -> CellClaim
@@ -135,22 +136,38 @@ impl CellClaim {
             words: &mut words.words,
             layout,
             cell,
-            begin: self.begin,
+            begin: marks.begin,
         };
         let out = place.step(&layout.table, &mut memory, self.object, word);
-        let mut claim = Claim {
+        match out {
+            None => {
+                let mut claim = self.claim(place);
+                claim.follow(layout, None);
+                self.turn(marks, place);
+                Stage::Going
+            }
+            Some(out) => {
+                let mut claim = self.claim(place);
+                let stage = claim.follow(layout, Some(out));
+                self.pass(layout, cell, claim);
+                stage
+            }
+        }
+    }
+
+    /// The claim with this place on its object. It is going.
+    #[inline(always)]
+    fn claim(&self, place: Pc) -> Claim
+        requires { self.now.stage ≡ Going }
+        ensures { result ≡ stood_at place true (claim_of true self.now) }
+    {
+        Claim {
             consumer: self.consumer,
             object: self.object,
             place,
-            stage: self.stage,
+            stage: Stage::Going,
             begun: true,
-        };
-        let stage = claim.follow(layout, out);
-        match out {
-            None => self.turn(marks, claim.place),
-            Some(_) => self.pass(layout, cell, claim),
         }
-        stage
     }
 
     /// The claim's place on its object.
@@ -186,11 +203,13 @@ impl CellClaim {
         ensures spot { result.spot ≡ self.now.spot }
         ensures value { result.value ≡ self.now.value }
         ensures modulus { result.modulus ≡ self.now.modulus }
+        ensures begin { result.begin ≡ self.now.begin }
     {
         Marks {
             spot: self.spot,
             value: self.value,
             modulus: self.modulus,
+            begin: self.begin,
         }
     }
 
@@ -295,16 +314,18 @@ impl CellClaim {
         requires here { IsOnCell layout.now cell self.old }
         requires fits { FitsLayout layout.now claim }
         requires consumer { consumer_of claim ≡ self.old.consumer }
+        requires going { self.old.stage ≡ Going }
         ensures going { claim_stage claim ≡ Going → claim_of (is_begun claim) self.new ≡ claim }
         ensures stage { claim_stage (claim_of true self.new) ≡ claim_stage claim }
         ensures consumer { self.new.consumer ≡ self.old.consumer }
         ensures here { IsOnCell layout.now cell self.new }
     {
-        self.stage = claim.stage;
         if claim.stage == Stage::Going {
+            self.enter(claim.place);
             self.object = claim.object;
             self.begin = layout.site(layout.begin(cell), claim.object).begin;
-            self.enter(claim.place);
+        } else {
+            self.stage = claim.stage;
         }
     }
 }
