@@ -74,8 +74,7 @@ fn claim_through<A: Allocator + Drop>(
     own: Own,
     source: &mut Source,
     claim: &mut Claim,
-) -> (u64, Stage)
-{
+) -> (u64, Stage) {
     accesses_lengthen_one_part();
     let Own { consumer, cell } = own;
     let end = words.straight(layout, consumer, cell, source, u64::MAX);
@@ -92,7 +91,10 @@ fn claim_through<A: Allocator + Drop>(
 }
 
 #[derive(Clone, Copy)]
-struct Own { consumer: u32, cell: u32 }
+struct Own {
+    consumer: u32,
+    cell: u32,
+}
 
 #[cold]
 #[inline(never)]

@@ -1,7 +1,7 @@
 -- A claim that is kept for single steps on one cell, as a claim.
 use Rattle.std.specs.Prelude.{ℕ, ◌≡◌, ◌*◌, Bool}
 use Rattle.mb_claim.specs.ObjectTypes.{Pc, InConciliator, InRatifier, InLast, Draw, Put, Look, Begin, Announce, Propose, Check}
-use Rattle.mb_claim.specs.Types.{Claim, CellClaim, Spot, AtDraw, AtPut, AtLook, AtBegin, AtAnnounce, AtPropose, AtCheck, AtLast, Layout}
+use Rattle.mb_claim.specs.Types.{Claim, CellClaim, Marks, Spot, AtDraw, AtPut, AtLook, AtBegin, AtAnnounce, AtPropose, AtCheck, AtLast, Layout}
 use Rattle.mb_claim.specs.Layouts.{cell_words}
 use Rattle.mb_claim.specs.Straight.{site_of}
 
@@ -44,6 +44,11 @@ stood_on spot v kept =
       begin = kept.begin;
       stage = kept.stage;
     }
+
+-- the marks are those of the kept claim
+abbrev pub AreMarksOf : CellClaim → Marks → Type 0
+AreMarksOf kept marks = (marks.spot ≡ kept.spot) × (marks.value ≡ kept.value) × (marks.modulus ≡ kept.modulus)
+    × (marks.begin ≡ kept.begin)
 
 -- two kept claims differ at most in their places
 abbrev pub AreSameButPlace : CellClaim → CellClaim → Type 0

@@ -1,12 +1,8 @@
 //! A claim that is kept for single steps on one cell.
 use super::Claim;
 use crate::access::Stage;
-use crate::claim_words::ClaimWords;
-use crate::claim_words::straight::make;
 use crate::layout::Layout;
-use crate::steps::{accesses_lengthen_one_part, addresses_are_apart, claims_make_steps};
-use mb_deciding::{ConciliatorPlace, LastPlace, Memory, Op, Pc, RatifierPlace};
-use std::alloc::Allocator;
+use mb_deciding::{ConciliatorPlace, LastPlace, Out, Pc, RatifierPlace};
 
 /// Where a claim stands on its object, without the numbers that belong to the place.
 #[derive(Clone, Copy, PartialEq, Eq, Debug)]
@@ -26,7 +22,7 @@ enum Spot {
 #[derive(Clone, Copy, PartialEq, Eq, Debug)]
 pub struct CellClaim {
     consumer: u32,
-    object: u32,
+    pub(crate) object: u32,
     spot: Spot,
     value: u32,
     mask: u64,
@@ -35,20 +31,21 @@ pub struct CellClaim {
     stage: Stage,
 }
 
-/// The fields of a claim that most steps leave as they are.
+/// The fields of a claim that most steps leave as they are. A step reads them before its access.
 #[derive(Clone, Copy)]
-struct Marks {
+pub(crate) struct Marks {
     spot: Spot,
     value: u32,
     modulus: u64,
-    begin: usize,
+    pub(crate) begin: usize,
 }
 
 impl CellClaim {
-    ghost use Rattle.std.specs.Prelude.{◌≡◌, ◌<◌, Bool, true, false, ℕ, List, [], ◌∷◌};
-    ghost use Rattle.mb_claim.specs.{Going, ClaimAccess, ObjectTurn, MAX_LARGE_CELLS, IsClaimOn, IsClaimIn, claim_access};
-    ghost use Rattle.mb_claim.specs.{consumer_of, claim_stage, is_begun, steps_left, consumer_count, FitsLayout};
-    ghost use Rattle.mb_claim.specs.{stood_at, claim_of, place_of, stood_on, AreSameButPlace, IsOnCell, IsAtFirst};
+    ghost use Rattle.std.specs.Prelude.{◌≡◌, ◌<◌, Bool, true, false, ℕ, List, [], ◌∷◌, length};
+    ghost use Rattle.mb_deciding.specs.Vocabulary.{PcIsAt, IsNext, IsReached, next_from, turns_left, turns_after};
+    ghost use Rattle.mb_claim.specs.{Kind, Turn, Going, ObjectTurn, MAX_LARGE_CELLS, IsClaimIn, FitsLayout};
+    ghost use Rattle.mb_claim.specs.{consumer_of, claim_stage, steps_left, consumer_count, quorums_of, kinds_of};
+    ghost use Rattle.mb_claim.specs.{claim_of, place_of, stood_on, AreMarksOf, AreSameButPlace, IsOnCell, IsAtFirst};
 
     /// The claim of a consumer that has made no access, on the first cell.
     pub fn new(layout: &Layout, consumer: u32) -> CellClaim
@@ -99,80 +96,71 @@ impl CellClaim {
         self.stage
     }
 
-    /// Makes the next access of the claim on its cell, with the random word of this step, as [`ClaimWords::step`] does.
-    /// Returns how far the claim has come. The claim is going.
+    /// Goes on with what an access on the claim's object led to: this output, or else this place. The marks are the
+    /// claim's own. Returns how far the claim has come. The claim is going.
     #[inline(always)]
-    pub fn step<A: Allocator + Drop>(
+    pub(crate) fn go_on(
         &mut self,
         layout: &Layout,
-        words: &mut ClaimWords<A>,
         cell: u32,
-        word: u64,
+        marks: Marks,
+        place: Pc,
+        out: Option<Out>,
     ) -> Stage
-        requires going { claim_stage (claim_of false self.old) ≡ Going }
+        requires going { self.old.stage ≡ Going }
         requires cell { cell < MAX_LARGE_CELLS }
         requires here { IsOnCell layout.now cell self.old }
-        requires held { (cells : ℕ) × (h : List ClaimAccess) × (begun : Bool)
-            × IsClaimOn layout.now cells cell (claim_of begun self.old) words.old h }
-
-        // If the words and the claim fit a lawful history, they then fit that history with the claim's access.
-        ensures held { (cells : ℕ) (h : List ClaimAccess) (begun : Bool)
-            → IsClaimOn layout.now cells cell (claim_of begun self.old) words.old h
-            → (step : ObjectTurn) × (step.turn.word ≡ word)
-            × IsClaimOn layout.now cells cell (claim_of true self.new) words.new
-            (claim_access (claim_of begun self.old) cell step ∷ h) }
+        requires object { self.old.object < length (kinds_of layout.now) }
+        requires next { IsNext (quorums_of layout.now) (next_from out place) }
+        requires marks { AreMarksOf self.old marks }
         ensures here { IsOnCell layout.now cell self.new }
-        ensures consumer { consumer_of (claim_of true self.new)
-            ≡ consumer_of (claim_of true self.old) }
-        ensures stage { result ≡ claim_stage (claim_of true self.new) }
-        ensures fewer { steps_left layout.now (claim_of true self.new)
+        ensures consumer { self.new.consumer ≡ self.old.consumer }
+        ensures stage { result ≡ self.new.stage }
+
+        // Fewer accesses are left than at the place before the access.
+        ensures fewer { turns_after (quorums_of layout.now) (next_from out place)
+            < turns_left (quorums_of layout.now) (place_of self.old)
+            → steps_left layout.now (claim_of true self.new)
             < steps_left layout.now (claim_of true self.old) }
+        ensures path { (begun : Bool) (xs : List ObjectTurn) (turn : Turn)
+            → IsClaimIn layout.now (claim_of begun self.old) xs
+            → ((kind : Kind) (v : ℕ) (turns : List Turn)
+            → PcIsAt (quorums_of layout.now) kind v (place_of self.old) turns
+            → IsReached (quorums_of layout.now) kind v (next_from out place) (turn ∷ turns))
+            → IsClaimIn layout.now (claim_of true self.new)
+            (record { object = self.old.object; turn = turn } ∷ xs) }
     {
-        claims_make_steps();
-        accesses_lengthen_one_part();
-        let marks = self.marks();
-        let mut place = self.place();
-        let mut memory = SpotWords {
-            words: &mut words.words,
-            layout,
-            cell,
-            begin: marks.begin,
-        };
-        let out = place.step(&layout.table, &mut memory, self.object, word);
         match out {
             None => {
-                let mut claim = self.claim(place);
+                let mut claim = Claim {
+                    consumer: self.consumer,
+                    object: self.object,
+                    place,
+                    stage: self.stage,
+                    begun: true,
+                };
                 claim.follow(layout, None);
                 self.turn(marks, place);
                 Stage::Going
             }
             Some(out) => {
-                let mut claim = self.claim(place);
+                let mut claim = Claim {
+                    consumer: self.consumer,
+                    object: self.object,
+                    place,
+                    stage: self.stage,
+                    begun: true,
+                };
                 let stage = claim.follow(layout, Some(out));
-                self.pass(layout, cell, claim);
+                self.pass(layout, cell, claim, stage);
                 stage
             }
         }
     }
 
-    /// The claim with this place on its object. It is going.
-    #[inline(always)]
-    fn claim(&self, place: Pc) -> Claim
-        requires { self.now.stage ≡ Going }
-        ensures { result ≡ stood_at place true (claim_of true self.now) }
-    {
-        Claim {
-            consumer: self.consumer,
-            object: self.object,
-            place,
-            stage: Stage::Going,
-            begun: true,
-        }
-    }
-
     /// The claim's place on its object.
     #[inline(always)]
-    fn place(&self) -> Pc
+    pub(crate) fn place(&self) -> Pc
         ensures { result ≡ place_of self.now }
     {
         match self.spot {
@@ -199,11 +187,8 @@ impl CellClaim {
 
     /// The fields that most steps leave as they are.
     #[inline(always)]
-    fn marks(&self) -> Marks
-        ensures spot { result.spot ≡ self.now.spot }
-        ensures value { result.value ≡ self.now.value }
-        ensures modulus { result.modulus ≡ self.now.modulus }
-        ensures begin { result.begin ≡ self.now.begin }
+    pub(crate) fn marks(&self) -> Marks
+        ensures { AreMarksOf self.now result }
     {
         Marks {
             spot: self.spot,
@@ -216,9 +201,7 @@ impl CellClaim {
     /// Goes to this place on the claim's object. It stores only what differs from these marks, which are its own.
     #[inline(always)]
     fn turn(&mut self, marks: Marks, place: Pc)
-        requires spot { marks.spot ≡ self.old.spot }
-        requires value { marks.value ≡ self.old.value }
-        requires modulus { marks.modulus ≡ self.old.modulus }
+        requires { AreMarksOf self.old marks }
         ensures place { place_of self.new ≡ place }
         ensures same { AreSameButPlace self.old self.new }
     {
@@ -307,60 +290,27 @@ impl CellClaim {
         self.value = value;
     }
 
-    /// Takes over the claim after the output of an object: how it ended, or its place on the next object.
+    /// Takes over the claim after the output of an object: its place on the next object, or this stage, at which it
+    /// ended.
     #[inline(always)]
-    fn pass(&mut self, layout: &Layout, cell: u32, claim: Claim)
+    fn pass(&mut self, layout: &Layout, cell: u32, claim: Claim, stage: Stage)
+        requires going { self.old.stage ≡ Going }
         requires cell { cell < MAX_LARGE_CELLS }
         requires here { IsOnCell layout.now cell self.old }
         requires fits { FitsLayout layout.now claim }
-        requires consumer { consumer_of claim ≡ self.old.consumer }
-        requires going { self.old.stage ≡ Going }
-        ensures going { claim_stage claim ≡ Going → claim_of (is_begun claim) self.new ≡ claim }
-        ensures stage { claim_stage (claim_of true self.new) ≡ claim_stage claim }
+        requires stage { stage ≡ claim_stage claim }
+        ensures going { stage ≡ Going
+            → (self.new.object ≡ claim.object) × (place_of self.new ≡ claim.place) }
+        ensures stage { self.new.stage ≡ stage }
         ensures consumer { self.new.consumer ≡ self.old.consumer }
         ensures here { IsOnCell layout.now cell self.new }
     {
-        if claim.stage == Stage::Going {
+        if stage == Stage::Going {
             self.enter(claim.place);
             self.object = claim.object;
             self.begin = layout.site(layout.begin(cell), claim.object).begin;
         } else {
-            self.stage = claim.stage;
+            self.stage = stage;
         }
-    }
-}
-
-/// The words of one block while an access is made to the object of one cell whose words begin at `begin`.
-#[derive(Drop)]
-struct SpotWords<'a, 'b, A: Allocator + Drop> {
-    words: &'a mut Vec<u64, A>,
-    layout: &'b Layout,
-    cell: u32,
-    begin: usize,
-}
-
-impl<'a, 'b, A: Allocator + Drop> Memory for SpotWords<'a, 'b, A> {
-    ghost use Rattle.std.specs.Prelude.{◌≡◌, ◌<◌, ◌≤◌, ◌*◌, ℕ, length, slice_index, slice_set};
-    ghost use Rattle.mb_deciding.specs.Vocabulary.{act_of, reg_of, IsActInWords};
-    ghost use Rattle.mb_claim.specs.{IsWordInLayout, word_address, cell_words, after_op, site_of};
-
-    // The object's words begin there, in a cell among the words.
-    ghost can_make = { λ m object op. IsWordInLayout m.layout.now object (reg_of op)
-        × ((cells : ℕ) × (m.cell < cells)
-        × (cells * cell_words m.layout.now ≤ length m.words.now.items))
-        × (m.begin ≡ (site_of m.layout.now (m.cell * cell_words m.layout.now) object).begin) };
-
-    ghost makes = { λ m object op seen after.
-        let address = word_address m.layout.now m.cell object (reg_of op) in
-        (seen ≡ slice_index m.words.now.items address)
-        × (after.words.now.items ≡ slice_set m.words.now.items address (after_op op seen))
-        × (after.words.ghost_name ≡ m.words.ghost_name)
-        × IsActInWords (act_of op seen) };
-
-    #[inline(always)]
-    fn perform(&mut self, object: u32, op: Op) -> u64 {
-        addresses_are_apart();
-        let address = self.begin + Layout::place_in_object(op.reg()) as usize;
-        make(self.words, address, op)
     }
 }
