@@ -13,7 +13,9 @@ use mb_claim::steps::accesses_lengthen_one_part;
 use mb_claim::{CellClaim, ClaimWords, Layout, MAX_CELLS, Stage};
 use std::alloc::{AllocError, Allocator};
 
-/// Makes the claims of all consumers on each of `MAX_CELLS` cells, `times` times.
+/// Makes the claims of all consumers on each of `MAX_CELLS` cells, `times` times. It is never inlined, so that the other
+/// loops do not change its code.
+#[inline(never)]
 pub fn contended<A: Allocator + Copy + Drop>(
     alloc: A,
     layout: &Layout,

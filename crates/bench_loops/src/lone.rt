@@ -1,19 +1,22 @@
 //! Claims that nobody disturbs, one on each cell.
-ghost use Rattle.std.specs.Prelude.{◌≡◌, ◌<◌, [], ◌∷◌, ℕ, List};
+ghost use Rattle.std.specs.Prelude.{◌≡◌, ◌<◌, [], ◌∷◌, ℕ, List, length};
 ghost use Rattle.mb_claim.specs.declared.access.ClaimAccess.{ClaimAccess};
 ghost use Rattle.mb_claim.specs.declared.layout.TheConstants.{MAX_CELLS};
 ghost use Rattle.mb_claim.specs.declared.access.Stage.TheVariants.{Going};
-ghost use Rattle.mb_claim.specs.Vocabulary.{part_on, claim_stage, consumer_count, consumer_of, steps_left, IsMemoryOf};
+ghost use Rattle.mb_claim.specs.Vocabulary.{part_on, claim_stage, consumer_count, consumer_of, kinds_of, steps_left, IsMemoryOf, IsStanding};
 ghost use Rattle.bench_loops.specs.UnderWay.{all_claims, ChangesOnly, IsUnderWay};
 
 use crate::count::Count;
 use crate::source::Source;
 use crate::step::step;
+use mb_claim::laws::layouts_are_sound;
 use mb_claim::steps::accesses_lengthen_one_part;
 use mb_claim::{Claim, ClaimWords, Layout, MAX_CELLS, Stage};
 use std::alloc::{AllocError, Allocator};
 
-/// Makes one claim on each of `MAX_CELLS` cells, the consumers in turn, `times` times.
+/// Makes one claim on each of `MAX_CELLS` cells, the consumers in turn, `times` times. It is never inlined, so that the
+/// other loops do not change its code.
+#[inline(never)]
 pub fn lone<A: Allocator + Copy + Drop>(
     alloc: A,
     layout: &Layout,
@@ -51,12 +54,12 @@ fn claim_each<A: Allocator + Drop>(
 )
     requires { IsMemoryOf (all_claims layout.now) words.old [] }
 {
+    layouts_are_sound();
     let consumers = layout.consumers();
-    let mut spare = Claim::new(layout, 0);
+    let mut claim = Claim::new(layout, 0);
     let mut consumer = 0;
     for cell in 0..MAX_CELLS {
-        let own = Own { consumer, cell };
-        let (accesses, stage) = claim_through(layout, words, own, source, &mut spare);
+        let (accesses, stage) = claim_through(layout, words, consumer, cell, source, &mut claim);
         count.add(accesses, stage);
         consumer += 1;
         if consumer == consumers {
@@ -66,17 +69,26 @@ fn claim_each<A: Allocator + Drop>(
 }
 
 /// Makes the claim of a consumer on a cell that it has not touched, to its end. Returns the number of its accesses, and
-/// how it ended.
+/// how it ended. `claim` is room for a claim that does not end straight.
 #[inline(always)]
 fn claim_through<A: Allocator + Drop>(
     layout: &Layout,
     words: &mut ClaimWords<A>,
-    own: Own,
+    consumer: u32,
+    cell: u32,
     source: &mut Source,
     claim: &mut Claim,
-) -> (u64, Stage) {
+) -> (u64, Stage)
+    requires consumer { consumer < consumer_count layout.now }
+    requires cell { cell < MAX_CELLS }
+    requires fresh { (h : List ClaimAccess) × IsMemoryOf (all_claims layout.now) words.old h
+        × (part_on consumer cell h ≡ []) }
+    ensures kept { (h : List ClaimAccess) → IsMemoryOf (all_claims layout.now) words.old h
+        → part_on consumer cell h ≡ [] → (later : List ClaimAccess)
+        × IsMemoryOf (all_claims layout.now) words.new later
+        × ChangesOnly (λ c k. (c ≡ consumer) × (k ≡ cell)) h later }
+{
     accesses_lengthen_one_part();
-    let Own { consumer, cell } = own;
     let end = words.straight(layout, consumer, cell, source, u64::MAX);
     let mut made = u64::MAX - end.left;
     if end.stage != Stage::Going {
@@ -90,15 +102,14 @@ fn claim_through<A: Allocator + Drop>(
     (made, claim.stage())
 }
 
-#[derive(Clone, Copy)]
-struct Own {
-    consumer: u32,
-    cell: u32,
-}
-
+/// Changes the claim to that of a consumer before its first access to an object, with this value as its input there.
 #[cold]
 #[inline(never)]
-fn stand(claim: &mut Claim, layout: &Layout, consumer: u32, object: u32, value: u32) {
+fn stand(claim: &mut Claim, layout: &Layout, consumer: u32, object: u32, value: u32)
+    requires object { object < length (kinds_of layout.now) }
+    requires value { value < consumer_count layout.now }
+    ensures { IsStanding layout.now consumer object value claim.new }
+{
     *claim = Claim::standing(layout, consumer, object, value);
 }
 

@@ -48,7 +48,7 @@ pub returns-clause-fewer : goal.returns-clause-fewer
 returns-clause-fewer g c =
     let t = quorums_of c.args.layout.now in
     c.go_on.ensures.fewer
-    (subst (λ pc. turns_after t (next_from c.step-out.result c.step-out.new.place) < turns_left t pc)
+    (subst (λ pc. turns_after t (next_from c.step-out.result c.step-out.new.self) < turns_left t pc)
     c.place-place.ensures c.step-out.ensures.fewer)
 
 pub returns-clause-held : goal.returns-clause-held
@@ -56,6 +56,7 @@ returns-clause-held g c cells h begun on =
     let layout = c.args.layout.now in
     let t = quorums_of layout in
     let cs = claims_in layout cells in
+    let steps = c.claims_make_steps.ensures in
     let cell = c.args.cell in
     let claim = claim_of begun c.args.claim.now in
     let now = claim_of _ c.go_on.new.self in
@@ -70,7 +71,7 @@ returns-clause-held g c cells h begun on =
     let memory = subst (λ ws. IsMemoryOf cs ws h) (sym c.self.view_is) on.memory in
     let found : step.seen ≡ found_in cs cell next.object next.op words = step.made.0 in
     let fits : CanClaimFind layout claim next step.seen = subst (CanClaimFind layout claim next) (sym found)
-    (c.claims_make_steps.ensures.found layout cells cell claim next words h memory on.cell on.standing c.requires.going
+    (steps.found layout cells cell claim next words h memory on.cell on.standing c.requires.going
     at) in
     let path : IsClaimIn layout now
     (step_of next.object next.op (found_in cs cell next.object next.op words) c.args.word ∷ mine) =
@@ -85,7 +86,7 @@ returns-clause-held g c cells h begun on =
       rw (step.made.1, found) (record {
         cell = on.cell;
         memory =
-            c.claims_make_steps.ensures.memory layout cells cell claim next c.args.word words h memory on.cell on.standing
+            steps.memory layout cells cell claim next c.args.word words h memory on.cell on.standing
             c.requires.going at (subst (λ n. IsActInWords (act_of next.op n)) found step.made.3, omega arith);
         standing =
             subst (IsClaimIn layout now)

@@ -12,4 +12,5 @@ none_before r (kind ∷ kinds) = refl
 pub returns-clause-here : goal.returns-clause-here
 returns-clause-here c =
     let layout = c.args.layout.now in
-    rw (c.requires.first) (omega (arith, c.begin.ensures.exact, none_before (quorums_of layout).registers (kinds_of layout)))
+    let none = none_before (quorums_of layout).registers (kinds_of layout) in
+    rw (c.requires.first) (omega (arith, c.begin.ensures.exact, none))
