@@ -28,13 +28,14 @@ loop-mark-preserved g c =
     let read = c.loop-mark.invariant.read in
     let more = take_more ms i (mark.Took 0) c.loop-mark-test.true in
     let filed : ℕ → Noted = λ t. told m (word_at ws t) in
+    let before = c.loop-mark.invariant.lists in
     let count = ap words_among more ∙ among_end old m in
     let words = c.file_mark.ensures.read in
     let one = one_word m in
     let few = c.loop-mark.invariant.few in
     record {
       lists = c.in_ok-file_mark.ensures.lists
-          ∙ (λ j. with_note (filed (read j)).lane (Some (filed (read j)).note) (c.loop-mark.invariant.lists j))
+          ∙ (λ j. with_note (filed (read j)).lane (Some (filed (read j)).note) (before j))
           ∙ sym (cut_more lanes (all_told old ws) (told m (word_at ws (words_among old))))
           ∙ ap (by_lane lanes) (sym (told_last old m ws) ∙ ap (λ (zs : List Mark). all_told zs ws) (sym more));
       read = omega (arith, read, count, words);
