@@ -6,10 +6,9 @@ use Rattle.std.proofs.lemmas.Bool.{ne_eqb, eq-eqb}
 use Rattle.std.proofs.lemmas.List.{length-append, length-map}
 use Rattle.std.proofs.lemmas.List.Sums.{sum_by-cons}
 use Rattle.std.proofs.lemmas.Option.{slice_get_past}
-use Rattle.mb_mailbox.specs.Imports.{Note, Lost, Took, Undecided}
-use Rattle.mb_mailbox.specs.LaneNotes.{by_lane, lane_of, note_in, noted, on_lane, on_lanes}
+use Rattle.mb_mailbox.specs.Imports.{Note}
+use Rattle.mb_mailbox.specs.LaneNotes.{Noted, by_lane, noted, on_lane, on_lanes}
 use Rattle.mb_mailbox.specs.Steps.{notes_on, with_note}
-use Rattle.mb_mailbox.specs.declared.notes.Noted.{Noted}
 use Rattle.mb_mailbox.specs.NewConsumers.{AreEmptyLists}
 use Rattle.mb_mailbox.proofs.Lists.{map_get, map_set, set_else, some_same}
 
@@ -44,70 +43,57 @@ pub none_counted : (n : ℕ) → sum_by length (by_lane n []) ≡ 0
 none_counted n = no_sum 0 n
 
 -- ---- a list with one note more, cut by lane
--- a note with lane p beside it has lane p, and by `note_noted` is that note
-pub lane_noted : (p : ℕ) (n : Note) → lane_of (noted p n) ≡ p
-lane_noted p (Took x) = refl
-lane_noted p (Lost w) = refl
-lane_noted p Undecided = refl
-
-pub note_noted : (p : ℕ) (n : Note) → note_in (noted p n) ≡ n
-note_noted p (Took x) = refl
-note_noted p (Lost w) = refl
-note_noted p Undecided = refl
-
 -- a note at the end of a list comes to the end of its lane's list, if it is of this lane
 on_end : (q : ℕ) (xs : List Noted) (x : Noted) → on_lane q (xs ++ x ∷ []) ≡ on_lane q xs ++ on_lane q (x ∷ [])
 on_end q [] x = refl
-on_end q (y ∷ ys) x = by (nat_eq q (lane_of y)) (on_end q ys x)
+on_end q (y ∷ ys) x = by (nat_eq q y.lane) (on_end q ys x)
   where
     by : (b : Bool) → on_lane q (ys ++ x ∷ []) ≡ on_lane q ys ++ on_lane q (x ∷ [])
-        → (if b then note_in y ∷ on_lane q (ys ++ x ∷ []) else on_lane q (ys ++ x ∷ []))
-        ≡ (if b then note_in y ∷ on_lane q ys else on_lane q ys) ++ on_lane q (x ∷ [])
-    by true rest = ap (λ zs. note_in y ∷ zs) rest
+        → (if b then y.note ∷ on_lane q (ys ++ x ∷ []) else on_lane q (ys ++ x ∷ []))
+        ≡ (if b then y.note ∷ on_lane q ys else on_lane q ys) ++ on_lane q (x ∷ [])
+    by true rest = ap (λ zs. y.note ∷ zs) rest
     by false rest = rest
 
 -- a note of this lane is added to the lane's list
-on_here : (q : ℕ) (xs : List Noted) (x : Noted) → lane_of x ≡ q → on_lane q (xs ++ x ∷ [])
-    ≡ on_lane q xs ++ note_in x ∷ []
+on_here : (q : ℕ) (xs : List Noted) (x : Noted) → x.lane ≡ q → on_lane q (xs ++ x ∷ [])
+    ≡ on_lane q xs ++ x.note ∷ []
 on_here q xs x e =
     on_end q xs x
-    ∙ ap (λ b. on_lane q xs ++ (if b then note_in x ∷ [] else [])) (eq-eqb q (lane_of x) (sym e))
+    ∙ ap (λ b. on_lane q xs ++ (if b then x.note ∷ [] else [])) (eq-eqb q x.lane (sym e))
 
 -- a note of another lane changes nothing on this one
-on_other : (q : ℕ) (xs : List Noted) (x : Noted) → (lane_of x ≡ q → ⊥) → on_lane q (xs ++ x ∷ []) ≡ on_lane q xs
+on_other : (q : ℕ) (xs : List Noted) (x : Noted) → (x.lane ≡ q → ⊥) → on_lane q (xs ++ x ∷ []) ≡ on_lane q xs
 on_other q xs x ne =
     on_end q xs x
-    ∙ ap (λ b. on_lane q xs ++ (if b then note_in x ∷ [] else [])) (ne_eqb q (lane_of x) (λ e. ne (sym e)))
+    ∙ ap (λ b. on_lane q xs ++ (if b then x.note ∷ [] else [])) (ne_eqb q x.lane (λ e. ne (sym e)))
     ∙ append-nil (on_lane q xs)
 
 -- a note changes nothing on lanes past its own
-on_rest : (p n : ℕ) (xs : List Noted) (x : Noted) → lane_of x < p → on_lanes p n (xs ++ x ∷ []) ≡ on_lanes p n xs
+on_rest : (p n : ℕ) (xs : List Noted) (x : Noted) → x.lane < p → on_lanes p n (xs ++ x ∷ []) ≡ on_lanes p n xs
 on_rest p zero xs x low = refl
 on_rest p (suc n) xs x low = λ i.
     on_other p xs x (λ e. omega (arith, low, e)) i ∷ on_rest (suc p) n xs x (omega (arith, low)) i
 
 -- among the lanes from p on, a note is added to the list of its lane
-on_more : (p n q : ℕ) (xs : List Noted) (x : Noted) → lane_of x ≡ p + q
-    → on_lanes p n (xs ++ x ∷ []) ≡ with_note q (Some (note_in x)) (on_lanes p n xs)
+on_more : (p n q : ℕ) (xs : List Noted) (x : Noted) → x.lane ≡ p + q
+    → on_lanes p n (xs ++ x ∷ []) ≡ with_note q (Some x.note) (on_lanes p n xs)
 on_more p zero q xs x e = refl
 on_more p (suc n) zero xs x e =
-    let here : lane_of x ≡ p = omega (arith, e) in
+    let here : x.lane ≡ p = omega (arith, e) in
     λ i. on_here p xs x here i ∷ on_rest (suc p) n xs x (omega (arith, e)) i
 on_more p (suc n) (suc q) xs x e =
-    let other : lane_of x ≡ p → ⊥ = λ f. omega (arith, e, f) in
+    let other : x.lane ≡ p → ⊥ = λ f. omega (arith, e, f) in
     λ i. on_other p xs x other i ∷ on_more (suc p) n q xs x (omega (arith, e)) i
 
 -- a note is added to the list of its lane
 pub cut_more : (n : ℕ) (xs : List Noted) (x : Noted) → by_lane n (xs ++ x ∷ [])
-    ≡ with_note (lane_of x) (Some (note_in x)) (by_lane n xs)
-cut_more n xs x = on_more 0 n (lane_of x) xs x (omega arith)
+    ≡ with_note x.lane (Some x.note) (by_lane n xs)
+cut_more n xs x = on_more 0 n x.lane xs x (omega arith)
 
 -- a note with lane p beside it is added to the list of lane p
 pub noted_more : (n p : ℕ) (note : Note) (xs : List Noted) → by_lane n (xs ++ noted p note ∷ [])
     ≡ with_note p (Some note) (by_lane n xs)
-noted_more n p note xs =
-    cut_more n xs (noted p note)
-    ∙ (λ i. with_note (lane_noted p note i) (Some (note_noted p note i)) (by_lane n xs))
+noted_more n p note xs = cut_more n xs (noted p note)
 
 -- an element that is set past a list changes nothing
 set_past : {X : Type 0} (xs : List X) (p : ℕ) (x : X) → length xs ≤ p → slice_set xs p x ≡ xs

@@ -3,10 +3,9 @@ use Rattle.std.proofs.Common.{◌≡◌, ℕ, zero, suc, ◌+◌, ◌<◌, ◌�
 use Rattle.std.proofs.lemmas.List.{length-append}
 use Rattle.std.specs.Prelude.{Option, Some, None}
 use Rattle.std.specs.Option.{option_map_or}
-use Rattle.mb_mailbox.specs.LaneNotes.{all_told, told, told_from, word_at, words_among, words_in}
+use Rattle.mb_mailbox.specs.LaneNotes.{Noted, all_told, told, told_from, word_at, words_among, words_in}
 use Rattle.mb_mailbox.specs.declared.notes.Mark.{Mark}
 use Rattle.mb_mailbox.specs.declared.notes.Mark.TheVariants as mark
-use Rattle.mb_mailbox.specs.declared.notes.Noted.{Noted}
 
 -- ---- how many notes, marks and words there are
 -- there are as many notes as marks

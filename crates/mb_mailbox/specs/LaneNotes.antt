@@ -5,36 +5,25 @@ use Rattle.mb_mailbox.specs.Imports.{Note}
 use Rattle.mb_mailbox.specs.Imports.{Took, Lost, Undecided}
 use Rattle.mb_mailbox.specs.declared.notes.Mark.{Mark}
 use Rattle.mb_mailbox.specs.declared.notes.Mark.TheVariants as mark
-use Rattle.mb_mailbox.specs.declared.notes.Noted.{Noted}
-use Rattle.mb_mailbox.specs.declared.notes.Noted.TheVariants as beside
 
 -- what proofs see of a consumer's notes: those on each lane, and how many there is room for on all lanes together
 pub record NotesView : Type 0 where
   pub lists : List (List Note)
   pub room : ℕ
 
--- the lane that stands beside a note
-abbrev pub lane_of : Noted → ℕ
-lane_of (beside.Took p x) = p
-lane_of (beside.Lost p w) = p
-lane_of (beside.Undecided p) = p
-
--- the note without its lane
-abbrev pub note_in : Noted → Note
-note_in (beside.Took p x) = Took x
-note_in (beside.Lost p w) = Lost w
-note_in (beside.Undecided p) = Undecided
+-- a note with its lane beside it
+pub record Noted : Type 0 where
+  pub lane : ℕ
+  pub note : Note
 
 -- this note with lane p beside it
 abbrev pub noted : ℕ → Note → Noted
-noted p (Took x) = beside.Took p x
-noted p (Lost w) = beside.Lost p w
-noted p Undecided = beside.Undecided p
+noted p n = record { lane = p; note = n }
 
 -- the notes on lane p, in their order
 abbrev pub on_lane : ℕ → List Noted → List Note
 on_lane p [] = []
-on_lane p (x ∷ xs) = if nat_eq p (lane_of x) then note_in x ∷ on_lane p xs else on_lane p xs
+on_lane p (x ∷ xs) = if nat_eq p x.lane then x.note ∷ on_lane p xs else on_lane p xs
 
 -- the notes of this many lanes from p on
 abbrev pub on_lanes : ℕ → ℕ → List Noted → List (List Note)
@@ -60,10 +49,10 @@ words_among (m ∷ ms) = words_in m + words_among ms
 
 -- the note that this mark and this word stand for
 abbrev pub told : Mark → ℕ → Noted
-told (mark.Took p) x = beside.Took p x
-told (mark.Lost p w) x = beside.Lost p w
-told (mark.LostFar p) x = beside.Lost p (if nat_lt x (2 ^ 32) then x else 0)
-told (mark.Undecided p) x = beside.Undecided p
+told (mark.Took p) x = noted p (Took x)
+told (mark.Lost p w) x = noted p (Lost w)
+told (mark.LostFar p) x = noted p (Lost (if nat_lt x (2 ^ 32) then x else 0))
+told (mark.Undecided p) x = noted p Undecided
 
 -- the word at a place, or 0 past the last
 abbrev pub word_at : List ℕ → ℕ → ℕ

@@ -1,9 +1,9 @@
 //! The notes of a consumer on all lanes, in the order of time. Each has a mark of three bytes. The item of a `Took`
 //! note stands in a second list, so a note on an item that another took needs no word. Both lists have their room
 //! from the beginning, since all lanes together have no more cells than the mailbox.
-ghost use Rattle.std.specs.Prelude.{◌≡◌, ◌<◌, ◌++◌, ◌∷◌, [], IfOk, Some, map, vec_capacity, vec_len};
+ghost use Rattle.std.specs.Prelude.{◌≡◌, ◌+◌, ◌^◌, ◌<◌, ◌++◌, ◌∷◌, [], IfOk, Some, map, vec_capacity, vec_len};
 ghost use Rattle.std.specs.Option.{option_map_or};
-ghost use Rattle.mb_mailbox.specs.LaneNotes.{lane_of, note_in, noted, told, word_at, words_in};
+ghost use Rattle.mb_mailbox.specs.LaneNotes.{noted, told, word_at, words_in};
 ghost use Rattle.mb_mailbox.specs.NewConsumers.{AreEmptyLists};
 ghost use Rattle.mb_mailbox.specs.Steps.{with_note};
 
@@ -26,14 +26,6 @@ pub(crate) enum Mark {
 
 const _: () = prove!(size_of::<Mark>() == 3);
 
-/// A note with its lane.
-#[derive(Clone, Copy)]
-pub(crate) enum Noted {
-    Took { lane: u32, item: u64 },
-    Lost { lane: u32, to: u32 },
-    Undecided { lane: u32 },
-}
-
 /// The mark of a note on this lane, and its word if it needs one.
 #[inline(always)]
 fn marked(lane: u8, note: Note) -> (Mark, Option<u64>)
@@ -49,58 +41,13 @@ fn marked(lane: u8, note: Note) -> (Mark, Option<u64>)
 }
 
 impl Mark {
-    /// The note with this mark and this word.
-    fn told(self, word: u64) -> Noted
-        ensures { result ≡ told self word }
-    {
-        match self {
-            Mark::Took { lane } => Noted::Took {
-                lane: lane as u32,
-                item: word,
-            },
-            Mark::Lost { lane, to } => Noted::Lost {
-                lane: lane as u32,
-                to: to as u32,
-            },
-            Mark::LostFar { lane } => Noted::Lost {
-                lane: lane as u32,
-                to: if word < 1 << 32 { word as u32 } else { 0 },
-            },
-            Mark::Undecided { lane } => Noted::Undecided { lane: lane as u32 },
-        }
-    }
-
-    /// How many words the mark needs.
-    fn words(self) -> usize
-        ensures { result ≡ words_in self }
-    {
-        match self {
-            Mark::Took { lane: _ } | Mark::LostFar { lane: _ } => 1,
-            Mark::Lost { lane: _, to: _ } | Mark::Undecided { lane: _ } => 0,
-        }
-    }
-}
-
-impl Noted {
     /// The lane of the note.
-    fn lane(self) -> u32
-        ensures { result ≡ lane_of self }
-    {
+    fn lane(self) -> u8 {
         match self {
-            Noted::Took { lane, item: _ } => lane,
-            Noted::Lost { lane, to: _ } => lane,
-            Noted::Undecided { lane } => lane,
-        }
-    }
-
-    /// The note without its lane.
-    fn note(self) -> Note
-        ensures { result ≡ note_in self }
-    {
-        match self {
-            Noted::Took { lane: _, item } => Note::Took(item),
-            Noted::Lost { lane: _, to } => Note::Lost(to),
-            Noted::Undecided { lane: _ } => Note::Undecided,
+            Mark::Took { lane } => lane,
+            Mark::Lost { lane, to: _ } => lane,
+            Mark::LostFar { lane } => lane,
+            Mark::Undecided { lane } => lane,
         }
     }
 }
@@ -156,10 +103,9 @@ impl<A: Allocator + Drop> Notes<A> {
     fn counts(&self) -> [usize; 16] {
         let mut counts = [0usize; 16];
         for mark in self.marks.iter() {
-            let lane = mark.told(0).lane() as usize;
-            if lane < counts.len() {
-                counts[lane] = counts[lane].wrapping_add(1);
-            }
+            // There are at most 16 lanes.
+            let lane = mark.lane() as usize % 16;
+            counts[lane] = counts[lane].wrapping_add(1);
         }
         counts
     }
@@ -194,8 +140,7 @@ impl<A: Allocator + Clone + Drop> Notes<A> {
         let mut lists = empty_lists(alloc, lanes, &counts)?;
         let mut read = 0;
         for mark in marks {
-            file(&mut lists, mark.told(word_at(words, read)))?;
-            read += mark.words();
+            file_mark(&mut lists, *mark, words, &mut read)?;
         }
         Ok(lists)
     }
@@ -213,25 +158,62 @@ fn put_word<A: Allocator + Drop>(words: &mut Vec<u64, A>, word: Option<u64>)
     }
 }
 
-/// The word at this place, or 0 past the last.
-fn word_at(words: &[u64], at: usize) -> u64
-    ensures { result ≡ word_at words.now at }
+/// The next word to be read, or 0 past the last.
+#[inline(always)]
+fn next_word(words: &[u64], read: &mut usize) -> u64
+    requires { read.old + 1 < 2 ^ 64 }
+    ensures word { result ≡ word_at words.now read.old }
+    ensures read { read.new ≡ read.old + 1 }
 {
+    let at = *read;
+    *read = at + 1;
     match words.get(at) {
         Some(word) => *word,
         None => 0,
     }
 }
 
+/// Adds the note of a mark to the list of its lane, and reads its word if it needs one. Each kind of mark files its
+/// note by itself, so the kind is looked at once.
+#[inline(always)]
+fn file_mark<A: Allocator + Drop>(
+    lists: &mut Vec<Vec<Note, A>, A>,
+    mark: Mark,
+    words: &[u64],
+    read: &mut usize,
+) -> Result<(), NoMemory>
+    requires { read.old + 1 < 2 ^ 64 }
+    ensures lists { IfOk result (λ _. map (λ v. v.items) lists.new.items
+        ≡ with_note (told mark (word_at words.now read.old)).lane
+        (Some (told mark (word_at words.now read.old)).note)
+        (map (λ v. v.items) lists.old.items)) }
+    ensures read { read.new ≡ read.old + words_in mark }
+{
+    match mark {
+        Mark::Took { lane } => file(lists, lane, Note::Took(next_word(words, read))),
+        Mark::Lost { lane, to } => file(lists, lane, Note::Lost(to as u32)),
+        Mark::LostFar { lane } => {
+            let word = next_word(words, read);
+            let to = if word < 1 << 32 { word as u32 } else { 0 };
+            file(lists, lane, Note::Lost(to))
+        }
+        Mark::Undecided { lane } => file(lists, lane, Note::Undecided),
+    }
+}
+
 /// Adds a note to the list of its lane, if there is such a list.
 #[inline(always)]
-fn file<A: Allocator + Drop>(lists: &mut Vec<Vec<Note, A>, A>, noted: Noted) -> Result<(), NoMemory>
+fn file<A: Allocator + Drop>(
+    lists: &mut Vec<Vec<Note, A>, A>,
+    lane: u8,
+    note: Note,
+) -> Result<(), NoMemory>
     ensures { IfOk result (λ _. map (λ v. v.items) lists.new.items
-        ≡ with_note (lane_of noted) (Some (note_in noted)) (map (λ v. v.items) lists.old.items)) }
+        ≡ with_note lane (Some note) (map (λ v. v.items) lists.old.items)) }
 {
-    let lane = noted.lane() as usize;
+    let lane = lane as usize;
     if lane < lists.len() {
-        lists[lane].push(noted.note())?;
+        lists[lane].push(note)?;
     }
     Ok(())
 }

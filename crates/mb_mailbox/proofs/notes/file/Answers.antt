@@ -1,8 +1,5 @@
-use Rattle.std.proofs.Common.{◌≡◌, ◌∙◌, ◌++◌, ◌∷◌, [], ℕ, arith, map, subst}
-use Rattle.std.specs.Prelude.{Some, slice_set}
+use Rattle.std.proofs.Common.{◌≡◌, ◌∙◌, ◌++◌, ◌∷◌, [], arith}
 use Rattle.std.proofs.lemmas.Option.{get_or_from_slice_get}
-use Rattle.mb_mailbox.specs.LaneNotes.{note_in}
-use Rattle.mb_mailbox.specs.Steps.{with_note}
 use Rattle.mb_mailbox.proofs.LaneLists.{filed_on}
 use Rattle.mb_mailbox.proofs.Lists.{get_some}
 use Rattle.mb_mailbox.proofs.notes.file.Goals as goal
@@ -11,14 +8,11 @@ use Rattle.mb_mailbox.proofs.notes.file.Goals as goal
 pub returns-in_ok-push : goal.returns-in_ok-push
 returns-in_ok-push g c =
     let vs = c.args.lists.now.items in
-    let p = c.lane-lane.result in
+    let p = c.args.lane in
     let low = c.if-lane-len.true in
     let len = c.len.ensures in
     let t = get_some vs p (omega (arith, low, len)) in
     let was : c.index_mut.result.now ≡ t.0 = c.index_mut.ensures.value
     ∙ get_or_from_slice_get vs p t.0 c.index_mut.result.now t.1 in
-    subst (λ (q : ℕ). map (λ v. v.items) (slice_set vs p c.push.new.self)
-    ≡ with_note q (Some (note_in c.args.noted)) (map (λ v. v.items) vs))
-    c.lane-lane.ensures
-    (filed_on vs p (note_in c.args.noted) t.0 c.push.new.self t.1
-    (c.in_ok-push.ensures.items ∙ (λ j. (was j).items ++ c.note.ensures j ∷ [])))
+    filed_on vs p c.args.note t.0 c.push.new.self t.1
+    (c.in_ok-push.ensures.items ∙ (λ j. (was j).items ++ c.args.note ∷ []))
