@@ -17,7 +17,7 @@ use super::{ConsumerFields, Poll};
 use crate::mailbox::Mailbox;
 use crate::notes::Notes;
 use arrayvec::ArrayVec;
-use mb_claim::{Claim, Stage, Stretch};
+use mb_claim::{Claim, Stage};
 use mb_shared_cells::ReaderSeat;
 use mb_world::{Note, Place};
 use rand_core::Rng;
@@ -46,45 +46,15 @@ fn take<A: Allocator + Drop, B: Allocator + Drop>(
     item
 }
 
-/// A claim that a consumer holds, on the last cell that it met on a lane.
-#[derive(Clone, Copy)]
-pub(super) struct PendingClaim {
-    pub(super) lane: u32,
-    pub(super) cell: u32,
-    pub(super) claim: Claim,
-}
-
-/// Goes on with a claim that is held. It goes to the claim's end, to the item if the claim is won, or until it has
-/// made this many accesses. It takes the consumer's fields, not the consumer. From the first access to the last the
-/// place is out of date.
+/// Goes on with the claim that the consumer holds on this lane.
 #[inline(always)]
-pub(super) fn run_claim<A: Allocator + Drop, B: Allocator + Drop, R: Rng>(
+pub(super) fn run_held<A: Allocator + Drop, B: Allocator + Drop, R: Rng>(
     fields: &mut ConsumerFields<A>,
     mailbox: &Mailbox<B>,
-    held: PendingClaim,
+    lane: u32,
     most: u64,
     rng: &mut R,
-) -> Poll
-    requires held { IsConsumer (holding held.lane held.cell held.claim (with_fields fields.old)) }
-    requires won { claim_stage held.claim ≡ stage.Won → 0 < most }
-    requires of { IsConsumerOf mailbox.now (with_fields fields.old) }
-    requires lane { held.lane < array_vec_len fields.old.places }
-    requires wide { HasAllRoom fields.old.reader.table.size.cells fields.old.notes }
-
-    // If the accesses before came to no answer, the poll is these accesses and those made here.
-    ensures pursued { (from : ConsumerView) (n : ℕ) (t : Stream)
-        → AreSteps held.lane n None t (R.stream rng.old) from
-        (holding held.lane held.cell held.claim (with_fields fields.old))
-        → IsPursuit held.lane n most result t (R.stream rng.new) from (with_fields fields.new) }
-    ensures wide { HasAllRoom fields.new.reader.table.size.cells fields.new.notes }
-
-    // A claim ends after no more accesses than its layout allows, with those made before. If its cell has a last
-    // object, the claim is decided then.
-    ensures few { result ≡ poll.Spent
-        → most + length (part_on fields.old.seat.consumer held.cell fields.old.seat.part)
-        ≤ most_accesses mailbox.now.claims.layout }
-    ensures decided { (shape_of mailbox.now.claims.layout).last ≡ true → result ≢ poll.Undecided }
-{
+) -> Poll {
     consumers_move_on();
     places_tell_steps();
     accesses_are_counted();
@@ -94,25 +64,20 @@ pub(super) fn run_claim<A: Allocator + Drop, B: Allocator + Drop, R: Rng>(
         places,
         notes,
     } = fields;
-    reader.has_history();
-    let PendingClaim { lane, cell, claim } = held;
-    let mut claim = claim;
-    let p = lane as usize;
+    let Place::At { cell, claim } = &mut places.as_mut_slice()[lane as usize] else {
+        return Poll::Spent;
+    };
+    let cell = *cell;
     if let Stage::Won = claim.stage() {
         return Poll::Took(take(places, notes, reader, mailbox, lane, cell));
     }
-    let made = mailbox.claims.run(seat, &mut claim, cell, rng, most);
-    seat.has_history();
+    let made = mailbox.claims.run(seat, claim, cell, rng, most);
     match claim.stage() {
-        Stage::Going => {
-            stay(places, p, cell, claim);
-            Poll::Spent
-        }
+        Stage::Going => Poll::Spent,
         Stage::Won => {
             if made < most {
                 return Poll::Took(take(places, notes, reader, mailbox, lane, cell));
             }
-            stay(places, p, cell, claim);
             Poll::Spent
         }
         Stage::Lost(w) => {
@@ -188,43 +153,24 @@ pub(super) fn run_new<A: Allocator + Drop, B: Allocator + Drop, R: Rng>(
         }
         Stage::Going => {
             end.left += most - room;
-            run_rest(fields, mailbox, lane, cell, end, rng)
+            hold(fields, mailbox, lane, cell, end.object, end.value);
+            run_held(fields, mailbox, lane, end.left, rng)
         }
     }
 }
 
-/// Goes on with a claim from where its straight accesses ended, with the clauses of [`run_claim`].
-#[inline(always)]
-fn run_rest<A: Allocator + Drop, B: Allocator + Drop, R: Rng>(
+/// Holds a claim.
+#[cold]
+#[inline(never)]
+fn hold<A: Allocator + Drop, B: Allocator + Drop>(
     fields: &mut ConsumerFields<A>,
     mailbox: &Mailbox<B>,
     lane: u32,
     cell: u32,
-    end: Stretch,
-    rng: &mut R,
-) -> Poll
-    requires held { IsBeforeObject mailbox.now.claims.layout lane cell end.object end.value
-        (with_fields fields.old) }
-    requires of { IsConsumerOf mailbox.now (with_fields fields.old) }
-    requires lane { lane < array_vec_len fields.old.places }
-    requires wide { HasAllRoom fields.old.reader.table.size.cells fields.old.notes }
-    ensures pursued { (from : ConsumerView) (n : ℕ) (t : Stream) (claim : Claim)
-        → IsStanding mailbox.now.claims.layout fields.old.seat.consumer end.object end.value claim
-        → AreSteps lane n None t (R.stream rng.old) from
-        (holding lane cell claim (with_fields fields.old))
-        → IsPursuit lane n end.left result t (R.stream rng.new) from (with_fields fields.new) }
-    ensures wide { HasAllRoom fields.new.reader.table.size.cells fields.new.notes }
-    ensures few { result ≡ poll.Spent
-        → end.left + length (part_on fields.old.seat.consumer cell fields.old.seat.part)
-        ≤ most_accesses mailbox.now.claims.layout }
-    ensures decided { (shape_of mailbox.now.claims.layout).last ≡ true → result ≢ poll.Undecided }
-{
-    consumers_move_on();
-    claims_begin_objects();
-    fields.reader.has_history();
+    object: u32,
+    value: u32,
+) {
     let consumer = fields.seat.consumer();
-    let layout = mailbox.claims.layout();
-    let claim = Claim::standing(layout, consumer, end.object, end.value);
-    let held = PendingClaim { lane, cell, claim };
-    run_claim(fields, mailbox, held, end.left, rng)
+    let claim = Claim::standing(mailbox.claims.layout(), consumer, object, value);
+    stay(&mut fields.places, lane as usize, cell, claim);
 }
