@@ -26,8 +26,7 @@ impl Claim {
     ghost use Rattle.mb_claim.specs.{quorums_of, kinds_of, consumer_count, cell_words, IsStanding, HasEnd, site_of};
 
     /// The claim of a consumer before its first access to an object, with this value as its input there.
-    #[cold]
-    #[inline(never)]
+    #[inline(always)]
     pub fn standing(layout: &Layout, consumer: u32, object: u32, value: u32) -> Claim
         requires object { object < length (kinds_of layout.now) }
         requires value { value < consumer_count layout.now }
@@ -71,18 +70,17 @@ impl Claim {
             end memory.new
             × HasEnd layout.now consumer result end }
     {
-        let room = 2 * u64::from(layout.table.registers()) + 10;
         let mut at = Stretch {
             stage: Stage::Going,
             object: 0,
             value: consumer,
             left: most,
         };
-        'pairs: while at.left >= room {
+        'pairs: while has_room(layout, at.left) {
             if !Claim::agree(layout, memory, begin, consumer, &mut at) {
                 return at;
             }
-            if at.left < room {
+            if !has_room(layout, at.left) {
                 return at;
             }
             if !Claim::decide(layout, memory, begin, consumer, &mut at) {
@@ -190,4 +188,10 @@ impl Claim {
         }
         true
     }
+}
+
+/// Whether so many accesses are enough for one more object.
+#[inline(always)]
+fn has_room(layout: &Layout, left: u64) -> bool {
+    left >= 138 || left >= 2 * u64::from(layout.table.registers()) + 10
 }

@@ -19,6 +19,7 @@ use crate::notes::Notes;
 use arrayvec::ArrayVec;
 use mb_claim::{Claim, Stage};
 use mb_shared_cells::ReaderSeat;
+use mb_shared_claims::{ClaimSeat, SharedClaims};
 use mb_world::{Note, Place};
 use rand_core::Rng;
 use std::alloc::Allocator;
@@ -71,24 +72,44 @@ pub(super) fn run_held<A: Allocator + Drop, B: Allocator + Drop, R: Rng>(
     if let Stage::Won = claim.stage() {
         return Poll::Took(take(places, notes, reader, mailbox, lane, cell));
     }
-    let made = mailbox.claims.run(seat, claim, cell, rng, most);
-    match claim.stage() {
-        Stage::Going => Poll::Spent,
-        Stage::Won => {
-            if made < most {
-                return Poll::Took(take(places, notes, reader, mailbox, lane, cell));
+    let mut left = most;
+    'steps: while left != 0 {
+        left -= 1;
+        match step_held(&mailbox.claims, seat, claim, cell, rng.next_u64()) {
+            Stage::Going => {
+                if left == 0 {
+                    return Poll::Spent;
+                }
             }
-            Poll::Spent
-        }
-        Stage::Lost(w) => {
-            leave(places, notes, lane, cell, Note::Lost(w));
-            Poll::Lost(w)
-        }
-        Stage::Undecided => {
-            leave(places, notes, lane, cell, Note::Undecided);
-            Poll::Undecided
+            Stage::Won => {
+                if left != 0 {
+                    return Poll::Took(take(places, notes, reader, mailbox, lane, cell));
+                }
+                return Poll::Spent;
+            }
+            Stage::Lost(w) => {
+                leave(places, notes, lane, cell, Note::Lost(w));
+                return Poll::Lost(w);
+            }
+            Stage::Undecided => {
+                leave(places, notes, lane, cell, Note::Undecided);
+                return Poll::Undecided;
+            }
         }
     }
+    Poll::Spent
+}
+
+/// Steps a claim, out of line.
+#[inline(always)]
+fn step_held<B: Allocator + Drop>(
+    table: &SharedClaims<B>,
+    seat: &mut ClaimSeat,
+    claim: &mut Claim,
+    cell: u32,
+    word: u64,
+) -> Stage {
+    table.step(seat, claim, cell, word)
 }
 
 /// Makes a claim from its first access on, with the clauses of [`run_claim`]. As long as `most` has room for whole
@@ -160,8 +181,7 @@ pub(super) fn run_new<A: Allocator + Drop, B: Allocator + Drop, R: Rng>(
 }
 
 /// Holds a claim.
-#[cold]
-#[inline(never)]
+#[inline(always)]
 fn hold<A: Allocator + Drop, B: Allocator + Drop>(
     fields: &mut ConsumerFields<A>,
     mailbox: &Mailbox<B>,
@@ -171,6 +191,7 @@ fn hold<A: Allocator + Drop, B: Allocator + Drop>(
     value: u32,
 ) {
     let consumer = fields.seat.consumer();
-    let claim = Claim::standing(mailbox.claims.layout(), consumer, object, value);
+    let layout = mailbox.claims.layout();
+    let claim = Claim::standing(layout, consumer, object, value);
     stay(&mut fields.places, lane as usize, cell, claim);
 }
