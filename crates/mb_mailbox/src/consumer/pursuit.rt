@@ -65,8 +65,9 @@ pub(super) fn run_held<A: Allocator + Drop, B: Allocator + Drop, R: Rng>(
         places,
         notes,
     } = fields;
-    let Place::At { cell, claim } = &mut places.as_mut_slice()[lane as usize] else {
-        return Poll::Spent;
+    let (cell, claim) = match &mut places.as_mut_slice()[lane as usize] {
+        Place::Before(_) => return Poll::Spent,
+        Place::At { cell, claim } => (cell, claim),
     };
     let cell = *cell;
     if let Stage::Won = claim.stage() {
@@ -181,7 +182,7 @@ pub(super) fn run_new<A: Allocator + Drop, B: Allocator + Drop, R: Rng>(
 }
 
 /// Holds a claim.
-#[inline(always)]
+#[inline(never)]
 fn hold<A: Allocator + Drop, B: Allocator + Drop>(
     fields: &mut ConsumerFields<A>,
     mailbox: &Mailbox<B>,
