@@ -70,17 +70,22 @@ impl Claim {
             end memory.new
             × HasEnd layout.now consumer result end }
     {
+        let room = if most >= 8192 {
+            0
+        } else {
+            2 * u64::from(layout.table.registers()) + 10
+        };
         let mut at = Stretch {
             stage: Stage::Going,
             object: 0,
             value: consumer,
             left: most,
         };
-        'pairs: while has_room(layout, at.left) {
+        'pairs: while at.left >= room {
             if !Claim::agree(layout, memory, begin, consumer, &mut at) {
                 return at;
             }
-            if !has_room(layout, at.left) {
+            if at.left < room {
                 return at;
             }
             if !Claim::decide(layout, memory, begin, consumer, &mut at) {
@@ -188,10 +193,4 @@ impl Claim {
         }
         true
     }
-}
-
-/// Whether so many accesses are enough for one more object.
-#[inline(always)]
-fn has_room(layout: &Layout, left: u64) -> bool {
-    left >= 138 || left >= 2 * u64::from(layout.table.registers()) + 10
 }
