@@ -1,11 +1,19 @@
 //! A new claim goes straight through whole objects. It keeps no place in an object on this way.
 use super::Claim;
+ghost use Rattle.std.specs.Prelude.{◌≡◌, ◌≤◌, ℕ, true};
+ghost use Rattle.mb_claim.specs.declared.claim.straight.TheConstants.{AMPLE, LONGEST};
+
 use crate::access::{ClaimOp, Stage};
 use crate::layout::Layout;
 use crate::steps::places_show_prefixes;
 use mb_deciding::steps::paths_are_short;
 use mb_deciding::{Drawing, Kind, through_conciliator, through_ratifier};
 use mb_quorum::Quorums;
+
+/// No claim makes more accesses to an object.
+const LONGEST: u64 = 138;
+/// No claim makes more accesses on a cell.
+const AMPLE: u64 = 8192;
 
 /// Where straight accesses of a claim ended.
 #[derive(Clone, Copy)]
@@ -24,6 +32,7 @@ impl Claim {
     ghost use Rattle.std.specs.Prelude.{◌≡◌, ◌≢◌, ◌<◌, ◌≤◌, ◌+◌, ◌*◌, ◌^◌, ℕ, true, false, length, slice_get, Some};
     ghost use Rattle.mb_claim.specs.{Ratifier, Going, claim_stage, IsNextOp, AreClaimSteps, DrawsAndMakesNext};
     ghost use Rattle.mb_claim.specs.{quorums_of, kinds_of, consumer_count, cell_words, IsStanding, HasEnd, site_of};
+    ghost use Rattle.mb_claim.specs.declared.claim.straight.TheConstants.{LONGEST};
 
     /// The claim of a consumer before its first access to an object, with this value as its input there.
     #[inline(always)]
@@ -70,11 +79,9 @@ impl Claim {
             end memory.new
             × HasEnd layout.now consumer result end }
     {
-        let room = if most >= 8192 {
-            0
-        } else {
-            2 * u64::from(layout.table.registers()) + 10
-        };
+        // An ample budget has room for each object. Then no room is tested.
+        let ample = is_ample(most);
+        let room = Claim::room(layout, ample);
         let mut at = Stretch {
             stage: Stage::Going,
             object: 0,
@@ -82,17 +89,29 @@ impl Claim {
             left: most,
         };
         'pairs: while at.left >= room {
-            if !Claim::agree(layout, memory, begin, consumer, &mut at) {
+            if !Claim::agree(layout, memory, begin, consumer, ample, &mut at) {
                 return at;
             }
             if at.left < room {
                 return at;
             }
-            if !Claim::decide(layout, memory, begin, consumer, &mut at) {
+            if !Claim::decide(layout, memory, begin, consumer, ample, &mut at) {
                 return at;
             }
         }
         at
+    }
+
+    /// How much of the budget has to be left before an object.
+    #[inline(always)]
+    fn room(layout: &Layout, ample: bool) -> u64
+        ensures { ample ≡ false → 2 * (quorums_of layout.now).registers + 10 ≤ result }
+    {
+        if ample {
+            0
+        } else {
+            2 * u64::from(layout.table.registers()) + 10
+        }
     }
 
     /// Goes through the object, if that is a conciliator. Returns whether a ratifier comes next.
@@ -102,11 +121,13 @@ impl Claim {
         memory: &mut M,
         begin: usize,
         consumer: u32,
+        ample: bool,
         at: &mut Stretch,
     ) -> bool
         requires object { at.old.object < length (kinds_of layout.now) }
         requires value { at.old.value < consumer_count layout.now }
         requires room { 10 ≤ at.old.left }
+        requires ample { ample ≡ true → LONGEST ≤ at.old.left }
         requires begin { begin + cell_words layout.now < 2 ^ 64 }
         requires may { (start : Claim)
             → IsStanding layout.now consumer at.old.object at.old.value start
@@ -118,6 +139,8 @@ impl Claim {
         ensures stage { at.new.stage ≡ at.old.stage }
         ensures object { at.new.object < length (kinds_of layout.now) }
         ensures further { at.old.object ≤ at.new.object }
+        ensures few { ample ≡ true → at.old.left + LONGEST * at.old.object
+            ≤ at.new.left + LONGEST * at.new.object }
         ensures value { at.new.value < consumer_count layout.now }
         ensures next { result ≡ true
             → slice_get (kinds_of layout.now) at.new.object ≡ Some Ratifier }
@@ -132,8 +155,10 @@ impl Claim {
         match layout.kind_of(at.object) {
             Kind::Conciliator { s } => {
                 let site = layout.site(begin, at.object);
-                let left = &mut at.left;
-                at.value = through_conciliator(&layout.table, memory, site, s, at.value, left);
+                let quota = quota(at.left, ample);
+                let mut left = quota;
+                at.value = through_conciliator(&layout.table, memory, site, s, at.value, &mut left);
+                at.left -= quota - left;
                 at.object += 1;
                 true
             }
@@ -149,6 +174,7 @@ impl Claim {
         memory: &mut M,
         begin: usize,
         consumer: u32,
+        ample: bool,
         at: &mut Stretch,
     ) -> bool
         requires going { at.old.stage ≡ Going }
@@ -156,6 +182,7 @@ impl Claim {
         requires value { at.old.value < consumer_count layout.now }
         requires consumer { consumer < consumer_count layout.now }
         requires room { 2 * (quorums_of layout.now).registers + 2 ≤ at.old.left }
+        requires ample { ample ≡ true → LONGEST ≤ at.old.left }
         requires begin { begin + cell_words layout.now < 2 ^ 64 }
         requires may { (start : Claim)
             → IsStanding layout.now consumer at.old.object at.old.value start
@@ -168,6 +195,8 @@ impl Claim {
         ensures ends { result ≡ false → at.new.stage ≢ Going }
         ensures object { result ≡ true → at.new.object < length (kinds_of layout.now) }
         ensures further { result ≡ true → at.old.object < at.new.object }
+        ensures few { ample ≡ true → result ≡ true → at.old.left + LONGEST * at.old.object
+            ≤ at.new.left + LONGEST * at.new.object }
         ensures value { at.new.value < consumer_count layout.now }
         ensures steps { (start : Claim)
             → IsStanding layout.now consumer at.old.object at.old.value start
@@ -179,8 +208,10 @@ impl Claim {
         places_show_prefixes();
         paths_are_short();
         let site = layout.site(begin, at.object);
-        let left = &mut at.left;
-        let out = through_ratifier(&layout.table, memory, site, at.value, left);
+        let quota = quota(at.left, ample);
+        let mut left = quota;
+        let out = through_ratifier(&layout.table, memory, site, at.value, &mut left);
+        at.left -= quota - left;
         at.value = out.value;
         if out.decided {
             at.stage = Claim::stage_for(consumer, out.value);
@@ -193,4 +224,23 @@ impl Claim {
         }
         true
     }
+}
+
+/// Whether a budget has room for all objects of a cell at their longest.
+#[inline(always)]
+fn is_ample(most: u64) -> bool
+    ensures { result ≡ true → AMPLE ≤ most }
+{
+    most >= AMPLE
+}
+
+/// What an object may use of a budget with so much left: all of it or, if it is ample, as much as the longest object.
+#[inline(always)]
+fn quota(left: u64, ample: bool) -> u64
+    requires { ample ≡ true → LONGEST ≤ left }
+    ensures within { result ≤ left }
+    ensures longest { ample ≡ true → result ≤ LONGEST }
+    ensures room { (n : ℕ) → n ≤ left → n ≤ LONGEST → n ≤ result }
+{
+    if ample { LONGEST } else { left }
 }

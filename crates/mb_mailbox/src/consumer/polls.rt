@@ -61,8 +61,9 @@ impl<A: Allocator + Drop> Consumer<A> {
         self.fields.reader.has_history();
         let lane = lane as u32;
         let Consumer { fields } = self;
-        let Place::Before(at) = place_at(&fields.places, lane as usize) else {
-            return run_held(fields, mailbox, lane, budget, rng);
+        let at = match place_at(&fields.places, lane as usize) {
+            Place::Before(at) => at,
+            Place::At { .. } => return run_held(fields, mailbox, lane, budget, rng),
         };
         let cell = match mailbox.cells.look(&mut fields.reader, at) {
             Look::Nothing => return Poll::Nothing,

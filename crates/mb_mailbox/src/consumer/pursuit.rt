@@ -1,14 +1,13 @@
-//! What a poll does with a claim. It keeps the claim in a variable of its own, and writes the consumer's place once.
-//! So an item with four consumers costs a seventh fewer instructions than if each step wrote the claim into its
-//! place. A new claim goes straight through whole objects, and is kept nowhere on this way.
+//! What a poll does with a claim. A claim that the consumer holds is stepped in its place. So a poll with a budget of one
+//! access copies no claim. A new claim goes straight through whole objects, and is kept nowhere on this way.
 ghost use Rattle.std.specs.Prelude.{ℕ, ◌≡◌, ◌≢◌, ◌+◌, ◌<◌, ◌≤◌, None, Some, length, slice_set, true};
 ghost use Rattle.arrayvec.specs.ArrayVec.{array_vec_len};
 ghost use Rattle.mb_claim.specs.declared.access.Stage.TheVariants as stage;
 ghost use Rattle.mb_cells.specs.declared.cursor.Cursor.TheVariants.{Past};
-ghost use Rattle.mb_mailbox.specs.Imports.{Claim, Gave, IsStanding, ItemMakes, Stream, Took, claim_stage, most_accesses, part_on, shape_of};
-ghost use Rattle.mb_mailbox.specs.ConsumerWords.{ConsumerView, IsConsumer, IsConsumerOf, HasAllRoom, HasRoom, NotesGrow, IsBeforeObject, IsPursuit, with_fields, holding, AreSteps};
+ghost use Rattle.mb_mailbox.specs.Imports.{Claim, Gave, IsStanding, ItemMakes, Stream, Took, claim_stage, consumer_count, kinds_of, most_accesses, part_on, shape_of};
+ghost use Rattle.mb_mailbox.specs.ConsumerWords.{ConsumerView, IsConsumer, IsConsumerOf, HasAllRoom, HasRoom, NotesGrow, HasPlace, IsBeforeObject, IsHolding, IsPursuit, with_fields, holding, AreSteps};
 ghost use Rattle.mb_mailbox.specs.declared.consumer.Poll.TheVariants as poll;
-ghost use Rattle.mb_world.specs.declared.place.Place.TheVariants.{Before};
+ghost use Rattle.mb_world.specs.declared.place.Place.TheVariants.{At, Before};
 
 use super::moves::{consumers_move_on, places_tell_steps};
 use super::places::{leave, stay};
@@ -17,9 +16,8 @@ use super::{ConsumerFields, Poll};
 use crate::mailbox::Mailbox;
 use crate::notes::Notes;
 use arrayvec::ArrayVec;
-use mb_claim::{Claim, Stage};
+use mb_claim::{Claim, Stage, Stretch};
 use mb_shared_cells::ReaderSeat;
-use mb_shared_claims::{ClaimSeat, SharedClaims};
 use mb_world::{Note, Place};
 use rand_core::Rng;
 use std::alloc::Allocator;
@@ -47,7 +45,9 @@ fn take<A: Allocator + Drop, B: Allocator + Drop>(
     item
 }
 
-/// Goes on with the claim that the consumer holds on this lane.
+/// Goes on with the claim that the consumer holds on this lane. It goes to the claim's end, to the item if the claim is
+/// won, or until it has made this many accesses. It takes the consumer's fields, not the consumer. The claim stays in
+/// its place.
 #[inline(always)]
 pub(super) fn run_held<A: Allocator + Drop, B: Allocator + Drop, R: Rng>(
     fields: &mut ConsumerFields<A>,
@@ -55,7 +55,28 @@ pub(super) fn run_held<A: Allocator + Drop, B: Allocator + Drop, R: Rng>(
     lane: u32,
     most: u64,
     rng: &mut R,
-) -> Poll {
+) -> Poll
+    requires is { IsConsumer (with_fields fields.old) }
+    requires held { IsHolding lane (with_fields fields.old) }
+    requires won { (k : ℕ) (claim : Claim) → HasPlace lane (At k claim) (with_fields fields.old)
+        → claim_stage claim ≡ stage.Won → 0 < most }
+    requires of { IsConsumerOf mailbox.now (with_fields fields.old) }
+    requires wide { HasAllRoom fields.old.reader.table.size.cells fields.old.notes }
+
+    // If the accesses before came to no answer, the poll is these accesses and those made here.
+    ensures pursued { (from : ConsumerView) (n : ℕ) (t : Stream)
+        → AreSteps lane n None t (R.stream rng.old) from (with_fields fields.old)
+        → IsPursuit lane n most result t (R.stream rng.new) from (with_fields fields.new) }
+    ensures wide { HasAllRoom fields.new.reader.table.size.cells fields.new.notes }
+
+    // A claim ends after no more accesses than its layout allows, with those made before. If its cell has a last
+    // object, the claim is decided then.
+    ensures few { (k : ℕ) (claim : Claim) → HasPlace lane (At k claim) (with_fields fields.old)
+        → result ≡ poll.Spent
+        → most + length (part_on fields.old.seat.consumer k fields.old.seat.part)
+        ≤ most_accesses mailbox.now.claims.layout }
+    ensures decided { (shape_of mailbox.now.claims.layout).last ≡ true → result ≢ poll.Undecided }
+{
     consumers_move_on();
     places_tell_steps();
     accesses_are_counted();
@@ -65,55 +86,37 @@ pub(super) fn run_held<A: Allocator + Drop, B: Allocator + Drop, R: Rng>(
         places,
         notes,
     } = fields;
-    let (cell, claim) = match &mut places.as_mut_slice()[lane as usize] {
-        Place::Before(_) => return Poll::Spent,
-        Place::At { cell, claim } => (cell, claim),
+    reader.has_history();
+    let Place::At { cell, claim } = &mut places.as_mut_slice()[lane as usize] else {
+        return Poll::Spent;
     };
     let cell = *cell;
     if let Stage::Won = claim.stage() {
         return Poll::Took(take(places, notes, reader, mailbox, lane, cell));
     }
     let mut left = most;
-    'steps: while left != 0 {
-        left -= 1;
-        match step_held(&mailbox.claims, seat, claim, cell, rng.next_u64()) {
-            Stage::Going => {
-                if left == 0 {
-                    return Poll::Spent;
-                }
+    let stage = mailbox.claims.steps(seat, claim, cell, rng, &mut left);
+    seat.has_history();
+    match stage {
+        Stage::Going => Poll::Spent,
+        Stage::Won => {
+            if left != 0 {
+                return Poll::Took(take(places, notes, reader, mailbox, lane, cell));
             }
-            Stage::Won => {
-                if left != 0 {
-                    return Poll::Took(take(places, notes, reader, mailbox, lane, cell));
-                }
-                return Poll::Spent;
-            }
-            Stage::Lost(w) => {
-                leave(places, notes, lane, cell, Note::Lost(w));
-                return Poll::Lost(w);
-            }
-            Stage::Undecided => {
-                leave(places, notes, lane, cell, Note::Undecided);
-                return Poll::Undecided;
-            }
+            Poll::Spent
+        }
+        Stage::Lost(w) => {
+            leave(places, notes, lane, cell, Note::Lost(w));
+            Poll::Lost(w)
+        }
+        Stage::Undecided => {
+            leave(places, notes, lane, cell, Note::Undecided);
+            Poll::Undecided
         }
     }
-    Poll::Spent
 }
 
-/// Steps a claim, out of line.
-#[inline(always)]
-fn step_held<B: Allocator + Drop>(
-    table: &SharedClaims<B>,
-    seat: &mut ClaimSeat,
-    claim: &mut Claim,
-    cell: u32,
-    word: u64,
-) -> Stage {
-    table.step(seat, claim, cell, word)
-}
-
-/// Makes a claim from its first access on, with the clauses of [`run_claim`]. As long as `most` has room for whole
+/// Makes a claim from its first access on, with the clauses of [`run_held`]. As long as `most` has room for whole
 /// objects, it goes straight through them. [`run_rest`] makes the other accesses.
 #[inline(always)]
 pub(super) fn run_new<A: Allocator + Drop, B: Allocator + Drop, R: Rng>(
@@ -175,24 +178,66 @@ pub(super) fn run_new<A: Allocator + Drop, B: Allocator + Drop, R: Rng>(
         }
         Stage::Going => {
             end.left += most - room;
-            hold(fields, mailbox, lane, cell, end.object, end.value);
-            run_held(fields, mailbox, lane, end.left, rng)
+            run_rest(fields, mailbox, lane, cell, end, rng)
         }
     }
 }
 
-/// Holds a claim.
+/// Goes on with a claim from where its straight accesses ended, with the clauses of [`run_held`]. The claim stands in
+/// its place from there on.
+#[inline(always)]
+fn run_rest<A: Allocator + Drop, B: Allocator + Drop, R: Rng>(
+    fields: &mut ConsumerFields<A>,
+    mailbox: &Mailbox<B>,
+    lane: u32,
+    cell: u32,
+    end: Stretch,
+    rng: &mut R,
+) -> Poll
+    requires held { IsBeforeObject mailbox.now.claims.layout lane cell end.object end.value
+        (with_fields fields.old) }
+    requires of { IsConsumerOf mailbox.now (with_fields fields.old) }
+    requires lane { lane < array_vec_len fields.old.places }
+    requires wide { HasAllRoom fields.old.reader.table.size.cells fields.old.notes }
+    ensures pursued { (from : ConsumerView) (n : ℕ) (t : Stream) (claim : Claim)
+        → IsStanding mailbox.now.claims.layout fields.old.seat.consumer end.object end.value claim
+        → AreSteps lane n None t (R.stream rng.old) from
+        (holding lane cell claim (with_fields fields.old))
+        → IsPursuit lane n end.left result t (R.stream rng.new) from (with_fields fields.new) }
+    ensures wide { HasAllRoom fields.new.reader.table.size.cells fields.new.notes }
+    ensures few { result ≡ poll.Spent
+        → end.left + length (part_on fields.old.seat.consumer cell fields.old.seat.part)
+        ≤ most_accesses mailbox.now.claims.layout }
+    ensures decided { (shape_of mailbox.now.claims.layout).last ≡ true → result ≢ poll.Undecided }
+{
+    consumers_move_on();
+    claims_begin_objects();
+    fields.reader.has_history();
+    hold(fields, mailbox, lane, cell, end.object, end.value);
+    run_held(fields, mailbox, lane, end.left, rng)
+}
+
+/// Makes the place on this lane be at cell `k`, with the consumer's claim there before its first access to an object.
+/// `value` is its input.
 #[inline(never)]
 fn hold<A: Allocator + Drop, B: Allocator + Drop>(
     fields: &mut ConsumerFields<A>,
     mailbox: &Mailbox<B>,
     lane: u32,
-    cell: u32,
+    k: u32,
     object: u32,
     value: u32,
-) {
+)
+    requires object { object < length (kinds_of mailbox.now.claims.layout) }
+    requires value { value < consumer_count mailbox.now.claims.layout }
+    requires lane { lane < array_vec_len fields.old.places }
+    ensures others { fields.new ≡ record fields.old { places = fields.new.places } }
+    ensures place { (claim : Claim)
+        → IsStanding mailbox.now.claims.layout fields.old.seat.consumer object value claim
+        → fields.new.places.items ≡ slice_set fields.old.places.items lane (At k claim) }
+{
     let consumer = fields.seat.consumer();
     let layout = mailbox.claims.layout();
     let claim = Claim::standing(layout, consumer, object, value);
-    stay(&mut fields.places, lane as usize, cell, claim);
+    stay(&mut fields.places, lane as usize, k, claim);
 }

@@ -1,8 +1,52 @@
 -- Proof of `Claim::straight`: makes the accesses of a new claim on a cell, object by object.
-use Rattle.std.proofs.Common.{◌∙◌}
-use Rattle.mb_claim.specs.{IsStanding, HasEnd, site_of, DrawsAndMakesNext}
+use Rattle.std.proofs.Common.{◌≡◌, ◌∙◌, ◌+◌, ◌*◌, ◌<◌, ◌≤◌, ℕ, Bool, true, false, length, refl, arith}
+use Rattle.mb_deciding.specs.Vocabulary.{spread}
+use Rattle.mb_claim.specs.declared.claim.straight.TheConstants.{AMPLE, LONGEST}
+use Rattle.mb_claim.specs.{Layout, IsStanding, HasEnd, kinds_of, quorums_of, site_of, DrawsAndMakesNext}
+use Rattle.mb_claim.proofs.LayoutObjects.{objects_few, quorums_lawful}
 use Rattle.mb_claim.proofs.Straight.{further, further_may, led_as, standing_end}
 use Rattle.mb_claim.proofs.claim.Claim.straight.Goals as goal
+
+-- either way of a choice
+by_choice : {X : Type 0} (b : Bool) → (b ≡ true → X) → (b ≡ false → X) → X
+by_choice true so else = so refl
+by_choice false so else = else refl
+
+-- an ample budget has room for one more object, since a cell has few of them
+still_ample : (layout : Layout) (most left o : ℕ) → AMPLE ≤ most → o < length (kinds_of layout)
+    → most ≤ left + LONGEST * o → LONGEST ≤ left
+still_ample layout most left o ample low few =
+    let all = objects_few layout.shape (spread (quorums_of layout).values) layout.pairs layout.few in
+    omega (arith, ample, low, few, all)
+
+-- after `agree`, an ample budget has room for one more object
+ample_on : goal.decide-requires-clause-ample
+ample_on g c ample =
+    let few = c.pairs.invariant.few ample in
+    let on = c.agree.ensures.few ample in
+    still_ample c.args.layout.now c.args.most c.agree.new.at.left c.agree.new.at.object
+    (c.is_ample-ample.ensures ample) c.agree.ensures.object (omega (arith, few, on))
+
+pub agree-requires-clause-ample : goal.agree-requires-clause-ample
+agree-requires-clause-ample g c ample =
+    still_ample c.args.layout.now c.args.most c.pairs.at.left c.pairs.at.object
+    (c.is_ample-ample.ensures ample) c.pairs.invariant.object (c.pairs.invariant.few ample)
+
+pub agree-requires-clause-room : goal.agree-requires-clause-room
+agree-requires-clause-room g c =
+    by_choice c.is_ample-ample.result
+    (λ ample. let wide = agree-requires-clause-ample g c ample in omega (arith, wide))
+    (λ not. let room = c.room-room.ensures not in omega (arith, room, c.pairs-test.true))
+
+pub decide-requires-clause-ample : goal.decide-requires-clause-ample
+decide-requires-clause-ample g c ample = ample_on g c ample
+
+pub decide-requires-clause-room : goal.decide-requires-clause-room
+decide-requires-clause-room g c =
+    by_choice c.is_ample-ample.result
+    (λ ample. let wide = ample_on g c ample in let quorum = quorums_lawful c.args.layout.now
+    in omega (arith, wide, quorum.limit))
+    (λ not. let room = c.room-room.ensures not in omega (arith, room, c.if-at-room.false))
 
 pub agree-requires-clause-may : goal.agree-requires-clause-may
 agree-requires-clause-may g c =
@@ -82,6 +126,8 @@ pairs-preserved g c =
     record {
       going = going;
       object = c.decide.ensures.object c.if-not-decide.false;
+      few = λ ample. let before = c.pairs.invariant.few ample in let on = c.agree.ensures.few ample
+          in let then = c.decide.ensures.few ample c.if-not-decide.false in omega (arith, before, on, then);
       value = c.decide.ensures.value;
       steps = led_as layout makes c.args.consumer 0 c.args.consumer c.args.memory.now c.args.most
           (HasEnd layout c.args.consumer now) (IsStanding layout c.args.consumer now.object now.value)

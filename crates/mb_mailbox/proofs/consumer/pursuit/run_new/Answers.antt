@@ -2,7 +2,7 @@ use Rattle.std.proofs.Common.{◌≡◌, ◌∙◌, ◌+◌, ◌-◌, ◌≢◌,
 use Rattle.std.specs.Prelude.{None, Some, slice_get}
 use Rattle.mb_claim.specs.declared.access.Stage.TheVariants as stage
 use Rattle.mb_mailbox.specs.declared.consumer.Poll.TheVariants as poll
-use Rattle.mb_mailbox.specs.declared.consumer.pursuit.PendingClaim.{PendingClaim}
+use Rattle.mb_mailbox.specs.Pursuits.{PendingClaim}
 use Rattle.mb_world.specs.declared.place.Place.{Place, TheVariants.At}
 use Rattle.mb_mailbox.specs.Imports.{CellsName, Claim, Gave, IsClaimIn, IsStanding, Lost, ReaderSeatView, SeatView, Stream, TableSize, Took, Undecided, claim_stage, name_of, part_on, shape_of}
 use Rattle.mb_mailbox.specs.ConsumerWords.{AreSteps, ConsumerView, HasPlace, HasRoom, holding, with_fields}

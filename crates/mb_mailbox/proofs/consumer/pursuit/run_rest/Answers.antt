@@ -1,5 +1,5 @@
 use Rattle.std.proofs.Common.{◌≡◌, ◌<◌, ◌∙◌, ap, subst, sym, ℕ, length}
-use Rattle.mb_mailbox.specs.declared.consumer.pursuit.PendingClaim.{PendingClaim}
+use Rattle.mb_mailbox.specs.Pursuits.{PendingClaim}
 use Rattle.mb_mailbox.specs.Consumers.{IsConsumer}
 use Rattle.mb_mailbox.specs.Imports.{Claim, IsClaimIn, IsStanding, Layout, TableSize, consumer_count, kinds_of, part_on}
 use Rattle.mb_mailbox.specs.Mailboxes.{MailboxView}
