@@ -1,7 +1,7 @@
 //! A new claim goes straight through whole objects. It keeps no place in an object on this way.
 use super::Claim;
-ghost use Rattle.std.specs.Prelude.{◌≡◌, ◌≤◌, ℕ, true};
-ghost use Rattle.mb_claim.specs.declared.claim.straight.TheConstants.{AMPLE, LONGEST};
+ghost use Rattle.std.specs.Prelude.{◌≡◌, ◌≤◌, true};
+ghost use Rattle.mb_claim.specs.declared.claim.straight.TheConstants.{AMPLE};
 
 use crate::access::{ClaimOp, Stage};
 use crate::layout::Layout;
@@ -10,9 +10,10 @@ use mb_deciding::steps::paths_are_short;
 use mb_deciding::{Drawing, Kind, through_conciliator, through_ratifier};
 use mb_quorum::Quorums;
 
-/// No claim makes more accesses to an object.
+/// No claim makes more accesses to one object.
 const LONGEST: u64 = 138;
-/// No claim makes more accesses on a cell.
+
+/// A budget for as many accesses to each object that a cell may have, and more.
 const AMPLE: u64 = 8192;
 
 /// Where straight accesses of a claim ended.
@@ -89,13 +90,13 @@ impl Claim {
             left: most,
         };
         'pairs: while at.left >= room {
-            if !Claim::agree(layout, memory, begin, consumer, ample, &mut at) {
+            if !Claim::agree(layout, memory, begin, consumer, &mut at) {
                 return at;
             }
             if at.left < room {
                 return at;
             }
-            if !Claim::decide(layout, memory, begin, consumer, ample, &mut at) {
+            if !Claim::decide(layout, memory, begin, consumer, &mut at) {
                 return at;
             }
         }
@@ -121,13 +122,11 @@ impl Claim {
         memory: &mut M,
         begin: usize,
         consumer: u32,
-        ample: bool,
         at: &mut Stretch,
     ) -> bool
         requires object { at.old.object < length (kinds_of layout.now) }
         requires value { at.old.value < consumer_count layout.now }
         requires room { 10 ≤ at.old.left }
-        requires ample { ample ≡ true → LONGEST ≤ at.old.left }
         requires begin { begin + cell_words layout.now < 2 ^ 64 }
         requires may { (start : Claim)
             → IsStanding layout.now consumer at.old.object at.old.value start
@@ -139,7 +138,7 @@ impl Claim {
         ensures stage { at.new.stage ≡ at.old.stage }
         ensures object { at.new.object < length (kinds_of layout.now) }
         ensures further { at.old.object ≤ at.new.object }
-        ensures few { ample ≡ true → at.old.left + LONGEST * at.old.object
+        ensures few { at.old.left + LONGEST * at.old.object
             ≤ at.new.left + LONGEST * at.new.object }
         ensures value { at.new.value < consumer_count layout.now }
         ensures next { result ≡ true
@@ -155,10 +154,8 @@ impl Claim {
         match layout.kind_of(at.object) {
             Kind::Conciliator { s } => {
                 let site = layout.site(begin, at.object);
-                let quota = quota(at.left, ample);
-                let mut left = quota;
-                at.value = through_conciliator(&layout.table, memory, site, s, at.value, &mut left);
-                at.left -= quota - left;
+                let left = &mut at.left;
+                at.value = through_conciliator(&layout.table, memory, site, s, at.value, left);
                 at.object += 1;
                 true
             }
@@ -174,7 +171,6 @@ impl Claim {
         memory: &mut M,
         begin: usize,
         consumer: u32,
-        ample: bool,
         at: &mut Stretch,
     ) -> bool
         requires going { at.old.stage ≡ Going }
@@ -182,7 +178,6 @@ impl Claim {
         requires value { at.old.value < consumer_count layout.now }
         requires consumer { consumer < consumer_count layout.now }
         requires room { 2 * (quorums_of layout.now).registers + 2 ≤ at.old.left }
-        requires ample { ample ≡ true → LONGEST ≤ at.old.left }
         requires begin { begin + cell_words layout.now < 2 ^ 64 }
         requires may { (start : Claim)
             → IsStanding layout.now consumer at.old.object at.old.value start
@@ -195,7 +190,7 @@ impl Claim {
         ensures ends { result ≡ false → at.new.stage ≢ Going }
         ensures object { result ≡ true → at.new.object < length (kinds_of layout.now) }
         ensures further { result ≡ true → at.old.object < at.new.object }
-        ensures few { ample ≡ true → result ≡ true → at.old.left + LONGEST * at.old.object
+        ensures few { result ≡ true → at.old.left + LONGEST * at.old.object
             ≤ at.new.left + LONGEST * at.new.object }
         ensures value { at.new.value < consumer_count layout.now }
         ensures steps { (start : Claim)
@@ -208,10 +203,8 @@ impl Claim {
         places_show_prefixes();
         paths_are_short();
         let site = layout.site(begin, at.object);
-        let quota = quota(at.left, ample);
-        let mut left = quota;
-        let out = through_ratifier(&layout.table, memory, site, at.value, &mut left);
-        at.left -= quota - left;
+        let left = &mut at.left;
+        let out = through_ratifier(&layout.table, memory, site, at.value, left);
         at.value = out.value;
         if out.decided {
             at.stage = Claim::stage_for(consumer, out.value);
@@ -232,15 +225,4 @@ fn is_ample(most: u64) -> bool
     ensures { result ≡ true → AMPLE ≤ most }
 {
     most >= AMPLE
-}
-
-/// What an object may use of a budget with so much left: all of it or, if it is ample, as much as the longest object.
-#[inline(always)]
-fn quota(left: u64, ample: bool) -> u64
-    requires { ample ≡ true → LONGEST ≤ left }
-    ensures within { result ≤ left }
-    ensures longest { ample ≡ true → result ≤ LONGEST }
-    ensures room { (n : ℕ) → n ≤ left → n ≤ LONGEST → n ≤ result }
-{
-    if ample { LONGEST } else { left }
 }

@@ -87,10 +87,10 @@ pub(super) fn run_held<A: Allocator + Drop, B: Allocator + Drop, R: Rng>(
         notes,
     } = fields;
     reader.has_history();
-    let Place::At { cell, claim } = &mut places.as_mut_slice()[lane as usize] else {
-        return Poll::Spent;
+    let (cell, claim) = match &mut places.as_mut_slice()[lane as usize] {
+        Place::Before(_) => return Poll::Spent,
+        Place::At { cell, claim } => (*cell, claim),
     };
-    let cell = *cell;
     if let Stage::Won = claim.stage() {
         return Poll::Took(take(places, notes, reader, mailbox, lane, cell));
     }

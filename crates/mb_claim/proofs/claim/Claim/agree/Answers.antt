@@ -1,7 +1,6 @@
 -- Proof of `Claim::agree`: goes through the object, if that is a conciliator.
 use Rattle.std.proofs.Common.{◌≡◌, ◌+◌, suc, refl, subst, Some, slice_get, arith}
 use Rattle.std.proofs.lemmas.Option.{slice_get_within}
-use Rattle.mb_deciding.specs.Vocabulary.{most_turns}
 use Rattle.mb_claim.specs.{Conciliator, Ratifier, quorums_of, kinds_of, claims_in}
 use Rattle.mb_claim.proofs.ClaimSteps.{PlacesMakeParts}
 use Rattle.mb_claim.proofs.LayoutObjects.{quorums_lawful}
@@ -13,8 +12,7 @@ pub through_conciliator-at-requires-clause-room : goal.through_conciliator-at-re
 through_conciliator-at-requires-clause-room g c =
     let layout = c.args.layout.now in
     let few = last_attempt_few layout c.args.at.now.object c.in-Conciliator.s c.in-Conciliator.ensures.exact in
-    c.quota-quota.ensures.room (most_turns (quorums_of layout) (Conciliator c.in-Conciliator.s))
-    (omega (arith, few, c.requires.room)) (omega (arith, few))
+    omega (arith, few, c.requires.room)
 
 pub through_conciliator-at-requires-clause-may : goal.through_conciliator-at-requires-clause-may
 through_conciliator-at-requires-clause-may g c =
@@ -25,6 +23,12 @@ through_conciliator-at-requires-clause-may g c =
     site_may layout parts g.M.Drawing.draws g.M.Memory.makes c.args.consumer c.args.at.now.object c.args.at.now.value
     (Conciliator c.in-Conciliator.s) c.in-Conciliator.ensures.exact c.args.memory.now c.args.begin c.site-site.result
     c.site-site.ensures g.M.Drawing.can_make_at c.requires.may
+
+pub returns-in-Conciliator-clause-few : goal.returns-in-Conciliator-clause-few
+returns-in-Conciliator-clause-few g c =
+    let last = last_attempt_few c.args.layout.now c.args.at.now.object c.in-Conciliator.s
+    c.in-Conciliator.ensures.exact in
+    omega (arith, last, c.through_conciliator-at.ensures.few)
 
 -- a ratifier comes next
 next_is : goal.returns-in-Conciliator-clause-next
@@ -50,9 +54,8 @@ returns-in-Conciliator-clause-steps g c claim stands =
     let o = c.args.at.now.object in
     let m : o + 1 ≡ suc o = omega arith in
     let made = c.through_conciliator-at.ensures.steps in
-    let within = c.quota-quota.ensures.within in
     let on = led_on layout parts g.M.Drawing.draws g.M.Memory.makes c.args.consumer o c.args.at.now.value
     (Conciliator c.in-Conciliator.s) c.in-Conciliator.ensures.exact c.args.memory.now c.args.begin c.site-site.result
     c.site-site.ensures claim stands made.0 c.through_conciliator-at.result c.through_conciliator-at.new.memory
     (o + 1) Ratifier m (next_is g c refl) tt c.through_conciliator-at.ensures.value made.2 in
-    (made.0, on.0, omega (arith, made.1, within), on.1, on.3)
+    (made.0, on.0, made.1, on.1, on.3)

@@ -1,8 +1,8 @@
 -- Proof of `Claim::decide`: goes through the object, a ratifier.
-use Rattle.std.proofs.Common.{◌≡◌, ◌≢◌, ◌<◌, ◌≤◌, ◌+◌, ◌-◌, ℕ, suc, Bool, true, false, refl, ap, subst, slice_get, Some, None, length, arith}
+use Rattle.std.proofs.Common.{◌≡◌, ◌≢◌, ◌<◌, ◌+◌, ℕ, suc, Bool, true, false, refl, ap, subst, slice_get, Some, None, length, arith}
 use Rattle.std.proofs.lemmas.Option.{slice_get_within, slice_get_past}
 use Rattle.mb_deciding.specs.ManySteps.{AreSteps, DrawsAndMakes}
-use Rattle.mb_deciding.specs.Vocabulary.{answer, spread, first_place, most_turns}
+use Rattle.mb_deciding.specs.Vocabulary.{answer, spread, first_place}
 use Rattle.mb_deciding.specs.declared.place.pc.Next.TheVariants as leads
 use Rattle.mb_claim.specs.{Ratifier, Out, Layout, Undecided, quorums_of, kinds_of, claims_in}
 use Rattle.mb_claim.proofs.ClaimSteps.{PlacesMakeParts}
@@ -24,13 +24,14 @@ pub through_ratifier-out-requires-clause-room : goal.through_ratifier-out-requir
 through_ratifier-out-requires-clause-room g c =
     let layout = c.args.layout.now in
     let few = c.paths_are_short.ensures.ratifier (quorums_of layout) (quorums_lawful layout) in
-    let quorum = quorums_lawful layout in
-    c.quota-quota.ensures.room (most_turns (quorums_of layout) Ratifier) (omega (arith, few, c.requires.room))
-    (omega (arith, few, quorum.limit))
+    omega (arith, few, c.requires.room)
 
--- what is left of the quota is left of the budget
-still_left : (n left used quota on : ℕ) → n + used ≡ quota → quota ≤ left → on ≡ left - (quota - used) → n + on ≡ left
-still_left n left used quota on made within is = omega (arith, made, within, is)
+pub returns-clause-few : goal.returns-clause-few
+returns-clause-few g c goes =
+    let layout = c.args.layout.now in
+    let most = c.paths_are_short.ensures.ratifier (quorums_of layout) (quorums_lawful layout) in
+    let quorum = quorums_lawful layout in
+    omega (arith, most, quorum.limit, c.through_ratifier-out.ensures.few)
 
 -- the object is one of the layout's
 in_row : (layout : Layout) (o : ℕ) → slice_get (kinds_of layout) o ≡ Some Ratifier → o < length (kinds_of layout)
@@ -65,18 +66,15 @@ returns-then-out-clause-steps g c claim stands =
     let o = c.args.at.now.object in
     let out = c.through_ratifier-out.result in
     let made = c.through_ratifier-out.ensures.steps in
-    let count = still_left made.0 c.args.at.now.left c.through_ratifier-out.new.left c.quota-quota.result
-    (c.args.at.now.left - (c.quota-quota.result - c.through_ratifier-out.new.left)) made.1
-    c.quota-quota.ensures.within refl in
     let ends = led_to_end layout parts g.M.Drawing.draws g.M.Memory.makes c.args.consumer o c.args.at.now.value
     Ratifier c.requires.object c.args.memory.now c.args.begin c.site-site.result
     c.site-site.ensures claim stands made.0 out.value c.through_ratifier-out.new.memory
-    (record { stage = c.stage_for-at.result; object = o; value = out.value; left = c.args.at.now.left - (c.quota-quota.result - c.through_ratifier-out.new.left) })
+    (record { stage = c.stage_for-at.result; object = o; value = out.value; left = c.through_ratifier-out.new.left })
     c.stage_for-at.ensures.exact
     (subst (λ r. AreSteps (quorums_of layout) (DrawsAndMakes g.M.Drawing.draws g.M.Memory.makes
     c.site-site.result.object) (first_place (quorums_of layout) Ratifier c.args.at.now.value) c.args.memory.now
     made.0 (leads.Out r) c.through_ratifier-out.new.memory) (as_answer out true c.if-out.true) made.2) in
-    (made.0, ends.0, count, ends.1, ends.2)
+    (made.0, ends.0, made.1, ends.1, ends.2)
 
 pub returns-then-at-objects-clause-steps : goal.returns-then-at-objects-clause-steps
 returns-then-at-objects-clause-steps g c claim stands =
@@ -87,20 +85,17 @@ returns-then-at-objects-clause-steps g c claim stands =
     let o = c.args.at.now.object in
     let out = c.through_ratifier-out.result in
     let made = c.through_ratifier-out.ensures.steps in
-    let count = still_left made.0 c.args.at.now.left c.through_ratifier-out.new.left c.quota-quota.result
-    (c.args.at.now.left - (c.quota-quota.result - c.through_ratifier-out.new.left)) made.1
-    c.quota-quota.ensures.within refl in
     let none : slice_get (kinds_of layout) (suc o) ≡ None =
     slice_get_past (kinds_of layout) (suc o) (omega (arith, c.objects.ensures, c.if-at-objects.true)) in
     let ends = led_out layout parts g.M.Drawing.draws g.M.Memory.makes c.args.consumer o c.args.at.now.value
     Ratifier c.requires.object c.args.memory.now c.args.begin c.site-site.result
     c.site-site.ensures claim stands made.0 out.value c.through_ratifier-out.new.memory
-    (record { stage = Undecided; object = o + 1; value = out.value; left = c.args.at.now.left - (c.quota-quota.result - c.through_ratifier-out.new.left) })
+    (record { stage = Undecided; object = o + 1; value = out.value; left = c.through_ratifier-out.new.left })
     refl none c.through_ratifier-out.ensures.value
     (subst (λ r. AreSteps (quorums_of layout) (DrawsAndMakes g.M.Drawing.draws g.M.Memory.makes
     c.site-site.result.object) (first_place (quorums_of layout) Ratifier c.args.at.now.value) c.args.memory.now
     made.0 (leads.Out r) c.through_ratifier-out.new.memory) (as_answer out false c.if-out.false) made.2) in
-    (made.0, ends.0, count, ends.1, ends.2)
+    (made.0, ends.0, made.1, ends.1, ends.2)
 
 pub returns-clause-steps : goal.returns-clause-steps
 returns-clause-steps g c claim stands =
@@ -112,9 +107,6 @@ returns-clause-steps g c claim stands =
     let m : o + 1 ≡ suc o = omega arith in
     let out = c.through_ratifier-out.result in
     let made = c.through_ratifier-out.ensures.steps in
-    let count = still_left made.0 c.args.at.now.left c.through_ratifier-out.new.left c.quota-quota.result
-    (c.args.at.now.left - (c.quota-quota.result - c.through_ratifier-out.new.left)) made.1
-    c.quota-quota.ensures.within refl in
     let below = below_end layout o c.objects.result c.requires.object c.objects.ensures c.if-at-objects.false in
     let next = some_kind layout (o + 1) below in
     let on = led_on layout parts g.M.Drawing.draws g.M.Memory.makes c.args.consumer o c.args.at.now.value
@@ -126,12 +118,12 @@ returns-clause-steps g c claim stands =
     made.0 (leads.Out r) c.through_ratifier-out.new.memory) (as_answer out false c.if-out.false) made.2) in (
       made.0,
       on.0,
-      count,
+      made.1,
       on.1,
       standing_end layout c.args.consumer (record {
         stage = c.args.at.now.stage;
         object = o + 1;
         value = out.value;
-        left = c.args.at.now.left - (c.quota-quota.result - c.through_ratifier-out.new.left);
+        left = c.through_ratifier-out.new.left;
       }) on.0 c.requires.going below c.through_ratifier-out.ensures.value on.3,
     )

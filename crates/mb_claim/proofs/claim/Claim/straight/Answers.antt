@@ -19,33 +19,21 @@ still_ample layout most left o ample low few =
     let all = objects_few layout.shape (spread (quorums_of layout).values) layout.pairs layout.few in
     omega (arith, ample, low, few, all)
 
--- after `agree`, an ample budget has room for one more object
-ample_on : goal.decide-requires-clause-ample
-ample_on g c ample =
-    let few = c.pairs.invariant.few ample in
-    let on = c.agree.ensures.few ample in
-    still_ample c.args.layout.now c.args.most c.agree.new.at.left c.agree.new.at.object
-    (c.is_ample-ample.ensures ample) c.agree.ensures.object (omega (arith, few, on))
-
-pub agree-requires-clause-ample : goal.agree-requires-clause-ample
-agree-requires-clause-ample g c ample =
-    still_ample c.args.layout.now c.args.most c.pairs.at.left c.pairs.at.object
-    (c.is_ample-ample.ensures ample) c.pairs.invariant.object (c.pairs.invariant.few ample)
-
 pub agree-requires-clause-room : goal.agree-requires-clause-room
 agree-requires-clause-room g c =
     by_choice c.is_ample-ample.result
-    (λ ample. let wide = agree-requires-clause-ample g c ample in omega (arith, wide))
+    (λ ample. let wide = still_ample c.args.layout.now c.args.most c.pairs.at.left c.pairs.at.object
+    (c.is_ample-ample.ensures ample) c.pairs.invariant.object c.pairs.invariant.few in omega (arith, wide))
     (λ not. let room = c.room-room.ensures not in omega (arith, room, c.pairs-test.true))
-
-pub decide-requires-clause-ample : goal.decide-requires-clause-ample
-decide-requires-clause-ample g c ample = ample_on g c ample
 
 pub decide-requires-clause-room : goal.decide-requires-clause-room
 decide-requires-clause-room g c =
+    let few = c.pairs.invariant.few in
+    let on = c.agree.ensures.few in
     by_choice c.is_ample-ample.result
-    (λ ample. let wide = ample_on g c ample in let quorum = quorums_lawful c.args.layout.now
-    in omega (arith, wide, quorum.limit))
+    (λ ample. let wide = still_ample c.args.layout.now c.args.most c.agree.new.at.left c.agree.new.at.object
+    (c.is_ample-ample.ensures ample) c.agree.ensures.object (omega (arith, few, on)) in
+    let quorum = quorums_lawful c.args.layout.now in omega (arith, wide, quorum.limit))
     (λ not. let room = c.room-room.ensures not in omega (arith, room, c.if-at-room.false))
 
 pub agree-requires-clause-may : goal.agree-requires-clause-may
@@ -126,8 +114,7 @@ pairs-preserved g c =
     record {
       going = going;
       object = c.decide.ensures.object c.if-not-decide.false;
-      few = λ ample. let before = c.pairs.invariant.few ample in let on = c.agree.ensures.few ample
-          in let then = c.decide.ensures.few ample c.if-not-decide.false in omega (arith, before, on, then);
+      few = omega (arith, c.pairs.invariant.few, c.agree.ensures.few, c.decide.ensures.few c.if-not-decide.false);
       value = c.decide.ensures.value;
       steps = led_as layout makes c.args.consumer 0 c.args.consumer c.args.memory.now c.args.most
           (HasEnd layout c.args.consumer now) (IsStanding layout c.args.consumer now.object now.value)
