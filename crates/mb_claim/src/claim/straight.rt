@@ -36,7 +36,8 @@ impl Claim {
     ghost use Rattle.mb_claim.specs.declared.claim.straight.TheConstants.{LONGEST};
 
     /// The claim of a consumer before its first access to an object, with this value as its input there.
-    #[inline(always)]
+    #[cold]
+    #[inline(never)]
     pub fn standing(layout: &Layout, consumer: u32, object: u32, value: u32) -> Claim
         requires object { object < length (kinds_of layout.now) }
         requires value { value < consumer_count layout.now }

@@ -4,7 +4,8 @@ ghost use Rattle.std.specs.Prelude.{ℕ, ◌≡◌, ◌≢◌, ◌+◌, ◌<◌,
 ghost use Rattle.arrayvec.specs.ArrayVec.{array_vec_len};
 ghost use Rattle.mb_claim.specs.declared.access.Stage.TheVariants as stage;
 ghost use Rattle.mb_cells.specs.declared.cursor.Cursor.TheVariants.{Past};
-ghost use Rattle.mb_mailbox.specs.Imports.{Claim, Gave, IsStanding, ItemMakes, Stream, Took, claim_stage, consumer_count, kinds_of, most_accesses, part_on, shape_of};
+ghost use Rattle.mb_mailbox.specs.Imports.{AreSeatSteps, Claim, Gave, IsClaimIn, IsStanding, ItemMakes, Stream, Took, claim_stage};
+ghost use Rattle.mb_mailbox.specs.Imports.{consumer_of, most_accesses, name_of, part_on, shape_of};
 ghost use Rattle.mb_mailbox.specs.ConsumerWords.{ConsumerView, IsConsumer, IsConsumerOf, HasAllRoom, HasRoom, NotesGrow, HasPlace, IsBeforeObject, IsHolding, IsPursuit, with_fields, holding, AreSteps};
 ghost use Rattle.mb_mailbox.specs.declared.consumer.Poll.TheVariants as poll;
 ghost use Rattle.mb_world.specs.declared.place.Place.TheVariants.{At, Before};
@@ -18,6 +19,7 @@ use crate::notes::Notes;
 use arrayvec::ArrayVec;
 use mb_claim::{Claim, Stage, Stretch};
 use mb_shared_cells::ReaderSeat;
+use mb_shared_claims::{ClaimSeat, SharedClaims};
 use mb_world::{Note, Place};
 use rand_core::Rng;
 use std::alloc::Allocator;
@@ -57,6 +59,7 @@ pub(super) fn run_held<A: Allocator + Drop, B: Allocator + Drop, R: Rng>(
     rng: &mut R,
 ) -> Poll
     requires is { IsConsumer (with_fields fields.old) }
+    requires lane { lane < array_vec_len fields.old.places }
     requires held { IsHolding lane (with_fields fields.old) }
     requires won { (k : ℕ) (claim : Claim) → HasPlace lane (At k claim) (with_fields fields.old)
         → claim_stage claim ≡ stage.Won → 0 < most }
@@ -95,7 +98,7 @@ pub(super) fn run_held<A: Allocator + Drop, B: Allocator + Drop, R: Rng>(
         return Poll::Took(take(places, notes, reader, mailbox, lane, cell));
     }
     let mut left = most;
-    let stage = mailbox.claims.steps(seat, claim, cell, rng, &mut left);
+    let stage = compete(&mailbox.claims, seat, claim, cell, rng, &mut left);
     seat.has_history();
     match stage {
         Stage::Going => Poll::Spent,
@@ -112,6 +115,42 @@ pub(super) fn run_held<A: Allocator + Drop, B: Allocator + Drop, R: Rng>(
         Stage::Undecided => {
             leave(places, notes, lane, cell, Note::Undecided);
             Poll::Undecided
+        }
+    }
+}
+
+/// Makes accesses of a claim that is going, each with the next word of `rng`, until it has ended or the budget `left` is
+/// used up. Returns how far the claim has come.
+#[inline(always)]
+fn compete<B: Allocator + Drop, R: Rng>(
+    claims: &SharedClaims<B>,
+    seat: &mut ClaimSeat,
+    claim: &mut Claim,
+    cell: u32,
+    rng: &mut R,
+    left: &mut u64,
+) -> Stage
+    requires table { seat.old.table ≡ name_of claims.now }
+    requires cell { cell < claims.now.cells }
+    requires consumer { consumer_of claim.old ≡ seat.old.consumer }
+    requires standing { IsClaimIn claims.now.layout claim.old
+        (part_on seat.old.consumer cell seat.old.part) }
+    requires going { claim_stage claim.old ≡ stage.Going }
+    ensures steps { (n : ℕ) × (n + left.new ≡ left.old)
+        × AreSeatSteps claims.now.layout cell claim.old seat.old (R.stream rng.old) n claim.new
+        seat.new (R.stream rng.new) }
+    ensures stage { result ≡ claim_stage claim.new }
+    ensures all { result ≡ stage.Going → left.new ≡ 0 }
+    ensures decided { (shape_of claims.now.layout).last ≡ true → result ≢ stage.Undecided }
+{
+    if *left == 0 {
+        return Stage::Going;
+    }
+    'steps: loop {
+        *left -= 1;
+        let stage = claims.step(seat, claim, cell, rng.next_u64());
+        if stage != Stage::Going || *left == 0 {
+            return stage;
         }
     }
 }
@@ -213,31 +252,9 @@ fn run_rest<A: Allocator + Drop, B: Allocator + Drop, R: Rng>(
     consumers_move_on();
     claims_begin_objects();
     fields.reader.has_history();
-    hold(fields, mailbox, lane, cell, end.object, end.value);
-    run_held(fields, mailbox, lane, end.left, rng)
-}
-
-/// Makes the place on this lane be at cell `k`, with the consumer's claim there before its first access to an object.
-/// `value` is its input.
-#[inline(never)]
-fn hold<A: Allocator + Drop, B: Allocator + Drop>(
-    fields: &mut ConsumerFields<A>,
-    mailbox: &Mailbox<B>,
-    lane: u32,
-    k: u32,
-    object: u32,
-    value: u32,
-)
-    requires object { object < length (kinds_of mailbox.now.claims.layout) }
-    requires value { value < consumer_count mailbox.now.claims.layout }
-    requires lane { lane < array_vec_len fields.old.places }
-    ensures others { fields.new ≡ record fields.old { places = fields.new.places } }
-    ensures place { (claim : Claim)
-        → IsStanding mailbox.now.claims.layout fields.old.seat.consumer object value claim
-        → fields.new.places.items ≡ slice_set fields.old.places.items lane (At k claim) }
-{
     let consumer = fields.seat.consumer();
     let layout = mailbox.claims.layout();
-    let claim = Claim::standing(layout, consumer, object, value);
-    stay(&mut fields.places, lane as usize, k, claim);
+    let claim = Claim::standing(layout, consumer, end.object, end.value);
+    stay(&mut fields.places, lane as usize, cell, claim);
+    run_held(fields, mailbox, lane, end.left, rng)
 }

@@ -21,7 +21,7 @@ impl<A: Allocator + Drop> SharedClaims<A> {
 
     /// Makes accesses of a claim of the seat's consumer on a cell, each with the next word of `rng`. It stops if the
     /// claim has ended or `most` were made. Returns how many it made. As many calls of [`SharedClaims::step`] make the
-    /// same accesses. A new claim goes faster by [`SharedClaims::straight`].
+    /// same accesses. It goes by single steps, out of line. A new claim goes faster by [`SharedClaims::straight`].
     #[inline(always)]
     pub fn run<R: Rng>(
         &self,
@@ -57,60 +57,12 @@ impl<A: Allocator + Drop> SharedClaims<A> {
         claims_are_bounded();
         accesses_lengthen_one_part();
         last_objects_decide_claims();
-        if claim.stage() != Stage::Going {
-            return 0;
-        }
         let mut left = most;
-        self.steps(seat, claim, cell, rng, &mut left);
+        'steps: while left != 0 && claim.stage() == Stage::Going {
+            left -= 1;
+            self.single(seat, claim, cell, rng.next_u64());
+        }
         most - left
-    }
-
-    /// Makes accesses of a claim that is going, as [`SharedClaims::run`] does, until it has ended or the budget `left` is
-    /// used up. Returns how far the claim has come.
-    #[inline(always)]
-    pub fn steps<R: Rng>(
-        &self,
-        seat: &mut ClaimSeat,
-        claim: &mut Claim,
-        cell: u32,
-        rng: &mut R,
-        left: &mut u64,
-    ) -> Stage
-        requires table { seat.old.table ≡ name_of self.now }
-        requires cell { cell < self.now.cells }
-        requires consumer { consumer_of claim.old ≡ seat.old.consumer }
-        requires standing { IsClaimIn self.now.layout claim.old
-            (part_on seat.old.consumer cell seat.old.part) }
-        requires going { claim_stage claim.old ≡ Going }
-
-        // Each access is the next one of the claim, with the next word of `rng`.
-        ensures steps { (n : ℕ) × (n + left.new ≡ left.old)
-            × AreSeatSteps self.now.layout cell claim.old seat.old (R.stream rng.old)
-            n
-            claim.new seat.new (R.stream rng.new) }
-        ensures stage { result ≡ claim_stage claim.new }
-        ensures all { claim_stage claim.new ≡ Going → left.new ≡ 0 }
-
-        // So the claim has made all that its consumer has done on the cell.
-        ensures standing { IsClaimIn self.now.layout claim.new
-            (part_on seat.new.consumer cell seat.new.part) }
-        ensures consumer { consumer_of claim.new ≡ consumer_of claim.old }
-
-        // With a last object no claim is undecided.
-        ensures decided { (shape_of self.now.layout).last ≡ true
-            → claim_stage claim.new ≢ Undecided }
-    {
-        last_objects_decide_claims();
-        if *left == 0 {
-            return Stage::Going;
-        }
-        'steps: loop {
-            *left -= 1;
-            let stage = self.step(seat, claim, cell, rng.next_u64());
-            if stage != Stage::Going || *left == 0 {
-                return stage;
-            }
-        }
     }
 
     /// Makes the accesses of a new claim of the seat's consumer on a cell, each with the next word of `rng`. It goes pair
@@ -166,6 +118,24 @@ impl<A: Allocator + Drop> SharedClaims<A> {
             rng: &mut *rng,
         };
         Claim::straight(layout, &mut memory, layout.begin(cell), consumer, most)
+    }
+
+    /// Makes one step of a claim, out of line.
+    #[cold]
+    #[inline(never)]
+    fn single(&self, seat: &mut ClaimSeat, claim: &mut Claim, cell: u32, word: u64)
+        requires table { seat.old.table ≡ name_of self.now }
+        requires cell { cell < self.now.cells }
+        requires consumer { consumer_of claim.old ≡ seat.old.consumer }
+        requires standing { IsClaimIn self.now.layout claim.old
+            (part_on seat.old.consumer cell seat.old.part) }
+        requires going { claim_stage claim.old ≡ Going }
+        ensures step { IsSeatStep self.now.layout cell word claim.old seat.old claim.new seat.new }
+        ensures standing { IsClaimIn self.now.layout claim.new
+            (part_on seat.new.consumer cell seat.new.part) }
+        ensures consumer { consumer_of claim.new ≡ consumer_of claim.old }
+    {
+        self.step(seat, claim, cell, word);
     }
 }
 

@@ -129,6 +129,11 @@ returns-then-perform_at-ne0-clause-steps g c =
           c.least-register-in-checks.ensures.member)),
     )
 
+pub returns-then-perform_at-ne0-clause-few : goal.returns-then-perform_at-ne0-clause-few
+returns-then-perform_at-ne0-clause-few g c =
+    let inv = c.checks.invariant in
+    omega (arith, inv.count, inv.few, some_ones c.checks.mask c.checks-test.true)
+
 pub checks-preserved : goal.checks-preserved
 checks-preserved g c =
     let t : QuorumTable = g.Q.Quorums.table c.args.q.now in
