@@ -1,8 +1,8 @@
 //! A new claim goes straight through whole objects. It keeps no place in an object on this way.
-use super::Claim;
 ghost use Rattle.std.specs.Prelude.{◌≡◌, ◌≤◌, true};
 ghost use Rattle.mb_claim.specs.declared.claim.straight.TheConstants.{AMPLE};
 
+use super::Claim;
 use crate::access::{ClaimOp, Stage};
 use crate::layout::Layout;
 use crate::steps::places_show_prefixes;

@@ -2,7 +2,7 @@
 use Rattle.std.proofs.Common.{◌≡◌, ◌≢◌, ◌+◌, ℕ}
 use Rattle.mb_claim.specs.declared.access.Stage.TheVariants as stage
 use Rattle.mb_mailbox.specs.Imports.{AreSeatSteps, IsClaimIn, claim_stage, consumer_of, name_of, part_on}
-use Rattle.mb_mailbox.proofs.consumer.pursuit.compete.Given as goal
+use Rattle.mb_mailbox.proofs.consumer.competing.compete.Given as goal
 
 abbrev pub decreases-steps : goal.decreases-steps
 decreases-steps g l = l.left
