@@ -8,7 +8,7 @@ use Rattle.mb_mailbox.specs.Imports.{Claim, ClaimTable, IsClaimIn, Layout, SeatV
 use Rattle.mb_world.specs.declared.place.Place.{Place}
 use Rattle.mb_world.specs.declared.place.Place.TheVariants.{At}
 use Rattle.mb_mailbox.specs.declared.consumer.ConsumerFields.{ConsumerFields}
-use Rattle.mb_mailbox.specs.declared.consumer.pursuit.PendingClaim.{PendingClaim}
+use Rattle.mb_mailbox.specs.Pursuits.{PendingClaim}
 use Rattle.mb_mailbox.specs.Consumers.{ConsumerView, IsConsumer, IsConsumerOf}
 use Rattle.mb_mailbox.specs.Mailboxes.{MailboxView}
 use Rattle.mb_mailbox.specs.Moves.{HasLoads, HasPlace}

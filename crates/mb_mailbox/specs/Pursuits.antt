@@ -7,7 +7,7 @@ use Rattle.mb_mailbox.specs.declared.consumer.Poll.TheVariants as poll
 use Rattle.mb_world.specs.declared.place.Place.TheVariants.{At}
 use Rattle.mb_mailbox.specs.Consumers.{ConsumerView, IsConsumer}
 use Rattle.mb_mailbox.specs.ConsumerStep.{stage_answer}
-use Rattle.mb_mailbox.specs.Moves.{moved_to}
+use Rattle.mb_mailbox.specs.Moves.{HasPlace, moved_to}
 use Rattle.mb_world.specs.Places.{place_after}
 use Rattle.mb_mailbox.specs.Steps.{AreSteps, HasNoteOnEach, outcome}
 
@@ -20,12 +20,24 @@ with_fields f = record { reader = f.reader; seat = f.seat; places = f.places.ite
 abbrev pub holding : ℕ → ℕ → Claim → ConsumerView → ConsumerView
 holding p k claim s = record s { places = slice_set s.places p (At k claim) }
 
+-- the consumer stands at a cell of lane p, with a claim there
+pub record IsHolding (p : ℕ) (s : ConsumerView) : Type 0 where
+  pub cell : ℕ
+  pub claim : Claim
+  pub place : HasPlace p (At cell claim) s
+
 -- the consumer with these fields is at cell k of lane p with a claim that is about to make its first access to object o,
 -- where its input is v. Its place there may be out of date
 pub record IsBeforeObject (layout : Layout) (p k o v : ℕ) (s : ConsumerView) : Type 0 where
   pub claim : Claim
   pub standing : IsStanding layout s.seat.consumer o v claim
   pub is : IsConsumer (holding p k claim s)
+
+-- a claim on a cell of a lane
+pub record PendingClaim : Type 0 where
+  pub lane : ℕ
+  pub cell : ℕ
+  pub claim : Claim
 
 -- ---- accesses of the claim
 -- the consumer after accesses of the claim on cell k, by the stage that the claim has then

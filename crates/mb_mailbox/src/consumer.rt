@@ -1,4 +1,5 @@
 //! A consumer of a mailbox.
+mod competing;
 mod moves;
 mod places;
 mod polls;

@@ -1,4 +1,7 @@
 //! A new claim goes straight through whole objects. It keeps no place in an object on this way.
+ghost use Rattle.std.specs.Prelude.{◌≡◌, ◌≤◌, true};
+ghost use Rattle.mb_claim.specs.declared.claim.straight.TheConstants.{AMPLE};
+
 use super::Claim;
 use crate::access::{ClaimOp, Stage};
 use crate::layout::Layout;
@@ -6,6 +9,12 @@ use crate::steps::places_show_prefixes;
 use mb_deciding::steps::paths_are_short;
 use mb_deciding::{Drawing, Kind, through_conciliator, through_ratifier};
 use mb_quorum::Quorums;
+
+/// No claim makes more accesses to one object.
+const LONGEST: u64 = 138;
+
+/// A budget for as many accesses to each object that a cell may have, and more.
+const AMPLE: u64 = 8192;
 
 /// Where straight accesses of a claim ended.
 #[derive(Clone, Copy)]
@@ -24,6 +33,7 @@ impl Claim {
     ghost use Rattle.std.specs.Prelude.{◌≡◌, ◌≢◌, ◌<◌, ◌≤◌, ◌+◌, ◌*◌, ◌^◌, ℕ, true, false, length, slice_get, Some};
     ghost use Rattle.mb_claim.specs.{Ratifier, LastObject, Going, claim_stage, IsNextOp, AreClaimSteps, DrawsAndMakesNext};
     ghost use Rattle.mb_claim.specs.{quorums_of, kinds_of, consumer_count, cell_words, IsStanding, HasEnd, HasStopped, site_of};
+    ghost use Rattle.mb_claim.specs.declared.claim.straight.TheConstants.{LONGEST};
 
     /// The claim of a consumer before its first access to an object, with this value as its input there.
     #[cold]
@@ -74,7 +84,9 @@ impl Claim {
         // It did not stop before it had to.
         ensures goes { HasStopped layout.now result }
     {
-        let room = 2 * u64::from(layout.table.registers()) + 10;
+        // An ample budget has room for each object. Then no room is tested.
+        let ample = is_ample(most);
+        let room = Claim::room(layout, ample);
         let mut at = Stretch {
             stage: Stage::Going,
             object: 0,
@@ -93,6 +105,19 @@ impl Claim {
             }
         }
         at
+    }
+
+    /// How much of the budget has to be left before an object.
+    #[inline(always)]
+    fn room(layout: &Layout, ample: bool) -> u64
+        ensures enough { ample ≡ false → 2 * (quorums_of layout.now).registers + 10 ≤ result }
+        ensures few { result ≤ 2 * (quorums_of layout.now).registers + 10 }
+    {
+        if ample {
+            0
+        } else {
+            2 * u64::from(layout.table.registers()) + 10
+        }
     }
 
     /// Goes through the object, if that is a conciliator. Returns whether a ratifier comes next.
@@ -118,6 +143,8 @@ impl Claim {
         ensures stage { at.new.stage ≡ at.old.stage }
         ensures object { at.new.object < length (kinds_of layout.now) }
         ensures further { at.old.object ≤ at.new.object }
+        ensures few { at.old.left + LONGEST * at.old.object
+            ≤ at.new.left + LONGEST * at.new.object }
         ensures value { at.new.value < consumer_count layout.now }
         ensures next { result ≡ true
             → slice_get (kinds_of layout.now) at.new.object ≡ Some Ratifier }
@@ -170,6 +197,8 @@ impl Claim {
         ensures ends { result ≡ false → at.new.stage ≢ Going }
         ensures object { result ≡ true → at.new.object < length (kinds_of layout.now) }
         ensures further { result ≡ true → at.old.object < at.new.object }
+        ensures few { result ≡ true → at.old.left + LONGEST * at.old.object
+            ≤ at.new.left + LONGEST * at.new.object }
         ensures value { at.new.value < consumer_count layout.now }
         ensures steps { (start : Claim)
             → IsStanding layout.now consumer at.old.object at.old.value start
@@ -195,4 +224,12 @@ impl Claim {
         }
         true
     }
+}
+
+/// Whether a budget has room for all objects of a cell at their longest.
+#[inline(always)]
+fn is_ample(most: u64) -> bool
+    ensures { result ≡ true → AMPLE ≤ most }
+{
+    most >= AMPLE
 }

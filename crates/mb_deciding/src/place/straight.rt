@@ -35,6 +35,7 @@ pub fn through_conciliator<Q: Quorums, M: Drawing>(
         × AreSteps (Q.table q.now) (DrawsAndMakes M.draws M.makes site.object)
         (first_place (Q.table q.now) (Conciliator s) input) memory.old n
         (leads.Out (answer false result)) memory.new }
+    ensures few { left.old ≤ left.new + most_turns (Q.table q.now) (Conciliator s) }
 {
     let values = q.values();
     let modulus = 1 << s;
@@ -94,6 +95,7 @@ pub fn through_ratifier<Q: Quorums, M: Drawing>(
     ensures steps { (n : ℕ) × (n + left.new ≡ left.old)
         × AreSteps (Q.table q.now) (DrawsAndMakes M.draws M.makes site.object)
         (first_place (Q.table q.now) Ratifier input) memory.old n (leads.Out result) memory.new }
+    ensures few { left.old ≤ left.new + most_turns (Q.table q.now) Ratifier }
 {
     let mut mask = q.write_quorum(input);
     'announces: while mask != 0 {

@@ -2,13 +2,16 @@
 ghost use Rattle.std.specs.Prelude.{◌≡◌, ◌<◌, Some, slice_get, slice_set};
 ghost use Rattle.arrayvec.specs.ArrayVec.{array_vec_len};
 ghost use Rattle.mb_cells.specs.declared.cursor.Cursor.TheVariants.{Past};
+ghost use Rattle.mb_mailbox.specs.Imports.{Gave, ItemMakes, Took};
 ghost use Rattle.mb_mailbox.specs.NoteLists.{HasRoom, NotesGrow};
 ghost use Rattle.mb_world.specs.declared.place.Place.TheVariants.{At, Before};
 
+use crate::mailbox::Mailbox;
 use crate::notes::Notes;
 use arrayvec::ArrayVec;
 use mb_cells::Cursor;
 use mb_claim::Claim;
+use mb_shared_cells::ReaderSeat;
 use mb_world::{Note, Place};
 use std::alloc::Allocator;
 
@@ -59,4 +62,27 @@ pub(super) fn leave<A: Allocator + Drop>(
         place => *place = Place::Before(Cursor::past(k)),
     }
     notes.push(lane, note);
+}
+
+/// Loads the item of cell `k`, makes the place on this lane be past the cell, and adds the note.
+#[inline(always)]
+pub(super) fn take<A: Allocator + Drop, B: Allocator + Drop>(
+    places: &mut ArrayVec<Place, 16>,
+    notes: &mut Notes<A>,
+    reader: &mut ReaderSeat,
+    mailbox: &Mailbox<B>,
+    lane: u32,
+    k: u32,
+) -> u64
+    requires table { reader.old.table ≡ mailbox.now.cells }
+    requires may { Gave k reader.old.part }
+    requires place { lane < array_vec_len places.old }
+    requires room { HasRoom lane notes.old }
+    ensures makes { ItemMakes reader.old k result reader.new }
+    ensures place { places.new.items ≡ slice_set places.old.items lane (Before (Past k)) }
+    ensures notes { NotesGrow lane (Some (Took result)) notes.old notes.new }
+{
+    let item = mailbox.cells.item(reader, k);
+    leave(places, notes, lane, k, Note::Took(item));
+    item
 }

@@ -1,7 +1,7 @@
 //! A poll: the consumer's place, and what it does from there.
 use super::moves::{answers_tell_lanes, consumers_move_on, places_tell_steps};
 use super::places::place_at;
-use super::pursuit::{PendingClaim, run_claim, run_new};
+use super::pursuit::{run_held, run_new};
 use super::standing::claims_begin_objects;
 use super::{Consumer, Poll};
 use crate::mailbox::Mailbox;
@@ -64,8 +64,8 @@ impl<A: Allocator + Drop> Consumer<A> {
         let at = match place_at(&fields.places, lane as usize) {
             Place::Before(at) => at,
             Place::At { cell, claim } => {
-                let held = PendingClaim { lane, cell, claim };
-                return run_claim(fields, mailbox, held, budget, rng);
+                let _ = (cell, claim);
+                return run_held(fields, mailbox, lane, budget, rng);
             }
         };
         let cell = match mailbox.cells.look(&mut fields.reader, at) {

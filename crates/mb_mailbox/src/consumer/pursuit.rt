@@ -1,87 +1,55 @@
-//! What a poll does with a claim. It keeps the claim in a variable of its own, and writes the consumer's place once.
-//! So an item with four consumers costs a seventh fewer instructions than if each step wrote the claim into its
-//! place. A new claim goes straight through whole objects, and is kept nowhere on this way.
-ghost use Rattle.std.specs.Prelude.{ℕ, ◌≡◌, ◌≢◌, ◌+◌, ◌<◌, ◌≤◌, None, Some, length, slice_set, true};
+//! What a poll does with a claim. A claim that the consumer holds is stepped in its place. So a poll with a budget of one
+//! access copies no claim. A new claim goes straight through whole objects, and is kept nowhere on this way.
+ghost use Rattle.std.specs.Prelude.{ℕ, ◌≡◌, ◌≢◌, ◌+◌, ◌<◌, ◌≤◌, None, length, true};
 ghost use Rattle.arrayvec.specs.ArrayVec.{array_vec_len};
 ghost use Rattle.mb_claim.specs.declared.access.Stage.TheVariants as stage;
-ghost use Rattle.mb_cells.specs.declared.cursor.Cursor.TheVariants.{Past};
-ghost use Rattle.mb_mailbox.specs.Imports.{Claim, Gave, IsStanding, ItemMakes, Stream, Took, claim_stage, most_accesses, part_on, shape_of};
-ghost use Rattle.mb_mailbox.specs.ConsumerWords.{ConsumerView, IsConsumer, IsConsumerOf, HasAllRoom, HasRoom, NotesGrow, IsBeforeObject, IsPursuit, with_fields, holding, AreSteps};
+ghost use Rattle.mb_mailbox.specs.Imports.{Claim, IsStanding, Stream, claim_stage, most_accesses, part_on, shape_of};
+ghost use Rattle.mb_mailbox.specs.ConsumerWords.{AreSteps, ConsumerView, HasAllRoom, HasPlace, IsBeforeObject, IsConsumer, IsConsumerOf};
+ghost use Rattle.mb_mailbox.specs.ConsumerWords.{IsHolding, IsPursuit, holding, with_fields};
 ghost use Rattle.mb_mailbox.specs.declared.consumer.Poll.TheVariants as poll;
-ghost use Rattle.mb_world.specs.declared.place.Place.TheVariants.{Before};
+ghost use Rattle.mb_world.specs.declared.place.Place.TheVariants.{At};
 
+use super::competing::compete;
 use super::moves::{consumers_move_on, places_tell_steps};
-use super::places::{leave, stay};
+use super::places::{leave, stay, take};
 use super::standing::{accesses_are_counted, claims_begin_objects};
 use super::{ConsumerFields, Poll};
 use crate::mailbox::Mailbox;
-use crate::notes::Notes;
-use arrayvec::ArrayVec;
 use mb_claim::{Claim, Stage, Stretch};
-use mb_shared_cells::ReaderSeat;
 use mb_world::{Note, Place};
 use rand_core::Rng;
 use std::alloc::Allocator;
 
-/// Loads the item of cell `k`, makes the place on this lane be past the cell, and adds the note.
+/// Goes on with the claim that the consumer holds on this lane. It goes to the claim's end, to the item if the claim is
+/// won, or until it has made this many accesses. It takes the consumer's fields, not the consumer. The claim stays in
+/// its place.
 #[inline(always)]
-fn take<A: Allocator + Drop, B: Allocator + Drop>(
-    places: &mut ArrayVec<Place, 16>,
-    notes: &mut Notes<A>,
-    reader: &mut ReaderSeat,
-    mailbox: &Mailbox<B>,
-    lane: u32,
-    k: u32,
-) -> u64
-    requires table { reader.old.table ≡ mailbox.now.cells }
-    requires may { Gave k reader.old.part }
-    requires place { lane < array_vec_len places.old }
-    requires room { HasRoom lane notes.old }
-    ensures makes { ItemMakes reader.old k result reader.new }
-    ensures place { places.new.items ≡ slice_set places.old.items lane (Before (Past k)) }
-    ensures notes { NotesGrow lane (Some (Took result)) notes.old notes.new }
-{
-    let item = mailbox.cells.item(reader, k);
-    leave(places, notes, lane, k, Note::Took(item));
-    item
-}
-
-/// A claim that a consumer holds, on the last cell that it met on a lane.
-#[derive(Clone, Copy)]
-pub(super) struct PendingClaim {
-    pub(super) lane: u32,
-    pub(super) cell: u32,
-    pub(super) claim: Claim,
-}
-
-/// Goes on with a claim that is held. It goes to the claim's end, to the item if the claim is won, or until it has
-/// made this many accesses. It takes the consumer's fields, not the consumer. From the first access to the last the
-/// place is out of date.
-#[inline(always)]
-pub(super) fn run_claim<A: Allocator + Drop, B: Allocator + Drop, R: Rng>(
+pub(super) fn run_held<A: Allocator + Drop, B: Allocator + Drop, R: Rng>(
     fields: &mut ConsumerFields<A>,
     mailbox: &Mailbox<B>,
-    held: PendingClaim,
+    lane: u32,
     most: u64,
     rng: &mut R,
 ) -> Poll
-    requires held { IsConsumer (holding held.lane held.cell held.claim (with_fields fields.old)) }
-    requires won { claim_stage held.claim ≡ stage.Won → 0 < most }
+    requires is { IsConsumer (with_fields fields.old) }
+    requires lane { lane < array_vec_len fields.old.places }
+    requires held { IsHolding lane (with_fields fields.old) }
+    requires won { (k : ℕ) (claim : Claim) → HasPlace lane (At k claim) (with_fields fields.old)
+        → claim_stage claim ≡ stage.Won → 0 < most }
     requires of { IsConsumerOf mailbox.now (with_fields fields.old) }
-    requires lane { held.lane < array_vec_len fields.old.places }
     requires wide { HasAllRoom fields.old.reader.table.size.cells fields.old.notes }
 
     // If the accesses before came to no answer, the poll is these accesses and those made here.
     ensures pursued { (from : ConsumerView) (n : ℕ) (t : Stream)
-        → AreSteps held.lane n None t (R.stream rng.old) from
-        (holding held.lane held.cell held.claim (with_fields fields.old))
-        → IsPursuit held.lane n most result t (R.stream rng.new) from (with_fields fields.new) }
+        → AreSteps lane n None t (R.stream rng.old) from (with_fields fields.old)
+        → IsPursuit lane n most result t (R.stream rng.new) from (with_fields fields.new) }
     ensures wide { HasAllRoom fields.new.reader.table.size.cells fields.new.notes }
 
     // A claim ends after no more accesses than its layout allows, with those made before. If its cell has a last
     // object, the claim is decided then.
-    ensures few { result ≡ poll.Spent
-        → most + length (part_on fields.old.seat.consumer held.cell fields.old.seat.part)
+    ensures few { (k : ℕ) (claim : Claim) → HasPlace lane (At k claim) (with_fields fields.old)
+        → result ≡ poll.Spent
+        → most + length (part_on fields.old.seat.consumer k fields.old.seat.part)
         ≤ most_accesses mailbox.now.claims.layout }
     ensures decided { (shape_of mailbox.now.claims.layout).last ≡ true → result ≢ poll.Undecided }
 {
@@ -95,24 +63,22 @@ pub(super) fn run_claim<A: Allocator + Drop, B: Allocator + Drop, R: Rng>(
         notes,
     } = fields;
     reader.has_history();
-    let PendingClaim { lane, cell, claim } = held;
-    let mut claim = claim;
-    let p = lane as usize;
+    let (cell, claim) = match &mut places.as_mut_slice()[lane as usize] {
+        Place::Before(_) => return Poll::Spent,
+        Place::At { cell, claim } => (*cell, claim),
+    };
     if let Stage::Won = claim.stage() {
         return Poll::Took(take(places, notes, reader, mailbox, lane, cell));
     }
-    let made = mailbox.claims.run(seat, &mut claim, cell, rng, most);
+    let mut left = most;
+    let stage = compete(&mailbox.claims, seat, claim, cell, rng, &mut left);
     seat.has_history();
-    match claim.stage() {
-        Stage::Going => {
-            stay(places, p, cell, claim);
-            Poll::Spent
-        }
+    match stage {
+        Stage::Going => Poll::Spent,
         Stage::Won => {
-            if made < most {
+            if left != 0 {
                 return Poll::Took(take(places, notes, reader, mailbox, lane, cell));
             }
-            stay(places, p, cell, claim);
             Poll::Spent
         }
         Stage::Lost(w) => {
@@ -126,7 +92,7 @@ pub(super) fn run_claim<A: Allocator + Drop, B: Allocator + Drop, R: Rng>(
     }
 }
 
-/// Makes a claim from its first access on, with the clauses of [`run_claim`]. As long as `most` has room for whole
+/// Makes a claim from its first access on, with the clauses of [`run_held`]. As long as `most` has room for whole
 /// objects, it goes straight through them. [`run_rest`] makes the other accesses.
 #[inline(always)]
 pub(super) fn run_new<A: Allocator + Drop, B: Allocator + Drop, R: Rng>(
@@ -155,7 +121,16 @@ pub(super) fn run_new<A: Allocator + Drop, B: Allocator + Drop, R: Rng>(
     consumers_move_on();
     places_tell_steps();
     accesses_are_counted();
+    claims_begin_objects();
     fields.reader.has_history();
+
+    if most == 0 {
+        let consumer = fields.seat.consumer();
+        let layout = mailbox.claims.layout();
+        let claim = Claim::new(layout, consumer);
+        stay(&mut fields.places, lane as usize, cell, claim);
+        return Poll::Spent;
+    }
 
     // One access is kept for the item.
     let room = most.saturating_sub(1);
@@ -167,23 +142,15 @@ pub(super) fn run_new<A: Allocator + Drop, B: Allocator + Drop, R: Rng>(
             Poll::Took(take(places, notes, &mut fields.reader, mailbox, lane, cell))
         }
         Stage::Lost(winner) => {
-            leave(
-                &mut fields.places,
-                &mut fields.notes,
-                lane,
-                cell,
-                Note::Lost(winner),
-            );
+            let places = &mut fields.places;
+            let notes = &mut fields.notes;
+            leave(places, notes, lane, cell, Note::Lost(winner));
             Poll::Lost(winner)
         }
         Stage::Undecided => {
-            leave(
-                &mut fields.places,
-                &mut fields.notes,
-                lane,
-                cell,
-                Note::Undecided,
-            );
+            let places = &mut fields.places;
+            let notes = &mut fields.notes;
+            leave(places, notes, lane, cell, Note::Undecided);
             Poll::Undecided
         }
         Stage::Going => {
@@ -193,7 +160,8 @@ pub(super) fn run_new<A: Allocator + Drop, B: Allocator + Drop, R: Rng>(
     }
 }
 
-/// Goes on with a claim from where its straight accesses ended, with the clauses of [`run_claim`].
+/// Goes on with a claim from where its straight accesses ended, with the clauses of [`run_held`]. The claim stands in
+/// its place from there on.
 #[inline(always)]
 fn run_rest<A: Allocator + Drop, B: Allocator + Drop, R: Rng>(
     fields: &mut ConsumerFields<A>,
@@ -225,6 +193,6 @@ fn run_rest<A: Allocator + Drop, B: Allocator + Drop, R: Rng>(
     let consumer = fields.seat.consumer();
     let layout = mailbox.claims.layout();
     let claim = Claim::standing(layout, consumer, end.object, end.value);
-    let held = PendingClaim { lane, cell, claim };
-    run_claim(fields, mailbox, held, end.left, rng)
+    stay(&mut fields.places, lane as usize, cell, claim);
+    run_held(fields, mailbox, lane, end.left, rng)
 }

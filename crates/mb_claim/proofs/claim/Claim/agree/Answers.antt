@@ -24,6 +24,12 @@ through_conciliator-at-requires-clause-may g c =
     (Conciliator c.in-Conciliator.s) c.in-Conciliator.ensures.exact c.args.memory.now c.args.begin c.site-site.result
     c.site-site.ensures g.M.Drawing.can_make_at c.requires.may
 
+pub returns-in-Conciliator-clause-few : goal.returns-in-Conciliator-clause-few
+returns-in-Conciliator-clause-few g c =
+    let last = last_attempt_few c.args.layout.now c.args.at.now.object c.in-Conciliator.s
+    c.in-Conciliator.ensures.exact in
+    omega (arith, last, c.through_conciliator-at.ensures.few)
+
 -- a ratifier comes next
 next_is : goal.returns-in-Conciliator-clause-next
 next_is g c t =

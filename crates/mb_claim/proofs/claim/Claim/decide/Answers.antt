@@ -26,6 +26,13 @@ through_ratifier-out-requires-clause-room g c =
     let few = c.paths_are_short.ensures.ratifier (quorums_of layout) (quorums_lawful layout) in
     omega (arith, few, c.requires.room)
 
+pub returns-clause-few : goal.returns-clause-few
+returns-clause-few g c goes =
+    let layout = c.args.layout.now in
+    let most = c.paths_are_short.ensures.ratifier (quorums_of layout) (quorums_lawful layout) in
+    let quorum = quorums_lawful layout in
+    omega (arith, most, quorum.limit, c.through_ratifier-out.ensures.few)
+
 -- the object is one of the layout's
 in_row : (layout : Layout) (o : ℕ) → slice_get (kinds_of layout) o ≡ Some Ratifier → o < length (kinds_of layout)
 in_row layout o at = slice_get_within (kinds_of layout) o Ratifier at

@@ -1,8 +1,40 @@
 -- Proof of `Claim::straight`: makes the accesses of a new claim on a cell, object by object.
-use Rattle.std.proofs.Common.{◌∙◌}
-use Rattle.mb_claim.specs.{IsStanding, HasEnd, site_of, DrawsAndMakesNext}
+use Rattle.std.proofs.Common.{◌≡◌, ◌∙◌, ◌+◌, ◌*◌, ◌<◌, ◌≤◌, ℕ, Bool, true, false, length, refl, arith}
+use Rattle.mb_deciding.specs.Vocabulary.{spread}
+use Rattle.mb_claim.specs.declared.claim.straight.TheConstants.{AMPLE, LONGEST}
+use Rattle.mb_claim.specs.{Layout, IsStanding, HasEnd, kinds_of, quorums_of, site_of, DrawsAndMakesNext}
+use Rattle.mb_claim.proofs.LayoutObjects.{objects_few, quorums_lawful}
 use Rattle.mb_claim.proofs.Straight.{further, further_may, led_as, standing_end}
 use Rattle.mb_claim.proofs.claim.Claim.straight.Goals as goal
+
+-- either way of a choice
+by_choice : {X : Type 0} (b : Bool) → (b ≡ true → X) → (b ≡ false → X) → X
+by_choice true so else = so refl
+by_choice false so else = else refl
+
+-- an ample budget has room for one more object, since a cell has few of them
+still_ample : (layout : Layout) (most left o : ℕ) → AMPLE ≤ most → o < length (kinds_of layout)
+    → most ≤ left + LONGEST * o → LONGEST ≤ left
+still_ample layout most left o ample low few =
+    let all = objects_few layout.shape (spread (quorums_of layout).values) layout.pairs layout.few in
+    omega (arith, ample, low, few, all)
+
+pub agree-requires-clause-room : goal.agree-requires-clause-room
+agree-requires-clause-room g c =
+    by_choice c.is_ample-ample.result
+    (λ ample. let wide = still_ample c.args.layout.now c.args.most c.objects.at.left c.objects.at.object
+    (c.is_ample-ample.ensures ample) c.objects.invariant.object c.objects.invariant.few in omega (arith, wide))
+    (λ not. let room = c.room-room.ensures.enough not in omega (arith, room, c.objects-test.true))
+
+pub decide-requires-clause-room : goal.decide-requires-clause-room
+decide-requires-clause-room g c =
+    let few = c.objects.invariant.few in
+    let on = c.agree.ensures.few in
+    by_choice c.is_ample-ample.result
+    (λ ample. let wide = still_ample c.args.layout.now c.args.most c.agree.new.at.left c.agree.new.at.object
+    (c.is_ample-ample.ensures ample) c.agree.ensures.object (omega (arith, few, on)) in
+    let quorum = quorums_lawful c.args.layout.now in omega (arith, wide, quorum.limit))
+    (λ not. let room = c.room-room.ensures.enough not in omega (arith, room, c.if-at-room.false))
 
 pub agree-requires-clause-may : goal.agree-requires-clause-may
 agree-requires-clause-may g c =
@@ -82,6 +114,7 @@ objects-preserved g c =
     record {
       going = going;
       object = c.decide.ensures.object c.if-not-decide.false;
+      few = omega (arith, c.objects.invariant.few, c.agree.ensures.few, c.decide.ensures.few c.if-not-decide.false);
       value = c.decide.ensures.value;
       steps = led_as layout makes c.args.consumer 0 c.args.consumer c.args.memory.now c.args.most
           (HasEnd layout c.args.consumer now) (IsStanding layout c.args.consumer now.object now.value)

@@ -1,5 +1,6 @@
 -- Loop invariants of `Claim::straight`: makes the accesses of a new claim on a cell, object by object.
-use Rattle.std.proofs.Common.{◌≡◌, ◌+◌, ◌-◌, ◌<◌, ℕ, length}
+use Rattle.std.proofs.Common.{◌≡◌, ◌+◌, ◌*◌, ◌-◌, ◌<◌, ◌≤◌, ℕ, length}
+use Rattle.mb_claim.specs.declared.claim.straight.TheConstants.{LONGEST}
 use Rattle.mb_claim.specs.{Claim, Going, kinds_of, consumer_count, IsStanding, AreClaimSteps, DrawsAndMakesNext}
 use Rattle.mb_claim.proofs.claim.Claim.straight.Given as goal
 
@@ -11,6 +12,7 @@ abbrev pub invariant-objects : goal.invariant-objects
 invariant-objects g l = record {
   going : l.at.stage ≡ Going;
   object : l.at.object < length (kinds_of l.layout);
+  few : l.most ≤ l.at.left + LONGEST * l.at.object;
   value : l.at.value < consumer_count l.layout;
   steps : (start : Claim) → IsStanding l.layout l.consumer 0 l.consumer start
       → (n : ℕ) × (mid : Claim) × (n + l.at.left ≡ l.most)

@@ -22,6 +22,11 @@ announces-init g c =
         ap count_ones c.write_quorum-mask.ensures,
         largest_bound t.write t.values c.args.input c.requires.input,
       );
+      few = omega (
+        arith,
+        ap count_ones c.write_quorum-mask.ensures,
+        largest_bound t.write t.values c.args.input c.requires.input,
+      );
       steps = (ap (λ mask. leads.Go (InRatifier (Announce c.args.input mask))) c.write_quorum-mask.ensures, refl);
     }
 
@@ -36,6 +41,7 @@ announces-preserved g c =
       made = suc inv.made;
       count = omega (arith, inv.count, inv.room);
       room = omega (arith, inv.room, fewer);
+      few = omega (arith, inv.few, fewer);
       steps = one_more t g.M.Drawing.draws g.M.Memory.makes c.args.site.object start c.args.memory.now inv.made
           (InRatifier (Announce c.args.input c.announces.mask)) c.announces.memory c.draw.new.self
           c.perform_at.new.self c.draw.result _ inv.steps c.draw.ensures
@@ -82,6 +88,13 @@ checks-init g c =
         ap count_ones c.read_quorum-mask.ensures,
         largest_bound t.read t.values preference c.prefer-preference.ensures.value,
       );
+      few = omega (
+        arith,
+        inv.few,
+        more.1,
+        ap count_ones c.read_quorum-mask.ensures,
+        largest_bound t.read t.values preference c.prefer-preference.ensures.value,
+      );
       steps = subst (λ mask. AreSteps t (DrawsAndMakes g.M.Drawing.draws g.M.Memory.makes c.args.site.object) start
           c.args.memory.now (more.0 + inv.made) (checks_of preference mask) c.prefer-preference.new.memory)
           (sym c.read_quorum-mask.ensures)
@@ -116,6 +129,11 @@ returns-then-perform_at-ne0-clause-steps g c =
           c.least-register-in-checks.ensures.member)),
     )
 
+pub returns-then-perform_at-ne0-clause-few : goal.returns-then-perform_at-ne0-clause-few
+returns-then-perform_at-ne0-clause-few g c =
+    let inv = c.checks.invariant in
+    omega (arith, inv.count, inv.few, some_ones c.checks.mask c.checks-test.true)
+
 pub checks-preserved : goal.checks-preserved
 checks-preserved g c =
     let t : QuorumTable = g.Q.Quorums.table c.args.q.now in
@@ -133,6 +151,7 @@ checks-preserved g c =
       made = suc inv.made;
       count = omega (arith, inv.count, inv.room, some_ones c.checks.mask c.checks-test.true);
       room = omega (arith, inv.room, fewer);
+      few = omega (arith, inv.few, fewer);
       steps = one_more t g.M.Drawing.draws g.M.Memory.makes c.args.site.object start c.args.memory.now inv.made
           (InRatifier (Check preference c.checks.mask)) c.checks.memory c.draw-in-checks.new.self
           c.perform_at-in-checks.new.self c.draw-in-checks.result

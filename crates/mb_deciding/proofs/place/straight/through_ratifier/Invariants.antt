@@ -1,6 +1,6 @@
 -- Loop invariants of `through_ratifier`: goes through a ratifier.
 use Rattle.std.proofs.Common.{◌≡◌, ◌+◌, ◌<◌, ◌≤◌, ℕ, count_ones}
-use Rattle.mb_deciding.specs.{Ratifier, InRatifier, Announce, AreSteps, DrawsAndMakes, first_place, turns_left, checks_of}
+use Rattle.mb_deciding.specs.{Ratifier, InRatifier, Announce, AreSteps, DrawsAndMakes, first_place, most_turns, turns_left, checks_of}
 use Rattle.mb_deciding.specs.declared.place.pc.Next.TheVariants as leads
 use Rattle.mb_deciding.proofs.place.straight.through_ratifier.Given as goal
 
@@ -12,6 +12,8 @@ invariant-announces g l = record {
   made : ℕ;
   count : made + l.left ≡ l.fn.left;
   room : turns_left (g.Q.Quorums.table l.q) (InRatifier (Announce l.input l.mask)) ≤ l.left;
+  few : made + turns_left (g.Q.Quorums.table l.q) (InRatifier (Announce l.input l.mask))
+      ≤ most_turns (g.Q.Quorums.table l.q) Ratifier;
   steps : AreSteps (g.Q.Quorums.table l.q) (DrawsAndMakes g.M.Drawing.draws g.M.Memory.makes l.site.object)
       (first_place (g.Q.Quorums.table l.q) Ratifier l.input) l.fn.memory made
       (leads.Go (InRatifier (Announce l.input l.mask))) l.memory;
@@ -26,6 +28,7 @@ invariant-checks g l = record {
   made : ℕ;
   count : made + l.left ≡ l.fn.left;
   room : count_ones l.mask ≤ l.left;
+  few : made + count_ones l.mask ≤ most_turns (g.Q.Quorums.table l.q) Ratifier;
   steps : AreSteps (g.Q.Quorums.table l.q) (DrawsAndMakes g.M.Drawing.draws g.M.Memory.makes l.site.object)
       (first_place (g.Q.Quorums.table l.q) Ratifier l.input) l.fn.memory made (checks_of l.preference l.mask) l.memory;
 }

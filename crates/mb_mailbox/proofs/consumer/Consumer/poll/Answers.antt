@@ -10,9 +10,9 @@ use Rattle.mb_mailbox.specs.ConsumerStep.{link_answer}
 use Rattle.mb_mailbox.specs.Mailboxes.{MailboxView}
 use Rattle.mb_mailbox.specs.Moves.{HasPlace, reads_with_link}
 use Rattle.mb_mailbox.specs.Steps.{AnswerTells, AreSteps, IsPollOf, note_with}
-use Rattle.mb_mailbox.specs.Pursuits.{IsPursuit, holding, with_fields}
+use Rattle.mb_mailbox.specs.Pursuits.{IsPursuit, with_fields}
 use Rattle.mb_mailbox.proofs.Beginnings.{standing_going, standing_own}
-use Rattle.mb_mailbox.proofs.Ending.{holds_it, not_no_lane, poll_by, pursuit_tells, still_of}
+use Rattle.mb_mailbox.proofs.Ending.{not_no_lane, poll_by, pursuit_tells, still_of}
 use Rattle.mb_mailbox.proofs.Lists.{set_same, some_same}
 use Rattle.mb_mailbox.proofs.Made.{at_views, cells_size, claims_size, known_in, look_made, moved_has}
 use Rattle.mb_mailbox.proofs.Polls.{no_steps, history_extends, poll_of}
@@ -20,23 +20,20 @@ use Rattle.mb_mailbox.proofs.consumer.Consumer.poll.{Given.Over, Goals.After-con
 use Rattle.mb_mailbox.proofs.consumer.Consumer.poll.Goals as goal
 
 -- a poll that goes on with the claim of its place
-module _ (g : Over) (c : goal.After-run_claim g) where
+module _ (g : Over) (c : goal.After-run_held g) where
   -- `at_claim` is the consumer before the poll, and `past_claim` after it
   abbrev at_claim : ConsumerView
   at_claim = with_fields c.self.inside.fields
 
   abbrev past_claim : ConsumerView
-  past_claim = with_fields c.run_claim.new.fields
+  past_claim = with_fields c.run_held.new.fields
 
   -- the poll is the rest of a poll, after no access
-  goes_on : IsPursuit c.args.lane 0 c.args.budget c.run_claim.result (g.R.Rng.stream c.args.rng.now)
-      (g.R.Rng.stream c.run_claim.new.rng) at_claim past_claim
+  goes_on : IsPursuit c.args.lane 0 c.args.budget c.run_held.result (g.R.Rng.stream c.args.rng.now)
+      (g.R.Rng.stream c.run_held.new.rng) at_claim past_claim
   goes_on =
-      let hold = holds_it c.args.lane c.in-At.cell c.in-At.claim at_claim
-      (c.place_at.ensures ∙ ap (λ (z : Place). Some z) c.in-At.is) in
-      c.run_claim.ensures.pursued at_claim 0 (g.R.Rng.stream c.args.rng.now)
-      (subst (λ z. AreSteps c.args.lane 0 None (g.R.Rng.stream c.args.rng.now) (g.R.Rng.stream c.args.rng.now) at_claim
-      z) (sym hold) (no_steps c.args.lane (g.R.Rng.stream c.args.rng.now) at_claim))
+      c.run_held.ensures.pursued at_claim 0 (g.R.Rng.stream c.args.rng.now)
+      (no_steps c.args.lane (g.R.Rng.stream c.args.rng.now) at_claim)
 
 -- a poll that loads a link
 module _ (g : Over) (c : After-look g) where
@@ -108,16 +105,15 @@ module _ (g : Over) (c : goal.After-run_new g) where
 
 -- The clauses in `At` are of a poll that goes on with a held claim. Those in `Nothing` and `Ended` are of a link that
 -- leads to no cell. The others are of a new claim
-pub run_claim-requires-clause-held : goal.run_claim-requires-clause-held
-run_claim-requires-clause-held g c =
-    let s = with_fields c.self.inside.fields in
-    let e = c.place_at.ensures ∙ ap (λ (z : Place). Some z) c.in-At.is in
-    let hold : holding c.args.lane c.in-At.cell c.in-At.claim s
-    ≡ s = holds_it c.args.lane c.in-At.cell c.in-At.claim s e in
-    subst IsConsumer (sym hold) c.self.invariant.0
+pub run_held-requires-clause-held : goal.run_held-requires-clause-held
+run_held-requires-clause-held g c = record {
+  cell = c.in-At.cell;
+  claim = c.in-At.claim;
+  place = c.place_at.ensures ∙ ap (λ (z : Place). Some z) c.in-At.is;
+}
 
 pub invariant_of-self : goal.invariant_of-self
-invariant_of-self g c = ((goes_on g c).is, c.run_claim.ensures.wide)
+invariant_of-self g c = ((goes_on g c).is, c.run_held.ensures.wide)
 
 pub returns-in-At-clause-no_lane : goal.returns-in-At-clause-no_lane
 returns-in-At-clause-no_lane g c =
@@ -125,34 +121,34 @@ returns-in-At-clause-no_lane g c =
     c.len.ensures.value ∙ c.self.invariant.0.places_count
     ∙ ap (λ (z : PoolSize). z.lanes) (cells_size c.args.mailbox.now (at_claim g c) c.args.self.now c.self.view_is
     c.requires.of) in (
-      (λ f. absurd (not_no_lane c.args.lane 0 c.args.budget c.run_claim.result (g.R.Rng.stream c.args.rng.now)
-          (g.R.Rng.stream c.run_claim.new.rng) (at_claim g c) (past_claim g c) (goes_on g c) f)),
+      (λ f. absurd (not_no_lane c.args.lane 0 c.args.budget c.run_held.result (g.R.Rng.stream c.args.rng.now)
+          (g.R.Rng.stream c.run_held.new.rng) (at_claim g c) (past_claim g c) (goes_on g c) f)),
       (λ wide. let low = c.if-lane-len.false in absurd (omega (arith, low, wide, lanes))),
     )
 
 pub returns-in-At-clause-refused : goal.returns-in-At-clause-refused
-returns-in-At-clause-refused g c = λ f. absurd (not_no_lane c.args.lane 0 c.args.budget c.run_claim.result
-    (g.R.Rng.stream c.args.rng.now) (g.R.Rng.stream c.run_claim.new.rng) (at_claim g c) (past_claim g c)
+returns-in-At-clause-refused g c = λ f. absurd (not_no_lane c.args.lane 0 c.args.budget c.run_held.result
+    (g.R.Rng.stream c.args.rng.now) (g.R.Rng.stream c.run_held.new.rng) (at_claim g c) (past_claim g c)
     (goes_on g c) f)
 
 pub returns-in-At-clause-polled : goal.returns-in-At-clause-polled
 returns-in-At-clause-polled g c =
     let sum : c.args.budget + 0 ≡ c.args.budget = omega arith in
-    λ _. subst (λ o. IsPollOf c.args.lane c.args.budget c.run_claim.result
-    (g.R.Rng.stream c.args.rng.now) (g.R.Rng.stream c.run_claim.new.rng) o (past_claim g c)) c.self.view_is
-    (poll_by c.args.lane 0 c.args.budget c.args.budget c.run_claim.result
-    (g.R.Rng.stream c.args.rng.now) (g.R.Rng.stream c.run_claim.new.rng) (at_claim g c) (past_claim g c) sum
+    λ _. subst (λ o. IsPollOf c.args.lane c.args.budget c.run_held.result
+    (g.R.Rng.stream c.args.rng.now) (g.R.Rng.stream c.run_held.new.rng) o (past_claim g c)) c.self.view_is
+    (poll_by c.args.lane 0 c.args.budget c.args.budget c.run_held.result
+    (g.R.Rng.stream c.args.rng.now) (g.R.Rng.stream c.run_held.new.rng) (at_claim g c) (past_claim g c) sum
     (goes_on g c))
 
 pub returns-in-At-clause-told : goal.returns-in-At-clause-told
 returns-in-At-clause-told g c =
-    λ _. pursuit_tells c.args.lane 0 c.args.budget c.run_claim.result (g.R.Rng.stream c.args.rng.now)
-    (g.R.Rng.stream c.run_claim.new.rng) (at_claim g c) c.args.self.now (past_claim g c) (goes_on g c)
+    λ _. pursuit_tells c.args.lane 0 c.args.budget c.run_held.result (g.R.Rng.stream c.args.rng.now)
+    (g.R.Rng.stream c.run_held.new.rng) (at_claim g c) c.args.self.now (past_claim g c) (goes_on g c)
 
 pub returns-in-At-clause-of : goal.returns-in-At-clause-of
 returns-in-At-clause-of g c =
-    still_of c.args.mailbox.now c.args.lane 0 c.args.budget c.run_claim.result
-    (g.R.Rng.stream c.args.rng.now) (g.R.Rng.stream c.run_claim.new.rng) (at_claim g c) (past_claim g c) (goes_on g c)
+    still_of c.args.mailbox.now c.args.lane 0 c.args.budget c.run_held.result
+    (g.R.Rng.stream c.args.rng.now) (g.R.Rng.stream c.run_held.new.rng) (at_claim g c) (past_claim g c) (goes_on g c)
     (subst (λ o. IsConsumerOf c.args.mailbox.now o) (sym c.self.view_is) c.requires.of)
 
 pub look-requires-clause-may : goal.look-requires-clause-may
@@ -279,11 +275,13 @@ returns-clause-of g c =
     (goes_on_new g c) c.requires.of
 
 pub returns-in-At-clause-unspent : goal.returns-in-At-clause-unspent
-returns-in-At-clause-unspent g c = λ more spent. let few = c.run_claim.ensures.few spent
+returns-in-At-clause-unspent g c = λ more spent.
+    let few = c.run_held.ensures.few c.in-At.cell c.in-At.claim
+    (c.place_at.ensures ∙ ap (λ (z : Place). Some z) c.in-At.is) spent
     in absurd (omega (arith, more, few))
 
 pub returns-in-At-clause-decided : goal.returns-in-At-clause-decided
-returns-in-At-clause-decided g c = c.run_claim.ensures.decided
+returns-in-At-clause-decided g c = c.run_held.ensures.decided
 
 pub returns-clause-unspent : goal.returns-clause-unspent
 returns-clause-unspent g c = λ more spent.

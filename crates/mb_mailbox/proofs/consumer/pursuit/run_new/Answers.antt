@@ -1,11 +1,12 @@
 use Rattle.std.proofs.Common.{◌≡◌, ◌∙◌, ◌+◌, ◌-◌, ◌≢◌, ◌<◌, ◌≤◌, ℕ, List, length, true, arith, ap, refl, subst, sym}
-use Rattle.std.specs.Prelude.{None, Some, slice_get}
+use Rattle.std.specs.Prelude.{None, Some, slice_get, slice_set}
 use Rattle.mb_claim.specs.declared.access.Stage.TheVariants as stage
 use Rattle.mb_mailbox.specs.declared.consumer.Poll.TheVariants as poll
-use Rattle.mb_mailbox.specs.declared.consumer.pursuit.PendingClaim.{PendingClaim}
+use Rattle.mb_mailbox.specs.Pursuits.{PendingClaim}
 use Rattle.mb_world.specs.declared.place.Place.{Place, TheVariants.At}
-use Rattle.mb_mailbox.specs.Imports.{CellsName, Claim, Gave, IsClaimIn, IsStanding, Lost, ReaderSeatView, SeatView, Stream, TableSize, Took, Undecided, claim_stage, name_of, part_on, shape_of}
-use Rattle.mb_mailbox.specs.ConsumerWords.{AreSteps, ConsumerView, HasPlace, HasRoom, holding, with_fields}
+use Rattle.mb_mailbox.specs.Imports.{CellsName, Claim, Gave, IsClaimIn, IsStanding, Layout, Lost, ReaderSeatView, SeatView, Stream, TableSize, Took}
+use Rattle.mb_mailbox.specs.Imports.{Undecided, claim_stage, consumer_count, name_of, part_on, shape_of}
+use Rattle.mb_mailbox.specs.ConsumerWords.{AreSteps, ConsumerView, HasPlace, IsConsumer, HasRoom, holding, with_fields}
 use Rattle.mb_mailbox.specs.Mailboxes.{MailboxView}
 use Rattle.mb_mailbox.specs.Pursuits.{HasCompeted}
 use Rattle.mb_mailbox.proofs.Beginnings.{standing_going, standing_same}
@@ -290,3 +291,45 @@ returns-in-Going-clause-pursued g c from n t other is m =
     ((straight_on g at.After-straight-end s first c.requires.held.standing).4.3 c.in-Going.is))
     (still_steps (base g at.After-has_history) c.args.lane c.args.cell first (made g at.After-straight-end s + n) end t
     (g.R.Rng.stream c.straight-end.new.rng) from c.straight-end.new.seat going so))
+
+-- ---- no access may be made: the claim is held before its first
+pub new-claim-requires : goal.new-claim-requires
+new-claim-requires g c =
+    let at = (goal.at.new-claim-requires g c).After-has_history in
+    let m = c.args.mailbox.now in
+    let seat = c.args.fields.now.seat in
+    let within = c.claims_begin_objects.ensures.within m.claims.layout seat.consumer 0 seat.consumer
+    c.requires.held.claim (part_on seat.consumer c.args.cell seat.part) c.requires.held.standing
+    (begun g at c.requires.held.claim c.requires.held.standing) in
+    subst (λ (l : Layout). c.consumer-consumer.result < consumer_count l)
+    (sym (c.layout-layout.ensures ∙ ap (λ (v : MailboxView). v.claims.layout) c.mailbox.view_is))
+    (subst (λ d. d < consumer_count m.claims.layout) (sym c.consumer-consumer.ensures.exact) within.1)
+
+pub returns-then-most-eq0-clause-pursued : goal.returns-then-most-eq0-clause-pursued
+returns-then-most-eq0-clause-pursued g c from n t other is so =
+    let m = c.args.mailbox.now in
+    let f = c.args.fields.now in
+    let d = f.seat.consumer in
+    let layout : c.layout-layout.result.now ≡ m.claims.layout =
+    c.layout-layout.ensures ∙ ap (λ (v : MailboxView). v.claims.layout) c.mailbox.view_is in
+    let stands : IsStanding m.claims.layout d 0 d c.new-claim.result =
+    subst (λ (z : Layout × ℕ). IsStanding z.0 z.1 0 z.1 c.new-claim.result)
+    (λ i. (layout i, c.consumer-consumer.ensures.exact i)) c.new-claim.ensures.first in
+    let held : (x : Claim) → IsStanding m.claims.layout d 0 d x → holding c.args.lane c.args.cell x (with_fields f)
+    ≡ record (with_fields f) { places = c.stay.new.places.items } =
+    λ x first. ap (λ (ps : List Place). record (with_fields f) { places = ps })
+    (ap (λ z. slice_set f.places.items c.args.lane (At c.args.cell z))
+    (standing_same m.claims.layout d 0 d x first c.new-claim.result stands) ∙ sym c.stay.ensures) in
+    let none : c.args.most ≡ 0 = omega (arith, c.if-most-eq0.true) in
+    let count : n ≡ 0 + n = omega arith in
+    record {
+      made = 0;
+      within = omega arith;
+      spent = λ _. sym none;
+      steps = subst (λ z. AreSteps c.args.lane z None t (g.R.Rng.stream c.args.rng.now) from
+          (record (with_fields f) { places = c.stay.new.places.items })) count
+          (subst (λ z. AreSteps c.args.lane n None t (g.R.Rng.stream c.args.rng.now) from z) (held other is) so);
+      kind = tt;
+      noted = λ never. absurd (never refl);
+      is = subst IsConsumer (held c.requires.held.claim c.requires.held.standing) c.requires.held.is;
+    }

@@ -1,13 +1,26 @@
-use Rattle.std.proofs.Common.{◌≡◌, ◌<◌, ◌∙◌, ap, subst, sym, ℕ, length}
-use Rattle.mb_mailbox.specs.declared.consumer.pursuit.PendingClaim.{PendingClaim}
-use Rattle.mb_mailbox.specs.Consumers.{IsConsumer}
-use Rattle.mb_mailbox.specs.Imports.{Claim, IsClaimIn, IsStanding, Layout, TableSize, consumer_count, kinds_of, part_on}
+use Rattle.std.proofs.Common.{◌≡◌, ◌<◌, ◌∙◌, List, ap, subst, sym, ℕ, length}
+use Rattle.std.specs.Prelude.{None, Some, slice_get, slice_set}
+use Rattle.std.proofs.lemmas.List.{length-set}
+use Rattle.mb_claim.specs.declared.access.Stage.TheVariants as stage
+use Rattle.mb_world.specs.declared.place.Place.{Place, TheVariants.At}
+use Rattle.mb_mailbox.specs.Steps.{AreSteps}
+use Rattle.mb_mailbox.specs.Pursuits.{PendingClaim}
+use Rattle.mb_mailbox.specs.Consumers.{ConsumerView, IsConsumer}
+use Rattle.mb_mailbox.specs.Imports.{Claim, IsClaimIn, IsStanding, Layout, TableSize, claim_stage, consumer_count, kinds_of, part_on}
 use Rattle.mb_mailbox.specs.Mailboxes.{MailboxView}
 use Rattle.mb_mailbox.specs.Pursuits.{holding, with_fields}
-use Rattle.mb_mailbox.proofs.Beginnings.{standing_same}
+use Rattle.mb_mailbox.proofs.Beginnings.{standing_going, standing_same}
+use Rattle.mb_mailbox.proofs.Lists.{get_some, set_here, some_same}
 use Rattle.mb_mailbox.proofs.Starts.{Start, here, table}
-use Rattle.mb_mailbox.proofs.consumer.pursuit.run_rest.{Given.Over, Goals.After-has_history, Goals.After-standing-claim}
+use Rattle.mb_mailbox.proofs.consumer.pursuit.run_rest.{Given.Over, Goals.After-has_history, Goals.After-standing-claim, Goals.After-stay}
 use Rattle.mb_mailbox.proofs.consumer.pursuit.run_rest.Goals as goal
+
+-- a claim that goes on is not won
+held_goes : (j k : ℕ) (x y : Claim) → At j x ≡ At k y → claim_stage x ≡ stage.Going → claim_stage y ≡ stage.Won → ⊥
+held_goes j k x y e going won =
+    let same : x ≡ y = cc in
+    let both : stage.Going ≡ stage.Won = sym going ∙ ap claim_stage same ∙ won in
+    cc
 
 module _ (g : Over) (c : After-has_history g) where
   -- the claim that the consumer holds, on the lane and the cell
@@ -65,8 +78,72 @@ standing-claim-requires-clause-value g c =
     subst (λ (l : Layout). c.args.end.value < consumer_count l)
     (sym (c.layout-layout.ensures ∙ ap (λ (v : MailboxView). v.claims.layout) c.mailbox.view_is)) (within g at).1
 
-pub run_claim-requires-clause-held : goal.run_claim-requires-clause-held
-run_claim-requires-clause-held g c =
-    let at = (goal.at.run_claim-requires-clause-held g c).After-standing-claim in
-    subst (λ (z : Claim). IsConsumer (holding c.args.lane c.args.cell z (with_fields c.args.fields.now)))
-    (claim_is g at) c.requires.held.is
+-- the consumer that `run_held` goes on with
+module _ (g : Over) (c : After-stay g) (claim_is : c.requires.held.claim ≡ c.standing-claim.result) where
+  abbrev was : ConsumerView
+  was = with_fields c.args.fields.now
+
+  -- it is the one that holds the claim
+  held_is : holding c.args.lane c.args.cell c.requires.held.claim was ≡ record was { places = c.stay.new.places.items }
+  held_is = ap (λ (ps : List Place). record was { places = ps })
+      (ap (λ z. slice_set c.args.fields.now.places.items c.args.lane (At c.args.cell z)) claim_is ∙ sym c.stay.ensures)
+
+  -- it stands at the claim
+  place_is : (there : Place) → slice_get c.args.fields.now.places.items c.args.lane ≡ Some there
+      → slice_get c.stay.new.places.items c.args.lane ≡ Some (At c.args.cell c.standing-claim.result)
+  place_is there is =
+      ap (λ ps. slice_get ps c.args.lane) c.stay.ensures
+      ∙ set_here c.args.fields.now.places.items c.args.lane (At c.args.cell c.standing-claim.result) there is
+
+pub run_held-requires-clause-is : goal.run_held-requires-clause-is
+run_held-requires-clause-is g c =
+    let at = goal.at.run_held-requires-clause-is g c in
+    subst IsConsumer (held_is g at.After-stay (claim_is g at.After-standing-claim)) c.requires.held.is
+
+pub run_held-requires-clause-held : goal.run_held-requires-clause-held
+run_held-requires-clause-held g c =
+    let at = goal.at.run_held-requires-clause-held g c in
+    let some = get_some c.args.fields.now.places.items c.args.lane c.requires.lane in
+    record {
+      cell = c.args.cell;
+      claim = c.standing-claim.result;
+      place = place_is g at.After-stay (claim_is g at.After-standing-claim) some.0 some.1;
+    }
+
+pub run_held-requires-clause-lane : goal.run_held-requires-clause-lane
+run_held-requires-clause-lane g c =
+    subst (λ n. c.args.lane < n) (sym (ap (λ (ps : List Place). length ps) c.stay.ensures
+    ∙ length-set c.args.fields.now.places.items c.args.lane (At c.args.cell c.standing-claim.result))) c.requires.lane
+
+-- the claim goes on
+pub run_held-requires-clause-won : goal.run_held-requires-clause-won
+run_held-requires-clause-won g c k claim there won =
+    let at = goal.at.run_held-requires-clause-won g c in
+    let f = c.args.fields.now in
+    let m = c.args.mailbox.now in
+    let some = get_some f.places.items c.args.lane c.requires.lane in
+    let is = place_is g at.After-stay (claim_is g at.After-standing-claim) some.0 some.1 in
+    let going = standing_going m.claims.layout f.seat.consumer c.args.end.object c.args.end.value
+    c.requires.held.claim c.requires.held.standing in
+    absurd (held_goes c.args.cell k c.standing-claim.result claim
+    (some_same (At c.args.cell c.standing-claim.result) (At k claim) (sym is ∙ there))
+    (ap claim_stage (sym (claim_is g at.After-standing-claim)) ∙ going) won)
+
+pub returns-clause-pursued : goal.returns-clause-pursued
+returns-clause-pursued g c from n t claim is so =
+    let at = goal.at.returns-clause-pursued g c in
+    let f = c.args.fields.now in
+    let same = standing_same c.args.mailbox.now.claims.layout f.seat.consumer c.args.end.object c.args.end.value
+    claim is c.requires.held.claim c.requires.held.standing in
+    c.run_held.ensures.pursued from n t
+    (subst (λ z. AreSteps c.args.lane n None t (g.R.Rng.stream c.args.rng.now) from z)
+    (held_is g at.After-stay (claim_is g at.After-standing-claim))
+    (subst (λ z. AreSteps c.args.lane n None t (g.R.Rng.stream c.args.rng.now) from
+    (holding c.args.lane c.args.cell z (with_fields f))) same so))
+
+pub returns-clause-few : goal.returns-clause-few
+returns-clause-few g c spent =
+    let at = goal.at.returns-clause-few g c in
+    let some = get_some c.args.fields.now.places.items c.args.lane c.requires.lane in
+    c.run_held.ensures.few c.args.cell c.standing-claim.result
+    (place_is g at.After-stay (claim_is g at.After-standing-claim) some.0 some.1) spent

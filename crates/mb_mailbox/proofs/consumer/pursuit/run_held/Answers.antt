@@ -1,0 +1,334 @@
+use Rattle.std.proofs.Common.{rules, ◌≡◌, ◌∙◌, ◌+◌, ◌≢◌, ◌<◌, ◌≤◌, ℕ, List, length, true, arith, ap, refl, subst, sym}
+use Rattle.std.specs.Prelude.{None, Some, slice_get, slice_set}
+use Rattle.mb_claim.specs.declared.access.Stage.TheVariants as stage
+use Rattle.mb_claim.specs.Vocabulary.{claim_stage, most_accesses, shape_of}
+use Rattle.mb_cells.specs.declared.cursor.Cursor.TheVariants.{Past}
+use Rattle.mb_mailbox.specs.declared.consumer.Poll.TheVariants as poll
+use Rattle.mb_world.specs.declared.place.Place.{Place, TheVariants.At, TheVariants.Before}
+use Rattle.mb_mailbox.specs.Imports.{AreSeatSteps, CellsName, Claim, Gave, IsClaimIn, ItemMakes, Lost, Note, ReaderSeatView, SeatView, Stream, TableSize, Took, Undecided, name_of, part_on}
+use Rattle.mb_mailbox.specs.ConsumerWords.{AreSteps, ConsumerView, HasPlace, HasRoom, IsConsumer}
+use Rattle.mb_mailbox.specs.Mailboxes.{MailboxView}
+use Rattle.mb_mailbox.specs.Pursuits.{HasCompeted, IsPursuit, PendingClaim, holding, with_fields}
+use Rattle.mb_mailbox.specs.Steps.{with_note}
+use Rattle.mb_mailbox.proofs.Ending.{holds_it}
+use Rattle.mb_mailbox.proofs.Lists.{set_twice, some_same}
+use Rattle.mb_mailbox.proofs.Made.{at_views, room_stays}
+use Rattle.mb_mailbox.proofs.Pursuing.{pursued_past, pursued_spent}
+use Rattle.mb_mailbox.proofs.Starts.{Start, begun, here, ran, start_room, table, there}
+use Rattle.mb_mailbox.proofs.Taking.{taken}
+use Rattle.mb_mailbox.proofs.consumer.pursuit.run_held.{Given.Over, Goals.After-compete-stage, Goals.After-has_history-2, Goals.After-stage}
+use Rattle.mb_mailbox.proofs.consumer.pursuit.run_held.Goals as goal
+
+-- a place has one cell
+same_cell : (j k : ℕ) (x y : Claim) → At j x ≡ At k y → j ≡ k
+same_cell j k x y e = cc
+
+-- the consumer of these fields, whose place holds the claim
+module _ (g : Over) (c : After-stage g) where
+  -- `base` is the consumer of these fields. `with_claim` is the same, with the claim put into its place
+  abbrev base : ConsumerView
+  base = with_fields c.args.fields.now
+
+  abbrev pending : PendingClaim
+  pending = record { lane = c.args.lane; cell = c.in-At.cell; claim = c.in-At.claim }
+
+  abbrev with_claim : ConsumerView
+  with_claim = holding c.args.lane c.in-At.cell c.in-At.claim base
+
+  -- the consumer stands at the claim
+  place_is : HasPlace c.args.lane (At c.in-At.cell c.in-At.claim) base
+  place_is = search rules
+
+  -- so the two are the same
+  hold : with_claim ≡ base
+  hold = holds_it c.args.lane c.in-At.cell c.in-At.claim base place_is
+
+  -- the claim may go on from these fields
+  start : Start c.args.mailbox.now pending c.args.fields.now
+  start = record {
+    held = subst IsConsumer (sym hold) c.requires.is;
+    of = c.requires.of;
+    lane = c.requires.lane;
+    wide = c.requires.wide;
+    loads = c.has_history.ensures;
+  }
+
+  stands : HasPlace c.args.lane (At c.in-At.cell c.in-At.claim) with_claim
+  stands = here c.args.mailbox.now pending c.args.fields.now start
+
+  -- the consumer's loads gave it the cell
+  given : Gave c.in-At.cell c.args.fields.now.reader.part
+  given = c.consumers_move_on.ensures.given with_claim c.args.lane c.in-At.cell c.in-At.claim
+      start.held start.loads stands
+
+  -- there is room for the claim's note
+  has_room : HasRoom c.args.lane c.args.fields.now.notes
+  has_room = start_room c.args.mailbox.now pending c.args.fields.now start
+      (c.consumers_move_on.ensures.room with_claim c.args.lane c.in-At.cell c.in-At.claim
+      start.held start.loads stands)
+
+  -- accesses that led to the consumer led to it with the claim put into its place
+  led : (from : ConsumerView) (n : ℕ) (t u : Stream) → AreSteps c.args.lane n None t u from base
+      → AreSteps c.args.lane n None t u from with_claim
+  led from n t u so = subst (λ z. AreSteps c.args.lane n None t u from z) (sym hold) so
+
+  -- what is written to the lane's place last counts
+  places_are : (claim : Claim) (place : Place) (places : List Place)
+      → places ≡ slice_set (slice_set c.as_mut_slice.result.now c.args.lane (At c.in-At.cell claim)) c.args.lane place
+      → places ≡ slice_set c.args.fields.now.places.items c.args.lane place
+  places_are claim place places e =
+      e ∙ set_twice c.as_mut_slice.result.now c.args.lane (At c.in-At.cell claim) place
+      ∙ ap (λ ps. slice_set ps c.args.lane place) c.as_mut_slice.ensures.value
+
+  -- if the claim is won, the load of the item ends the poll
+  takes : (v : ℕ) (claim : Claim) (seat : SeatView) (reader : ReaderSeatView) (places : List Place)
+      (notes : List (List Note)) (made n all : ℕ) (t u : Stream) (from : ConsumerView)
+      → all ≡ made + n → claim_stage claim ≡ stage.Won
+      → HasCompeted c.args.lane c.in-At.cell all claim t u from with_claim seat
+      → ItemMakes c.args.fields.now.reader c.in-At.cell v reader
+      → places ≡ slice_set c.args.fields.now.places.items c.args.lane (Before (Past c.in-At.cell))
+      → notes ≡ with_note c.args.lane (Some (Took v)) c.args.fields.now.notes.lists → made + 1 ≤ c.args.most
+      → IsPursuit c.args.lane n c.args.most (poll.Took v) t u from (at_views reader seat places notes)
+  takes v claim seat reader places notes made n all t u from count won so makes e f few =
+      taken base c.args.lane c.in-At.cell c.in-At.claim c.places_tell_steps.ensures.takes
+      c.consumers_move_on.ensures.takes start.loads v claim seat reader places notes made n c.args.most t u from
+      (At c.in-At.cell c.in-At.claim) place_is won
+      (subst (λ z. HasCompeted c.args.lane c.in-At.cell z claim t u from with_claim seat) count so) makes e f few
+
+-- after accesses of the claim
+module _ (g : Over) (c : After-compete-stage g) (start : Start c.args.mailbox.now
+    (record { lane = c.args.lane; cell = c.in-At.cell; claim = c.in-At.claim }) c.args.fields.now) where
+  -- the consumer with the claim, and the number of accesses
+  abbrev held : ConsumerView
+  held = holding c.args.lane c.in-At.cell c.in-At.claim (with_fields c.args.fields.now)
+
+  abbrev made : ℕ
+  made = c.compete-stage.ensures.steps.0
+
+  abbrev claim_now : PendingClaim
+  claim_now = record { lane = c.args.lane; cell = c.in-At.cell; claim = c.in-At.claim }
+
+  -- accesses that led to the start of these lead on
+  ran_on : (from : ConsumerView) (n : ℕ) (t : Stream)
+      → AreSteps c.args.lane n None t (g.R.Rng.stream c.args.rng.now) from held
+      → HasCompeted c.args.lane c.in-At.cell (made + n) c.compete-stage.new.claim t
+      (g.R.Rng.stream c.compete-stage.new.rng) from held c.compete-stage.new.seat
+  ran_on from n t m =
+      let own = c.consumers_move_on.ensures.own held c.args.lane c.in-At.cell c.in-At.claim start.held
+      (here c.args.mailbox.now claim_now c.args.fields.now start) in
+      ran c.args.mailbox.now claim_now c.args.fields.now start c.consumers_move_on.ensures.competes
+      c.places_tell_steps.ensures.competes (record { cells = c.mailbox.inside.cells; claims = c.mailbox.inside.claims })
+      c.mailbox.view_is own from n t (g.R.Rng.stream c.args.rng.now) m made c.compete-stage.new.claim
+      c.compete-stage.new.seat (g.R.Rng.stream c.compete-stage.new.rng) c.compete-stage.ensures.steps.2
+
+  -- if no budget is left, as many accesses were made as may be
+  all_made : c.compete-stage.new.left ≡ 0 → made ≡ c.args.most
+  all_made none = omega (arith, none, c.compete-stage.ensures.steps.1)
+
+-- if as many accesses were made as may be, the claim's layout allows that many, with those before
+few_made : (g : Over) (c : After-has_history-2 g) → Start c.args.mailbox.now
+    (record { lane = c.args.lane; cell = c.in-At.cell; claim = c.in-At.claim }) c.args.fields.now
+    → c.compete-stage.new.left ≡ 0
+    → (k : ℕ) (claim : Claim) → HasPlace c.args.lane (At k claim) (with_fields c.args.fields.now)
+    → HasPlace c.args.lane (At c.in-At.cell c.in-At.claim) (with_fields c.args.fields.now)
+    → c.args.most + length (part_on c.args.fields.now.seat.consumer k c.args.fields.now.seat.part)
+    ≤ most_accesses c.args.mailbox.now.claims.layout
+few_made g c start none k claim at is =
+    let m = c.args.mailbox.now in
+    let seat = c.args.fields.now.seat in
+    let steps = c.compete-stage.ensures.steps in
+    let all : steps.0 ≡ c.args.most = omega (arith, none, steps.1) in
+    let pending : PendingClaim = record { lane = c.args.lane; cell = c.in-At.cell; claim = c.in-At.claim } in
+    let few =
+    subst (λ z. z + length (part_on seat.consumer c.in-At.cell seat.part) ≤ most_accesses m.claims.layout) all
+    (c.accesses_are_counted.ensures.few m.claims.layout m.claims.cells c.in-At.cell steps.0
+    c.in-At.claim c.compete-stage.new.claim seat c.compete-stage.new.seat (g.R.Rng.stream c.args.rng.now)
+    (g.R.Rng.stream c.compete-stage.new.rng) (table m pending c.args.fields.now start)
+    (subst (λ (y : MailboxView). AreSeatSteps y.claims.layout c.in-At.cell c.in-At.claim seat
+    (g.R.Rng.stream c.args.rng.now) steps.0 c.compete-stage.new.claim c.compete-stage.new.seat
+    (g.R.Rng.stream c.compete-stage.new.rng)) c.mailbox.view_is steps.2) c.has_history-2.ensures) in
+    subst (λ j. c.args.most + length (part_on seat.consumer j seat.part) ≤ most_accesses m.claims.layout)
+    (same_cell c.in-At.cell k c.in-At.claim claim
+    (some_same (At c.in-At.cell c.in-At.claim) (At k claim) (sym is ∙ at))) few
+
+-- The clauses in `Won` are of a claim that was won before. The others are of its stage after the accesses made here:
+-- won with an access left (`then-left-ne0`) or with none, going, lost or undecided
+pub take-requires-clause-may : goal.take-requires-clause-may
+take-requires-clause-may g c = given g (goal.at.take-requires-clause-may g c).After-stage
+
+pub take-requires-clause-room : goal.take-requires-clause-room
+take-requires-clause-room g c = has_room g (goal.at.take-requires-clause-room g c).After-stage
+
+pub returns-in-Won-clause-pursued : goal.returns-in-Won-clause-pursued
+returns-in-Won-clause-pursued g c =
+    let at = (goal.at.returns-in-Won-clause-pursued g c).After-stage in
+    let won = sym c.stage.ensures ∙ c.in-Won.is in
+    let pending : PendingClaim = record { lane = c.args.lane; cell = c.in-At.cell; claim = c.in-At.claim } in
+    λ from n t m. takes g at c.take.result c.in-At.claim c.args.fields.now.seat c.take.new.reader
+    c.take.new.places.items c.take.new.notes.lists 0 n n t (g.R.Rng.stream c.args.rng.now) from (omega arith) won
+    (begun c.args.mailbox.now pending c.args.fields.now (start g at) from n t (g.R.Rng.stream c.args.rng.now)
+    (led g at from n t (g.R.Rng.stream c.args.rng.now) m))
+    c.take.ensures.makes (places_are g at c.in-At.claim (Before (Past c.in-At.cell)) c.take.new.places.items
+    c.take.ensures.place) c.take.ensures.notes.lists
+    (omega (arith, c.requires.won c.in-At.cell c.in-At.claim (place_is g at) won))
+
+pub compete-stage-requires : goal.compete-stage-requires
+compete-stage-requires g c =
+    let at = (goal.at.compete-stage-requires g c).After-stage in
+    let m = c.args.mailbox.now in
+    let f = c.args.fields.now in
+    let z : TableSize = record { layout = m.claims.layout; cells = m.claims.cells } in
+    let turns = c.consumers_move_on.ensures.turns (with_claim g at) c.args.lane c.in-At.cell c.in-At.claim
+    (start g at).held (stands g at) z (table m (pending g at) f (start g at)) in
+    let low = c.consumers_move_on.ensures.within (with_claim g at) c.args.lane c.in-At.cell
+    c.in-At.claim (start g at).held c.has_history.ensures (stands g at) in
+    let cells : f.reader.table.size.cells ≡ c.mailbox.inside.claims.cells =
+    ap (λ (n : CellsName). n.size.cells) (c.requires.of.cells
+    ∙ sym (ap (λ (v : MailboxView). v.cells) c.mailbox.view_is)) ∙ sym c.mailbox.invariant.0.cells in
+    record {
+      table = c.requires.of.claims ∙ sym (ap (λ (v : MailboxView). name_of v.claims) c.mailbox.view_is);
+      cell = subst (λ n. c.in-At.cell < n) cells low;
+      consumer = c.consumers_move_on.ensures.own (with_claim g at) c.args.lane c.in-At.cell c.in-At.claim
+          (start g at).held (stands g at);
+      standing = subst (λ (y : MailboxView). IsClaimIn y.claims.layout c.in-At.claim
+          (part_on f.seat.consumer c.in-At.cell f.seat.part)) (sym c.mailbox.view_is) turns;
+      going = c.consumers_move_on.ensures.going (with_claim g at) c.args.lane c.in-At.cell c.in-At.claim
+          (start g at).held (stands g at) (λ won. c.in_default.not-Won (c.stage.ensures ∙ won));
+    }
+
+pub take-requires-then-left-ne0 : goal.take-requires-then-left-ne0
+take-requires-then-left-ne0 g c =
+    let at = (goal.at.take-requires-then-left-ne0 g c).After-stage in
+    record { table = c.requires.of.cells; may = given g at; place = search rules; room = has_room g at }
+
+pub returns-then-left-ne0 : goal.returns-then-left-ne0
+returns-then-left-ne0 g c =
+    let at = goal.at.returns-then-left-ne0 g c in
+    let made = c.compete-stage.ensures.steps.0 in
+    let rng = g.R.Rng.stream c.args.rng.now in
+    record {
+      pursued = λ from n t m. takes g at.After-stage c.take-then-left-ne0.result c.compete-stage.new.claim
+          c.compete-stage.new.seat c.take-then-left-ne0.new.reader c.take-then-left-ne0.new.places.items
+          c.take-then-left-ne0.new.notes.lists made n (made + n) t
+          (g.R.Rng.stream c.compete-stage.new.rng) from refl (sym c.compete-stage.ensures.stage ∙ c.in-Won-stage.is)
+          (ran_on g at.After-compete-stage (start g at.After-stage) from n t (led g at.After-stage from n t rng m))
+          c.take-then-left-ne0.ensures.makes
+          (places_are g at.After-stage c.compete-stage.new.claim (Before (Past c.in-At.cell))
+          c.take-then-left-ne0.new.places.items c.take-then-left-ne0.ensures.place)
+          c.take-then-left-ne0.ensures.notes.lists
+          (omega (arith, c.compete-stage.ensures.steps.1, c.if-left-ne0.true));
+      few = λ k claim is e. cc;
+      decided = λ last e. cc;
+      wide = subst (λ (r : ReaderSeatView). r.table.size.cells ≤ c.take-then-left-ne0.new.notes.room)
+          (sym c.take-then-left-ne0.ensures.makes.1)
+          (room_stays c.args.lane c.args.fields.now.reader.table.size.cells
+          (Some (Took c.take-then-left-ne0.result)) c.args.fields.now.notes c.take-then-left-ne0.new.notes
+          c.take-then-left-ne0.ensures.notes c.requires.wide);
+    }
+
+pub returns-in-Going : goal.returns-in-Going
+returns-in-Going g c =
+    let at = goal.at.returns-in-Going g c in
+    let s = start g at.After-stage in
+    let going = sym c.compete-stage.ensures.stage ∙ c.in-Going.is in
+    let none = c.compete-stage.ensures.all c.in-Going.is in
+    let rng = g.R.Rng.stream c.args.rng.now in
+    record {
+      pursued = λ from n t m. pursued_spent (base g at.After-stage) c.args.lane c.in-At.cell
+          c.in-At.claim c.args.most n c.compete-stage.new.claim stage.Going t
+          (g.R.Rng.stream c.compete-stage.new.rng) from c.compete-stage.new.seat
+          (slice_set c.as_mut_slice.result.now c.args.lane (At c.in-At.cell c.compete-stage.new.claim))
+          going refl refl refl
+          (subst (λ z. HasCompeted c.args.lane c.in-At.cell (z + n) c.compete-stage.new.claim t
+          (g.R.Rng.stream c.compete-stage.new.rng) from (with_claim g at.After-stage) c.compete-stage.new.seat)
+          (all_made g at.After-compete-stage s none)
+          (ran_on g at.After-compete-stage s from n t (led g at.After-stage from n t rng m)))
+          (ap (λ ps. slice_set ps c.args.lane (At c.in-At.cell c.compete-stage.new.claim))
+          c.as_mut_slice.ensures.value);
+      few = λ k claim is e. few_made g at.After-has_history-2 s none k claim is (place_is g at.After-stage);
+      decided = λ last e. cc;
+      wide = c.requires.wide;
+    }
+
+pub returns-else-left-ne0 : goal.returns-else-left-ne0
+returns-else-left-ne0 g c =
+    let at = goal.at.returns-else-left-ne0 g c in
+    let s = start g at.After-stage in
+    let won = sym c.compete-stage.ensures.stage ∙ c.in-Won-stage.is in
+    let none : c.compete-stage.new.left ≡ 0 = omega (arith, c.if-left-ne0.false) in
+    let rng = g.R.Rng.stream c.args.rng.now in
+    record {
+      pursued = λ from n t m. pursued_spent (base g at.After-stage) c.args.lane c.in-At.cell
+          c.in-At.claim c.args.most n c.compete-stage.new.claim stage.Won t
+          (g.R.Rng.stream c.compete-stage.new.rng) from c.compete-stage.new.seat
+          (slice_set c.as_mut_slice.result.now c.args.lane (At c.in-At.cell c.compete-stage.new.claim))
+          won refl refl refl
+          (subst (λ z. HasCompeted c.args.lane c.in-At.cell (z + n) c.compete-stage.new.claim t
+          (g.R.Rng.stream c.compete-stage.new.rng) from (with_claim g at.After-stage) c.compete-stage.new.seat)
+          (all_made g at.After-compete-stage s none)
+          (ran_on g at.After-compete-stage s from n t (led g at.After-stage from n t rng m)))
+          (ap (λ ps. slice_set ps c.args.lane (At c.in-At.cell c.compete-stage.new.claim))
+          c.as_mut_slice.ensures.value);
+      few = λ k claim is e. few_made g at.After-has_history-2 s none k claim is (place_is g at.After-stage);
+      decided = λ last e. cc;
+      wide = c.requires.wide;
+    }
+
+pub leave-requires : goal.leave-requires
+leave-requires g c =
+    let at = goal.at.leave-requires g c in
+    record { place = search rules; room = has_room g at.After-stage }
+
+pub returns-in-Lost : goal.returns-in-Lost
+returns-in-Lost g c =
+    let at = goal.at.returns-in-Lost g c in
+    let s = start g at.After-stage in
+    let made = c.compete-stage.ensures.steps.0 in
+    let rng = g.R.Rng.stream c.args.rng.now in
+    record {
+      pursued = λ from n t m. pursued_past (base g at.After-stage) c.args.lane c.in-At.cell
+          c.in-At.claim c.args.most made n c.compete-stage.new.claim (stage.Lost c.in-Lost.w)
+          (Lost c.in-Lost.w) (poll.Lost c.in-Lost.w) t (g.R.Rng.stream c.compete-stage.new.rng) from
+          c.compete-stage.new.seat c.leave.new.places.items c.leave.new.notes.lists
+          (At c.in-At.cell c.in-At.claim) (place_is g at.After-stage)
+          (sym c.compete-stage.ensures.stage ∙ c.in-Lost.is) refl refl tt (λ f. cc) refl
+          (omega (arith, c.compete-stage.ensures.steps.1))
+          (ran_on g at.After-compete-stage s from n t (led g at.After-stage from n t rng m))
+          (places_are g at.After-stage c.compete-stage.new.claim (Before (Past c.in-At.cell))
+          c.leave.new.places.items c.leave.ensures.place) c.leave.ensures.notes.lists;
+      few = λ k claim is e. cc;
+      decided = λ last e. cc;
+      wide = room_stays c.args.lane c.args.fields.now.reader.table.size.cells (Some (Lost c.in-Lost.w))
+          c.args.fields.now.notes c.leave.new.notes c.leave.ensures.notes c.requires.wide;
+    }
+
+pub leave-requires-in-Undecided : goal.leave-requires-in-Undecided
+leave-requires-in-Undecided g c =
+    let at = goal.at.leave-requires-in-Undecided g c in
+    record { place = search rules; room = has_room g at.After-stage }
+
+pub returns-in-Undecided : goal.returns-in-Undecided
+returns-in-Undecided g c =
+    let at = goal.at.returns-in-Undecided g c in
+    let s = start g at.After-stage in
+    let made = c.compete-stage.ensures.steps.0 in
+    let rng = g.R.Rng.stream c.args.rng.now in
+    record {
+      pursued = λ from n t m. pursued_past (base g at.After-stage) c.args.lane c.in-At.cell
+          c.in-At.claim c.args.most made n c.compete-stage.new.claim stage.Undecided
+          Undecided poll.Undecided t (g.R.Rng.stream c.compete-stage.new.rng) from
+          c.compete-stage.new.seat c.leave-in-Undecided.new.places.items c.leave-in-Undecided.new.notes.lists
+          (At c.in-At.cell c.in-At.claim) (place_is g at.After-stage)
+          (sym c.compete-stage.ensures.stage ∙ c.in-Undecided.is) refl refl tt (λ f. cc) refl
+          (omega (arith, c.compete-stage.ensures.steps.1))
+          (ran_on g at.After-compete-stage s from n t (led g at.After-stage from n t rng m))
+          (places_are g at.After-stage c.compete-stage.new.claim (Before (Past c.in-At.cell))
+          c.leave-in-Undecided.new.places.items c.leave-in-Undecided.ensures.place)
+          c.leave-in-Undecided.ensures.notes.lists;
+      few = λ k claim is e. cc;
+      decided = λ last e. absurd (subst (λ (y : MailboxView). (shape_of y.claims.layout).last ≡ true
+          → c.compete-stage.result ≢ stage.Undecided) c.mailbox.view_is c.compete-stage.ensures.decided last
+          c.in-Undecided.is);
+      wide = room_stays c.args.lane c.args.fields.now.reader.table.size.cells (Some Undecided)
+          c.args.fields.now.notes c.leave-in-Undecided.new.notes c.leave-in-Undecided.ensures.notes c.requires.wide;
+    }
