@@ -5,7 +5,7 @@ use Rattle.bench_loops.proofs.contended.begin_all.Given as goal
 
 -- the claims of the consumers before this one are new, each its own consumer's
 abbrev pub invariant-loop-consumer : goal.invariant-loop-consumer
-invariant-loop-consumer g l = record {
+invariant-loop-consumer l = record {
   whose :
       (i : ℕ) (d : CellClaim) → i < l.consumer → consumer_of (claim_of true (slice_index_or l.claims i d)) ≡ i;
   first : (i : ℕ) (d : CellClaim) → i < l.consumer → IsAtFirst (slice_index_or l.claims i d);
