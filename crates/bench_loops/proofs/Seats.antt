@@ -1,5 +1,5 @@
 -- What steps of a claim from a seat leave as it was.
-use Rattle.std.proofs.Common.{◌≡◌, ◌≢◌, ◌<◌, ℕ, List, [], ◌∷◌, zero, suc, ◌∙◌, refl, sym, ap, subst}
+use Rattle.std.proofs.Common.{◌≡◌, ◌≢◌, ◌<◌, ℕ, List, [], zero, suc, ◌∙◌, sym, ap, subst}
 use Rattle.rand_core.specs.Stream.{Stream}
 use Rattle.mb_claim.specs.declared.access.ClaimAccess.{ClaimAccess}
 use Rattle.mb_claim.specs.declared.claim.Claim.{Claim}

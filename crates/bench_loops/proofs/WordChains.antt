@@ -1,5 +1,5 @@
 -- Accesses of a claim to words change no other part.
-use Rattle.std.proofs.Common.{◌≡◌, ℕ, List, ◌∷◌, zero, suc, ◌∙◌, sym, ap}
+use Rattle.std.proofs.Common.{◌≡◌, ℕ, List, zero, suc, ◌∙◌, sym, ap}
 use Rattle.mb_claim.specs.declared.access.ClaimAccess.{ClaimAccess}
 use Rattle.mb_claim.specs.declared.claim.Claim.{Claim}
 use Rattle.mb_claim.specs.declared.layout.Layout.{Layout}

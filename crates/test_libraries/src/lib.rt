@@ -48,6 +48,7 @@ mod shared_claims;
 mod spoiled_words;
 #[cfg(test)]
 mod straight_claims;
+#[cfg(test)]
 mod straight_seats;
 #[cfg(test)]
 mod tables;

@@ -226,20 +226,20 @@ fn play_twice(rt: &impl Abort, layout: &Layout, begins: [usize; OBJECTS], seed: 
     same_at(rt, &straight.misplaced, &0, &seed);
 }
 
-// Layouts, shapes and budgets are drawn from one source that always begins alike.
+// Layouts, tables, shapes and budgets are drawn from one source that always begins alike.
 #[test]
 fn straight_accesses_are_those_of_steps(rt: HostRuntime) {
     let mut dice = 0x9E37_79B9_7F4A_7C15;
     for _ in 0..ROUNDS {
         dice = next_word(dice);
-        let name = if dice & 1 == 0 {
-            TableName::Bits
-        } else {
-            TableName::Unary
+        let name = match (dice >> 24) % 3 {
+            0 => TableName::Bits,
+            1 => TableName::Unary,
+            _ => TableName::Middle,
         };
         let shape = Shape {
-            fast: dice & 2 != 0,
-            last: dice & 4 != 0,
+            fast: dice & 1 != 0,
+            last: dice & 2 != 0,
         };
         let consumers = 1 + (dice >> 8) % 16;
         let layout = Layout::new(consumers, 1 + (dice >> 16) % 4, name).expect(&rt, "no layout");

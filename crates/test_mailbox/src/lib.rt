@@ -4,6 +4,8 @@
 #[cfg(test)]
 mod beside;
 #[cfg(test)]
+mod budgets;
+#[cfg(test)]
 mod compare;
 #[cfg(test)]
 mod draws;

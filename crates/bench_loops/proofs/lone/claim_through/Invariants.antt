@@ -12,7 +12,7 @@ decreases-steps g l = steps_left l.layout l.claim
 abbrev pub invariant-steps : goal.invariant-steps
 invariant-steps g l = record {
   whose : consumer_of l.claim ≡ l.consumer;
-  stands : (h : List ClaimAccess) → IsMemoryOf (all_claims l.layout) l.initial.words h
+  stands : (h : List ClaimAccess) → IsMemoryOf (all_claims l.layout) l.fn.words h
       → part_on l.consumer l.cell h ≡ []
       → (later : List ClaimAccess) × IsUnderWay l.layout l.cell l.claim l.words later
       × ChangesOnly (λ c k. (c ≡ l.consumer) × (k ≡ l.cell)) h later;

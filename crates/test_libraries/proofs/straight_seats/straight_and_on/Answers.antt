@@ -1,6 +1,5 @@
 -- Proof of `straight_and_on`: makes a claim of a seat straight, and then by single steps.
-use Rattle.std.proofs.Common.{◌≡◌, ℕ, [], zero, suc, Option, Some, None, MatchOption, slice_get, ◌∙◌, ap, sym, subst}
-use Rattle.rand_core.specs.Stream.{Stream}
+use Rattle.std.proofs.Common.{◌≡◌, ℕ, [], zero, suc, Option, Some, None, MatchOption, slice_get, ◌∙◌, ap, sym, subst, arith}
 use Rattle.mb_deciding.specs.declared.object.Kind.{Kind}
 use Rattle.mb_claim.specs.declared.claim.Claim.{Claim}
 use Rattle.mb_claim.specs.declared.layout.Layout.{Layout}
@@ -22,8 +21,8 @@ one_claim layout c o v = by_kind (slice_get (kinds_of layout) o) (standing layou
 
 -- steps of a claim leave the table and the consumer of the seat as they were
 steps_keep :
-    (layout : Layout) (cell : ℕ) (claim : Claim) (seat : SeatView) (s : Stream) (n : ℕ) (at : Claim) (now : SeatView)
-    (t : Stream) → AreSeatSteps layout cell claim seat s n at now t
+    (layout : Layout) (cell : ℕ) (claim : Claim) (seat : SeatView) (s : _) (n : ℕ) (at : Claim) (now : SeatView)
+    (t : _) → AreSeatSteps layout cell claim seat s n at now t
     → (now.table ≡ seat.table) × (now.consumer ≡ seat.consumer)
 steps_keep layout cell claim seat s zero at now t (is, same, e) =
     (ap (λ (v : SeatView). v.table) same, ap (λ (v : SeatView). v.consumer) same)
@@ -31,46 +30,59 @@ steps_keep layout cell claim seat s (suc n) at now t (was, before, u, word, olde
     let p = steps_keep layout cell claim seat s n was before u older in
     (ap (λ (v : SeatView). v.table) step.adds ∙ p.0, ap (λ (v : SeatView). v.consumer) step.adds ∙ p.1)
 
+-- what holds of a layout and a consumer holds of those that they are
+moved :
+    (P : Layout → ℕ → Type 0) (d layout : Layout) (k own : ℕ) → d ≡ layout → k ≡ own → P d k → P layout own
+moved P d layout k own e f is = subst (λ x. P x own) e (subst (P d) f is)
+
 pub straight-end-requires-clause-standing : goal.straight-end-requires-clause-standing
 straight-end-requires-clause-standing g c start stands =
     let layout = c.args.table.now.layout in
     let own = c.args.seat.now.consumer in
-    let new = subst (λ k. IsStanding layout k 0 k c.new.result) c.consumer.ensures.exact c.new.ensures.first in
+    let new = moved (λ d k. IsStanding d k 0 k c.new-claim.result) c.layout.result.now layout
+    c.consumer-consumer.result own c.layout.ensures c.consumer-consumer.ensures.exact c.new-claim.ensures.first in
     subst (λ xs. IsClaimIn layout start (part_on own 0 xs)) (sym c.requires.table.1)
-    (subst (λ d. IsClaimIn layout d []) (one_claim layout own 0 own c.new.result start new stands) c.new.ensures.path)
+    (subst (λ d. IsClaimIn layout d []) (one_claim layout own 0 own c.new-claim.result start new stands)
+    (subst (λ d. IsClaimIn d c.new-claim.result []) c.layout.ensures c.new-claim.ensures.path))
 
 -- the claim where the straight accesses ended is the one that goes on
 pub run-made-requires-clause-standing : goal.run-made-requires-clause-standing
 run-made-requires-clause-standing g c =
     let layout = c.args.table.now.layout in
     let own = c.args.seat.now.consumer in
-    let new = subst (λ k. IsStanding layout k 0 k c.new.result) c.consumer.ensures.exact c.new.ensures.first in
-    let end = c.straight-end.ensures.steps c.new.result new in
-    let p = steps_keep layout 0 c.new.result c.args.seat.now _ end.0 end.1 c.straight-end.new.seat _ end.3 in
+    let new = moved (λ d k. IsStanding d k 0 k c.new-claim.result) c.layout.result.now layout
+    c.consumer-consumer.result own c.layout.ensures c.consumer-consumer.ensures.exact c.new-claim.ensures.first in
+    let end = c.straight-end.ensures.steps c.new-claim.result new in
     let at = c.straight-end.result in
-    let there = subst (λ k. IsStanding layout k at.object at.value c.standing-claim.result) c.consumer.ensures.exact
+    let there = moved (λ d k. IsStanding d k at.object at.value c.standing-claim.result) c.layout-2.result.now
+    layout c.consumer-consumer.result own c.layout-2.ensures c.consumer-consumer.ensures.exact
     c.standing-claim.ensures in
+    let going = end.4.3 (grind (arith, c.if-ne.false, c.ne.ensures)) in
     subst (λ d. IsClaimIn layout d (part_on c.straight-end.new.seat.consumer 0 c.straight-end.new.seat.part))
-    (one_claim layout own at.object at.value end.1 c.standing-claim.result (end.4.3 c.if-ne.false) there) end.5
+    (one_claim layout own at.object at.value end.1 c.standing-claim.result going there) end.5
 
 pub run-made-requires-clause-consumer : goal.run-made-requires-clause-consumer
 run-made-requires-clause-consumer g c =
     let layout = c.args.table.now.layout in
     let own = c.args.seat.now.consumer in
-    let new = subst (λ k. IsStanding layout k 0 k c.new.result) c.consumer.ensures.exact c.new.ensures.first in
-    let end = c.straight-end.ensures.steps c.new.result new in
-    let p = steps_keep layout 0 c.new.result c.args.seat.now _ end.0 end.1 c.straight-end.new.seat _ end.3 in
+    let new = moved (λ d k. IsStanding d k 0 k c.new-claim.result) c.layout.result.now layout
+    c.consumer-consumer.result own c.layout.ensures c.consumer-consumer.ensures.exact c.new-claim.ensures.first in
+    let end = c.straight-end.ensures.steps c.new-claim.result new in
+    let p = steps_keep layout 0 c.new-claim.result c.args.seat.now _ end.0 end.1 c.straight-end.new.seat _ end.3 in
     let at = c.straight-end.result in
-    let there = subst (λ k. IsStanding layout k at.object at.value c.standing-claim.result) c.consumer.ensures.exact
+    let there = moved (λ d k. IsStanding d k at.object at.value c.standing-claim.result) c.layout-2.result.now
+    layout c.consumer-consumer.result own c.layout-2.ensures c.consumer-consumer.ensures.exact
     c.standing-claim.ensures in
-    let is = one_claim layout own at.object at.value end.1 c.standing-claim.result (end.4.3 c.if-ne.false) there in
+    let going = end.4.3 (grind (arith, c.if-ne.false, c.ne.ensures)) in
+    let is = one_claim layout own at.object at.value end.1 c.standing-claim.result going there in
     subst (λ (d : Claim). d.consumer ≡ c.straight-end.new.seat.consumer) is (end.4.1 ∙ sym p.1)
 
 pub run-made-requires-clause-table : goal.run-made-requires-clause-table
 run-made-requires-clause-table g c =
     let layout = c.args.table.now.layout in
     let own = c.args.seat.now.consumer in
-    let new = subst (λ k. IsStanding layout k 0 k c.new.result) c.consumer.ensures.exact c.new.ensures.first in
-    let end = c.straight-end.ensures.steps c.new.result new in
-    let p = steps_keep layout 0 c.new.result c.args.seat.now _ end.0 end.1 c.straight-end.new.seat _ end.3 in
+    let new = moved (λ d k. IsStanding d k 0 k c.new-claim.result) c.layout.result.now layout
+    c.consumer-consumer.result own c.layout.ensures c.consumer-consumer.ensures.exact c.new-claim.ensures.first in
+    let end = c.straight-end.ensures.steps c.new-claim.result new in
+    let p = steps_keep layout 0 c.new-claim.result c.args.seat.now _ end.0 end.1 c.straight-end.new.seat _ end.3 in
     p.0 ∙ c.requires.table.0
