@@ -1,6 +1,6 @@
 -- A step of one of the claims on a cell keeps the contest of all of them.
-use Rattle.std.proofs.Common.{◌≡◌, ◌≢◌, ◌<◌, ℕ, Bool, true, List, ◌∷◌, ◌∙◌, inl, inr, length, slice_index_or, slice_set}
-use Rattle.std.proofs.Common.{sym, ap, subst}
+use Rattle.std.proofs.Common.{◌≡◌, ◌≢◌, ◌<◌, ◌+◌, ℕ, Bool, true, List, ◌∷◌, ◌∙◌, inl, inr, length, slice_index_or, slice_set}
+use Rattle.std.proofs.Common.{sym, ap, subst, arith}
 use Rattle.std.proofs.lemmas.Bool.{cases_eq}
 use Rattle.std.proofs.lemmas.List.{get_or-set_same, get_or-set_other, length-set}
 use Rattle.mb_claim.specs.declared.access.ClaimAccess.{ClaimAccess}
@@ -28,6 +28,17 @@ one_of_contest layout cell i claims words h d contest within =
             (sym (contest.whose i d within)) it.1;
       },
     )
+
+-- what holds of the claims before place i holds of one more, if it holds of the claim that is put there
+pub one_more :
+    (P : ℕ → CellClaim → Type 0) (claims : List CellClaim) (i : ℕ) (claim : CellClaim) → i < length claims → P i claim
+    → ((k : ℕ) (d : CellClaim) → k < i → P k (slice_index_or claims k d)) → (k : ℕ) (d : CellClaim) → k < i + 1
+    → P k (slice_index_or (slice_set claims i claim) k d)
+one_more P claims i claim within at before k d below = elim (cases_eq k i) [
+  | inl is ↦ subst (λ n. P n (slice_index_or (slice_set claims i claim) n d)) (sym is)
+      (subst (P i) (sym (get_or-set_same claims i claim d within)) at)
+  | inr apart ↦ subst (P k) (sym (get_or-set_other claims i k claim d apart)) (before k d (omega (arith, below, apart)))
+]
 
 -- a place of the list with one claim changed is a place of the list before
 within_set : (claims : List CellClaim) (c : ℕ) (claim : CellClaim) (i : ℕ)

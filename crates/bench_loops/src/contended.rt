@@ -1,5 +1,5 @@
 //! Claims of all consumers on one cell, a step each in turn.
-ghost use Rattle.std.specs.Prelude.{◌≡◌, ◌<◌, [], ℕ, List, length, IfOk};
+ghost use Rattle.std.specs.Prelude.{◌≡◌, ◌<◌, [], ℕ, List, length};
 ghost use Rattle.mb_claim.specs.declared.access.ClaimAccess.{ClaimAccess};
 ghost use Rattle.mb_claim.specs.declared.layout.TheConstants.{MAX_CELLS};
 ghost use Rattle.mb_claim.specs.Vocabulary.{consumer_count, IsMemoryOf};
@@ -21,10 +21,12 @@ pub fn contended<A: Allocator + Copy + Drop>(
     layout: &Layout,
     times: u64,
 ) -> Result<Count, AllocError> {
+    layouts_are_sound();
     let mut source = Source::new();
     let mut count = Count::new();
-    let fresh = new_claims(alloc, layout)?;
-    let mut claims = new_claims(alloc, layout)?;
+    let mut claims = vec![in alloc; CellClaim::new(layout, 0); layout.consumers() as usize]?;
+    let mut fresh = vec![in alloc; CellClaim::new(layout, 0); layout.consumers() as usize]?;
+    begin_all(layout, &mut fresh);
     for _ in 0..times {
         let mut words = ClaimWords::new(alloc, layout, MAX_CELLS)?;
         contend_each(
@@ -39,20 +41,14 @@ pub fn contended<A: Allocator + Copy + Drop>(
     Ok(count)
 }
 
-/// The claims of all consumers before their first accesses.
-fn new_claims<A: Allocator + Copy + Drop>(
-    alloc: A,
-    layout: &Layout,
-) -> Result<Vec<CellClaim, A>, AllocError>
-    ensures count { IfOk result (λ claims. length claims.items ≡ consumer_count layout.now) }
-    ensures new { IfOk result (λ claims. AreNew layout.now (length claims.items) claims.items) }
+/// Changes the claims to those of all consumers before their first accesses.
+fn begin_all(layout: &Layout, claims: &mut [CellClaim])
+    requires { length claims.old ≡ consumer_count layout.now }
+    ensures { AreNew layout.now (consumer_count layout.now) claims.new }
 {
-    layouts_are_sound();
-    let mut claims = vec![in alloc; CellClaim::new(layout, 0); layout.consumers() as usize]?;
     for consumer in 0..layout.consumers() {
         claims[consumer as usize] = CellClaim::new(layout, consumer);
     }
-    Ok(claims)
 }
 
 /// Makes the claims of all consumers on each cell. They begin as these new ones, and `claims` has room for those of one
@@ -66,8 +62,9 @@ fn contend_each<A: Allocator + Drop>(
     count: &mut Count,
 )
     requires memory { IsMemoryOf (all_claims layout.now) words.old [] }
-    requires fresh { AreNew layout.now (length fresh.now) fresh.now }
-    requires claims { length claims.old ≡ length fresh.now }
+    requires new { AreNew layout.now (consumer_count layout.now) fresh.now }
+    requires fresh { length fresh.now ≡ consumer_count layout.now }
+    requires claims { length claims.old ≡ consumer_count layout.now }
 {
     for cell in 0..MAX_CELLS {
         for consumer in 0..claims.len() {

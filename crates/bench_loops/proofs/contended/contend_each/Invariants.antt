@@ -1,4 +1,4 @@
-use Rattle.std.proofs.Common.{◌≡◌, ◌<◌, [], ℕ, List, true, false, length, slice_index_or}
+use Rattle.std.proofs.Common.{◌≡◌, ◌<◌, [], ℕ, List, true, false, slice_index_or}
 use Rattle.mb_claim.specs.declared.access.ClaimAccess.{ClaimAccess}
 use Rattle.mb_claim.specs.declared.claim.on_cell.CellClaim.{CellClaim}
 use Rattle.mb_claim.specs.Vocabulary.{claim_of, IsClaimIn, IsOnCell, consumer_of}
@@ -8,7 +8,6 @@ use Rattle.bench_loops.proofs.contended.contend_each.Given as goal
 -- the claims of the consumers before this one are new on this cell, each its own consumer's
 abbrev pub invariant-loop-consumer : goal.invariant-loop-consumer
 invariant-loop-consumer g l = record {
-  count : length l.claims ≡ length l.fresh;
   whose :
       (i : ℕ) (d : CellClaim) → i < l.consumer → consumer_of (claim_of true (slice_index_or l.claims i d)) ≡ i;
   here : (i : ℕ) (d : CellClaim) → i < l.consumer → IsOnCell l.layout l.cell (slice_index_or l.claims i d);
@@ -16,9 +15,6 @@ invariant-loop-consumer g l = record {
       (i : ℕ) (d : CellClaim) → i < l.consumer → IsClaimIn l.layout (claim_of false (slice_index_or l.claims i d)) [];
 }
 
--- there is room for all claims, and nobody has touched this cell, or one after it
+-- nobody has touched this cell, or one after it
 abbrev pub invariant-loop-cell : goal.invariant-loop-cell
-invariant-loop-cell g l = record {
-  count : length l.claims ≡ length l.fresh;
-  untouched : (h : List ClaimAccess) × ((c : ℕ) → ClaimIsBefore l.layout c l.cell l.words h);
-}
+invariant-loop-cell g l = (h : List ClaimAccess) × ((c : ℕ) → ClaimIsBefore l.layout c l.cell l.words h)

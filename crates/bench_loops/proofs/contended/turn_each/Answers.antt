@@ -35,3 +35,13 @@ loop-consumer-preserved g c h start =
           ))
       | in_default w ↦ subst₂ Goes (sym (w.claims-is ∙ set-get_or c.loop-consumer.claims i _)) (sym w.words-is) past
     ]
+
+pub step_on-stage-requires-clause-stands : goal.step_on-stage-requires-clause-stands
+step_on-stage-requires-clause-stands g c =
+    let contest = c.requires.contest in
+    let past = c.loop-consumer.invariant contest.0 contest.1 in
+    let within : c.loop-consumer.consumer < length c.loop-consumer.claims =
+    omega (arith, c.loop-consumer-test.true, c.loop-consumer.auto.claims) in
+    let it = one_of_contest c.args.layout.now c.args.cell c.loop-consumer.consumer c.loop-consumer.claims
+    c.loop-consumer.words past.0 _ past.1 within in
+    (past.0, it.0, it.1)
