@@ -1,11 +1,13 @@
-use Rattle.std.proofs.Common.{rules, ◌≡◌, ◌∙◌, ◌+◌, ◌≢◌, ◌<◌, ◌≤◌, ℕ, List, length, true, arith, ap, refl, subst, sym}
+use Rattle.std.proofs.Common.{◌≡◌, ◌∙◌, ◌+◌, ◌≢◌, ◌<◌, ◌≤◌, ◌++◌, ℕ, List, [], ◌∷◌, length, take, drop, true, arith, ap, refl, subst, sym}
 use Rattle.std.specs.Prelude.{None, Some, slice_get, slice_set}
 use Rattle.mb_claim.specs.declared.access.Stage.TheVariants as stage
-use Rattle.mb_claim.specs.Vocabulary.{claim_stage, most_accesses, shape_of}
+use Rattle.std.proofs.lemmas.{List.length-set, Option.get_or_from_slice_get}
+use Rattle.arrayvec.specs.ArrayVec.{with_items}
 use Rattle.mb_cells.specs.declared.cursor.Cursor.TheVariants.{Past}
 use Rattle.mb_mailbox.specs.declared.consumer.Poll.TheVariants as poll
 use Rattle.mb_world.specs.declared.place.Place.{Place, TheVariants.At, TheVariants.Before}
-use Rattle.mb_mailbox.specs.Imports.{AreSeatSteps, CellsName, Claim, Gave, IsClaimIn, ItemMakes, Lost, Note, ReaderSeatView, SeatView, Stream, TableSize, Took, Undecided, name_of, part_on}
+use Rattle.mb_mailbox.specs.Imports.{AreSeatSteps, CellsName, Claim, Gave, IsClaimIn, ItemMakes, Lost, ReaderSeatView, SeatView, Stream, TableSize}
+use Rattle.mb_mailbox.specs.Imports.{Note, Took, Undecided, claim_stage, most_accesses, name_of, part_on, shape_of}
 use Rattle.mb_mailbox.specs.ConsumerWords.{AreSteps, ConsumerView, HasPlace, HasRoom, IsConsumer}
 use Rattle.mb_mailbox.specs.Mailboxes.{MailboxView}
 use Rattle.mb_mailbox.specs.Pursuits.{HasCompeted, IsPursuit, PendingClaim, holding, with_fields}
@@ -23,6 +25,14 @@ use Rattle.mb_mailbox.proofs.consumer.pursuit.run_held.Goals as goal
 same_cell : (j k : ℕ) (x y : Claim) → At j x ≡ At k y → j ≡ k
 same_cell j k x y e = cc
 
+-- a list that takes the place of one as long is all of what follows
+refilled : (items ws : List Place) → length ws ≡ length items
+    → take (length items) (ws ++ drop (length ws) items) ≡ ws
+refilled [] [] e = refl
+refilled [] (w ∷ ws) e = absurd (omega (arith, e))
+refilled (x ∷ items) [] e = absurd (omega (arith, e))
+refilled (x ∷ items) (w ∷ ws) e = ap (λ zs. w ∷ zs) (refilled items ws (omega (arith, e)))
+
 -- the consumer of these fields, whose place holds the claim
 module _ (g : Over) (c : After-stage g) where
   -- `base` is the consumer of these fields. `with_claim` is the same, with the claim put into its place
@@ -37,7 +47,29 @@ module _ (g : Over) (c : After-stage g) where
 
   -- the consumer stands at the claim
   place_is : HasPlace c.args.lane (At c.in-At.cell c.in-At.claim) base
-  place_is = search rules
+  place_is =
+      let read : At c.in-At.cell c.in-At.claim ≡ At c.requires.held.cell c.requires.held.claim =
+      sym c.in-At.is ∙ get_or_from_slice_get c.as_mut_slice.result.now c.args.lane
+      (At c.requires.held.cell c.requires.held.claim) _
+      (ap (λ ps. slice_get ps c.args.lane) c.as_mut_slice.ensures.value ∙ c.requires.held.place) in
+      c.requires.held.place ∙ ap (λ (z : Place). Some z) (sym read)
+
+  -- what is written to the place
+  written : (x : Place)
+      → (with_items c.args.fields.now.places (slice_set c.as_mut_slice.result.now c.args.lane x)).items
+      ≡ slice_set c.args.fields.now.places.items c.args.lane x
+  written x =
+      let value = c.as_mut_slice.ensures.value in
+      refilled c.args.fields.now.places.items (slice_set c.as_mut_slice.result.now c.args.lane x)
+      (length-set c.as_mut_slice.result.now c.args.lane x ∙ ap (λ (ps : List Place). length ps) value)
+      ∙ ap (λ ps. slice_set ps c.args.lane x) value
+
+  -- the lane is still one of those with a place
+  still_lane : (x : Place) → c.args.lane
+      < length (with_items c.args.fields.now.places (slice_set c.as_mut_slice.result.now c.args.lane x)).items
+  still_lane x =
+      subst (λ ps. c.args.lane < length ps) (sym (written x))
+      (subst (λ n. c.args.lane < n) (sym (length-set c.args.fields.now.places.items c.args.lane x)) c.requires.lane)
 
   -- so the two are the same
   hold : with_claim ≡ base
@@ -73,12 +105,13 @@ module _ (g : Over) (c : After-stage g) where
   led from n t u so = subst (λ z. AreSteps c.args.lane n None t u from z) (sym hold) so
 
   -- what is written to the lane's place last counts
-  places_are : (claim : Claim) (place : Place) (places : List Place)
-      → places ≡ slice_set (slice_set c.as_mut_slice.result.now c.args.lane (At c.in-At.cell claim)) c.args.lane place
+  places_are : (x place : Place) (places : List Place)
+      → places ≡ slice_set
+      (with_items c.args.fields.now.places (slice_set c.as_mut_slice.result.now c.args.lane x)).items c.args.lane place
       → places ≡ slice_set c.args.fields.now.places.items c.args.lane place
-  places_are claim place places e =
-      e ∙ set_twice c.as_mut_slice.result.now c.args.lane (At c.in-At.cell claim) place
-      ∙ ap (λ ps. slice_set ps c.args.lane place) c.as_mut_slice.ensures.value
+  places_are x place places e =
+      e ∙ ap (λ ps. slice_set ps c.args.lane place) (written x)
+      ∙ set_twice c.args.fields.now.places.items c.args.lane x place
 
   -- if the claim is won, the load of the item ends the poll
   takes : (v : ℕ) (claim : Claim) (seat : SeatView) (reader : ReaderSeatView) (places : List Place)
@@ -168,7 +201,7 @@ returns-in-Won-clause-pursued g c =
     c.take.new.places.items c.take.new.notes.lists 0 n n t (g.R.Rng.stream c.args.rng.now) from (omega arith) won
     (begun c.args.mailbox.now pending c.args.fields.now (start g at) from n t (g.R.Rng.stream c.args.rng.now)
     (led g at from n t (g.R.Rng.stream c.args.rng.now) m))
-    c.take.ensures.makes (places_are g at c.in-At.claim (Before (Past c.in-At.cell)) c.take.new.places.items
+    c.take.ensures.makes (places_are g at (At c.in-At.cell c.in-At.claim) (Before (Past c.in-At.cell)) c.take.new.places.items
     c.take.ensures.place) c.take.ensures.notes.lists
     (omega (arith, c.requires.won c.in-At.cell c.in-At.claim (place_is g at) won))
 
@@ -199,7 +232,12 @@ compete-stage-requires g c =
 pub take-requires-then-left-ne0 : goal.take-requires-then-left-ne0
 take-requires-then-left-ne0 g c =
     let at = (goal.at.take-requires-then-left-ne0 g c).After-stage in
-    record { table = c.requires.of.cells; may = given g at; place = search rules; room = has_room g at }
+    record {
+      table = c.requires.of.cells;
+      may = given g at;
+      place = still_lane g at (At c.in-At.cell c.compete-stage.new.claim);
+      room = has_room g at;
+    }
 
 pub returns-then-left-ne0 : goal.returns-then-left-ne0
 returns-then-left-ne0 g c =
@@ -213,7 +251,7 @@ returns-then-left-ne0 g c =
           (g.R.Rng.stream c.compete-stage.new.rng) from refl (sym c.compete-stage.ensures.stage ∙ c.in-Won-stage.is)
           (ran_on g at.After-compete-stage (start g at.After-stage) from n t (led g at.After-stage from n t rng m))
           c.take-then-left-ne0.ensures.makes
-          (places_are g at.After-stage c.compete-stage.new.claim (Before (Past c.in-At.cell))
+          (places_are g at.After-stage (At c.in-At.cell c.compete-stage.new.claim) (Before (Past c.in-At.cell))
           c.take-then-left-ne0.new.places.items c.take-then-left-ne0.ensures.place)
           c.take-then-left-ne0.ensures.notes.lists
           (omega (arith, c.compete-stage.ensures.steps.1, c.if-left-ne0.true));
@@ -237,14 +275,14 @@ returns-in-Going g c =
       pursued = λ from n t m. pursued_spent (base g at.After-stage) c.args.lane c.in-At.cell
           c.in-At.claim c.args.most n c.compete-stage.new.claim stage.Going t
           (g.R.Rng.stream c.compete-stage.new.rng) from c.compete-stage.new.seat
-          (slice_set c.as_mut_slice.result.now c.args.lane (At c.in-At.cell c.compete-stage.new.claim))
+          (with_items c.args.fields.now.places (slice_set c.as_mut_slice.result.now c.args.lane
+          (At c.in-At.cell c.compete-stage.new.claim))).items
           going refl refl refl
           (subst (λ z. HasCompeted c.args.lane c.in-At.cell (z + n) c.compete-stage.new.claim t
           (g.R.Rng.stream c.compete-stage.new.rng) from (with_claim g at.After-stage) c.compete-stage.new.seat)
           (all_made g at.After-compete-stage s none)
           (ran_on g at.After-compete-stage s from n t (led g at.After-stage from n t rng m)))
-          (ap (λ ps. slice_set ps c.args.lane (At c.in-At.cell c.compete-stage.new.claim))
-          c.as_mut_slice.ensures.value);
+          (written g at.After-stage (At c.in-At.cell c.compete-stage.new.claim));
       few = λ k claim is e. few_made g at.After-has_history-2 s none k claim is (place_is g at.After-stage);
       decided = λ last e. cc;
       wide = c.requires.wide;
@@ -261,14 +299,14 @@ returns-else-left-ne0 g c =
       pursued = λ from n t m. pursued_spent (base g at.After-stage) c.args.lane c.in-At.cell
           c.in-At.claim c.args.most n c.compete-stage.new.claim stage.Won t
           (g.R.Rng.stream c.compete-stage.new.rng) from c.compete-stage.new.seat
-          (slice_set c.as_mut_slice.result.now c.args.lane (At c.in-At.cell c.compete-stage.new.claim))
+          (with_items c.args.fields.now.places (slice_set c.as_mut_slice.result.now c.args.lane
+          (At c.in-At.cell c.compete-stage.new.claim))).items
           won refl refl refl
           (subst (λ z. HasCompeted c.args.lane c.in-At.cell (z + n) c.compete-stage.new.claim t
           (g.R.Rng.stream c.compete-stage.new.rng) from (with_claim g at.After-stage) c.compete-stage.new.seat)
           (all_made g at.After-compete-stage s none)
           (ran_on g at.After-compete-stage s from n t (led g at.After-stage from n t rng m)))
-          (ap (λ ps. slice_set ps c.args.lane (At c.in-At.cell c.compete-stage.new.claim))
-          c.as_mut_slice.ensures.value);
+          (written g at.After-stage (At c.in-At.cell c.compete-stage.new.claim));
       few = λ k claim is e. few_made g at.After-has_history-2 s none k claim is (place_is g at.After-stage);
       decided = λ last e. cc;
       wide = c.requires.wide;
@@ -277,7 +315,10 @@ returns-else-left-ne0 g c =
 pub leave-requires : goal.leave-requires
 leave-requires g c =
     let at = goal.at.leave-requires g c in
-    record { place = search rules; room = has_room g at.After-stage }
+    record {
+      place = still_lane g at.After-stage (At c.in-At.cell c.compete-stage.new.claim);
+      room = has_room g at.After-stage;
+    }
 
 pub returns-in-Lost : goal.returns-in-Lost
 returns-in-Lost g c =
@@ -294,7 +335,7 @@ returns-in-Lost g c =
           (sym c.compete-stage.ensures.stage ∙ c.in-Lost.is) refl refl tt (λ f. cc) refl
           (omega (arith, c.compete-stage.ensures.steps.1))
           (ran_on g at.After-compete-stage s from n t (led g at.After-stage from n t rng m))
-          (places_are g at.After-stage c.compete-stage.new.claim (Before (Past c.in-At.cell))
+          (places_are g at.After-stage (At c.in-At.cell c.compete-stage.new.claim) (Before (Past c.in-At.cell))
           c.leave.new.places.items c.leave.ensures.place) c.leave.ensures.notes.lists;
       few = λ k claim is e. cc;
       decided = λ last e. cc;
@@ -305,7 +346,10 @@ returns-in-Lost g c =
 pub leave-requires-in-Undecided : goal.leave-requires-in-Undecided
 leave-requires-in-Undecided g c =
     let at = goal.at.leave-requires-in-Undecided g c in
-    record { place = search rules; room = has_room g at.After-stage }
+    record {
+      place = still_lane g at.After-stage (At c.in-At.cell c.compete-stage.new.claim);
+      room = has_room g at.After-stage;
+    }
 
 pub returns-in-Undecided : goal.returns-in-Undecided
 returns-in-Undecided g c =
@@ -322,7 +366,7 @@ returns-in-Undecided g c =
           (sym c.compete-stage.ensures.stage ∙ c.in-Undecided.is) refl refl tt (λ f. cc) refl
           (omega (arith, c.compete-stage.ensures.steps.1))
           (ran_on g at.After-compete-stage s from n t (led g at.After-stage from n t rng m))
-          (places_are g at.After-stage c.compete-stage.new.claim (Before (Past c.in-At.cell))
+          (places_are g at.After-stage (At c.in-At.cell c.compete-stage.new.claim) (Before (Past c.in-At.cell))
           c.leave-in-Undecided.new.places.items c.leave-in-Undecided.ensures.place)
           c.leave-in-Undecided.ensures.notes.lists;
       few = λ k claim is e. cc;
