@@ -42,4 +42,3 @@ pub use Plays.*
 pub use Boards.*
 pub use Examples.*
 pub use ShapedExamples.*
-pub use StraightExamples.*

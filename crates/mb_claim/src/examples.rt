@@ -9,7 +9,8 @@ ghost use Rattle.mb_claim.specs.{Lost, Undecided, two_consumers, won_and_lost, b
 ghost use Rattle.mb_claim.specs.{after_winning, own_number_again, of_a_stranger, IsPlayedByTwo, step, eight_steps};
 ghost use Rattle.mb_claim.specs.{won_and, two_with, lost_at_second, skip_both_ratifiers, skip_one_ratifier};
 ghost use Rattle.mb_claim.specs.{last_decides, last_found_empty_twice, last_comes_first, through_all, skip_the_pair};
-ghost use Rattle.mb_claim.specs.{IsStanding, HasEnd, HasStopped, site_of, IsOfTwo, on_ratifier, told};
+ghost use Rattle.mb_claim.specs.{IsStanding, HasEnd, HasStopped, site_of, CellClaim, IsOnCell};
+ghost use Rattle.mb_claim.specs.StraightExamples.{IsOfTwo, on_ratifier, told};
 
 use crate::laws::last_objects_decide_claims;
 use mb_deciding::examples::small_histories;
@@ -172,4 +173,13 @@ pub fn straight_claims_go_on()
     ensures few { (layout : Layout) → IsOfTwo layout → HasStopped layout (told Going 0 1 13) }
     ensures many { (layout : Layout) → IsOfTwo layout
         → HasStopped layout (told Going 0 1 14) → ⊥ }
+{}
+
+/// Where the words begin of a claim that is kept on cell 1, and stands on that ratifier.
+pub fn kept_claims_tell_where_they_are()
+    // A cell has four words, and the ratifier's begin at its second.
+    ensures here { (layout : Layout) (kept : CellClaim) → IsOfTwo layout
+        → kept.object ≡ 1 → kept.begin ≡ 5 → IsOnCell layout 1 kept }
+    ensures elsewhere { (layout : Layout) (kept : CellClaim) → IsOfTwo layout
+        → kept.object ≡ 1 → kept.begin ≡ 4 → IsOnCell layout 1 kept → ⊥ }
 {}
