@@ -43,7 +43,8 @@ pub fn contests_are_of_all()
     ensures same_twice { (layout : Layout) (claim : CellClaim) (words : List ℕ)
         (h : List ClaimAccess) → IsContest layout 3 (claim ∷ claim ∷ []) words h → ⊥ }
     ensures another { (layout : Layout) (claim : CellClaim) (words : List ℕ)
-        (h : List ClaimAccess) → consumer_of (claim_of true claim) ≡ 1 → IsContest layout 3 (claim ∷ []) words h → ⊥ }
+        (h : List ClaimAccess) → consumer_of (claim_of true claim) ≡ 1
+        → IsContest layout 3 (claim ∷ []) words h → ⊥ }
 {}
 
 /// The words that follow 1 and 0 by shifts, and what one shift alone would give.
