@@ -9,15 +9,13 @@ use Rattle.mb_world.specs.declared.place.Place.{Place, TheVariants.At, TheVarian
 use Rattle.mb_mailbox.specs.Imports.{AreSeatSteps, CellsName, Claim, Gave, IsClaimIn, ItemMakes, Lost, ReaderSeatView, SeatView, Stream, TableSize}
 use Rattle.mb_mailbox.specs.Imports.{Note, Took, Undecided, claim_stage, most_accesses, name_of, part_on, shape_of}
 use Rattle.mb_mailbox.specs.ConsumerWords.{AreSteps, ConsumerView, HasPlace, HasRoom, IsConsumer}
-use Rattle.mb_mailbox.specs.Mailboxes.{MailboxView}
 use Rattle.mb_mailbox.specs.Pursuits.{HasCompeted, IsPursuit, PendingClaim, holding, with_fields}
-use Rattle.mb_mailbox.specs.Steps.{with_note}
-use Rattle.mb_mailbox.proofs.Ending.{holds_it}
+use Rattle.mb_mailbox.specs.{Mailboxes.MailboxView, Steps.with_note}
+use Rattle.mb_mailbox.proofs.{Ending.holds_it, Taking.taken}
 use Rattle.mb_mailbox.proofs.Lists.{set_twice, some_same}
 use Rattle.mb_mailbox.proofs.Made.{at_views, room_stays}
 use Rattle.mb_mailbox.proofs.Pursuing.{pursued_past, pursued_spent}
 use Rattle.mb_mailbox.proofs.Starts.{Start, begun, here, ran, start_room, table, there}
-use Rattle.mb_mailbox.proofs.Taking.{taken}
 use Rattle.mb_mailbox.proofs.consumer.pursuit.run_held.{Given.Over, Goals.After-compete-stage, Goals.After-has_history-2, Goals.After-stage}
 use Rattle.mb_mailbox.proofs.consumer.pursuit.run_held.Goals as goal
 
@@ -201,7 +199,8 @@ returns-in-Won-clause-pursued g c =
     c.take.new.places.items c.take.new.notes.lists 0 n n t (g.R.Rng.stream c.args.rng.now) from (omega arith) won
     (begun c.args.mailbox.now pending c.args.fields.now (start g at) from n t (g.R.Rng.stream c.args.rng.now)
     (led g at from n t (g.R.Rng.stream c.args.rng.now) m))
-    c.take.ensures.makes (places_are g at (At c.in-At.cell c.in-At.claim) (Before (Past c.in-At.cell)) c.take.new.places.items
+    c.take.ensures.makes
+    (places_are g at (At c.in-At.cell c.in-At.claim) (Before (Past c.in-At.cell)) c.take.new.places.items
     c.take.ensures.place) c.take.ensures.notes.lists
     (omega (arith, c.requires.won c.in-At.cell c.in-At.claim (place_is g at) won))
 
