@@ -1,11 +1,12 @@
 -- A step of one of the claims on a cell keeps the contest of all of them.
-use Rattle.std.proofs.Common.{◌≡◌, ◌≢◌, ◌<◌, ℕ, List, ◌∷◌, ◌∙◌, inl, inr, length, slice_index_or, slice_set, sym, ap, subst}
+use Rattle.std.proofs.Common.{◌≡◌, ◌≢◌, ◌<◌, ◌+◌, ℕ, Bool, true, List, ◌∷◌, ◌∙◌, inl, inr, length, slice_index_or, slice_set}
+use Rattle.std.proofs.Common.{sym, ap, subst, arith}
 use Rattle.std.proofs.lemmas.Bool.{cases_eq}
 use Rattle.std.proofs.lemmas.List.{get_or-set_same, get_or-set_other, length-set}
 use Rattle.mb_claim.specs.declared.access.ClaimAccess.{ClaimAccess}
-use Rattle.mb_claim.specs.declared.claim.Claim.{Claim}
+use Rattle.mb_claim.specs.declared.claim.on_cell.CellClaim.{CellClaim}
 use Rattle.mb_claim.specs.declared.layout.Layout.{Layout}
-use Rattle.mb_claim.specs.Vocabulary.{part_on, IsClaimIn, consumer_of}
+use Rattle.mb_claim.specs.Vocabulary.{part_on, claim_of, IsClaimIn, IsOnCell, consumer_of}
 use Rattle.bench_loops.specs.UnderWay.{IsContest, IsUnderWay}
 
 -- an access lengthens no part but its own consumer's on its own cell
@@ -15,50 +16,74 @@ OthersStay = (c k : ℕ) (a : ClaimAccess) (h : List ClaimAccess) → (a.consume
 
 -- the claim of a consumer in a contest is under way
 pub one_of_contest :
-    (layout : Layout) (cell i : ℕ) (claims : List Claim) (words : List ℕ) (h : List ClaimAccess) (d : Claim)
+    (layout : Layout) (cell i : ℕ) (claims : List CellClaim) (words : List ℕ) (h : List ClaimAccess) (d : CellClaim)
     → IsContest layout cell claims words h → i < length claims
-    → IsUnderWay layout cell (slice_index_or claims i d) words h
+    → (begun : Bool) × IsUnderWay layout cell (claim_of begun (slice_index_or claims i d)) words h
 one_of_contest layout cell i claims words h d contest within =
-    record {
-      memory = contest.memory;
-      stands = subst (λ c. IsClaimIn layout (slice_index_or claims i d) (part_on c cell h))
-          (sym (contest.whose i d within)) (contest.stands i d within);
-    }
+    let it = contest.stands i d within in (
+      it.0,
+      record {
+        memory = contest.memory;
+        stands = subst (λ c. IsClaimIn layout (claim_of it.0 (slice_index_or claims i d)) (part_on c cell h))
+            (sym (contest.whose i d within)) it.1;
+      },
+    )
+
+-- what holds of the claims before place i holds of one more, if it holds of the claim that is put there
+pub one_more :
+    (P : ℕ → CellClaim → Type 0) (claims : List CellClaim) (i : ℕ) (claim : CellClaim) → i < length claims → P i claim
+    → ((k : ℕ) (d : CellClaim) → k < i → P k (slice_index_or claims k d)) → (k : ℕ) (d : CellClaim) → k < i + 1
+    → P k (slice_index_or (slice_set claims i claim) k d)
+one_more P claims i claim within at before k d below = elim (cases_eq k i) [
+  | inl is ↦ subst (λ n. P n (slice_index_or (slice_set claims i claim) n d)) (sym is)
+      (subst (P i) (sym (get_or-set_same claims i claim d within)) at)
+  | inr apart ↦ subst (P k) (sym (get_or-set_other claims i k claim d apart)) (before k d (omega (arith, below, apart)))
+]
 
 -- a place of the list with one claim changed is a place of the list before
-within_set : (claims : List Claim) (c : ℕ) (claim : Claim) (i : ℕ)
+within_set : (claims : List CellClaim) (c : ℕ) (claim : CellClaim) (i : ℕ)
     → i < length (slice_set claims c claim) → i < length claims
 within_set claims c claim i below = subst (λ n. i < n) (length-set claims c claim) below
 
 -- after a step of one claim the claims are a contest still
 pub contest_goes_on :
-    (layout : Layout) (cell c : ℕ) (claims : List Claim) (words left : List ℕ) (h : List ClaimAccess) (claim : Claim)
-    (a : ClaimAccess) → OthersStay → IsContest layout cell claims words h → c < length claims
-    → consumer_of claim ≡ c → a.consumer ≡ c → IsUnderWay layout cell claim left (a ∷ h)
+    (layout : Layout) (cell c : ℕ) (claims : List CellClaim) (words left : List ℕ) (h : List ClaimAccess)
+    (claim : CellClaim) (a : ClaimAccess) → OthersStay → IsContest layout cell claims words h → c < length claims
+    → consumer_of (claim_of true claim) ≡ c → IsOnCell layout cell claim → a.consumer ≡ c
+    → IsUnderWay layout cell (claim_of true claim) left (a ∷ h)
     → IsContest layout cell (slice_set claims c claim) left (a ∷ h)
-contest_goes_on layout cell c claims words left h claim a others contest within own by under =
-    let same : (d : Claim) → slice_index_or (slice_set claims c claim) c d ≡ claim =
-    λ d. get_or-set_same claims c claim d within in
-    let other : (i : ℕ) (d : Claim) → i ≢ c
-    → slice_index_or (slice_set claims c claim) i d ≡ slice_index_or claims i d =
+contest_goes_on layout cell c claims words left h claim a others contest within own there by under =
+    let now = slice_set claims c claim in
+    let same : (d : CellClaim) → slice_index_or now c d ≡ claim = λ d. get_or-set_same claims c claim d within in
+    let other : (i : ℕ) (d : CellClaim) → i ≢ c → slice_index_or now i d ≡ slice_index_or claims i d =
     λ i d apart. get_or-set_other claims c i claim d apart in
     record {
       memory = under.memory;
       whose = λ i d below. elim (cases_eq i c) [
-        | inl at ↦ subst (λ n. consumer_of (slice_index_or (slice_set claims c claim) n d) ≡ n) (sym at)
-            (ap consumer_of (same d) ∙ own)
-        | inr apart ↦ ap consumer_of (other i d apart) ∙ contest.whose i d (within_set claims c claim i below)
+        | inl at ↦ subst (λ n. consumer_of (claim_of true (slice_index_or now n d)) ≡ n) (sym at)
+            (ap (λ (x : CellClaim). consumer_of (claim_of true x)) (same d) ∙ own)
+        | inr apart ↦ ap (λ (x : CellClaim). consumer_of (claim_of true x)) (other i d apart)
+            ∙ contest.whose i d (within_set claims c claim i below)
+      ];
+      here = λ i d below. elim (cases_eq i c) [
+        | inl at ↦ subst (λ n. IsOnCell layout cell (slice_index_or now n d)) (sym at)
+            (subst (IsOnCell layout cell) (sym (same d)) there)
+        | inr apart ↦ subst (IsOnCell layout cell) (sym (other i d apart))
+            (contest.here i d (within_set claims c claim i below))
       ];
       stands = λ i d below. elim (cases_eq i c) [
-        | inl at ↦ subst (λ n. IsClaimIn layout (slice_index_or (slice_set claims c claim) n d)
-            (part_on n cell (a ∷ h)))
-            (sym at)
-            (subst (λ it. IsClaimIn layout it (part_on c cell (a ∷ h))) (sym (same d))
-            (subst (λ n. IsClaimIn layout claim (part_on n cell (a ∷ h))) own under.stands))
+        | inl at ↦ (
+          true,
+          subst (λ n. IsClaimIn layout (claim_of true (slice_index_or now n d)) (part_on n cell (a ∷ h))) (sym at)
+              (subst (λ it. IsClaimIn layout (claim_of true it) (part_on c cell (a ∷ h))) (sym (same d))
+              (subst (λ n. IsClaimIn layout (claim_of true claim) (part_on n cell (a ∷ h))) own under.stands)),
+        )
         | inr apart ↦
-            subst (λ it. IsClaimIn layout it (part_on i cell (a ∷ h))) (sym (other i d apart))
-            (subst (IsClaimIn layout (slice_index_or claims i d))
-            (sym (others i cell a h (λ who at. apart (sym who ∙ by))))
-            (contest.stands i d (within_set claims c claim i below)))
+            (let it = contest.stands i d (within_set claims c claim i below) in (
+              it.0,
+              subst (λ x. IsClaimIn layout (claim_of it.0 x) (part_on i cell (a ∷ h))) (sym (other i d apart))
+                  (subst (IsClaimIn layout (claim_of it.0 (slice_index_or claims i d)))
+                  (sym (others i cell a h (λ who at. apart (sym who ∙ by)))) it.1),
+            ))
       ];
     }

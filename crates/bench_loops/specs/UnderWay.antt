@@ -1,12 +1,14 @@
 -- Claims on the words of `MAX_CELLS` cells: under way, before a cell, and many on one cell.
-use Rattle.std.specs.Prelude.{ℕ, ◌≡◌, ◌<◌, ◌≤◌, List, [], length, slice_index_or}
+use Rattle.std.specs.Prelude.{ℕ, ◌≡◌, ◌<◌, ◌≤◌, Bool, true, false, List, [], length, slice_index_or}
 use Rattle.mb_deciding.specs.declared.access.Act.TheVariants.{Load}
 use Rattle.mb_deciding.specs.declared.access.Reg.TheVariants.{Value}
 use Rattle.mb_claim.specs.declared.access.ClaimAccess.{ClaimAccess}
 use Rattle.mb_claim.specs.declared.claim.Claim.{Claim}
+use Rattle.mb_claim.specs.declared.claim.on_cell.CellClaim.{CellClaim}
 use Rattle.mb_claim.specs.declared.layout.Layout.{Layout}
 use Rattle.mb_claim.specs.declared.layout.TheConstants.{MAX_CELLS}
 use Rattle.mb_claim.specs.Vocabulary.{Claims, part_on, claims_in, consumer_of, IsClaimIn, IsMemoryOf}
+use Rattle.mb_claim.specs.Vocabulary.{claim_of, IsOnCell, IsAtFirst}
 
 -- consumer c has loaded this value from the first word of cell k, with the random word 0
 abbrev pub looked : ℕ → ℕ → ℕ → ClaimAccess
@@ -38,9 +40,19 @@ pub record ClaimIsBefore (layout : Layout) (consumer cell : ℕ) (words : List �
 -- the history leaves the words, and these are claims on the cell. The claim at place i is consumer i's, and stands
 -- after its part
 pub record IsContest
-    (layout : Layout) (cell : ℕ) (claims : List Claim) (words : List ℕ) (h : List ClaimAccess) : Type 0 where
+    (layout : Layout) (cell : ℕ) (claims : List CellClaim) (words : List ℕ) (h : List ClaimAccess) : Type 0 where
   pub memory : IsMemoryOf (all_claims layout) words h
-  pub whose : (i : ℕ) (d : Claim) → i < length claims → consumer_of (slice_index_or claims i d) ≡ i
+  pub whose :
+      (i : ℕ) (d : CellClaim) → i < length claims → consumer_of (claim_of true (slice_index_or claims i d)) ≡ i
+  pub here : (i : ℕ) (d : CellClaim) → i < length claims → IsOnCell layout cell (slice_index_or claims i d)
   pub stands :
-      (i : ℕ) (d : Claim) → i < length claims
-      → IsClaimIn layout (slice_index_or claims i d) (part_on i cell h)
+      (i : ℕ) (d : CellClaim) → i < length claims
+      → (begun : Bool) × IsClaimIn layout (claim_of begun (slice_index_or claims i d)) (part_on i cell h)
+
+-- these are claims of the first `count` consumers, in their order, before their first accesses
+pub record AreNew (layout : Layout) (count : ℕ) (claims : List CellClaim) : Type 0 where
+  pub whose :
+      (i : ℕ) (d : CellClaim) → i < count → consumer_of (claim_of true (slice_index_or claims i d)) ≡ i
+  pub first : (i : ℕ) (d : CellClaim) → i < count → IsAtFirst (slice_index_or claims i d)
+  pub stands :
+      (i : ℕ) (d : CellClaim) → i < count → IsClaimIn layout (claim_of false (slice_index_or claims i d)) []

@@ -3,17 +3,19 @@ ghost use Rattle.std.specs.Prelude.{◌≡◌, ◌<◌, [], ℕ, List, length};
 ghost use Rattle.mb_claim.specs.declared.access.ClaimAccess.{ClaimAccess};
 ghost use Rattle.mb_claim.specs.declared.layout.TheConstants.{MAX_CELLS};
 ghost use Rattle.mb_claim.specs.Vocabulary.{consumer_count, IsMemoryOf};
-ghost use Rattle.bench_loops.specs.UnderWay.{all_claims, ChangesOnly, IsContest};
+ghost use Rattle.bench_loops.specs.UnderWay.{all_claims, AreNew, ChangesOnly, IsContest};
 
 use crate::count::Count;
 use crate::source::Source;
-use crate::step::step;
+use crate::step::step_on;
 use mb_claim::laws::layouts_are_sound;
 use mb_claim::steps::accesses_lengthen_one_part;
-use mb_claim::{Claim, ClaimWords, Layout, MAX_CELLS, Stage};
+use mb_claim::{CellClaim, ClaimWords, Layout, MAX_CELLS, Stage};
 use std::alloc::{AllocError, Allocator};
 
-/// Makes the claims of all consumers on each of `MAX_CELLS` cells, `times` times.
+/// Makes the claims of all consumers on each of `MAX_CELLS` cells, `times` times. It is never inlined, so that the other
+/// loops do not change its code.
+#[inline(never)]
 pub fn contended<A: Allocator + Copy + Drop>(
     alloc: A,
     layout: &Layout,
@@ -22,28 +24,51 @@ pub fn contended<A: Allocator + Copy + Drop>(
     layouts_are_sound();
     let mut source = Source::new();
     let mut count = Count::new();
-    let mut claims = vec![in alloc; Claim::new(layout, 0); layout.consumers() as usize]?;
+    let mut claims = vec![in alloc; CellClaim::new(layout, 0); layout.consumers() as usize]?;
+    let mut fresh = vec![in alloc; CellClaim::new(layout, 0); layout.consumers() as usize]?;
+    begin_all(layout, &mut fresh);
     for _ in 0..times {
         let mut words = ClaimWords::new(alloc, layout, MAX_CELLS)?;
-        contend_each(layout, &mut words, &mut claims, &mut source, &mut count);
+        contend_each(
+            layout,
+            &mut words,
+            &fresh,
+            &mut claims,
+            &mut source,
+            &mut count,
+        );
     }
     Ok(count)
 }
 
-/// Makes the claims of all consumers on each cell. `claims` has room for those of one cell.
+/// Changes the claims to those of all consumers before their first accesses.
+fn begin_all(layout: &Layout, claims: &mut [CellClaim])
+    requires { length claims.old ≡ consumer_count layout.now }
+    ensures { AreNew layout.now (consumer_count layout.now) claims.new }
+{
+    for consumer in 0..layout.consumers() {
+        claims[consumer as usize] = CellClaim::new(layout, consumer);
+    }
+}
+
+/// Makes the claims of all consumers on each cell. They begin as these new ones, and `claims` has room for those of one
+/// cell.
 fn contend_each<A: Allocator + Drop>(
     layout: &Layout,
     words: &mut ClaimWords<A>,
-    claims: &mut [Claim],
+    fresh: &[CellClaim],
+    claims: &mut [CellClaim],
     source: &mut Source,
     count: &mut Count,
 )
     requires memory { IsMemoryOf (all_claims layout.now) words.old [] }
+    requires new { AreNew layout.now (consumer_count layout.now) fresh.now }
+    requires fresh { length fresh.now ≡ consumer_count layout.now }
     requires claims { length claims.old ≡ consumer_count layout.now }
 {
     for cell in 0..MAX_CELLS {
-        for consumer in 0..layout.consumers() {
-            claims[consumer as usize] = Claim::new(layout, consumer);
+        for consumer in 0..claims.len() {
+            claims[consumer] = fresh[consumer].on(layout, cell);
         }
         contend(layout, words, cell, claims, source, count);
     }
@@ -54,7 +79,7 @@ fn contend<A: Allocator + Drop>(
     layout: &Layout,
     words: &mut ClaimWords<A>,
     cell: u32,
-    claims: &mut [Claim],
+    claims: &mut [CellClaim],
     source: &mut Source,
     count: &mut Count,
 )
@@ -77,7 +102,7 @@ fn turn_each<A: Allocator + Drop>(
     layout: &Layout,
     words: &mut ClaimWords<A>,
     cell: u32,
-    claims: &mut [Claim],
+    claims: &mut [CellClaim],
     source: &mut Source,
     count: &mut Count,
 ) -> bool
@@ -92,7 +117,7 @@ fn turn_each<A: Allocator + Drop>(
     for consumer in 0..claims.len() {
         let claim = &mut claims[consumer];
         if let Stage::Going = claim.stage() {
-            let stage = step(claim, layout, words, cell, source.word());
+            let stage = step_on(claim, layout, words, cell, source.word());
             count.add(1, stage);
             going |= stage == Stage::Going;
         }

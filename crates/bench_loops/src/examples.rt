@@ -1,10 +1,11 @@
 //! The definitions of `specs` by example: what they admit, and what only looks right. The functions compute nothing:
 //! their contracts are the examples. If the prover needs help with one, its proof is in `proofs/examples`.
-ghost use Rattle.std.specs.Prelude.{◌≡◌, ◌≤◌, ℕ, List, [], ◌∷◌, length, slice_index};
+ghost use Rattle.std.specs.Prelude.{◌≡◌, ◌≤◌, ℕ, List, [], ◌∷◌, length, slice_index, true};
 ghost use Rattle.mb_claim.specs.declared.access.ClaimAccess.{ClaimAccess};
 ghost use Rattle.mb_claim.specs.declared.claim.Claim.{Claim};
+ghost use Rattle.mb_claim.specs.declared.claim.on_cell.CellClaim.{CellClaim};
 ghost use Rattle.mb_claim.specs.declared.layout.Layout.{Layout};
-ghost use Rattle.mb_claim.specs.Vocabulary.{IsMemoryOf, consumer_of, words_in};
+ghost use Rattle.mb_claim.specs.Vocabulary.{IsMemoryOf, claim_of, consumer_of, words_in};
 ghost use Rattle.bench_loops.specs.Shifts.{word_after};
 ghost use Rattle.bench_loops.specs.UnderWay.{ChangesOnly, ClaimIsBefore, IsContest, IsUnderWay, all_claims, looked};
 
@@ -39,10 +40,10 @@ pub fn histories_change_parts()
 
 /// In a contest each consumer has its own claim, in the order of the consumers.
 pub fn contests_are_of_all()
-    ensures same_twice { (layout : Layout) (claim : Claim) (words : List ℕ) (h : List ClaimAccess)
+    ensures same_twice { (layout : Layout) (claim : CellClaim) (words : List ℕ) (h : List ClaimAccess)
         → IsContest layout 3 (claim ∷ claim ∷ []) words h → ⊥ }
-    ensures another { (layout : Layout) (claim : Claim) (words : List ℕ) (h : List ClaimAccess)
-        → consumer_of claim ≡ 1 → IsContest layout 3 (claim ∷ []) words h → ⊥ }
+    ensures another { (layout : Layout) (claim : CellClaim) (words : List ℕ) (h : List ClaimAccess)
+        → consumer_of (claim_of true claim) ≡ 1 → IsContest layout 3 (claim ∷ []) words h → ⊥ }
 {}
 
 /// The words that follow 1 and 0 by shifts, and what one shift alone would give.

@@ -1,19 +1,22 @@
 //! Claims that nobody disturbs, one on each cell.
-ghost use Rattle.std.specs.Prelude.{◌≡◌, ◌<◌, [], ◌∷◌, ℕ, List};
+ghost use Rattle.std.specs.Prelude.{◌≡◌, ◌<◌, [], ◌∷◌, ℕ, List, length};
 ghost use Rattle.mb_claim.specs.declared.access.ClaimAccess.{ClaimAccess};
 ghost use Rattle.mb_claim.specs.declared.layout.TheConstants.{MAX_CELLS};
 ghost use Rattle.mb_claim.specs.declared.access.Stage.TheVariants.{Going};
-ghost use Rattle.mb_claim.specs.Vocabulary.{part_on, claim_stage, consumer_count, consumer_of, steps_left, IsMemoryOf};
+ghost use Rattle.mb_claim.specs.Vocabulary.{part_on, claim_stage, consumer_count, consumer_of, kinds_of, steps_left, IsMemoryOf, IsStanding};
 ghost use Rattle.bench_loops.specs.UnderWay.{all_claims, ChangesOnly, IsUnderWay};
 
 use crate::count::Count;
 use crate::source::Source;
 use crate::step::step;
+use mb_claim::laws::layouts_are_sound;
 use mb_claim::steps::accesses_lengthen_one_part;
 use mb_claim::{Claim, ClaimWords, Layout, MAX_CELLS, Stage};
 use std::alloc::{AllocError, Allocator};
 
-/// Makes one claim on each of `MAX_CELLS` cells, the consumers in turn, `times` times.
+/// Makes one claim on each of `MAX_CELLS` cells, the consumers in turn, `times` times. It is never inlined, so that the
+/// other loops do not change its code.
+#[inline(never)]
 pub fn lone<A: Allocator + Copy + Drop>(
     alloc: A,
     layout: &Layout,
@@ -51,10 +54,12 @@ fn claim_each<A: Allocator + Drop>(
 )
     requires { IsMemoryOf (all_claims layout.now) words.old [] }
 {
+    layouts_are_sound();
     let consumers = layout.consumers();
+    let mut claim = Claim::new(layout, 0);
     let mut consumer = 0;
     for cell in 0..MAX_CELLS {
-        let (accesses, stage) = claim_through(layout, words, consumer, cell, source);
+        let (accesses, stage) = claim_through(layout, words, consumer, cell, source, &mut claim);
         count.add(accesses, stage);
         consumer += 1;
         if consumer == consumers {
@@ -64,7 +69,7 @@ fn claim_each<A: Allocator + Drop>(
 }
 
 /// Makes the claim of a consumer on a cell that it has not touched, to its end. Returns the number of its accesses, and
-/// how it ended.
+/// how it ended. `claim` is room for a claim that does not end straight.
 #[inline(always)]
 fn claim_through<A: Allocator + Drop>(
     layout: &Layout,
@@ -72,6 +77,7 @@ fn claim_through<A: Allocator + Drop>(
     consumer: u32,
     cell: u32,
     source: &mut Source,
+    claim: &mut Claim,
 ) -> (u64, Stage)
     requires consumer { consumer < consumer_count layout.now }
     requires cell { cell < MAX_CELLS }
@@ -88,12 +94,23 @@ fn claim_through<A: Allocator + Drop>(
     if end.stage != Stage::Going {
         return (made, end.stage);
     }
-    let mut claim = Claim::standing(layout, consumer, end.object, end.value);
+    stand(claim, layout, consumer, end.object, end.value);
     'steps: while let Stage::Going = claim.stage() {
-        single(&mut claim, layout, words, cell, source.word());
+        single(claim, layout, words, cell, source.word());
         made = made.wrapping_add(1);
     }
     (made, claim.stage())
+}
+
+/// Changes the claim to that of a consumer before its first access to an object, with this value as its input there.
+#[cold]
+#[inline(never)]
+fn stand(claim: &mut Claim, layout: &Layout, consumer: u32, object: u32, value: u32)
+    requires object { object < length (kinds_of layout.now) }
+    requires value { value < consumer_count layout.now }
+    ensures { IsStanding layout.now consumer object value claim.new }
+{
+    *claim = Claim::standing(layout, consumer, object, value);
 }
 
 /// Makes one step of a claim, out of line, with the clauses of `step`.

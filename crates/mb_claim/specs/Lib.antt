@@ -13,6 +13,7 @@ pub mod OneClaim
 pub mod ManyClaimSteps
 pub mod Straight
 pub mod WordSteps
+pub mod CellClaims
 pub mod Refusals
 pub mod Plays
 pub mod Boards
@@ -34,6 +35,7 @@ pub use OneClaim.*
 pub use ManyClaimSteps.*
 pub use Straight.*
 pub use WordSteps.*
+pub use CellClaims.*
 pub use Refusals.*
 pub use Plays.*
 pub use Boards.*

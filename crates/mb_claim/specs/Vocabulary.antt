@@ -17,5 +17,6 @@ pub use Rattle.mb_claim.specs.OneClaim.{claim_access, IsOnObject, IsNextOp, IsCl
 pub use Rattle.mb_claim.specs.ManyClaimSteps.{DrawsAndMakesNext, AreClaimSteps}
 pub use Rattle.mb_claim.specs.Straight.{is_past, standing, IsStanding, site_of, HasEnd}
 pub use Rattle.mb_claim.specs.WordSteps.{MakesInWords}
+pub use Rattle.mb_claim.specs.CellClaims.{claim_of, IsOnCell, IsAtFirst}
 pub use Rattle.mb_claim.specs.Refusals.{layout_refusal, stranger_in}
 pub use Rattle.mb_claim.specs.Plays.{entry_consumer, with_entry, history_from, history_of, IsEntryAfter, AreEntriesOf, IsPlayed}

@@ -4,6 +4,7 @@ use crate::layout::Layout;
 use crate::steps::places_show_prefixes;
 use mb_deciding::{Memory, Next, Out, Pc};
 
+pub mod on_cell;
 pub mod straight;
 
 /// The claim of one consumer on one cell: the object on which it stands, its place there, and how far it has come. It
@@ -18,7 +19,7 @@ pub struct Claim {
 }
 
 impl Claim {
-    ghost use Rattle.std.specs.Prelude.{◌≡◌, ◌≢◌, ◌<◌, ◌≤◌, ◌+◌, ℕ, Bool, true, List, [], ◌∷◌, length, slice_get, MatchOption};
+    ghost use Rattle.std.specs.Prelude.{◌≡◌, ◌≢◌, ◌<◌, ◌≤◌, ◌+◌, ℕ, Bool, true, List, [], ◌∷◌, length, slice_get, MatchOption, None};
     ghost use Rattle.mb_deciding.specs.Vocabulary.{PcIsAt, IsNext, IsReached, next_from, turns_left, turns_after};
     ghost use Rattle.mb_deciding.specs.Vocabulary.{most_turns};
     ghost use Rattle.mb_claim.specs.{Kind, Turn, ClaimOp, ObjectTurn, Going, Undecided, consumer_of, claim_stage, is_begun};
@@ -135,6 +136,7 @@ impl Claim {
         ensures consumer { consumer_of self.new ≡ consumer_of self.old }
         ensures begun { is_begun self.new ≡ true }
         ensures stage { result ≡ claim_stage self.new }
+        ensures stays { out ≡ None → self.new ≡ stood_at self.old.place true self.old }
 
         // Fewer accesses are left than at the place before the access.
         ensures fewer { (pc : Pc)

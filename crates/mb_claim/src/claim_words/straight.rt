@@ -149,7 +149,7 @@ impl<'a, 'b, A: Allocator + Drop, S: RandomWords> Drawing for DrawnWords<'a, 'b,
 
 /// Makes an access to the word at this address. Returns what the word held.
 #[inline(always)]
-fn make<A: Allocator + Drop>(words: &mut Vec<u64, A>, address: usize, op: Op) -> u64
+pub(super) fn make<A: Allocator + Drop>(words: &mut Vec<u64, A>, address: usize, op: Op) -> u64
     requires { address < length words.old.items }
     ensures seen { result ≡ slice_index words.old.items address }
     ensures words { words.new.items ≡ slice_set words.old.items address (after_op op result) }

@@ -1,15 +1,18 @@
-use Rattle.std.proofs.Common.{◌≡◌, ◌<◌, [], ℕ, List, slice_index_or}
+use Rattle.std.proofs.Common.{◌≡◌, ◌<◌, [], ℕ, List, true, false, slice_index_or}
 use Rattle.mb_claim.specs.declared.access.ClaimAccess.{ClaimAccess}
-use Rattle.mb_claim.specs.declared.claim.Claim.{Claim}
-use Rattle.mb_claim.specs.Vocabulary.{IsClaimIn, consumer_of}
+use Rattle.mb_claim.specs.declared.claim.on_cell.CellClaim.{CellClaim}
+use Rattle.mb_claim.specs.Vocabulary.{claim_of, IsClaimIn, IsOnCell, consumer_of}
 use Rattle.bench_loops.specs.UnderWay.{ClaimIsBefore}
 use Rattle.bench_loops.proofs.contended.contend_each.Given as goal
 
--- the claims of the consumers before this one are new, each its own consumer's
+-- the claims of the consumers before this one are new on this cell, each its own consumer's
 abbrev pub invariant-loop-consumer : goal.invariant-loop-consumer
 invariant-loop-consumer g l = record {
-  whose : (i : ℕ) (d : Claim) → i < l.consumer → consumer_of (slice_index_or l.claims i d) ≡ i;
-  stands : (i : ℕ) (d : Claim) → i < l.consumer → IsClaimIn l.layout (slice_index_or l.claims i d) [];
+  whose :
+      (i : ℕ) (d : CellClaim) → i < l.consumer → consumer_of (claim_of true (slice_index_or l.claims i d)) ≡ i;
+  here : (i : ℕ) (d : CellClaim) → i < l.consumer → IsOnCell l.layout l.cell (slice_index_or l.claims i d);
+  stands :
+      (i : ℕ) (d : CellClaim) → i < l.consumer → IsClaimIn l.layout (claim_of false (slice_index_or l.claims i d)) [];
 }
 
 -- nobody has touched this cell, or one after it

@@ -15,12 +15,12 @@ straight-end-requires-clause-held g c =
 pub steps-init : goal.steps-init
 steps-init g c = record {
   whose = standing_own c.args.layout.now c.args.consumer c.straight-end.result.object c.straight-end.result.value
-      c.standing-claim.result c.standing-claim.ensures;
+      c.stand.new.claim c.stand.ensures;
   stands = λ h memory fresh.
       let end = c.straight-end.ensures.steps MAX_CELLS h c.requires.cell memory fresh in
       let at = c.straight-end.result in
       let same = standing_same c.args.layout.now c.args.consumer at.object at.value end.3
-      (end.8.3 (grind (arith, c.if-ne.false, c.ne.ensures))) c.standing-claim.result c.standing-claim.ensures in (
+      (end.8.3 (grind (arith, c.if-ne.false, c.ne.ensures))) c.stand.new.claim c.stand.ensures in (
         end.4,
         record {
           memory = end.7.memory;
