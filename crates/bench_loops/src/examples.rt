@@ -40,7 +40,8 @@ pub fn histories_change_parts()
 
 /// In a contest each consumer has its own claim, in the order of the consumers.
 pub fn contests_are_of_all()
-    ensures same_twice { (layout : Layout) (claim : CellClaim) (words : List ℕ) (h : List ClaimAccess)
+    ensures same_twice { (layout : Layout) (claim : CellClaim) (words : List ℕ)
+        (h : List ClaimAccess)
         → IsContest layout 3 (claim ∷ claim ∷ []) words h → ⊥ }
     ensures another { (layout : Layout) (claim : CellClaim) (words : List ℕ) (h : List ClaimAccess)
         → consumer_of (claim_of true claim) ≡ 1 → IsContest layout 3 (claim ∷ []) words h → ⊥ }

@@ -9,8 +9,7 @@ pub use Rattle.mb_claim.specs.Winner.{StageNames, IsClaimAnnounced, IsClaimConte
 pub use Rattle.mb_claim.specs.Standing.{PassesAll, HasPlace, access_after, StandsAt, IsClaimOf}
 pub use Rattle.mb_claim.specs.Layouts.{pairs_of, fast_row, last_row, row_of, plain, shape_of, fast_steps, last_steps, shaped_steps}
 pub use Rattle.mb_claim.specs.Layouts.{quorums_of, pair_count, kinds_of, width, offset, words_before, row_words, shaped_words, address_of}
-pub use Rattle.mb_claim.specs.Layouts.{IsWordOf, words_in, IsWordIn, address_in, most_on_objects, max_steps, claims_in, consumer_count}
-pub use Rattle.mb_claim.specs.Layouts.{cell_words, IsWordInLayout, word_address, most_accesses}
+pub use Rattle.mb_claim.specs.Layouts.{IsWordOf, words_in, IsWordIn, address_in, most_on_objects, max_steps, claims_in, consumer_count, cell_words, IsWordInLayout, word_address, most_accesses}
 pub use Rattle.mb_claim.specs.States.{after_op, step_of, found_in, access_in, words_after, IsMemoryOf}
 pub use Rattle.mb_claim.specs.OneClaim.{consumer_of, claim_stage, is_begun, FitsLayout, CanClaimFind, IsClaimIn, steps_left_at, steps_left}
 pub use Rattle.mb_claim.specs.OneClaim.{claim_access, IsOnObject, IsNextOp, IsClaimOn, IsClaimStep}
