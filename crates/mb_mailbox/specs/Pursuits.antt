@@ -1,4 +1,4 @@
--- A poll that keeps the claim of its lane in a variable, while the place there is out of date.
+-- What a poll does with the claim of its lane. While a new claim goes straight, the place there is out of date.
 use Rattle.std.specs.Prelude.{ℕ, ◌≡◌, ◌≢◌, ◌+◌, ◌≤◌, slice_set}
 use Rattle.mb_mailbox.specs.Imports.{Claim, IsStanding, Layout, SeatView, Stream, claim_stage, note_of}
 use Rattle.mb_mailbox.specs.declared.consumer.ConsumerFields.{ConsumerFields}
