@@ -93,7 +93,8 @@ pub(super) fn run_held<A: Allocator + Drop, B: Allocator + Drop, R: Rng>(
 }
 
 /// Makes a claim from its first access on, with the clauses of [`run_held`]. As long as `most` has room for whole
-/// objects, it goes straight through them. [`run_rest`] makes the other accesses.
+/// objects, it goes straight through them. [`run_rest`] makes the other accesses. With no budget left the claim is only
+/// held, which takes less by itself than by [`run_rest`].
 #[inline(always)]
 pub(super) fn run_new<A: Allocator + Drop, B: Allocator + Drop, R: Rng>(
     fields: &mut ConsumerFields<A>,
