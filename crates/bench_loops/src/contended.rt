@@ -96,7 +96,7 @@ fn contend<A: Allocator + Drop>(
     }
 }
 
-/// Steps each claim on this cell that goes on, once. Returns whether one of them still goes on.
+/// Steps each claim on this cell that goes on, once. Returns whether there was one.
 #[inline(always)]
 fn turn_each<A: Allocator + Drop>(
     layout: &Layout,
@@ -113,14 +113,13 @@ fn turn_each<A: Allocator + Drop>(
         × ChangesOnly (λ c k. k ≡ cell) h later }
 {
     accesses_lengthen_one_part();
-    let mut going = false;
+    let before = count.accesses;
     for consumer in 0..claims.len() {
         let claim = &mut claims[consumer];
         if let Stage::Going = claim.stage() {
             let stage = step_on(claim, layout, words, cell, source.word());
             count.add(1, stage);
-            going |= stage == Stage::Going;
         }
     }
-    going
+    count.accesses != before
 }
