@@ -55,7 +55,7 @@ abbrev pub AreSameButPlace : CellClaim → CellClaim → Type 0
 AreSameButPlace kept other = (other.consumer ≡ kept.consumer) × (other.object ≡ kept.object)
     × (other.begin ≡ kept.begin) × (other.stage ≡ kept.stage)
 
--- the words of the kept claim's object begin on this cell where it says
+-- the kept claim says where its object's words begin on this cell
 abbrev pub IsOnCell : Layout → ℕ → CellClaim → Type 0
 IsOnCell layout cell kept = kept.begin ≡ (site_of layout (cell * cell_words layout) kept.object).begin
 

@@ -6,12 +6,12 @@ use Rattle.mb_claim.specs.Types.{Claim, Going, Layout, Stretch}
 use Rattle.mb_claim.specs.Layouts.{quorums_of, kinds_of, words_before}
 use Rattle.mb_claim.specs.OneClaim.{claim_stage, consumer_of, FitsLayout}
 
--- whether a claim that has made no access to object o has made one before: there is an object before it
+-- whether a claim before its first access to object o has made an access: if o is not 0
 abbrev pub is_past : ℕ → Bool
 is_past zero = false
 is_past (suc o) = true
 
--- the claim of consumer c before its first access to object o, which is of this kind, where its input is v
+-- the claim of consumer c before its first access to object o, which is of this kind, with input v
 abbrev pub standing : Layout → ℕ → ℕ → ℕ → Kind → Claim
 standing layout c o v kind =
     record {
@@ -22,7 +22,7 @@ standing layout c o v kind =
       begun = is_past o;
     }
 
--- the claim is that of consumer c before its first access to object o, where its input is v
+-- the claim is that of consumer c before its first access to object o, with input v
 abbrev pub IsStanding : Layout → ℕ → ℕ → ℕ → Claim → Type 0
 IsStanding layout c o v claim =
     MatchOption (slice_get (kinds_of layout) o) ⊥ (λ kind. claim ≡ standing layout c o v kind)

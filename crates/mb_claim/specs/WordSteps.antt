@@ -5,7 +5,7 @@ use Rattle.mb_claim.specs.AllClaims.{Claims}
 use Rattle.mb_claim.specs.States.{found_in, access_in, words_after}
 
 -- the source gave the random word, and consumer c made the access to cell k, which found this value. Before and after
--- that there are the words, the history that left them, and the source
+-- that there are the words, a history, and the source
 abbrev pub MakesInWords :
     {S : Type 0} → Claims → ℕ → ℕ → (S → ℕ → S → Type 0) → List ℕ × List ClaimAccess × S → ℕ → ClaimOp → ℕ
     → List ℕ × List ClaimAccess × S → Type 0

@@ -175,7 +175,7 @@ pub fn straight_claims_go_on()
         → HasStopped layout (told Going 0 1 14) → ⊥ }
 {}
 
-/// Where the words begin of a claim that is kept on cell 1, and stands on that ratifier.
+/// Where the ratifier's words begin for a claim that is kept on cell 1.
 pub fn kept_claims_tell_where_they_are()
     // A cell has four words, and the ratifier's begin at its second.
     ensures here { (layout : Layout) (kept : CellClaim) → IsOfTwo layout

@@ -248,7 +248,7 @@ impl Layout {
         cell as usize * words
     }
 
-    /// An object of a cell whose words begin there.
+    /// An object of a cell whose words begin at `begin`.
     #[inline(always)]
     pub(crate) fn site(&self, begin: usize, object: u32) -> Site
         requires object { object < length (kinds_of self.now) }

@@ -26,8 +26,8 @@ pub record IsHolding (p : ℕ) (s : ConsumerView) : Type 0 where
   pub claim : Claim
   pub place : HasPlace p (At cell claim) s
 
--- the consumer with these fields is at cell k of lane p with a claim that is about to make its first access to object o,
--- where its input is v. Its place there may be out of date
+-- the consumer is at cell k of lane p with a claim that is about to make its first access to object o, with input v. Its
+-- place there may be out of date
 pub record IsBeforeObject (layout : Layout) (p k o v : ℕ) (s : ConsumerView) : Type 0 where
   pub claim : Claim
   pub standing : IsStanding layout s.seat.consumer o v claim

@@ -158,7 +158,7 @@ fn put_word<A: Allocator + Drop>(words: &mut Vec<u64, A>, word: Option<u64>)
     }
 }
 
-/// The next word to be read, or 0 past the last.
+/// The next word to be read, or 0 past the last. It counts as read.
 #[inline(always)]
 fn next_word(words: &[u64], read: &mut usize) -> u64
     requires { read.old + 1 < 2 ^ 64 }

@@ -1,4 +1,4 @@
-//! Claims on words that threads share that go straight, and their rests by single steps.
+//! Claims that go straight on shared words, and the rest of each by single steps.
 ghost use Rattle.std.specs.Prelude.{◌≡◌, ◌<◌, []};
 ghost use Rattle.mb_shared_claims.specs.Vocabulary.{name_of};
 

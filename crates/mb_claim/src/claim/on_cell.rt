@@ -4,7 +4,7 @@ use crate::access::Stage;
 use crate::layout::Layout;
 use mb_deciding::{ConciliatorPlace, LastPlace, Out, Pc, RatifierPlace};
 
-/// Where a claim stands on its object, without the numbers that belong to the place.
+/// Where a claim stands on its object, but for a last object without the numbers that belong to the place.
 #[derive(Clone, Copy, PartialEq, Eq, Debug)]
 enum Spot {
     AtDraw,
@@ -17,8 +17,8 @@ enum Spot {
     AtLast(LastPlace),
 }
 
-/// The claim of one consumer on one cell, for a caller that makes many single steps. It says what a [`Claim`] does, but
-/// its place has one flat form, and it keeps where the words of its object begin. So a step of it takes less.
+/// The claim of one consumer on one cell, for a caller that makes many single steps. It stands for a [`Claim`]. Its place
+/// is flat, and it keeps where the words of its object begin. So a step takes fewer instructions.
 #[derive(Clone, Copy, PartialEq, Eq, Debug)]
 pub struct CellClaim {
     consumer: u32,
@@ -47,7 +47,7 @@ impl CellClaim {
     ghost use Rattle.mb_claim.specs.{consumer_of, claim_stage, steps_left, consumer_count, quorums_of, kinds_of};
     ghost use Rattle.mb_claim.specs.{claim_of, place_of, stood_on, AreMarksOf, AreSameButPlace, IsOnCell, IsAtFirst};
 
-    /// The claim of a consumer that has made no access, on the first cell.
+    /// The claim of a consumer that has made no access. [`CellClaim::on`] puts it on a cell.
     pub fn new(layout: &Layout, consumer: u32) -> CellClaim
         requires { consumer < consumer_count layout.now }
         ensures consumer { consumer_of (claim_of false result) ≡ consumer }
@@ -75,7 +75,7 @@ impl CellClaim {
         claim
     }
 
-    /// The same claim on this cell. It has made no access.
+    /// The same claim on this cell. It stands on the first object.
     #[inline(always)]
     pub fn on(self, layout: &Layout, cell: u32) -> CellClaim
         requires cell { cell < MAX_LARGE_CELLS }

@@ -1,4 +1,4 @@
-//! A new claim goes straight through whole objects. It keeps no place in an object on this way.
+//! A new claim goes straight through whole objects. It keeps no place in an object meanwhile.
 ghost use Rattle.std.specs.Prelude.{◌≡◌, ◌≤◌, true};
 ghost use Rattle.mb_claim.specs.declared.claim.straight.TheConstants.{AMPLE};
 
@@ -13,7 +13,7 @@ use mb_quorum::Quorums;
 /// No claim makes more accesses to one object.
 const LONGEST: u64 = 138;
 
-/// A budget for as many accesses to each object that a cell may have, and more.
+/// A budget for the longest way through all objects of a cell, and more.
 const AMPLE: u64 = 8192;
 
 /// Where straight accesses of a claim ended.
@@ -84,7 +84,7 @@ impl Claim {
         // It did not stop before it had to.
         ensures goes { HasStopped layout.now result }
     {
-        // An ample budget has room for each object. Then no room is tested.
+        // With an ample budget no room is asked for.
         let ample = is_ample(most);
         let room = Claim::room(layout, ample);
         let mut at = Stretch {

@@ -1,5 +1,5 @@
-//! What a poll does with a claim. A claim that the consumer holds is stepped in its place. So a poll with a budget of one
-//! access copies no claim. A new claim goes straight through whole objects, and is kept nowhere on this way.
+//! What a poll does with a claim. A claim that the consumer holds is stepped in its place. A new claim goes straight
+//! through whole objects, and is kept nowhere meanwhile.
 ghost use Rattle.std.specs.Prelude.{ℕ, ◌≡◌, ◌≢◌, ◌+◌, ◌<◌, ◌≤◌, None, length, true};
 ghost use Rattle.arrayvec.specs.ArrayVec.{array_vec_len};
 ghost use Rattle.mb_claim.specs.declared.access.Stage.TheVariants as stage;
@@ -21,8 +21,8 @@ use rand_core::Rng;
 use std::alloc::Allocator;
 
 /// Goes on with the claim that the consumer holds on this lane. It goes to the claim's end, to the item if the claim is
-/// won, or until it has made this many accesses. It takes the consumer's fields, not the consumer. The claim stays in
-/// its place.
+/// won, or until it has made this many accesses. It takes the consumer's fields, not the consumer. The claim is stepped
+/// in its place.
 #[inline(always)]
 pub(super) fn run_held<A: Allocator + Drop, B: Allocator + Drop, R: Rng>(
     fields: &mut ConsumerFields<A>,
@@ -64,6 +64,7 @@ pub(super) fn run_held<A: Allocator + Drop, B: Allocator + Drop, R: Rng>(
     } = fields;
     reader.has_history();
     let (cell, claim) = match &mut places.as_mut_slice()[lane as usize] {
+        // (the consumer is at a cell)
         Place::Before(_) => return Poll::Spent,
         Place::At { cell, claim } => (*cell, claim),
     };
@@ -92,7 +93,7 @@ pub(super) fn run_held<A: Allocator + Drop, B: Allocator + Drop, R: Rng>(
     }
 }
 
-/// Makes a claim from its first access on, with the clauses of [`run_held`]. As long as `most` has room for whole
+/// Makes the accesses of a new claim, with the clauses of [`run_held`]. As long as `most` has room for whole
 /// objects, it goes straight through them. [`run_rest`] makes the other accesses. With no budget left the claim is only
 /// held, which takes less by itself than by [`run_rest`].
 #[inline(always)]
