@@ -7,6 +7,7 @@ pub mod OneObject
 pub mod Objects
 pub mod Deciding
 pub mod Place
+pub mod FlatPlaces
 pub mod OneStep
 pub mod ManySteps
 pub mod FirstPlaces
@@ -29,6 +30,7 @@ pub use OneObject.*
 pub use Objects.*
 pub use Deciding.*
 pub use Place.*
+pub use FlatPlaces.*
 pub use OneStep.*
 pub use ManySteps.*
 pub use FirstPlaces.*

@@ -190,13 +190,20 @@ impl RatifierPlace {
 
     /// What follows the load of the least register that is left of the preference's read quorum.
     #[inline(always)]
-    fn checked<Q: Quorums>(&mut self, q: &Q, preference: u32, left: u64, seen: u64) -> Option<Out>
+    pub(crate) fn checked<Q: Quorums>(
+        &mut self,
+        q: &Q,
+        preference: u32,
+        left: u64,
+        seen: u64,
+    ) -> Option<Out>
         requires { IsRatifierPlace (Q.table q.now) (Check preference left) }
         ensures fits { IsNext (Q.table q.now) (next_from result (InRatifier self.new)) }
         ensures fewer { turns_after (Q.table q.now) (next_from result (InRatifier self.new))
             < turns_left (Q.table q.now) (InRatifier (Check preference left)) }
         ensures reached { RatifierReaches (Q.table q.now) (Check preference left) seen
             (next_from result (InRatifier self.new)) }
+        ensures contested { seen ≢ 0 → result ≡ Some (answer false preference) }
     {
         if seen == 0 {
             self.checks(preference, without(left, least(left)))

@@ -1,0 +1,31 @@
+-- Flat places and flat outputs, and what they stand for.
+use Rattle.std.specs.Prelude.{ℕ, Option, None, Some, true, false}
+use Rattle.mb_deciding.specs.Types.{Pc, InConciliator, InRatifier, InLast, Draw, Put, Look, Begin, Announce, Propose, Check, Out}
+use Rattle.mb_deciding.specs.Types.{FlatPlace, Spot, AtDraw, AtPut, AtLook, AtBegin, AtAnnounce, AtPropose, AtCheck, AtLast}
+use Rattle.mb_deciding.specs.Types.{FlatOut, NotYet, Undecided, Decided}
+use Rattle.mb_deciding.specs.Objects.{answer}
+
+-- the place at this spot, with these numbers
+abbrev pub pc_at : Spot → ℕ → ℕ → ℕ → Pc
+pc_at AtDraw v mask modulus = InConciliator (Draw v mask modulus)
+pc_at AtPut v mask modulus = InConciliator (Put v)
+pc_at AtLook v mask modulus = InConciliator (Look v)
+pc_at AtBegin v mask modulus = InRatifier (Begin v)
+pc_at AtAnnounce v mask modulus = InRatifier (Announce v mask)
+pc_at AtPropose v mask modulus = InRatifier (Propose v)
+pc_at AtCheck v mask modulus = InRatifier (Check v mask)
+pc_at AtLast v mask modulus = InLast (record { input = v })
+
+-- the place that a flat place stands for
+abbrev pub pc_of : FlatPlace → Pc
+pc_of flat = pc_at flat.spot flat.value flat.mask flat.modulus
+
+-- the flat place, but at this spot, with this value
+abbrev pub stood_on : Spot → ℕ → FlatPlace → FlatPlace
+stood_on spot v flat = record { spot = spot; value = v; mask = flat.mask; modulus = flat.modulus }
+
+-- the output that a flat output stands for, if it is one
+abbrev pub out_in : FlatOut → Option Out
+out_in NotYet = None
+out_in (Undecided v) = Some (answer false v)
+out_in (Decided v) = Some (answer true v)
