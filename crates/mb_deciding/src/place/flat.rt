@@ -175,10 +175,7 @@ impl FlatPlace {
     {
         let was = *self;
         let out = place.step(values, memory, object, word);
-        if let None = out {
-            self.turn_in_conciliator(was, place);
-        }
-        FlatOut::of(out)
+        self.follow(was, Pc::InConciliator(place), out)
     }
 
     /// Makes the next access from this place, which is its own, in a ratifier.
@@ -202,10 +199,7 @@ impl FlatPlace {
     {
         let was = *self;
         let out = place.step(q, memory, object);
-        if let None = out {
-            self.turn_in_ratifier(was, place);
-        }
-        FlatOut::of(out)
+        self.follow(was, Pc::InRatifier(place), out)
     }
 
     /// Makes the next access of a process that loads the registers of its preference's read quorum. It asks first what
@@ -231,52 +225,62 @@ impl FlatPlace {
         if seen != 0 {
             return FlatOut::Undecided(preference);
         }
+        self.follow(was, Pc::InRatifier(place), out)
+    }
+
+    /// Goes on with what an access led to: this output, or else this place.
+    #[inline(always)]
+    fn follow(&mut self, was: FlatPlace, place: Pc, out: Option<Out>) -> FlatOut
+        requires { was ≡ self.old }
+        ensures { next_from (out_in result) (pc_of self.new) ≡ next_from out place }
+    {
         if let None = out {
-            self.turn_in_ratifier(was, place);
+            self.turn(was, place);
         }
         FlatOut::of(out)
     }
 
-    /// Goes to this place of a conciliator. It stores only what differs from what it was.
+    /// Goes to this place. It stores only what differs from what it was.
     #[inline(always)]
-    fn turn_in_conciliator(&mut self, was: FlatPlace, place: ConciliatorPlace)
+    fn turn(&mut self, was: FlatPlace, place: Pc)
         requires { was ≡ self.old }
-        ensures { pc_of self.new ≡ InConciliator place }
+        ensures { pc_of self.new ≡ place }
     {
         match place {
-            ConciliatorPlace::Draw {
-                input,
-                limit,
-                modulus,
-            } => {
+            Pc::InConciliator(
+                ConciliatorPlace::Draw {
+                    input,
+                    limit,
+                    modulus,
+                },
+            ) => {
                 self.stand(was, Spot::AtDraw, input);
                 self.mask = limit;
                 if modulus != was.modulus {
                     self.modulus = modulus;
                 }
             }
-            ConciliatorPlace::Put { input } => self.stand(was, Spot::AtPut, input),
-            ConciliatorPlace::Look { input } => self.stand(was, Spot::AtLook, input),
-        }
-    }
-
-    /// Goes to this place of a ratifier. It stores only what differs from what it was.
-    #[inline(always)]
-    fn turn_in_ratifier(&mut self, was: FlatPlace, place: RatifierPlace)
-        requires { was ≡ self.old }
-        ensures { pc_of self.new ≡ InRatifier place }
-    {
-        match place {
-            RatifierPlace::Begin { input } => self.stand(was, Spot::AtBegin, input),
-            RatifierPlace::Announce { input, left } => {
+            Pc::InConciliator(ConciliatorPlace::Put { input }) => {
+                self.stand(was, Spot::AtPut, input)
+            }
+            Pc::InConciliator(ConciliatorPlace::Look { input }) => {
+                self.stand(was, Spot::AtLook, input)
+            }
+            Pc::InRatifier(RatifierPlace::Begin { input }) => {
+                self.stand(was, Spot::AtBegin, input)
+            }
+            Pc::InRatifier(RatifierPlace::Announce { input, left }) => {
                 self.stand(was, Spot::AtAnnounce, input);
                 self.mask = left;
             }
-            RatifierPlace::Propose { input } => self.stand(was, Spot::AtPropose, input),
-            RatifierPlace::Check { preference, left } => {
+            Pc::InRatifier(RatifierPlace::Propose { input }) => {
+                self.stand(was, Spot::AtPropose, input)
+            }
+            Pc::InRatifier(RatifierPlace::Check { preference, left }) => {
                 self.stand(was, Spot::AtCheck, preference);
                 self.mask = left;
             }
+            Pc::InLast(LastPlace { input }) => self.stand(was, Spot::AtLast, input),
         }
     }
 

@@ -7,12 +7,12 @@ use crate::object::Out;
 use mb_quorum::Quorums;
 
 impl RatifierPlace {
-    ghost use Rattle.std.specs.Prelude.{◌≡◌, ◌≢◌, ◌<◌, ◌≤◌, ℕ, count_ones, List, ◌∷◌};
+    ghost use Rattle.std.specs.Prelude.{◌≡◌, ◌≢◌, ◌<◌, ◌≤◌, ℕ, count_ones, List, ◌∷◌, Some, false};
     ghost use Rattle.mb_quorum.specs.Quorum.{QuorumTable};
     ghost use Rattle.mb_deciding.specs.{Op, Turn, Ratifier, Announce, Propose, Check, InRatifier};
     ghost use Rattle.mb_deciding.specs.{acts, ReadsClear, PcIsAt, IsRatifierPlace, IsRatifierOp, IsRest, IsNext};
     ghost use Rattle.mb_deciding.specs.{IsReached, CanFind, act_of, RatifierReaches, IsStep, next_from};
-    ghost use Rattle.mb_deciding.specs.{turns_left, turns_after};
+    ghost use Rattle.mb_deciding.specs.{turns_left, turns_after, answer};
 
     /// The access that the process makes next.
     #[inline(always)]
