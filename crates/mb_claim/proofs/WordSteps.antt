@@ -1,12 +1,12 @@
 -- Accesses of a claim in a memory that shows words in one block and a source of random words.
-use Rattle.std.proofs.Common.{◌≡◌, ◌<◌, ◌^◌, ℕ, zero, suc, List, [], ◌∷◌, length, refl, sym, ap, ◌∙◌, subst, arith}
+use Rattle.std.proofs.Common.{◌≡◌, ◌<◌, ◌^◌, false, ℕ, zero, suc, List, [], ◌∷◌, length, refl, sym, ap, ◌∙◌, subst, arith}
 use Rattle.std.proofs.lemmas.Bool.{false≢true}
 use Rattle.mb_deciding.specs.Vocabulary.{IsActInWords, IsInWords, act_of, first_place, spread}
 use Rattle.mb_claim.specs.{Op, ObjectTurn, ClaimAccess, ClaimOp, Claim, Layout, Going, Claims, Pc}
 use Rattle.mb_claim.specs.{part_on, quorums_of, kinds_of, consumer_count, claims_in, consumer_of, claim_stage}
 use Rattle.mb_claim.specs.{IsClaimIn, IsClaimOn, IsMemoryOf, IsNextOp, CanClaimFind, found_in, access_in, words_after, step_of}
 use Rattle.mb_claim.specs.{AreClaimSteps, DrawsAndMakesNext, MakesInWords, IsStanding, standing}
-use Rattle.mb_claim.specs.{ClaimsAreSound, StandsAt, IsClaimPrefix}
+use Rattle.mb_claim.specs.{ClaimsAreSound, StandsAt, IsClaimPrefix, is_begun}
 use Rattle.mb_claim.proofs.ClaimSteps.{stands_first}
 use Rattle.mb_claim.proofs.LayoutObjects.{length-row_of, quorums_lawful}
 use Rattle.mb_claim.proofs.Straight.{first_begins, some_kind, is_standing, standing_is}
@@ -30,6 +30,16 @@ pub first_owner : (layout : Layout) (c : ℕ) (claim : Claim) → IsStanding lay
 first_owner layout c claim stands =
     let kind = some_kind layout 0 (has_first layout) in
     ap consumer_of (standing_is layout c 0 c kind.0 claim kind.1 stands)
+
+-- and stands on the first object, before its first access
+pub first_place_of : (layout : Layout) (c : ℕ) (claim : Claim) → IsStanding layout c 0 c claim
+    → (claim.object ≡ 0) × (is_begun claim ≡ false)
+first_place_of layout c claim stands =
+    let kind = some_kind layout 0 (has_first layout) in
+    let is = standing_is layout c 0 c kind.0 claim kind.1 stands in (
+      ap (λ (d : Claim). d.object) is,
+      ap is_begun is,
+    )
 
 -- that claim has made no access
 pub first_path :

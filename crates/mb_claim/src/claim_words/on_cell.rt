@@ -38,16 +38,16 @@ impl<A: Allocator + Drop> ClaimWords<A> {
     {
         claims_make_steps();
         accesses_lengthen_one_part();
-        let marks = claim.marks();
-        let mut place = claim.place();
         let mut memory = SpotWords {
             words: &mut self.words,
             layout,
             cell,
-            begin: marks.begin,
+            begin: claim.begin,
         };
-        let out = place.step(&layout.table, &mut memory, claim.object, word);
-        claim.go_on(layout, cell, marks, place, out)
+        let out = claim
+            .place
+            .step(&layout.table, &mut memory, claim.object, word);
+        claim.follow(layout, cell, out)
     }
 }
 

@@ -1,6 +1,6 @@
 -- Proof of `ClaimWords::step_on`: makes the next access of a claim that is kept on its cell.
 use Rattle.std.proofs.Common.{◌≡◌, ◌<◌, ◌≤◌, ◌*◌, ◌∷◌, ◌∙◌, length, refl, sym, ap, subst, arith}
-use Rattle.mb_deciding.specs.Vocabulary.{IsActInWords, IsOpAt, IsPlace, PcIsAt, CanFind, act_of, next_from, turns_left, turns_after}
+use Rattle.mb_deciding.specs.Vocabulary.{IsActInWords, act_of, pc_of}
 use Rattle.mb_claim.specs.{ClaimAccess, ClaimOp, part_on, claims_in, consumer_of, IsClaimIn, IsNextOp, CanClaimFind, IsMemoryOf, found_in}
 use Rattle.mb_claim.specs.{access_in, step_of, claim_of, quorums_of, cell_words}
 use Rattle.mb_claim.proofs.claim_words.ClaimWords.step_on.Goals as goal
@@ -13,7 +13,7 @@ step-out-requires-clause-place g c =
     let on = c.requires.held.3 in
     let fits = c.claims_make_steps.ensures.fits layout claim (part_on (consumer_of claim) c.args.cell h) on.standing
     c.requires.going in
-    subst (IsPlace (quorums_of layout)) (sym c.place-place.ensures) fits.place
+    fits.place
 
 pub step-out-requires-clause-may : goal.step-out-requires-clause-may
 step-out-requires-clause-may g c op is =
@@ -23,19 +23,16 @@ step-out-requires-clause-may g c op is =
     let claim = claim_of c.requires.held.2 c.args.claim.now in
     let on = c.requires.held.3 in
     let next : ClaimOp = record { object = claim.object; op = op } in
-    let at : IsNextOp layout claim next = record {
-      object = refl;
-      op = subst (λ pc. IsOpAt (quorums_of layout) pc op) c.place-place.ensures is;
-    } in
+    let at : IsNextOp layout claim next = record { object = refl; op = is } in
     let memory = subst (λ ws. IsMemoryOf (claims_in layout cells) ws h) (sym c.self.view_is) on.memory in (
       c.claims_make_steps.ensures.word layout claim next (part_on (consumer_of claim) c.args.cell h) on.standing
           c.requires.going at,
       (cells, on.cell, memory.room),
-      c.marks-marks.ensures.3 ∙ c.requires.here,
+      c.requires.here,
     )
 
-pub go_on-requires-clause-object : goal.go_on-requires-clause-object
-go_on-requires-clause-object g c =
+pub follow-requires-clause-object : goal.follow-requires-clause-object
+follow-requires-clause-object g c =
     let layout = c.args.layout.now in
     let h = c.requires.held.1 in
     let claim = claim_of c.requires.held.2 c.args.claim.now in
@@ -45,11 +42,7 @@ go_on-requires-clause-object g c =
     fits.object
 
 pub returns-clause-fewer : goal.returns-clause-fewer
-returns-clause-fewer g c =
-    let t = quorums_of c.args.layout.now in
-    c.go_on.ensures.fewer
-    (subst (λ pc. turns_after t (next_from c.step-out.result c.step-out.new.self) < turns_left t pc)
-    c.place-place.ensures c.step-out.ensures.fewer)
+returns-clause-fewer g c = c.follow.ensures.fewer (pc_of c.args.claim.now.place) c.step-out.ensures.fewer
 
 pub returns-clause-held : goal.returns-clause-held
 returns-clause-held g c cells h begun on =
@@ -59,13 +52,10 @@ returns-clause-held g c cells h begun on =
     let steps = c.claims_make_steps.ensures in
     let cell = c.args.cell in
     let claim = claim_of begun c.args.claim.now in
-    let now = claim_of _ c.go_on.new.self in
+    let now = claim_of _ c.follow.new.self in
     let step = c.step-out.ensures.step in
     let next : ClaimOp = record { object = claim.object; op = step.op } in
-    let at : IsNextOp layout claim next = record {
-      object = refl;
-      op = subst (λ pc. IsOpAt t pc step.op) c.place-place.ensures step.is;
-    } in
+    let at : IsNextOp layout claim next = record { object = refl; op = step.is } in
     let words = c.self.inside.words.items in
     let mine = part_on (consumer_of claim) cell h in
     let memory = subst (λ ws. IsMemoryOf cs ws h) (sym c.self.view_is) on.memory in
@@ -76,10 +66,9 @@ returns-clause-held g c cells h begun on =
     let path : IsClaimIn layout now
     (step_of next.object next.op (found_in cs cell next.object next.op words) c.args.word ∷ mine) =
     subst (λ n. IsClaimIn layout now (step_of next.object next.op n c.args.word ∷ mine)) found
-    (c.go_on.ensures.path begun mine (record { act = act_of step.op step.seen; word = c.args.word }) on.standing
-    (λ kind v turns there. step.reached kind v turns
-    (subst (λ pc. PcIsAt t kind v pc turns) (sym c.place-place.ensures) there)
-    (subst (λ pc. CanFind t pc step.op step.seen) (sym c.place-place.ensures) fits))) in
+    (c.follow.ensures.path (pc_of c.args.claim.now.place) begun mine
+    (record { act = act_of step.op step.seen; word = c.args.word }) on.standing
+    (λ kind v turns there. step.reached kind v turns there fits)) in
     let access : ClaimAccess = access_in cs (consumer_of claim) cell next.object next.op c.args.word words in (
       access.step,
       refl,
@@ -91,6 +80,6 @@ returns-clause-held g c cells h begun on =
         standing =
             subst (IsClaimIn layout now)
             (sym (c.accesses_lengthen_one_part.ensures.own_cell access h)
-            ∙ ap (λ d. part_on d cell (access ∷ h)) (sym c.go_on.ensures.consumer)) path;
+            ∙ ap (λ d. part_on d cell (access ∷ h)) (sym c.follow.ensures.consumer)) path;
       }),
     )
