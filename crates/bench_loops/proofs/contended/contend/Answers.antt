@@ -1,3 +1,4 @@
+-- Proof of `contend`: steps the claims on this cell in turn, until all have ended.
 use Rattle.std.proofs.Common.{◌∙◌}
 use Rattle.bench_loops.proofs.contended.contend.Goals as goal
 
