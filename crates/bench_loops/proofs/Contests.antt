@@ -1,13 +1,14 @@
 -- A step of one of the claims on a cell keeps the contest of all of them.
 use Rattle.std.proofs.Common.{◌≡◌, ◌≢◌, ◌<◌, ◌+◌, ℕ, Bool, true, List, ◌∷◌, ◌∙◌, inl, inr, length, slice_index_or, slice_set}
-use Rattle.std.proofs.Common.{sym, ap, subst, arith}
+use Rattle.std.proofs.Common.{sym, ap, subst, arith, ◌≤◌}
 use Rattle.std.proofs.lemmas.Bool.{cases_eq}
 use Rattle.std.proofs.lemmas.List.{get_or-set_same, get_or-set_other, length-set}
+use Rattle.std.proofs.lemmas.List.Sums.{sum_by-set}
 use Rattle.mb_claim.specs.declared.access.ClaimAccess.{ClaimAccess}
 use Rattle.mb_claim.specs.declared.claim.on_cell.CellClaim.{CellClaim}
 use Rattle.mb_claim.specs.declared.layout.Layout.{Layout}
-use Rattle.mb_claim.specs.Vocabulary.{part_on, claim_of, IsClaimIn, IsOnCell, consumer_of}
-use Rattle.bench_loops.specs.UnderWay.{IsContest, IsUnderWay}
+use Rattle.mb_claim.specs.Vocabulary.{part_on, claim_of, steps_left, IsClaimIn, IsOnCell, consumer_of}
+use Rattle.bench_loops.specs.UnderWay.{left_of, ChangesOnly, IsContest, IsUnderWay}
 
 -- an access lengthens no part but its own consumer's on its own cell
 abbrev pub OthersStay : Type 0
@@ -86,4 +87,53 @@ contest_goes_on layout cell c claims words left h claim a others contest within 
                   (sym (others i cell a h (λ who at. apart (sym who ∙ by)))) it.1),
             ))
       ];
+    }
+
+-- a round of steps so far: the claims are a contest after a longer history, which changed parts on this cell alone.
+-- They can make no more accesses than at the start, and fewer if a claim that was stepped goes on
+pub record IsRound
+    (layout : Layout) (cell : ℕ) (old : List CellClaim) (before : List ℕ) (claims : List CellClaim) (words : List ℕ)
+    (goes_on : Bool) : Type 0 where
+  pub kept :
+      (h : List ClaimAccess) → IsContest layout cell old before h
+      → (later : List ClaimAccess) × IsContest layout cell claims words later × ChangesOnly (λ c k. k ≡ cell) h later
+  pub most : left_of layout claims ≤ left_of layout old
+  pub fewer : goes_on ≡ true → left_of layout claims < left_of layout old
+
+-- if one claim can make fewer accesses than before, so can all of them together
+left_falls :
+    (layout : Layout) (claims : List CellClaim) (i : ℕ) (claim d : CellClaim) → i < length claims
+    → steps_left layout (claim_of true claim) < steps_left layout (claim_of true (slice_index_or claims i d))
+    → left_of layout (slice_set claims i claim) < left_of layout claims
+left_falls layout claims i claim d within fewer =
+    omega (arith, fewer, sum_by-set (λ c. steps_left layout (claim_of true c)) claims i claim d within)
+
+-- a round goes on by a step of the claim at place i, which has fewer steps left then
+pub round_steps_on :
+    (layout : Layout) (cell : ℕ) (old : List CellClaim) (before : List ℕ) (claims : List CellClaim)
+    (words left : List ℕ) (goes_on on : Bool) (i : ℕ) (claim d : CellClaim) → OthersStay → i < length claims
+    → consumer_of (claim_of true claim) ≡ consumer_of (claim_of true (slice_index_or claims i d))
+    → IsOnCell layout cell claim
+    → steps_left layout (claim_of true claim) < steps_left layout (claim_of true (slice_index_or claims i d))
+    → ((h : List ClaimAccess) (begun : Bool)
+    → IsUnderWay layout cell (claim_of begun (slice_index_or claims i d)) words h
+    → (a : ClaimAccess) × (a.consumer ≡ consumer_of (claim_of true (slice_index_or claims i d))) × (a.cell ≡ cell)
+    × IsUnderWay layout cell (claim_of true claim) left (a ∷ h))
+    → IsRound layout cell old before claims words goes_on
+    → IsRound layout cell old before (slice_set claims i claim) left on
+round_steps_on layout cell old before claims words left goes_on on i claim d others within same there fewer steps r =
+    let falls = left_falls layout claims i claim d within fewer in
+    record {
+      kept = λ h start.
+          let past = r.kept h start in
+          let own = past.1.whose i d within in
+          let it = one_of_contest layout cell i claims words past.0 d past.1 within in
+          let made = steps past.0 it.0 it.1 in (
+            made.0 ∷ past.0,
+            contest_goes_on layout cell i claims words left past.0 claim made.0 others past.1 within (same ∙ own)
+                there (made.1 ∙ own) made.3,
+            λ c k other. others c k made.0 past.0 (λ who at. other (sym at ∙ made.2)) ∙ past.2 c k other,
+          );
+      most = omega (arith, falls, r.most);
+      fewer = λ is. omega (arith, falls, r.most);
     }

@@ -1,9 +1,9 @@
 //! Claims of all consumers on one cell, a step each in turn.
-ghost use Rattle.std.specs.Prelude.{◌≡◌, ◌<◌, [], ℕ, List, length};
+ghost use Rattle.std.specs.Prelude.{◌≡◌, ◌<◌, [], ℕ, true, List, length};
 ghost use Rattle.mb_claim.specs.declared.access.ClaimAccess.{ClaimAccess};
 ghost use Rattle.mb_claim.specs.declared.layout.TheConstants.{MAX_CELLS};
 ghost use Rattle.mb_claim.specs.Vocabulary.{consumer_count, IsMemoryOf};
-ghost use Rattle.bench_loops.specs.UnderWay.{all_claims, AreNew, ChangesOnly, IsContest};
+ghost use Rattle.bench_loops.specs.UnderWay.{all_claims, AreNew, ChangesOnly, IsContest, left_of};
 
 use crate::count::Count;
 use crate::source::Source;
@@ -89,14 +89,13 @@ fn contend<A: Allocator + Drop>(
         → (later : List ClaimAccess) × IsContest layout.now cell claims.new words.new later
         × ChangesOnly (λ c k. k ≡ cell) h later }
 {
-    for _ in 0..u64::MAX {
-        if !turn_each(layout, words, cell, claims, source, count) {
-            break;
-        }
+    // This count keeps the loops of rounds and of claims apart in the compiled code.
+    while turn_each(layout, words, cell, claims, source, count) {
+        count.rounds = count.rounds.wrapping_add(1);
     }
 }
 
-/// Steps each claim on this cell that goes on, once. Returns whether there was one.
+/// Steps each claim on this cell that goes on, once. Returns whether one of them goes on after that.
 #[inline(always)]
 fn turn_each<A: Allocator + Drop>(
     layout: &Layout,
@@ -111,15 +110,19 @@ fn turn_each<A: Allocator + Drop>(
     ensures kept { (h : List ClaimAccess) → IsContest layout.now cell claims.old words.old h
         → (later : List ClaimAccess) × IsContest layout.now cell claims.new words.new later
         × ChangesOnly (λ c k. k ≡ cell) h later }
+    ensures fewer { result ≡ true → left_of layout.now claims.new < left_of layout.now claims.old }
 {
     accesses_lengthen_one_part();
-    let before = count.accesses;
+    let mut goes_on = false;
     for consumer in 0..claims.len() {
         let claim = &mut claims[consumer];
         if let Stage::Going = claim.stage() {
             let stage = step_on(claim, layout, words, cell, source.word());
             count.add(1, stage);
+            if let Stage::Going = stage {
+                goes_on = true;
+            }
         }
     }
-    count.accesses != before
+    goes_on
 }

@@ -9,6 +9,8 @@ pub struct Count {
     pub accesses: u64,
     /// The claims that were won.
     pub won: u64,
+    /// The rounds of steps that claims in turn made.
+    pub rounds: u64,
 }
 
 impl Count {
@@ -17,6 +19,7 @@ impl Count {
         Count {
             accesses: 0,
             won: 0,
+            rounds: 0,
         }
     }
 
@@ -32,7 +35,11 @@ impl Count {
 
 impl fmt::Display for Count {
     fn fmt<W: fmt::Write>(&self, f: &mut fmt::Formatter<W>) -> fmt::Result {
-        let Count { accesses, won } = self;
+        let Count {
+            accesses,
+            won,
+            rounds: _,
+        } = self;
         write!(f, "{accesses} accesses, {won} claims won")
     }
 }
