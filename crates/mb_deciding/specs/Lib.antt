@@ -30,7 +30,6 @@ pub use OneObject.*
 pub use Objects.*
 pub use Deciding.*
 pub use Place.*
-pub use FlatPlaces.*
 pub use OneStep.*
 pub use ManySteps.*
 pub use FirstPlaces.*

@@ -14,6 +14,8 @@ ghost use Rattle.mb_deciding.specs.{small_ratifier, small_conciliator, history_o
 ghost use Rattle.mb_deciding.specs.{invented_turns, patient_turns, impatient_turns, IsTraceOfOne, entry_of_one};
 ghost use Rattle.mb_deciding.specs.{clear_entries, hidden_entries, patient_entries, impatient_entries};
 ghost use Rattle.mb_deciding.specs.declared.trace.Entry.TheVariants as entry;
+ghost use Rattle.mb_deciding.specs.{InRatifier, Check, AtPut, AtLook, AtCheck, Undecided, Decided};
+ghost use Rattle.mb_deciding.specs.FlatPlaces.{pc_at, out_in};
 
 /// Small histories of one process with the input 0. Those with `→ ⊥` are not lawful.
 pub fn small_histories()
@@ -122,4 +124,16 @@ pub fn rows_of_accesses()
     ensures one { (t : QuorumTable) (pc : Pc) (out : Out) (m now : ℕ)
         → AreSteps t (λ before word op seen now. now ≡ before + 1) pc m 1 (leads.Out out) now
         → now ≡ m + 1 }
+{}
+
+/// Flat places and outputs, by their fields.
+pub fn flat_places()
+    ensures check { pc_at AtCheck 1 4 8 ≡ InRatifier (Check 1 4) }
+
+    // Numbers that the place does not have do not count.
+    ensures put { pc_at AtPut 1 4 8 ≡ pc_at AtPut 1 0 0 }
+
+    // Places of two kinds differ, as a decided output differs from one that is not.
+    ensures apart { pc_at AtPut 1 4 8 ≡ pc_at AtLook 1 4 8 → ⊥ }
+    ensures decided { out_in (Decided 1) ≡ out_in (Undecided 1) → ⊥ }
 {}

@@ -74,7 +74,8 @@ impl CellClaim {
         requires cell { cell < MAX_LARGE_CELLS }
         requires here { IsOnCell layout.now cell self.old }
         requires object { self.old.object < length (kinds_of layout.now) }
-        requires next { IsNext (quorums_of layout.now) (next_from (out_in out) (pc_of self.old.place)) }
+        requires next { IsNext (quorums_of layout.now)
+            (next_from (out_in out) (pc_of self.old.place)) }
         ensures here { IsOnCell layout.now cell self.new }
         ensures consumer { self.new.consumer ≡ self.old.consumer }
         ensures stage { result ≡ self.new.stage }

@@ -45,7 +45,7 @@ pub enum FlatOut {
 
 impl FlatOut {
     ghost use Rattle.std.specs.Prelude.{◌≡◌};
-    ghost use Rattle.mb_deciding.specs.{out_in};
+    ghost use Rattle.mb_deciding.specs.FlatPlaces.{out_in};
 
     /// This output, if there is one.
     #[inline(always)]
@@ -65,7 +65,8 @@ impl FlatPlace {
     ghost use Rattle.mb_quorum.specs.Vocabulary.{QuorumTable};
     ghost use Rattle.mb_deciding.specs.{Op, InConciliator, InRatifier, Check, IsConciliatorPlace, IsConciliatorOp};
     ghost use Rattle.mb_deciding.specs.{IsRatifierPlace, IsRatifierOp, IsPlace, IsOpAt, IsNext, IsStep, next_from};
-    ghost use Rattle.mb_deciding.specs.{turns_left, turns_after, pc_of, out_in, stood_on};
+    ghost use Rattle.mb_deciding.specs.{turns_left, turns_after};
+    ghost use Rattle.mb_deciding.specs.FlatPlaces.{pc_of, out_in, stood_on};
 
     /// This place.
     pub fn of(place: Pc) -> FlatPlace
@@ -207,7 +208,8 @@ impl FlatPlace {
     #[inline(always)]
     fn check<Q: Quorums, M: Memory>(&mut self, q: &Q, memory: &mut M, object: u32) -> FlatOut
         requires place { IsRatifierPlace (Q.table q.now) (Check self.old.value self.old.mask) }
-        requires may { (op : Op) → IsRatifierOp (Q.table q.now) (Check self.old.value self.old.mask) op
+        requires may { (op : Op)
+            → IsRatifierOp (Q.table q.now) (Check self.old.value self.old.mask) op
             → M.can_make memory.old object op }
         ensures fits { IsNext (Q.table q.now) (next_from (out_in result) (pc_of self.new)) }
         ensures fewer { turns_after (Q.table q.now) (next_from (out_in result) (pc_of self.new))
