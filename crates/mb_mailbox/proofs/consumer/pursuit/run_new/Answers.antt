@@ -2,7 +2,6 @@ use Rattle.std.proofs.Common.{◌≡◌, ◌∙◌, ◌+◌, ◌-◌, ◌≢◌,
 use Rattle.std.specs.Prelude.{None, Some, slice_get, slice_set}
 use Rattle.mb_claim.specs.declared.access.Stage.TheVariants as stage
 use Rattle.mb_mailbox.specs.declared.consumer.Poll.TheVariants as poll
-use Rattle.mb_mailbox.specs.Pursuits.{PendingClaim}
 use Rattle.mb_world.specs.declared.place.Place.{Place, TheVariants.At}
 use Rattle.mb_mailbox.specs.Imports.{CellsName, Claim, Gave, IsClaimIn, IsStanding, Layout, Lost, ReaderSeatView, SeatView, Stream, TableSize, Took}
 use Rattle.mb_mailbox.specs.Imports.{Undecided, claim_stage, consumer_count, name_of, part_on, shape_of}
@@ -13,7 +12,7 @@ use Rattle.mb_mailbox.proofs.Beginnings.{standing_going, standing_same}
 use Rattle.mb_mailbox.proofs.Made.{at_views, room_stays}
 use Rattle.mb_mailbox.proofs.Polls.{no_steps}
 use Rattle.mb_mailbox.proofs.Pursuing.{pursued_past}
-use Rattle.mb_mailbox.proofs.Starts.{Start, here, ran, start_room, table, there}
+use Rattle.mb_mailbox.proofs.Starts.{PendingClaim, Start, here, ran, start_room, table, there}
 use Rattle.mb_mailbox.proofs.Taking.{AreStraight, pursued_on, some_made, still_consumer, still_steps, taken}
 use Rattle.mb_mailbox.proofs.consumer.pursuit.run_new.{Given.Over, Goals.After-has_history, Goals.After-straight-end}
 use Rattle.mb_mailbox.proofs.consumer.pursuit.run_new.Goals as goal
