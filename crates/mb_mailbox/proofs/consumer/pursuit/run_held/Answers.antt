@@ -15,7 +15,7 @@ use Rattle.mb_mailbox.proofs.{Ending.holds_it, Taking.taken}
 use Rattle.mb_mailbox.proofs.Lists.{set_twice, some_same}
 use Rattle.mb_mailbox.proofs.Made.{at_views, room_stays}
 use Rattle.mb_mailbox.proofs.Pursuing.{pursued_past, pursued_spent}
-use Rattle.mb_mailbox.proofs.Starts.{PendingClaim, Start, begun, here, ran, start_room, table, there}
+use Rattle.mb_mailbox.proofs.Starts.{PendingClaim, Start, begun, here, ran, start_room, table}
 use Rattle.mb_mailbox.proofs.consumer.pursuit.run_held.{Given.Over, Goals.After-compete-stage, Goals.After-has_history-2, Goals.After-stage}
 use Rattle.mb_mailbox.proofs.consumer.pursuit.run_held.Goals as goal
 

@@ -1,4 +1,4 @@
-use Rattle.std.proofs.Common.{◌≡◌, ◌∙◌, ◌+◌, ◌-◌, ◌≢◌, ◌<◌, ◌≤◌, ℕ, List, length, true, arith, ap, refl, subst, sym}
+use Rattle.std.proofs.Common.{◌≡◌, ◌∙◌, ◌+◌, ◌-◌, ◌≢◌, ◌<◌, ◌≤◌, ℕ, List, true, arith, ap, refl, subst, sym}
 use Rattle.std.specs.Prelude.{None, Some, slice_get, slice_set}
 use Rattle.mb_claim.specs.declared.access.Stage.TheVariants as stage
 use Rattle.mb_mailbox.specs.declared.consumer.Poll.TheVariants as poll
@@ -9,7 +9,7 @@ use Rattle.mb_mailbox.specs.ConsumerWords.{AreSteps, ConsumerView, HasPlace, IsC
 use Rattle.mb_mailbox.specs.Mailboxes.{MailboxView}
 use Rattle.mb_mailbox.specs.Pursuits.{HasCompeted}
 use Rattle.mb_mailbox.proofs.Beginnings.{standing_going, standing_same}
-use Rattle.mb_mailbox.proofs.Made.{at_views, room_stays}
+use Rattle.mb_mailbox.proofs.Made.{room_stays}
 use Rattle.mb_mailbox.proofs.Polls.{no_steps}
 use Rattle.mb_mailbox.proofs.Pursuing.{pursued_past}
 use Rattle.mb_mailbox.proofs.Starts.{PendingClaim, Start, here, ran, start_room, table, there}
