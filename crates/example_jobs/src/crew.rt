@@ -1,4 +1,5 @@
-//! The crew: who puts jobs, who runs them, and who reports progress, each in a thread of its own.
+//! The crew: who puts jobs, who runs them, and who reports progress. Each has a thread of its own,
+//! if threads can be started.
 ghost use Rattle.std.specs.Prelude.{All, IfOk, OnOk};
 ghost use Rattle.mb_mailbox.specs.Consumers.{IsConsumerOf};
 ghost use Rattle.mb_mailbox.specs.Hubs.{IsHubOf};

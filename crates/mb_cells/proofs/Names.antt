@@ -1,4 +1,4 @@
--- Words, and what a history leaves in them.
+-- The tests that tell words and processes apart, and what a history leaves in a word.
 use Rattle.std.proofs.Common.{Bool, None, Option, Some, ap, cond, eq-eqb, eqb-true, false, inl, inr, refl, subst, sym, true, ℕ, ◌∙◌, ◌∷◌, ◌≡◌, ◌≢◌, ◌⊎◌}
 use Rattle.std.proofs.lemmas.Bool.{cases_Bool, cond_both, false≢true}
 use Rattle.mb_cells.specs.{Counter, Head, History, Item, Link, PoolAccess, PoolAct, Process, Producer, Reader, Word, is_same_process, is_same_word, stored_by, value_in}

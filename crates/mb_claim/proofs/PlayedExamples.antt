@@ -1,4 +1,4 @@
--- The examples of runs: which of them are runs.
+-- The examples of plays: which of them are plays.
 use Rattle.std.proofs.Common.{◌≡◌, ◌<◌, ℕ, zero, suc, true, false, List, [], ◌∷◌, ◌++◌, get_or, refl, inl, inr}
 use Rattle.std.proofs.Common.{⊎_elim, arith}
 use Rattle.mb_quorum.specs.Unary.{unary_table}

@@ -13,9 +13,8 @@ abbrev pub IsClaimPart : Claims → ℕ → ℕ → List ObjectTurn → Type 0
 IsClaimPart cs c k xs = (c < cs.table.values) × (k < cs.cells) × ((s : Stage)
     × IsClaimPrefix cs c xs s)
 
--- The history of claims is lawful. Each load is true to memory. Values and random words are below 2 ^ 64. What a
--- consumer did on a cell is a prefix of its claim path there, with its own number as first input. There are no
--- consumers and cells but those of the claims: the consumers are the values of the quorum table.
+-- The history of claims is lawful. Nobody but the consumers of the claims made an access, and none
+-- is to a cell that the claims do not have. The consumers are the values of the quorum table.
 pub record IsClaimLawful (cs : Claims) (h : List ClaimAccess) : Type 0 where
   -- each load has what the older accesses left
   pub memory : IsMemoryTrue h

@@ -8,7 +8,6 @@ use Rattle.mb_mailbox.specs.Imports.{Claim, ClaimTable, IsClaimIn, Layout, SeatV
 use Rattle.mb_world.specs.declared.place.Place.{Place}
 use Rattle.mb_world.specs.declared.place.Place.TheVariants.{At}
 use Rattle.mb_mailbox.specs.declared.consumer.ConsumerFields.{ConsumerFields}
-use Rattle.mb_mailbox.specs.Pursuits.{PendingClaim}
 use Rattle.mb_mailbox.specs.Consumers.{ConsumerView, IsConsumer, IsConsumerOf}
 use Rattle.mb_mailbox.specs.Mailboxes.{MailboxView}
 use Rattle.mb_mailbox.specs.Moves.{HasLoads, HasPlace}
@@ -18,6 +17,12 @@ use Rattle.mb_mailbox.specs.Steps.{AreSteps}
 use Rattle.mb_mailbox.proofs.Competing.{IsNext, MovesOn, competed_more, competed_none}
 use Rattle.mb_mailbox.proofs.Lists.{get_some, set_here}
 use Rattle.mb_mailbox.proofs.Moving.{holds}
+
+-- a claim on a cell of a lane
+pub record PendingClaim : Type 0 where
+  pub lane : ℕ
+  pub cell : ℕ
+  pub claim : Claim
 
 -- these are the fields of a consumer that holds this claim. Its place on the claim's lane may be out of date
 pub record Start {Z : Type 0} (m : MailboxView) (pending : PendingClaim) (f : ConsumerFields Z) : Type 0 where

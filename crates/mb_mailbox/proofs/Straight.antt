@@ -1,5 +1,5 @@
 -- Accesses of a claim in a row: how many they are.
-use Rattle.std.proofs.Common.{◌≡◌, ◌+◌, ◌≤◌, ℕ, zero, suc, List, ◌∷◌, length, refl, sym, ◌∙◌, ap, subst, arith}
+use Rattle.std.proofs.Common.{◌≡◌, ◌+◌, ◌≤◌, ℕ, zero, suc, List, ◌∷◌, length, sym, ◌∙◌, ap, subst, arith}
 use Rattle.std.specs.Prelude.{Some}
 use Rattle.mb_claim.specs.Vocabulary.{IsClaimLawful, part}
 use Rattle.mb_shared_claims.specs.Seats.{claims_at_size}

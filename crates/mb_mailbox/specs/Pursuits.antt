@@ -33,12 +33,6 @@ pub record IsBeforeObject (layout : Layout) (p k o v : ℕ) (s : ConsumerView) :
   pub standing : IsStanding layout s.seat.consumer o v claim
   pub is : IsConsumer (holding p k claim s)
 
--- a claim on a cell of a lane
-pub record PendingClaim : Type 0 where
-  pub lane : ℕ
-  pub cell : ℕ
-  pub claim : Claim
-
 -- ---- accesses of the claim
 -- the consumer after accesses of the claim on cell k, by the stage that the claim has then
 abbrev pub competed : ℕ → ℕ → Claim → SeatView → ConsumerView → ConsumerView

@@ -217,7 +217,8 @@ fn push_attributes<A: Allocator>(
     text.push_str("role='img' aria-labelledby='title desc'>\n")
 }
 
-/// What stands before the drawing: what a screen reader tells beside the title, the style, the ground and the title.
+/// Appends what stands before the drawing. A description for screen readers comes first, with the
+/// lines of the report. The style, the ground and the drawn title follow.
 fn push_front<A: Allocator + Copy>(
     text: &mut String<A>,
     picture: &Picture<A>,

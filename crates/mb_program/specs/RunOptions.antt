@@ -21,7 +21,7 @@ number_from low high default (Some text) =
 abbrev pub number_in : Text → ℕ → List Row → ℕ
 number_in name default rows = number_from 0 (2 ^ 64 - 1) default (one_of name rows)
 
--- the budget in the rows that clap found, or else the default if it is out of its range
+-- the budget in the rows that clap found, or the default if there is none or it is out of range
 abbrev pub budget_in : List Row → ℕ
 budget_in rows =
     let budget = number_in (codes "budget") DEFAULTS.budget rows in

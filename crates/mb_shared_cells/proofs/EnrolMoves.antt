@@ -1,4 +1,5 @@
--- The table at its start, and the hub's steps that give numbers out.
+-- The table at its start, and the hub's steps that issue seats. The hub draws the number of a lane,
+-- and splits off the seat of a lane or a reader.
 use Rattle.std.proofs.Common.{List, [], ap, arith, get_or-set_other, get_or-set_same, inl, inr, le_refl, length, length-append, length-set, refl}
 use Rattle.std.proofs.Common.{replicate, slice_index, slice_set, subst, suc, sym, zero, ℕ, ⊎_elim, ◌%◌, ◌++◌, ◌+◌, ◌<◌, ◌^◌, ◌∙◌, ◌∷◌, ◌≡◌, ◌≢◌, ◌≤◌, ◌⊎◌}
 use Rattle.std.specs.Prelude.{None, Some}

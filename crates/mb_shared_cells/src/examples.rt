@@ -17,7 +17,8 @@ use mb_cells::examples::pools_hold_what_was_done;
 use mb_cells::laws::parts_tell_lanes;
 use mb_cells::steps::history_extends;
 
-/// Words and views of a table of one lane and one cell: the counter, the head, the link, the item, and the roster.
+/// Words and views of a table of one lane and one cell. The words are, in this order, the counter,
+/// the head, the link, the item and the roster.
 pub fn words_and_views_agree()
     // Nothing was done yet.
     ensures new { IsStateOfOne (0 ∷ 0 ∷ 0 ∷ 0 ∷ 0 ∷ []) (new_hub ∷ []) }

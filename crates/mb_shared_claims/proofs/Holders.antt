@@ -43,8 +43,8 @@ all_added P views w others mine j u e =
     (λ (x : (j ≡ length views) × (w ≡ u)). subst (λ (y : ℕ × View). P y.0 y.1) (λ i. (sym x.0 i, x.1 i)) mine)
     (at_added views w u j e)
 
--- a part at a seat is there still after a view is replaced by one with the same parts of this consumer. It goes by
--- whether the seat is the one of that view
+-- a part at a seat is there still after a view is replaced by one that has it if the old one had.
+-- The proof goes by whether the seat is the one of that view
 kept_by :
     (views : List View) (id j c : ℕ) (v w : View) (xs : List ClaimAccess) → IsViewAt views id v
     → (HasPart v c xs → HasPart w c xs) → HasPartAt views j c xs → Dec (j ≡ id) → HasPartAt (set views id w) j c xs
@@ -54,7 +54,7 @@ kept_by views id j c v w xs at keeps has (yes same) =
     (w, at_replaced views id v w at, keeps (subst (λ u. HasPart u c xs) is has.2))
 kept_by views id j c v w xs at keeps has (no apart) = (has.0, set_else views id j w apart ∙ has.1, has.2)
 
--- a part at a seat is there still after a view is replaced by one with the same parts of this consumer
+-- a part at a seat is there still after a view is replaced by one that has it if the old one had
 pub kept_at :
     (views : List View) (id j c : ℕ) (v w : View) (xs : List ClaimAccess) → IsViewAt views id v
     → (HasPart v c xs → HasPart w c xs) → HasPartAt views j c xs → HasPartAt (set views id w) j c xs

@@ -51,10 +51,11 @@ module _ (took : IsDiaryOf two_by_two 0 0 all_histories (diary_with 0 0 (Took 5 
 abbrev reads : History
 reads = part (Reader 1) all_histories.pool
 
--- consumer 1 was given cell 0, and below cell 1
+-- consumer 1 was given cell 0
 given_first : Gave 0 reads
 given_first = inr (inr (inl (refl, λ e. cc)))
 
+-- consumer 1 was given cell 1
 given_second : Gave 1 reads
 given_second = inr (inl (refl, λ e. cc))
 
@@ -71,10 +72,11 @@ no_item k v (a, inr (inr (inr none)), w, _) = none
 not_taken : (p x : ℕ) → IsNoDiary 1 p (diary_with 1 p (Took x ∷ []))
 not_taken p x d = let n = d.notes 0 (Took x) refl in no_item n.0 x n.2.1
 
--- so a diary in which consumer 1 took the item 5 is not its diary, nor (below) one with the item 6
+-- so a diary in which consumer 1 took the item 5 is not its diary
 pub no_loss_taken : IsNoDiary 1 0 loss_taken
 no_loss_taken = not_taken 0 5
 
+-- nor is a diary in which consumer 1 took the item 6
 pub no_unwon_taken : IsNoDiary 1 1 unwon_taken
 no_unwon_taken = not_taken 1 6
 
@@ -89,7 +91,7 @@ no_silence lost d =
     let within : at.0 < 0 = d.all at.0 0 (Lost 0) (reverse_at d.cells at.0 0 at.1) lost in
     omega (arith, within)
 
--- the claim of consumer 1 on cell 1 goes on, so it has no end
+-- the claim of consumer 1 on cell 1 goes on, so it has no end: the same steps have one stage
 no_end : (one_stage : (xs : List ObjectTurn) (s r : Stage) → IsClaimPrefix two_cells 1 xs s
     → IsClaimPrefix two_cells 1 xs r → s ≡ r)
     → IsClaimPrefix two_cells 1 (first_step ∷ []) stage.Going → (n : Note)

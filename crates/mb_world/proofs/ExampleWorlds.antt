@@ -99,7 +99,8 @@ module _ (laws : Laws) where
       (laws.going 1 undecided_last (drop 1 undecided_steps) stage.Undecided laws.undecided)
 
   -- ---- both items are put
-  -- each history below adds one access to the one before, and is lawful with it
+  -- with a cell for the item 5 the history is lawful. In this section each history adds one access
+  -- to the one before
   pub taken_lawful : IsWorldLawful two_by_two (ToCells (fetch 0 five) ∷ [])
   taken_lawful =
       let at : LaneIsAt 2 0 [] (Offered five) (fetch 0 five ∷ []) = record {
@@ -262,6 +263,7 @@ module _ (laws : Laws) where
       None almost_lost.lawful (omega arith) (omega arith) (((omega arith, tt), omega arith), refl) lost_path).lawful
 
   -- ---- consumer 1 begins a claim on the item 6
+  -- the path of consumer 1 on lane 1 has found cell 1
   met_path : ConsumerPath two_cells 1 1 (lane_part 1 1 second_met) (1 ∷ []) [] (Some [])
   met_path = finds (λ e. cc) second_fresh begins
 

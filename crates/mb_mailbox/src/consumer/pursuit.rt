@@ -135,7 +135,7 @@ pub(super) fn run_new<A: Allocator + Drop, B: Allocator + Drop, R: Rng>(
     }
 
     // One access is kept for the item.
-    let room = most.saturating_sub(1);
+    let room = most - 1;
     let mut end = mailbox.claims.straight(&mut fields.seat, cell, rng, room);
     match end.stage {
         Stage::Won => {
@@ -156,7 +156,7 @@ pub(super) fn run_new<A: Allocator + Drop, B: Allocator + Drop, R: Rng>(
             Poll::Undecided
         }
         Stage::Going => {
-            end.left += most - room;
+            end.left += 1;
             run_rest(fields, mailbox, lane, cell, end, rng)
         }
     }

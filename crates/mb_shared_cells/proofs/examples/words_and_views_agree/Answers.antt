@@ -1,5 +1,5 @@
--- Proof of `examples::words_and_views_agree`: words and views of a table of one lane and one cell: the counter, the
--- head, the link, the item, and the roster.
+-- Proof of `examples::words_and_views_agree`: words and views of a table of one lane and one cell.
+-- The words are, in this order, the counter, the head, the link, the item and the roster.
 use Rattle.std.proofs.Common.{Some, None, [], arith, refl, sym, ◌∷◌, ◌≡◌, subst, suc, zero, ℕ, slice_index, nat_eq, false}
 use Rattle.std.proofs.Math.Dec.{eqb-suc-zero}
 use mathlib.Core.Option.{some, some-injective, some-ne-none}
@@ -38,7 +38,7 @@ nobody_in : (who : Process) (done : History) → roll_at who empty_roll ≡ Some
 nobody_in (Producer p) done e = absurd (cc)
 nobody_in (Reader r) done e = absurd (cc)
 
--- nobody is enrolled, so whoever is has a seat
+-- each process that is enrolled has a seat: there is no such process
 nobody_stands : (who : Process) → IsEnrolled nothing who → StandsAt (first_view one_by_one ∷ []) 0 who
 nobody_stands (Producer p) low = absurd (omega (arith, low))
 nobody_stands (Reader r) low = absurd (omega (arith, low))

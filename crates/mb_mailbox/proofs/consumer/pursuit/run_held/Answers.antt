@@ -9,13 +9,13 @@ use Rattle.mb_world.specs.declared.place.Place.{Place, TheVariants.At, TheVarian
 use Rattle.mb_mailbox.specs.Imports.{AreSeatSteps, CellsName, Claim, Gave, IsClaimIn, ItemMakes, Lost, ReaderSeatView, SeatView, Stream, TableSize}
 use Rattle.mb_mailbox.specs.Imports.{Note, Took, Undecided, claim_stage, most_accesses, name_of, part_on, shape_of}
 use Rattle.mb_mailbox.specs.ConsumerWords.{AreSteps, ConsumerView, HasPlace, HasRoom, IsConsumer}
-use Rattle.mb_mailbox.specs.Pursuits.{HasCompeted, IsPursuit, PendingClaim, holding, with_fields}
+use Rattle.mb_mailbox.specs.Pursuits.{HasCompeted, IsPursuit, holding, with_fields}
 use Rattle.mb_mailbox.specs.{Mailboxes.MailboxView, Steps.with_note}
 use Rattle.mb_mailbox.proofs.{Ending.holds_it, Taking.taken}
 use Rattle.mb_mailbox.proofs.Lists.{set_twice, some_same}
 use Rattle.mb_mailbox.proofs.Made.{at_views, room_stays}
 use Rattle.mb_mailbox.proofs.Pursuing.{pursued_past, pursued_spent}
-use Rattle.mb_mailbox.proofs.Starts.{Start, begun, here, ran, start_room, table, there}
+use Rattle.mb_mailbox.proofs.Starts.{PendingClaim, Start, begun, here, ran, start_room, table}
 use Rattle.mb_mailbox.proofs.consumer.pursuit.run_held.{Given.Over, Goals.After-compete-stage, Goals.After-has_history-2, Goals.After-stage}
 use Rattle.mb_mailbox.proofs.consumer.pursuit.run_held.Goals as goal
 

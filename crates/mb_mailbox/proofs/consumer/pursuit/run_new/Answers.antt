@@ -1,8 +1,7 @@
-use Rattle.std.proofs.Common.{◌≡◌, ◌∙◌, ◌+◌, ◌-◌, ◌≢◌, ◌<◌, ◌≤◌, ℕ, List, length, true, arith, ap, refl, subst, sym}
+use Rattle.std.proofs.Common.{◌≡◌, ◌∙◌, ◌+◌, ◌-◌, ◌≢◌, ◌<◌, ◌≤◌, ℕ, List, true, arith, ap, refl, subst, sym}
 use Rattle.std.specs.Prelude.{None, Some, slice_get, slice_set}
 use Rattle.mb_claim.specs.declared.access.Stage.TheVariants as stage
 use Rattle.mb_mailbox.specs.declared.consumer.Poll.TheVariants as poll
-use Rattle.mb_mailbox.specs.Pursuits.{PendingClaim}
 use Rattle.mb_world.specs.declared.place.Place.{Place, TheVariants.At}
 use Rattle.mb_mailbox.specs.Imports.{CellsName, Claim, Gave, IsClaimIn, IsStanding, Layout, Lost, ReaderSeatView, SeatView, Stream, TableSize, Took}
 use Rattle.mb_mailbox.specs.Imports.{Undecided, claim_stage, consumer_count, name_of, part_on, shape_of}
@@ -10,10 +9,10 @@ use Rattle.mb_mailbox.specs.ConsumerWords.{AreSteps, ConsumerView, HasPlace, IsC
 use Rattle.mb_mailbox.specs.Mailboxes.{MailboxView}
 use Rattle.mb_mailbox.specs.Pursuits.{HasCompeted}
 use Rattle.mb_mailbox.proofs.Beginnings.{standing_going, standing_same}
-use Rattle.mb_mailbox.proofs.Made.{at_views, room_stays}
+use Rattle.mb_mailbox.proofs.Made.{room_stays}
 use Rattle.mb_mailbox.proofs.Polls.{no_steps}
 use Rattle.mb_mailbox.proofs.Pursuing.{pursued_past}
-use Rattle.mb_mailbox.proofs.Starts.{Start, here, ran, start_room, table, there}
+use Rattle.mb_mailbox.proofs.Starts.{PendingClaim, Start, here, ran, start_room, table, there}
 use Rattle.mb_mailbox.proofs.Taking.{AreStraight, pursued_on, some_made, still_consumer, still_steps, taken}
 use Rattle.mb_mailbox.proofs.consumer.pursuit.run_new.{Given.Over, Goals.After-has_history, Goals.After-straight-end}
 use Rattle.mb_mailbox.proofs.consumer.pursuit.run_new.Goals as goal
@@ -87,10 +86,10 @@ module _ (g : Over) (c : After-straight-end g) (start : Start c.args.mailbox.now
 
   -- the straight accesses, by the layout of the mailbox
   straight_on : AreStraight c.args.mailbox.now.claims.layout c.args.cell c.args.fields.now.seat
-      (g.R.Rng.stream c.args.rng.now) c.saturating_sub-room.result c.straight-end.result
+      (g.R.Rng.stream c.args.rng.now) (c.args.most - 1) c.straight-end.result
       c.straight-end.new.seat (g.R.Rng.stream c.straight-end.new.rng)
   straight_on = subst (λ (y : MailboxView). AreStraight y.claims.layout c.args.cell c.args.fields.now.seat
-      (g.R.Rng.stream c.args.rng.now) c.saturating_sub-room.result c.straight-end.result
+      (g.R.Rng.stream c.args.rng.now) (c.args.most - 1) c.straight-end.result
       c.straight-end.new.seat (g.R.Rng.stream c.straight-end.new.rng)) c.mailbox.view_is c.straight-end.ensures.steps
 
   -- how many they are, and the claim at their end
@@ -101,7 +100,7 @@ module _ (g : Over) (c : After-straight-end g) (start : Start c.args.mailbox.now
   last = (straight_on first c.requires.held.standing).1
 
   -- with what is left they are the budget of the straight accesses
-  sum : made + c.straight-end.result.left ≡ c.saturating_sub-room.result
+  sum : made + c.straight-end.result.left ≡ c.args.most - 1
   sum = (straight_on first c.requires.held.standing).2
 
   -- the claim at their end has the stage
@@ -117,7 +116,7 @@ module _ (g : Over) (c : After-straight-end g) (start : Start c.args.mailbox.now
       (straight_on first c.requires.held.standing).3
       (standing_going c.args.mailbox.now.claims.layout d 0 d first c.requires.held.standing) (stage_is ∙ won) in
       let all = sum in
-      omega (arith, some, all, c.saturating_sub-room.ensures)
+      omega (arith, some, all, c.if-most-eq0.false)
 
   -- accesses that led to the start of these lead on
   ran_on : (from : ConsumerView) (n : ℕ) (t : Stream) (other : Claim)
@@ -202,7 +201,7 @@ returns-in-Lost g c =
           (g.R.Rng.stream c.straight-end.new.rng) from c.straight-end.new.seat
           c.leave.new.places.items c.leave.new.notes.lists was.0 was.1
           (stage_is g at.After-straight-end s ∙ c.in-Lost.is) refl refl tt (λ f. cc) refl
-          (omega (arith, all, c.saturating_sub-room.ensures))
+          (omega (arith, all, c.if-most-eq0.false))
           (ran_on g at.After-straight-end s from n t other is m) c.leave.ensures.place c.leave.ensures.notes.lists;
       few = λ e. cc;
       decided = λ last e. cc;
@@ -227,7 +226,7 @@ returns-in-Undecided g c =
           stage.Undecided Undecided poll.Undecided t (g.R.Rng.stream c.straight-end.new.rng) from
           c.straight-end.new.seat c.leave-in-Undecided.new.places.items c.leave-in-Undecided.new.notes.lists was.0 was.1
           (stage_is g at.After-straight-end s ∙ c.in-Undecided.is) refl refl tt (λ f. cc) refl
-          (omega (arith, all, c.saturating_sub-room.ensures))
+          (omega (arith, all, c.if-most-eq0.false))
           (ran_on g at.After-straight-end s from n t other is m) c.leave-in-Undecided.ensures.place
           c.leave-in-Undecided.ensures.notes.lists;
       few = λ e. cc;
@@ -282,9 +281,9 @@ returns-in-Going-clause-pursued g c from n t other is m =
     let going : claim_stage end ≡ stage.Going = stage_is g at.After-straight-end s ∙ c.in-Going.is in
     let all = sum g at.After-straight-end s in
     pursued_on c.args.lane (made g at.After-straight-end s) n
-    (c.straight-end.result.left + (c.args.most - c.saturating_sub-room.result)) c.args.most
+    (c.straight-end.result.left + 1) c.args.most
     c.run_rest.result t (g.R.Rng.stream c.run_rest.new.rng) from (with_fields c.run_rest.new.fields)
-    (omega (arith, all, c.saturating_sub-room.ensures))
+    (omega (arith, all, c.if-most-eq0.false))
     (c.run_rest.ensures.pursued from (made g at.After-straight-end s + n) t end
     (subst (λ x. IsStanding c.args.mailbox.now.claims.layout x c.straight-end.result.object
     c.straight-end.result.value end) (sym (ap (λ (z : SeatView). z.consumer) so.same))

@@ -4,14 +4,13 @@ use Rattle.std.proofs.lemmas.List.{length-set}
 use Rattle.mb_claim.specs.declared.access.Stage.TheVariants as stage
 use Rattle.mb_world.specs.declared.place.Place.{Place, TheVariants.At}
 use Rattle.mb_mailbox.specs.Steps.{AreSteps}
-use Rattle.mb_mailbox.specs.Pursuits.{PendingClaim}
 use Rattle.mb_mailbox.specs.Consumers.{ConsumerView, IsConsumer}
 use Rattle.mb_mailbox.specs.Imports.{Claim, IsClaimIn, IsStanding, Layout, TableSize, claim_stage, consumer_count, kinds_of, part_on}
 use Rattle.mb_mailbox.specs.Mailboxes.{MailboxView}
 use Rattle.mb_mailbox.specs.Pursuits.{holding, with_fields}
 use Rattle.mb_mailbox.proofs.Beginnings.{standing_going, standing_same}
 use Rattle.mb_mailbox.proofs.Lists.{get_some, set_here, some_same}
-use Rattle.mb_mailbox.proofs.Starts.{Start, here, table}
+use Rattle.mb_mailbox.proofs.Starts.{PendingClaim, Start, here, table}
 use Rattle.mb_mailbox.proofs.consumer.pursuit.run_rest.{Given.Over, Goals.After-has_history, Goals.After-standing-claim, Goals.After-stay}
 use Rattle.mb_mailbox.proofs.consumer.pursuit.run_rest.Goals as goal
 

@@ -6,7 +6,8 @@ use Rattle.mb_mailbox.specs.Hubs.{HubView, IsHub, with_producer}
 use Rattle.mb_mailbox.proofs.HubMoves.{gave_producer}
 use Rattle.mb_mailbox.proofs.hub.Hub.producer.Goals as goal
 
--- `cells` and `lists` say that each field of the hub h is that of the hub that has given one more producer
+-- h is the hub before the call, by its fields. The call leaves `with_producer h`. `cells` says so
+-- of the hub of the cells, and `lists` of the put lists. The other two fields are those of h
 pub invariant_of-self : goal.invariant_of-self
 invariant_of-self g c =
     let h : HubView = record {

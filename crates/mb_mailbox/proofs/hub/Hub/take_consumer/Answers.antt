@@ -12,8 +12,9 @@ use Rattle.mb_mailbox.proofs.CutLists.{ledgers_set}
 use Rattle.mb_mailbox.proofs.HubMoves.{seat_is_out, took_consumer}
 use Rattle.mb_mailbox.proofs.hub.Hub.take_consumer.Goals as goal
 
--- Each proof begins with the same terms: the hub h and the consumer s by their fields. Then `cells`, `seats` and
--- `ledgers` say that each field of the hub is that of the hub that has taken s in
+-- Each proof begins with h, the hub before the call, and s, the consumer, by their fields. The
+-- first two proofs then show that the call leaves `with_taken_consumer s h`. `cells` and `seats`
+-- say so of the hubs of both tables, and `ledgers` of the records. The put lists are those of h
 pub invariant_of-self : goal.invariant_of-self
 invariant_of-self g c =
     let h : HubView = record {

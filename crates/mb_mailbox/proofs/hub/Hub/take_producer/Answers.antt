@@ -10,8 +10,9 @@ use Rattle.mb_mailbox.specs.Producers.{ProducerView}
 use Rattle.mb_mailbox.proofs.HubMoves.{is_out, kept_list, took_producer}
 use Rattle.mb_mailbox.proofs.hub.Hub.take_producer.Goals as goal
 
--- Each proof begins with the same terms: the hub h and the producer s by their fields. Then `cells` and `lists` say
--- that each field of the hub is that of the hub that has taken s in
+-- Each proof begins with h, the hub before the call, and s, the producer, by their fields. The
+-- first and the last proof then show that the call leaves `with_taken_producer s h`. `cells` says
+-- so of the hub of the cells, and `lists` of the put lists. The other two fields are those of h
 pub invariant_of-self : goal.invariant_of-self
 invariant_of-self g c =
     let h : HubView = record {
