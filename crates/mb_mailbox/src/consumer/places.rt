@@ -17,11 +17,11 @@ use std::alloc::Allocator;
 
 /// The consumer's place on lane `p`.
 #[inline(always)]
-pub(super) fn place_at(places: &ArrayVec<Place, 16>, p: usize) -> &Place
+pub(super) fn place_at(places: &ArrayVec<Place, 16>, p: usize) -> Place
     requires { p < array_vec_len places.now }
-    ensures { slice_get places.now.items p ≡ Some result.now }
+    ensures { slice_get places.now.items p ≡ Some result }
 {
-    &places.as_slice()[p]
+    places.as_slice()[p]
 }
 
 /// Makes this the place on lane `p`.

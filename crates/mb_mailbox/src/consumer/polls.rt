@@ -62,8 +62,11 @@ impl<A: Allocator + Drop> Consumer<A> {
         let lane = lane as u32;
         let Consumer { fields } = self;
         let at = match place_at(&fields.places, lane as usize) {
-            Place::Before(at) => *at,
-            Place::At { .. } => return run_held(fields, mailbox, lane, budget, rng),
+            Place::Before(at) => at,
+            Place::At { cell, claim } => {
+                let _ = (cell, claim);
+                return run_held(fields, mailbox, lane, budget, rng);
+            }
         };
         let cell = match mailbox.cells.look(&mut fields.reader, at) {
             Look::Nothing => return Poll::Nothing,
