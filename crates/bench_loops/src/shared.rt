@@ -6,7 +6,7 @@ ghost use Rattle.mb_shared_claims.specs.Vocabulary.{name_of};
 
 use crate::count::Count;
 use crate::source::Source;
-use mb_claim::steps::{accesses_lengthen_one_part, places_show_prefixes};
+use mb_claim::steps::accesses_lengthen_one_part;
 use mb_claim::{Claim, Layout, MAX_CELLS, Stage};
 use mb_shared_claims::{ClaimSeat, SharedClaims};
 use std::alloc::{AllocError, Allocator};
@@ -79,7 +79,6 @@ fn claim_cell<A: Allocator + Drop>(
         → part_on seat.new.consumer k seat.new.part ≡ part_on seat.old.consumer k seat.old.part }
 {
     accesses_lengthen_one_part();
-    places_show_prefixes();
     let consumer = seat.consumer();
     let end = table.straight(seat, cell, source, u64::MAX);
     let made = u64::MAX - end.left;

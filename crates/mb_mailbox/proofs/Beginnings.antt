@@ -1,5 +1,5 @@
 -- A claim before its first access to an object, and the first claim of a consumer on a cell.
-use Rattle.std.proofs.Common.{◌≡◌, ◌<◌, ℕ, [], refl, sym, ◌∙◌, ap, subst, arith, length}
+use Rattle.std.proofs.Common.{◌≡◌, ◌<◌, ℕ, List, [], ◌∷◌, false, refl, sym, ◌∙◌, ap, subst, arith, length}
 use Rattle.std.specs.Prelude.{Option, Some, None, MatchOption, slice_get}
 use Rattle.std.proofs.lemmas.Bool.{false≢true}
 use Rattle.std.proofs.lemmas.Option.{slice_get_within}
@@ -11,7 +11,7 @@ use Rattle.mb_claim.specs.declared.access.Stage.TheVariants as stage
 use Rattle.mb_claim.specs.Vocabulary.{FitsLayout, IsClaimPrefix, StandsAt, pair_count, quorums_of, shape_of, standing}
 use Rattle.mb_claim.proofs.ClaimSteps.{stands_first}
 use Rattle.mb_claim.proofs.LayoutObjects.{fit_in_row, last_turn_small, length-row_of}
-use Rattle.mb_mailbox.specs.Imports.{Claim, IsClaimIn, IsStanding, Layout, claim_stage, claims_in, consumer_count, consumer_of, kinds_of}
+use Rattle.mb_mailbox.specs.Imports.{Claim, IsClaimIn, IsStanding, Layout, ObjectTurn, claim_stage, claims_in, consumer_count, consumer_of, kinds_of}
 use Rattle.mb_mailbox.proofs.Lists.{get_some, some_same}
 
 -- ---- which claim it is
@@ -55,6 +55,15 @@ module _ (layout : Layout) (c o v : ℕ) (claim : Claim) (is : IsStanding layout
       value_at t LastObject at = at
 
 -- ---- the claim of a consumer that has made no access
+-- a consumer whose claim stands before the first object has made no access
+pub standing_fresh :
+    (layout : Layout) (c v : ℕ) (claim : Claim) → IsStanding layout c 0 v claim → (xs : List ObjectTurn)
+    → IsClaimIn layout claim xs → xs ≡ []
+standing_fresh layout c v claim is [] path = refl
+standing_fresh layout c v claim is (x ∷ xs) path =
+    let begun : claim.begun ≡ false = ap (λ (z : Claim). z.begun) (standing_is layout c 0 v claim is).2 in
+    absurd (false≢true (sym begun ∙ path.begun.1 (λ none. cc)))
+
 -- the first place in an object is that of a process that has made no turn there
 begins : (t : QuorumTable) (kind : Kind) (v : ℕ) → IsFitKind kind → v < t.values
     → PcIsAt t kind v (first_place t kind v) []

@@ -21,8 +21,8 @@ use Rattle.mb_mailbox.proofs.Pursuing.{mid_at, mid_consumer, pursued_took, seen_
 -- what straight accesses of a new claim from a seat led to
 abbrev pub AreStraight : Layout → ℕ → SeatView → Stream → ℕ → Stretch → SeatView → Stream → Type 0
 AreStraight layout k seat s most stretch after t =
-    (start : Claim) → IsStanding layout seat.consumer 0 seat.consumer start
-    → (n : ℕ) × (end : Claim) × (n + stretch.left ≡ most) × AreSeatSteps layout k start seat s n end after t
+    (start : Claim) × IsStanding layout seat.consumer 0 seat.consumer start
+    × (n : ℕ) × (end : Claim) × (n + stretch.left ≡ most) × AreSeatSteps layout k start seat s n end after t
     × HasEnd layout seat.consumer stretch end × IsClaimIn layout end (part_on after.consumer k after.part)
     × (n ≤ most_accesses layout)
 

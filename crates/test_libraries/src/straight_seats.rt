@@ -22,9 +22,7 @@ fn straight_and_on<A: Allocator + Drop>(
     requires table { (seat.old.table ≡ name_of table.now) × (seat.old.part ≡ []) }
     requires cell { 0 < table.now.cells }
 {
-    // The consumer has one new claim, and that has made no access.
     let consumer = seat.consumer();
-    let _ = Claim::new(table.layout(), consumer);
     let mut rng = Zeros { given: 0 };
     let end = table.straight(seat, 0, &mut rng, budgets.0);
     let straight = budgets.0.wrapping_sub(end.left);

@@ -5,7 +5,9 @@ use crate::rule::MakeAccess;
 use crate::seat::ClaimSeat;
 use crate::table::SharedClaims;
 use mb_claim::laws::{claims_are_bounded, last_objects_decide_claims, layouts_are_sound};
-use mb_claim::steps::{accesses_lengthen_one_part, addresses_are_apart, claims_make_steps};
+use mb_claim::steps::{
+    accesses_lengthen_one_part, addresses_are_apart, claims_make_steps, places_show_prefixes,
+};
 use mb_claim::{Claim, ClaimOp, Layout, Stage, Stretch};
 use mb_deciding::{Drawing, Memory, Op, Site};
 use rand_core::Rng;
@@ -13,7 +15,7 @@ use std::alloc::Allocator;
 use std::marker::Brand;
 
 impl<A: Allocator + Drop> SharedClaims<A> {
-    ghost use Rattle.std.specs.Prelude.{◌≡◌, ◌≢◌, ◌<◌, ◌≤◌, ◌+◌, ℕ, true, length};
+    ghost use Rattle.std.specs.Prelude.{◌≡◌, ◌≢◌, ◌<◌, ◌≤◌, ◌+◌, ℕ, [], true, length};
     ghost use Rattle.mb_claim.specs.Vocabulary.{IsClaimIn, IsStanding, HasEnd, HasStopped, claim_stage, consumer_count, consumer_of, kinds_of};
     ghost use Rattle.mb_claim.specs.Vocabulary.{most_accesses, part_on, shape_of};
     ghost use Rattle.mb_claim.specs.declared.access.Stage.TheVariants.{Undecided};
@@ -81,15 +83,13 @@ impl<A: Allocator + Drop> SharedClaims<A> {
         requires cell { cell < self.now.cells }
 
         // The consumer has done nothing on the cell.
-        requires standing { (start : Claim)
-            → IsStanding self.now.layout seat.old.consumer 0 seat.old.consumer start
-            → IsClaimIn self.now.layout start (part_on seat.old.consumer cell seat.old.part) }
+        requires fresh { part_on seat.old.consumer cell seat.old.part ≡ [] }
 
         // Each access is the next one of the claim, with the next word of `rng`. The claim has then made all that its
         // consumer has done on the cell, and at most what its layout allows.
         ensures steps { (start : Claim)
-            → IsStanding self.now.layout seat.old.consumer 0 seat.old.consumer start
-            → (n : ℕ) × (end : Claim) × (n + result.left ≡ most)
+            × IsStanding self.now.layout seat.old.consumer 0 seat.old.consumer start
+            × (n : ℕ) × (end : Claim) × (n + result.left ≡ most)
             × AreSeatSteps self.now.layout cell start seat.old (R.stream rng.old) n
             end seat.new (R.stream rng.new)
             × HasEnd self.now.layout seat.old.consumer result end
@@ -108,7 +108,7 @@ impl<A: Allocator + Drop> SharedClaims<A> {
         claims_are_bounded();
         accesses_lengthen_one_part();
         last_objects_decide_claims();
-        layouts_are_sound();
+        places_show_prefixes();
         addresses_are_apart();
         let consumer = seat.consumer;
         let layout = &self.size.layout;

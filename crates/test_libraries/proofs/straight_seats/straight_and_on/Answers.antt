@@ -1,5 +1,5 @@
 -- Proof of `straight_and_on`: makes a claim of a seat straight, and then by single steps.
-use Rattle.std.proofs.Common.{◌≡◌, ℕ, [], zero, suc, Option, Some, None, MatchOption, slice_get, ◌∙◌, ap, sym, subst, arith}
+use Rattle.std.proofs.Common.{◌≡◌, ℕ, zero, suc, Option, Some, None, MatchOption, slice_get, ◌∙◌, ap, sym, subst, arith}
 use Rattle.mb_deciding.specs.declared.object.Kind.{Kind}
 use Rattle.mb_claim.specs.declared.claim.Claim.{Claim}
 use Rattle.mb_claim.specs.declared.layout.Layout.{Layout}
@@ -35,54 +35,42 @@ moved :
     (P : Layout → ℕ → Type 0) (d layout : Layout) (k own : ℕ) → d ≡ layout → k ≡ own → P d k → P layout own
 moved P d layout k own e f is = subst (λ x. P x own) e (subst (P d) f is)
 
-pub straight-end-requires-clause-standing : goal.straight-end-requires-clause-standing
-straight-end-requires-clause-standing g c start stands =
-    let layout = c.args.table.now.layout in
-    let own = c.args.seat.now.consumer in
-    let new = moved (λ d k. IsStanding d k 0 k c.new-claim.result) c.layout.result.now layout
-    c.consumer-consumer.result own c.layout.ensures c.consumer-consumer.ensures.exact c.new-claim.ensures.first in
-    subst (λ xs. IsClaimIn layout start (part_on own 0 xs)) (sym c.requires.table.1)
-    (subst (λ d. IsClaimIn layout d []) (one_claim layout own 0 own c.new-claim.result start new stands)
-    (subst (λ d. IsClaimIn d c.new-claim.result []) c.layout.ensures c.new-claim.ensures.path))
+-- the seat has made no access
+pub straight-end-requires-clause-fresh : goal.straight-end-requires-clause-fresh
+straight-end-requires-clause-fresh g c = ap (λ xs. part_on c.args.seat.now.consumer 0 xs) c.requires.table.1
 
 -- the claim where the straight accesses ended is the one that goes on
 pub run-made-requires-clause-standing : goal.run-made-requires-clause-standing
 run-made-requires-clause-standing g c =
     let layout = c.args.table.now.layout in
     let own = c.args.seat.now.consumer in
-    let new = moved (λ d k. IsStanding d k 0 k c.new-claim.result) c.layout.result.now layout
-    c.consumer-consumer.result own c.layout.ensures c.consumer-consumer.ensures.exact c.new-claim.ensures.first in
-    let end = c.straight-end.ensures.steps c.new-claim.result new in
+    let end = c.straight-end.ensures.steps in
     let at = c.straight-end.result in
-    let there = moved (λ d k. IsStanding d k at.object at.value c.standing-claim.result) c.layout-2.result.now
-    layout c.consumer-consumer.result own c.layout-2.ensures c.consumer-consumer.ensures.exact
+    let there = moved (λ d k. IsStanding d k at.object at.value c.standing-claim.result) c.layout.result.now
+    layout c.consumer-consumer.result own c.layout.ensures c.consumer-consumer.ensures.exact
     c.standing-claim.ensures in
-    let going = end.4.3 (grind (arith, c.if-ne.false, c.ne.ensures)) in
+    let going = end.6.3 (grind (arith, c.if-ne.false, c.ne.ensures)) in
     subst (λ d. IsClaimIn layout d (part_on c.straight-end.new.seat.consumer 0 c.straight-end.new.seat.part))
-    (one_claim layout own at.object at.value end.1 c.standing-claim.result going there) end.5
+    (one_claim layout own at.object at.value end.3 c.standing-claim.result going there) end.7
 
 pub run-made-requires-clause-consumer : goal.run-made-requires-clause-consumer
 run-made-requires-clause-consumer g c =
     let layout = c.args.table.now.layout in
     let own = c.args.seat.now.consumer in
-    let new = moved (λ d k. IsStanding d k 0 k c.new-claim.result) c.layout.result.now layout
-    c.consumer-consumer.result own c.layout.ensures c.consumer-consumer.ensures.exact c.new-claim.ensures.first in
-    let end = c.straight-end.ensures.steps c.new-claim.result new in
-    let p = steps_keep layout 0 c.new-claim.result c.args.seat.now _ end.0 end.1 c.straight-end.new.seat _ end.3 in
+    let end = c.straight-end.ensures.steps in
+    let p = steps_keep layout 0 end.0 c.args.seat.now _ end.2 end.3 c.straight-end.new.seat _ end.5 in
     let at = c.straight-end.result in
-    let there = moved (λ d k. IsStanding d k at.object at.value c.standing-claim.result) c.layout-2.result.now
-    layout c.consumer-consumer.result own c.layout-2.ensures c.consumer-consumer.ensures.exact
+    let there = moved (λ d k. IsStanding d k at.object at.value c.standing-claim.result) c.layout.result.now
+    layout c.consumer-consumer.result own c.layout.ensures c.consumer-consumer.ensures.exact
     c.standing-claim.ensures in
-    let going = end.4.3 (grind (arith, c.if-ne.false, c.ne.ensures)) in
-    let is = one_claim layout own at.object at.value end.1 c.standing-claim.result going there in
-    subst (λ (d : Claim). d.consumer ≡ c.straight-end.new.seat.consumer) is (end.4.1 ∙ sym p.1)
+    let going = end.6.3 (grind (arith, c.if-ne.false, c.ne.ensures)) in
+    let is = one_claim layout own at.object at.value end.3 c.standing-claim.result going there in
+    subst (λ (d : Claim). d.consumer ≡ c.straight-end.new.seat.consumer) is (end.6.1 ∙ sym p.1)
 
 pub run-made-requires-clause-table : goal.run-made-requires-clause-table
 run-made-requires-clause-table g c =
     let layout = c.args.table.now.layout in
     let own = c.args.seat.now.consumer in
-    let new = moved (λ d k. IsStanding d k 0 k c.new-claim.result) c.layout.result.now layout
-    c.consumer-consumer.result own c.layout.ensures c.consumer-consumer.ensures.exact c.new-claim.ensures.first in
-    let end = c.straight-end.ensures.steps c.new-claim.result new in
-    let p = steps_keep layout 0 c.new-claim.result c.args.seat.now _ end.0 end.1 c.straight-end.new.seat _ end.3 in
+    let end = c.straight-end.ensures.steps in
+    let p = steps_keep layout 0 end.0 c.args.seat.now _ end.2 end.3 c.straight-end.new.seat _ end.5 in
     p.0 ∙ c.requires.table.0

@@ -3,12 +3,12 @@ use Rattle.std.specs.Prelude.{None, Some, slice_get, slice_set}
 use Rattle.mb_claim.specs.declared.access.Stage.TheVariants as stage
 use Rattle.mb_mailbox.specs.declared.consumer.Poll.TheVariants as poll
 use Rattle.mb_world.specs.declared.place.Place.{Place, TheVariants.At}
-use Rattle.mb_mailbox.specs.Imports.{CellsName, Claim, Gave, IsClaimIn, IsStanding, Layout, Lost, ReaderSeatView, SeatView, Stream, TableSize, Took}
+use Rattle.mb_mailbox.specs.Imports.{AreSeatSteps, CellsName, Claim, Gave, IsClaimIn, IsStanding, Layout, Lost, ReaderSeatView, SeatView, Stream, TableSize, Took}
 use Rattle.mb_mailbox.specs.Imports.{Undecided, claim_stage, consumer_count, name_of, part_on, shape_of}
 use Rattle.mb_mailbox.specs.ConsumerWords.{AreSteps, ConsumerView, HasPlace, IsConsumer, HasRoom, holding, with_fields}
 use Rattle.mb_mailbox.specs.Mailboxes.{MailboxView}
 use Rattle.mb_mailbox.specs.Pursuits.{HasCompeted}
-use Rattle.mb_mailbox.proofs.Beginnings.{standing_going, standing_same}
+use Rattle.mb_mailbox.proofs.Beginnings.{standing_fresh, standing_going, standing_same}
 use Rattle.mb_mailbox.proofs.Made.{room_stays}
 use Rattle.mb_mailbox.proofs.Polls.{no_steps}
 use Rattle.mb_mailbox.proofs.Pursuing.{pursued_past}
@@ -59,20 +59,14 @@ module _ (g : Over) (c : After-has_history g) where
   was_there : (place : Place) × (slice_get c.args.fields.now.places.items c.args.lane ≡ Some place)
   was_there = there c.args.mailbox.now pending c.args.fields.now start
 
-  -- a claim that begins the first object has made all that its consumer did on the cell
-  begun : (other : Claim)
-      → IsStanding c.args.mailbox.now.claims.layout c.args.fields.now.seat.consumer 0 c.args.fields.now.seat.consumer
-      other
-      → IsClaimIn c.args.mailbox.now.claims.layout other
+  -- the claim has made all that its consumer did on the cell
+  begun : IsClaimIn c.args.mailbox.now.claims.layout claim
       (part_on c.args.fields.now.seat.consumer c.args.cell c.args.fields.now.seat.part)
-  begun other is =
+  begun =
       let m = c.args.mailbox.now in
-      let d = c.args.fields.now.seat.consumer in
       let z : TableSize = record { layout = m.claims.layout; cells = m.claims.cells } in
-      subst (λ (x : Claim). IsClaimIn m.claims.layout x (part_on d c.args.cell c.args.fields.now.seat.part))
-      (standing_same m.claims.layout d 0 d claim c.requires.held.standing other is)
-      (c.consumers_move_on.ensures.turns with_claim c.args.lane c.args.cell claim start.held stands z
-      (table m pending c.args.fields.now start))
+      c.consumers_move_on.ensures.turns with_claim c.args.lane c.args.cell claim start.held stands z
+      (table m pending c.args.fields.now start)
 
 -- after the straight accesses
 module _ (g : Over) (c : After-straight-end g) (start : Start c.args.mailbox.now
@@ -94,18 +88,28 @@ module _ (g : Over) (c : After-straight-end g) (start : Start c.args.mailbox.now
 
   -- how many they are, and the claim at their end
   abbrev made : ℕ
-  made = (straight_on first c.requires.held.standing).0
+  made = straight_on.2
 
   abbrev last : Claim
-  last = (straight_on first c.requires.held.standing).1
+  last = straight_on.3
 
   -- with what is left they are the budget of the straight accesses
   sum : made + c.straight-end.result.left ≡ c.args.most - 1
-  sum = (straight_on first c.requires.held.standing).2
+  sum = straight_on.4
+
+  -- they are accesses of the claim
+  steps : AreSeatSteps c.args.mailbox.now.claims.layout c.args.cell first c.args.fields.now.seat
+      (g.R.Rng.stream c.args.rng.now) made last c.straight-end.new.seat (g.R.Rng.stream c.straight-end.new.rng)
+  steps =
+      let d = c.args.fields.now.seat.consumer in
+      subst (λ x. AreSeatSteps c.args.mailbox.now.claims.layout c.args.cell x c.args.fields.now.seat
+      (g.R.Rng.stream c.args.rng.now) made last c.straight-end.new.seat (g.R.Rng.stream c.straight-end.new.rng))
+      (standing_same c.args.mailbox.now.claims.layout d 0 d straight_on.0 straight_on.1 first c.requires.held.standing)
+      straight_on.5
 
   -- the claim at their end has the stage
   stage_is : claim_stage last ≡ c.straight-end.result.stage
-  stage_is = (straight_on first c.requires.held.standing).4.0
+  stage_is = straight_on.6.0
 
   -- if the claim is won, an access is left of the whole budget
   item_left : c.straight-end.result.stage ≡ stage.Won → made + 1 ≤ c.args.most
@@ -113,7 +117,7 @@ module _ (g : Over) (c : After-straight-end g) (start : Start c.args.mailbox.now
       let d = c.args.fields.now.seat.consumer in
       let some = some_made c.args.mailbox.now.claims.layout c.args.cell made first last c.args.fields.now.seat
       c.straight-end.new.seat (g.R.Rng.stream c.args.rng.now) (g.R.Rng.stream c.straight-end.new.rng)
-      (straight_on first c.requires.held.standing).3
+      steps
       (standing_going c.args.mailbox.now.claims.layout d 0 d first c.requires.held.standing) (stage_is ∙ won) in
       let all = sum in
       omega (arith, some, all, c.if-most-eq0.false)
@@ -137,7 +141,7 @@ module _ (g : Over) (c : After-straight-end g) (start : Start c.args.mailbox.now
       (subst (λ (z : Claim). AreSteps c.args.lane n None t (g.R.Rng.stream c.args.rng.now) from
       (holding c.args.lane c.args.cell z (with_fields c.args.fields.now))) same m)
       made last c.straight-end.new.seat (g.R.Rng.stream c.straight-end.new.rng)
-      (straight_on first c.requires.held.standing).3
+      steps
 
 pub straight-end-requires : goal.straight-end-requires
 straight-end-requires g c =
@@ -150,11 +154,9 @@ straight-end-requires g c =
     record {
       table = c.requires.of.claims ∙ sym (ap (λ (v : MailboxView). name_of v.claims) c.mailbox.view_is);
       cell = subst (λ n. c.args.cell < n) cells low;
-      standing = subst (λ (y : MailboxView). (other : Claim)
-          → IsStanding y.claims.layout c.args.fields.now.seat.consumer 0 c.args.fields.now.seat.consumer other
-          → IsClaimIn y.claims.layout other
-          (part_on c.args.fields.now.seat.consumer c.args.cell c.args.fields.now.seat.part))
-          (sym c.mailbox.view_is) (begun g at);
+      fresh = standing_fresh c.args.mailbox.now.claims.layout c.args.fields.now.seat.consumer
+          c.args.fields.now.seat.consumer (claim g at) c.requires.held.standing
+          (part_on c.args.fields.now.seat.consumer c.args.cell c.args.fields.now.seat.part) (begun g at);
     }
 
 pub take-requires : goal.take-requires
@@ -253,7 +255,7 @@ run_rest-requires-clause-held g c =
       claim = end;
       standing = subst (λ x. IsStanding m.claims.layout x c.straight-end.result.object c.straight-end.result.value end)
           (sym (ap (λ (z : SeatView). z.consumer) so.same))
-          ((straight_on g at.After-straight-end s first c.requires.held.standing).4.3 c.in-Going.is);
+          ((straight_on g at.After-straight-end s).6.3 c.in-Going.is);
       is = still_consumer (base g at.After-has_history) c.args.lane c.args.cell first
           (made g at.After-straight-end s + 0) end rng (g.R.Rng.stream c.straight-end.new.rng)
           (with_claim g at.After-has_history) c.straight-end.new.seat going so;
@@ -287,7 +289,7 @@ returns-in-Going-clause-pursued g c from n t other is m =
     (c.run_rest.ensures.pursued from (made g at.After-straight-end s + n) t end
     (subst (λ x. IsStanding c.args.mailbox.now.claims.layout x c.straight-end.result.object
     c.straight-end.result.value end) (sym (ap (λ (z : SeatView). z.consumer) so.same))
-    ((straight_on g at.After-straight-end s first c.requires.held.standing).4.3 c.in-Going.is))
+    ((straight_on g at.After-straight-end s).6.3 c.in-Going.is))
     (still_steps (base g at.After-has_history) c.args.lane c.args.cell first (made g at.After-straight-end s + n) end t
     (g.R.Rng.stream c.straight-end.new.rng) from c.straight-end.new.seat going so))
 
@@ -299,7 +301,7 @@ new-claim-requires g c =
     let seat = c.args.fields.now.seat in
     let within = c.claims_begin_objects.ensures.within m.claims.layout seat.consumer 0 seat.consumer
     c.requires.held.claim (part_on seat.consumer c.args.cell seat.part) c.requires.held.standing
-    (begun g at c.requires.held.claim c.requires.held.standing) in
+    (begun g at) in
     subst (λ (l : Layout). c.consumer-consumer.result < consumer_count l)
     (sym (c.layout-layout.ensures ∙ ap (λ (v : MailboxView). v.claims.layout) c.mailbox.view_is))
     (subst (λ d. d < consumer_count m.claims.layout) (sym c.consumer-consumer.ensures.exact) within.1)

@@ -1,20 +1,38 @@
 -- Proof of `SharedClaims::straight`: makes the accesses of a new claim of the seat's consumer, object by object.
 use Rattle.std.proofs.Common.{◌≡◌, ◌<◌, ◌+◌, ◌*◌, ◌^◌, ℕ, ap, sym, ◌∙◌, subst, arith}
 use Rattle.mb_deciding.specs.Vocabulary.{reg_of}
-use Rattle.mb_claim.specs.Vocabulary.{IsWordInLayout, IsClaimIn, HasEnd, IsStanding, cell_words, claims_in, part_on, site_of}
-use Rattle.mb_shared_claims.specs.Types.{Layout}
+use Rattle.mb_claim.specs.Vocabulary.{IsWordInLayout, IsClaimIn, HasEnd, IsStanding, cell_words, claims_in, consumer_count, part_on, site_of}
+use Rattle.mb_claim.proofs.WordSteps.{first_claim, first_owner, first_path}
+use Rattle.mb_shared_claims.specs.Types.{Claim, Layout}
 use Rattle.mb_shared_claims.specs.Seats.{SeatView, TableView, name_of}
 use Rattle.mb_shared_claims.specs.SeatSteps.{MayComeNext}
 use Rattle.mb_shared_claims.specs.ManySeatSteps.{AreSeatSteps}
 use Rattle.mb_shared_claims.proofs.Running.{IsMade, arrives_in, few_steps_in, may_go_on_in, same_cell, same_frame, same_rng, same_seat, same_table}
-use Rattle.mb_shared_claims.proofs.Sites.{first_claim, standing_consumer}
+use Rattle.mb_shared_claims.proofs.Sites.{seat_known}
+use Rattle.mb_shared_claims.proofs.table.SharedClaims.straight.{Given.Over, Goals.After-begin}
 use Rattle.mb_shared_claims.proofs.table.SharedClaims.straight.Goals as goal
+
+-- before the accesses
+module _ (g : Over) (c : After-begin g) where
+  -- the seat's consumer is one of the layout's
+  known : c.args.seat.now.consumer < consumer_count c.args.self.now.layout
+  known = subst (λ k. k < consumer_count c.args.self.now.layout) (ap (λ (v : SeatView). v.consumer) c.seat.view_is)
+      (seat_known c.seat.inside.seat.me c.seat.inside.consumer c.seat.inside.seat.table_id c.args.self.now
+      c.seat.invariant (ap (λ (v : SeatView). v.table) c.seat.view_is ∙ c.requires.table))
+
+  -- a claim before its first access has made all that the consumer did on the cell
+  begun : (start : Claim) → IsStanding c.args.self.now.layout c.args.seat.now.consumer 0 c.args.seat.now.consumer start
+      → IsClaimIn c.args.self.now.layout start (part_on c.args.seat.now.consumer c.args.cell c.args.seat.now.part)
+  begun start first = subst (IsClaimIn c.args.self.now.layout start) (sym c.requires.fresh)
+      (first_path c.places_show_prefixes.ensures.prefix c.args.self.now.layout c.args.seat.now.consumer start known
+      first)
 
 -- Each clause needs two facts, which stand after `start` in this order. A draw changes only the random word and its
 -- source. An access changes only the seat: its part is longer by that access. The facts `seat` and `rng` say that the
 -- caller gets back the seat and the source as the accesses left them in its memory
 pub straight-requires-clause-may : goal.straight-requires-clause-may
 straight-requires-clause-may g c start stands n word at before mid next steps going drawn is =
+    let here = (goal.at.straight-requires-clause-may g c).After-begin in
     let layout : c.self.inside.size.layout ≡ c.args.self.now.layout = ap (λ (v : TableView). v.layout) c.self.view_is in
     let own : c.seat.inside.consumer ≡ c.args.seat.now.consumer = ap (λ (v : SeatView). v.consumer) c.seat.view_is in
     let first : IsStanding c.args.self.now.layout c.args.seat.now.consumer 0 c.args.seat.now.consumer start =
@@ -37,8 +55,8 @@ straight-requires-clause-may g c start stands n word at before mid next steps go
     c.accesses_lengthen_one_part.ensures.cells c.accesses_lengthen_one_part.ensures.own_cell
     c.claims_make_steps.ensures.told
     c.requires.cell c.requires.table
-    (standing_consumer c.args.self.now.layout c.args.seat.now.consumer 0 c.args.seat.now.consumer start first)
-    (c.requires.standing start first) _ layout
+    (first_owner c.args.self.now.layout c.args.seat.now.consumer start first)
+    (begun g here start first) _ layout
     c.claims_make_steps.ensures.memory c.claims_make_steps.ensures.word n word at before mid next
     steps going drawn is in
     let table : c.args.self.now ≡ mid.table.now = sym (same_table can.1) in
@@ -60,7 +78,11 @@ straight-requires-clause-may g c start stands n word at before mid next steps go
 
 -- the accesses that were made are steps of the seat, and no more than the layout allows
 pub returns-clause-steps : goal.returns-clause-steps
-returns-clause-steps g c start first =
+returns-clause-steps g c =
+    let at = (goal.at.returns-clause-steps g c).After-begin in
+    let new = first_claim c.args.self.now.layout c.args.seat.now.consumer in
+    let start = new.0 in
+    let first = new.1 in
     let layout : c.self.inside.size.layout ≡ c.args.self.now.layout = ap (λ (v : TableView). v.layout) c.self.view_is in
     let own : c.seat.inside.consumer ≡ c.args.seat.now.consumer = ap (λ (v : SeatView). v.consumer) c.seat.view_is in
     let r = c.straight.ensures.steps start
@@ -83,8 +105,8 @@ returns-clause-steps g c start first =
     c.accesses_lengthen_one_part.ensures.cells c.accesses_lengthen_one_part.ensures.own_cell
     c.claims_make_steps.ensures.told
     c.requires.cell c.requires.table
-    (standing_consumer c.args.self.now.layout c.args.seat.now.consumer 0 c.args.seat.now.consumer start first)
-    (c.requires.standing start first) _ layout r.0 r.1 c.straight.new.memory r.3 in
+    (first_owner c.args.self.now.layout c.args.seat.now.consumer start first)
+    (begun g at start first) _ layout r.0 r.1 c.straight.new.memory r.3 in
     let few = few_steps_in c.args.self.now c.args.cell (λ m. m.seat.now) (λ m. g.R.Rng.stream m.rng.now) (λ m. m.word)
     (λ m. record {
       table = m.table.now;
@@ -103,12 +125,14 @@ returns-clause-steps g c start first =
     c.accesses_lengthen_one_part.ensures.cells c.accesses_lengthen_one_part.ensures.own_cell
     c.claims_make_steps.ensures.told
     c.requires.cell c.requires.table
-    (standing_consumer c.args.self.now.layout c.args.seat.now.consumer 0 c.args.seat.now.consumer start first)
-    (c.requires.standing start first) _ layout
+    (first_owner c.args.self.now.layout c.args.seat.now.consumer start first)
+    (begun g at start first) _ layout
     (λ h d k. c.claims_are_bounded.ensures.layouts c.args.self.now.layout c.args.self.now.cells h d k)
     r.0 r.1 c.straight.new.memory r.3 in
     let seat : c.seat-1.given.0 ≡ c.straight.new.memory.seat.now = c.seat-1.given.1 (sym (same_seat p.keeps)) in
     let rng : c.rng-1.given.0 ≡ c.straight.new.memory.rng.now = c.rng-1.given.1 (sym (same_rng p.keeps)) in (
+      start,
+      first,
       r.0,
       r.1,
       omega (arith, r.2),
@@ -125,8 +149,6 @@ returns-clause-steps g c start first =
 -- a claim over a layout with a last object is not undecided
 pub returns-clause-decided : goal.returns-clause-decided
 returns-clause-decided g c has undecided =
-    let first = first_claim c.args.self.now.layout c.args.seat.now.consumer
-    (c.layouts_are_sound.ensures.pairs c.args.self.now.layout).0 in
-    let r = returns-clause-steps g c first.0 first.1 in
-    c.last_objects_decide_claims.ensures.layouts c.args.self.now.layout r.1
-    (part_on c.seat-1.given.0.consumer c.args.cell c.seat-1.given.0.part) has r.5 (r.4.0 ∙ undecided)
+    let r = returns-clause-steps g c in
+    c.last_objects_decide_claims.ensures.layouts c.args.self.now.layout r.3
+    (part_on c.seat-1.given.0.consumer c.args.cell c.seat-1.given.0.part) has r.7 (r.6.0 ∙ undecided)
