@@ -133,7 +133,7 @@ pub fn flat_places()
     // Numbers that the place does not have do not count.
     ensures put { pc_at AtPut 1 4 8 ≡ pc_at AtPut 1 0 0 }
 
-    // Places of two kinds differ, as a decided output differs from one that is not.
+    // Two spots are two places, and a decided output is not an undecided one.
     ensures apart { pc_at AtPut 1 4 8 ≡ pc_at AtLook 1 4 8 → ⊥ }
     ensures decided { out_in (Decided 1) ≡ out_in (Undecided 1) → ⊥ }
 {}

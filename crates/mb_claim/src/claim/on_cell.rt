@@ -131,6 +131,7 @@ impl CellClaim {
         let mut claim = Claim {
             consumer: self.consumer,
             object: self.object,
+            // After an output the place does not count.
             place: Pc::ratifier(self.consumer),
             stage: self.stage,
             begun: true,

@@ -1,4 +1,4 @@
-//! A place as flat fields. A caller that makes many single steps keeps it, and a step changes only what differs.
+//! A place as flat fields. A caller that makes many single steps keeps it, and a step stores few of its fields.
 use super::conciliator::ConciliatorPlace;
 use super::last::LastPlace;
 use super::mask::least;
@@ -22,6 +22,7 @@ enum Spot {
     AtLast,
 }
 
+// (Two that stand for one place may differ in fields that the place does not have. So they are not `PartialEq`.)
 /// The place of one process in a deciding object, as flat fields. It stands for a [`Pc`], and takes fewer instructions a
 /// step.
 #[derive(Clone, Copy, Debug)]
@@ -33,7 +34,7 @@ pub struct FlatPlace {
 }
 
 /// The output of a process after an access, if it has one.
-#[derive(Clone, Copy, Debug)]
+#[derive(Clone, Copy, PartialEq, Eq, Debug)]
 pub enum FlatOut {
     /// The process goes on.
     NotYet,
@@ -82,7 +83,7 @@ impl FlatPlace {
         flat
     }
 
-    /// Goes to this place.
+    /// Goes to this place. Looks at no field, since it is for the first place of an object.
     #[inline(always)]
     pub fn go(&mut self, place: Pc)
         ensures { pc_of self.new ≡ place }
@@ -153,7 +154,7 @@ impl FlatPlace {
         }
     }
 
-    /// Makes the next access from this place, which is its own, in a conciliator for `values` values.
+    /// Makes the next access from this place in a conciliator for `values` values.
     #[inline(always)]
     fn conciliate<M: Memory>(
         &mut self,
@@ -179,7 +180,7 @@ impl FlatPlace {
         self.follow(was, Pc::InConciliator(place), out)
     }
 
-    /// Makes the next access from this place, which is its own, in a ratifier.
+    /// Makes the next access from this place in a ratifier.
     #[inline(always)]
     fn ratify<Q: Quorums, M: Memory>(
         &mut self,
@@ -203,8 +204,8 @@ impl FlatPlace {
         self.follow(was, Pc::InRatifier(place), out)
     }
 
-    /// Makes the next access of a process that loads the registers of its preference's read quorum. It asks first what
-    /// the load found. So an output is known without a look at its fields.
+    /// Makes the next access of a process that loads the registers of its preference's read quorum. If the register is
+    /// set, the output is undecided, and is returned at once.
     #[inline(always)]
     fn check<Q: Quorums, M: Memory>(&mut self, q: &Q, memory: &mut M, object: u32) -> FlatOut
         requires place { IsRatifierPlace (Q.table q.now) (Check self.old.value self.old.mask) }
@@ -230,7 +231,8 @@ impl FlatPlace {
         self.follow(was, Pc::InRatifier(place), out)
     }
 
-    /// Goes on with what an access led to: this output, or else this place.
+    /// Goes on with what an access led to: this output, or else this place. `was` is the place as it was read before the
+    /// access, so no field is loaded again.
     #[inline(always)]
     fn follow(&mut self, was: FlatPlace, place: Pc, out: Option<Out>) -> FlatOut
         requires { was ≡ self.old }
@@ -242,7 +244,7 @@ impl FlatPlace {
         FlatOut::of(out)
     }
 
-    /// Goes to this place. It stores only what differs from what it was.
+    /// Goes to this place. Stores the mask of the place, and of the other fields only what differs from `was`.
     #[inline(always)]
     fn turn(&mut self, was: FlatPlace, place: Pc)
         requires { was ≡ self.old }
@@ -286,7 +288,7 @@ impl FlatPlace {
         }
     }
 
-    /// Goes to this spot, with this value. It stores only what differs from what it was.
+    /// Goes to this spot, with this value. Stores only what differs from `was`.
     #[inline(always)]
     fn stand(&mut self, was: FlatPlace, spot: Spot, value: u32)
         requires { was ≡ self.old }
