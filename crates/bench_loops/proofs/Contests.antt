@@ -8,7 +8,7 @@ use Rattle.mb_claim.specs.declared.access.ClaimAccess.{ClaimAccess}
 use Rattle.mb_claim.specs.declared.claim.on_cell.CellClaim.{CellClaim}
 use Rattle.mb_claim.specs.declared.layout.Layout.{Layout}
 use Rattle.mb_claim.specs.Vocabulary.{part_on, claim_of, steps_left, IsClaimIn, IsOnCell, consumer_of}
-use Rattle.bench_loops.specs.UnderWay.{left_of, ChangesOnly, IsContest, IsUnderWay}
+use Rattle.bench_loops.specs.UnderWay.{all_steps_left, ChangesOnly, IsContest, IsUnderWay}
 
 -- an access lengthens no part but its own consumer's on its own cell
 abbrev pub OthersStay : Type 0
@@ -89,24 +89,25 @@ contest_goes_on layout cell c claims words left h claim a others contest within 
       ];
     }
 
--- a round of steps so far: the claims are a contest after a longer history, which changed parts on this cell alone.
--- They can make no more accesses than at the start, and fewer if a claim that was stepped goes on
+-- a round of steps so far. If the claims at its start were a contest after a history, they are
+-- one after another history, which differs at most in parts on this cell. They can make no more
+-- accesses than at the start, and fewer if `goes_on`
 pub record IsRound
     (layout : Layout) (cell : ℕ) (old : List CellClaim) (before : List ℕ) (claims : List CellClaim) (words : List ℕ)
     (goes_on : Bool) : Type 0 where
   pub kept :
       (h : List ClaimAccess) → IsContest layout cell old before h
       → (later : List ClaimAccess) × IsContest layout cell claims words later × ChangesOnly (λ c k. k ≡ cell) h later
-  pub most : left_of layout claims ≤ left_of layout old
-  pub fewer : goes_on ≡ true → left_of layout claims < left_of layout old
+  pub most : all_steps_left layout claims ≤ all_steps_left layout old
+  pub fewer : goes_on ≡ true → all_steps_left layout claims < all_steps_left layout old
 
 -- if one claim can make fewer accesses than before, so can all of them together
 left_falls :
     (layout : Layout) (claims : List CellClaim) (i : ℕ) (claim d : CellClaim) → i < length claims
     → steps_left layout (claim_of true claim) < steps_left layout (claim_of true (slice_index_or claims i d))
-    → left_of layout (slice_set claims i claim) < left_of layout claims
+    → all_steps_left layout (slice_set claims i claim) < all_steps_left layout claims
 left_falls layout claims i claim d within fewer =
-    omega (arith, fewer, sum_by-set (λ c. steps_left layout (claim_of true c)) claims i claim d within)
+    omega (arith, fewer, sum_by-set (λ x. steps_left layout (claim_of true x)) claims i claim d within)
 
 -- a round goes on by a step of the claim at place i, which has fewer steps left then
 pub round_steps_on :

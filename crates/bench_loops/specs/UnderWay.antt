@@ -1,14 +1,15 @@
 -- Claims on the words of `MAX_CELLS` cells: under way, before a cell, and many on one cell.
-use Rattle.std.specs.Prelude.{ℕ, ◌≡◌, ◌<◌, ◌≤◌, Bool, true, false, List, [], length, slice_index_or, sum_by}
+use Rattle.std.specs.Prelude.{ℕ, ◌≡◌, ◌≢◌, ◌<◌, ◌≤◌, Bool, true, false, List, [], length, slice_index_or, sum_by}
 use Rattle.mb_deciding.specs.declared.access.Act.TheVariants.{Load}
 use Rattle.mb_deciding.specs.declared.access.Reg.TheVariants.{Value}
 use Rattle.mb_claim.specs.declared.access.ClaimAccess.{ClaimAccess}
+use Rattle.mb_claim.specs.declared.access.Stage.TheVariants.{Going}
 use Rattle.mb_claim.specs.declared.claim.Claim.{Claim}
 use Rattle.mb_claim.specs.declared.claim.on_cell.CellClaim.{CellClaim}
 use Rattle.mb_claim.specs.declared.layout.Layout.{Layout}
 use Rattle.mb_claim.specs.declared.layout.TheConstants.{MAX_CELLS}
 use Rattle.mb_claim.specs.Vocabulary.{Claims, part_on, claims_in, consumer_of, IsClaimIn, IsMemoryOf}
-use Rattle.mb_claim.specs.Vocabulary.{claim_of, steps_left, IsOnCell, IsAtFirst}
+use Rattle.mb_claim.specs.Vocabulary.{claim_of, claim_stage, steps_left, IsOnCell, IsAtFirst}
 
 -- consumer c has loaded this value from the first word of cell k, with the random word 0
 abbrev pub looked : ℕ → ℕ → ℕ → ClaimAccess
@@ -58,5 +59,10 @@ pub record AreNew (layout : Layout) (count : ℕ) (claims : List CellClaim) : Ty
       (i : ℕ) (d : CellClaim) → i < count → IsClaimIn layout (claim_of false (slice_index_or claims i d)) []
 
 -- how many accesses these claims can still make, all together
-abbrev pub left_of : Layout → List CellClaim → ℕ
-left_of layout claims = sum_by (λ c. steps_left layout (claim_of true c)) claims
+abbrev pub all_steps_left : Layout → List CellClaim → ℕ
+all_steps_left layout claims = sum_by (λ claim. steps_left layout (claim_of true claim)) claims
+
+-- the first `count` of these claims have ended
+abbrev pub HaveEnded : ℕ → List CellClaim → Type 0
+HaveEnded count claims =
+    (i : ℕ) (d : CellClaim) → i < count → claim_stage (claim_of true (slice_index_or claims i d)) ≢ Going

@@ -1,9 +1,9 @@
 //! Claims of all consumers on one cell, a step each in turn.
-ghost use Rattle.std.specs.Prelude.{◌≡◌, ◌<◌, [], ℕ, true, List, length};
+ghost use Rattle.std.specs.Prelude.{◌≡◌, ◌<◌, [], ℕ, true, false, List, length};
 ghost use Rattle.mb_claim.specs.declared.access.ClaimAccess.{ClaimAccess};
 ghost use Rattle.mb_claim.specs.declared.layout.TheConstants.{MAX_CELLS};
 ghost use Rattle.mb_claim.specs.Vocabulary.{consumer_count, IsMemoryOf};
-ghost use Rattle.bench_loops.specs.UnderWay.{all_claims, AreNew, ChangesOnly, IsContest, left_of};
+ghost use Rattle.bench_loops.specs.UnderWay.{all_claims, all_steps_left, AreNew, ChangesOnly, HaveEnded, IsContest};
 
 use crate::count::Count;
 use crate::source::Source;
@@ -88,6 +88,7 @@ fn contend<A: Allocator + Drop>(
     ensures kept { (h : List ClaimAccess) → IsContest layout.now cell claims.old words.old h
         → (later : List ClaimAccess) × IsContest layout.now cell claims.new words.new later
         × ChangesOnly (λ c k. k ≡ cell) h later }
+    ensures ended { HaveEnded (length claims.new) claims.new }
 {
     // This count keeps the loops of rounds and of claims apart in the compiled code.
     while turn_each(layout, words, cell, claims, source, count) {
@@ -110,7 +111,9 @@ fn turn_each<A: Allocator + Drop>(
     ensures kept { (h : List ClaimAccess) → IsContest layout.now cell claims.old words.old h
         → (later : List ClaimAccess) × IsContest layout.now cell claims.new words.new later
         × ChangesOnly (λ c k. k ≡ cell) h later }
-    ensures fewer { result ≡ true → left_of layout.now claims.new < left_of layout.now claims.old }
+    ensures fewer { result ≡ true
+        → all_steps_left layout.now claims.new < all_steps_left layout.now claims.old }
+    ensures ended { result ≡ false → HaveEnded (length claims.new) claims.new }
 {
     accesses_lengthen_one_part();
     let mut goes_on = false;

@@ -9,7 +9,7 @@ pub struct Count {
     pub accesses: u64,
     /// The claims that were won.
     pub won: u64,
-    /// The rounds of steps that claims in turn made.
+    /// The rounds of claims in turn after which a claim went on. Nothing prints it.
     pub rounds: u64,
 }
 

@@ -15,4 +15,5 @@ returns g c = record {
       let past = c.loop-count.invariant h start in
       let made = c.turn_each.ensures.kept past.0 past.1 in
       (made.0, made.1, λ d k other. made.2 d k other ∙ past.2 d k other);
+  ended = c.turn_each.ensures.ended c.loop-count-test.false;
 }

@@ -1,6 +1,6 @@
 use Rattle.std.proofs.Common.{◌≡◌, List}
 use Rattle.mb_claim.specs.declared.access.ClaimAccess.{ClaimAccess}
-use Rattle.bench_loops.specs.UnderWay.{ChangesOnly, IsContest, left_of}
+use Rattle.bench_loops.specs.UnderWay.{all_steps_left, ChangesOnly, IsContest}
 use Rattle.bench_loops.proofs.contended.contend.Given as goal
 
 -- the claims are a contest after a longer history, which changed parts on this cell alone
@@ -11,4 +11,4 @@ invariant-loop-count g l = (h : List ClaimAccess) → IsContest l.layout l.cell 
 
 -- a round after which a claim goes on leaves fewer accesses to make
 abbrev pub decreases-loop-count : goal.decreases-loop-count
-decreases-loop-count g l = left_of l.layout l.claims
+decreases-loop-count g l = all_steps_left l.layout l.claims
