@@ -14,7 +14,8 @@ loop-consumer-preserved c =
     let before = c.loop-consumer.invariant in
     let new = c.new.ensures in
     record {
-      whose = one_more (λ k x. consumer_of (claim_of true x) ≡ k) claims i c.new.result within new.consumer before.whose;
+      whose =
+          one_more (λ k x. consumer_of (claim_of true x) ≡ k) claims i c.new.result within new.consumer before.whose;
       first = one_more (λ k x. IsAtFirst x) claims i c.new.result within new.first before.first;
       stands =
           one_more (λ k x. IsClaimIn layout (claim_of false x) []) claims i c.new.result within new.path before.stands;
