@@ -1,9 +1,11 @@
--- Flat places and flat outputs, and what they stand for.
+-- Flat places and their outputs, and what they stand for.
 use Rattle.std.specs.Prelude.{ℕ, Option, None, Some, true, false}
 use Rattle.mb_deciding.specs.Types.{Pc, InConciliator, InRatifier, InLast, Draw, Put, Look, Begin, Announce, Propose, Check, Out}
-use Rattle.mb_deciding.specs.Types.{FlatPlace, Spot, AtDraw, AtPut, AtLook, AtBegin, AtAnnounce, AtPropose, AtCheck, AtLast}
 use Rattle.mb_deciding.specs.Types.{FlatOut, NotYet, Undecided, Decided}
+use Rattle.mb_deciding.specs.Types.{Next}
 use Rattle.mb_deciding.specs.Objects.{answer}
+use Rattle.mb_deciding.specs.OneStep.{next_from}
+use Rattle.mb_deciding.specs.Types.{FlatPlace, Spot, AtDraw, AtPut, AtLook, AtBegin, AtAnnounce, AtPropose, AtCheck, AtLast}
 
 -- the place at this spot, with these numbers
 abbrev pub pc_at : Spot → ℕ → ℕ → ℕ → Pc
@@ -24,8 +26,12 @@ pc_of flat = pc_at flat.spot flat.value flat.mask flat.modulus
 abbrev pub stood_on : Spot → ℕ → FlatPlace → FlatPlace
 stood_on spot v flat = record { spot = spot; value = v; mask = flat.mask; modulus = flat.modulus }
 
--- the output that a flat output stands for, if it is one
-abbrev pub out_in : FlatOut → Option Out
-out_in NotYet = None
-out_in (Undecided v) = Some (answer false v)
-out_in (Decided v) = Some (answer true v)
+-- the output that this stands for with this value, if it is one
+abbrev pub out_in : FlatOut → ℕ → Option Out
+out_in NotYet v = None
+out_in Undecided v = Some (answer false v)
+out_in Decided v = Some (answer true v)
+
+-- what follows an access from a flat place: the output with this value, if it is one, or else the place
+abbrev pub flat_next : FlatOut → ℕ → FlatPlace → Next
+flat_next out v flat = next_from (out_in out v) (pc_of flat)

@@ -7,8 +7,8 @@ pub mod OneObject
 pub mod Objects
 pub mod Deciding
 pub mod Place
-pub mod FlatPlaces
 pub mod OneStep
+pub mod FlatPlaces
 pub mod ManySteps
 pub mod FirstPlaces
 pub mod Checks

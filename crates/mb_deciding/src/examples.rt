@@ -126,7 +126,7 @@ pub fn rows_of_accesses()
         → now ≡ m + 1 }
 {}
 
-/// Flat places and outputs, by their fields.
+/// Flat places, by their fields.
 pub fn flat_places()
     ensures check { pc_at AtCheck 1 4 8 ≡ InRatifier (Check 1 4) }
 
@@ -135,5 +135,5 @@ pub fn flat_places()
 
     // Two spots are two places, and a decided output is not an undecided one.
     ensures apart { pc_at AtPut 1 4 8 ≡ pc_at AtLook 1 4 8 → ⊥ }
-    ensures decided { out_in (Decided 1) ≡ out_in (Undecided 1) → ⊥ }
+    ensures decided { out_in Decided 1 ≡ out_in Undecided 1 → ⊥ }
 {}

@@ -19,7 +19,7 @@ pub struct CellClaim {
 impl CellClaim {
     ghost use Rattle.std.specs.Prelude.{◌≡◌, ◌<◌, Bool, true, false, ℕ, List, [], ◌∷◌, length};
     ghost use Rattle.mb_deciding.specs.Vocabulary.{PcIsAt, IsNext, IsReached, next_from, turns_left, turns_after};
-    ghost use Rattle.mb_deciding.specs.Vocabulary.{pc_of, out_in};
+    ghost use Rattle.mb_deciding.specs.Vocabulary.{pc_of, flat_next};
     ghost use Rattle.mb_deciding.specs.declared.place.pc.Next.TheVariants as leads;
     ghost use Rattle.mb_claim.specs.{Kind, Pc, Turn, Going, ObjectTurn, MAX_LARGE_CELLS, IsClaimIn, IsStanding};
     ghost use Rattle.mb_claim.specs.{consumer_of, claim_stage, steps_left, consumer_count, quorums_of, kinds_of};
@@ -66,23 +66,22 @@ impl CellClaim {
         self.stage
     }
 
-    /// Goes on with what an access on the claim's object led to. Either this is the output, or the claim has the new
-    /// place already. Returns how far the claim has come. The claim is going.
+    /// Goes on with what an access on the claim's object led to. Either this is the output, with this value, or the claim
+    /// has the new place already. Returns how far the claim has come. The claim is going.
     #[inline(always)]
-    pub(crate) fn follow(&mut self, layout: &Layout, cell: u32, out: FlatOut) -> Stage
+    pub(crate) fn follow(&mut self, layout: &Layout, cell: u32, out: FlatOut, value: u32) -> Stage
         requires going { self.old.stage ≡ Going }
         requires cell { cell < MAX_LARGE_CELLS }
         requires here { IsOnCell layout.now cell self.old }
         requires object { self.old.object < length (kinds_of layout.now) }
-        requires next { IsNext (quorums_of layout.now)
-            (next_from (out_in out) (pc_of self.old.place)) }
+        requires next { IsNext (quorums_of layout.now) (flat_next out value self.old.place) }
         ensures here { IsOnCell layout.now cell self.new }
         ensures consumer { self.new.consumer ≡ self.old.consumer }
         ensures stage { result ≡ self.new.stage }
 
         // Fewer accesses are left than at the place before the access.
         ensures fewer { (pc : Pc)
-            → turns_after (quorums_of layout.now) (next_from (out_in out) (pc_of self.old.place))
+            → turns_after (quorums_of layout.now) (flat_next out value self.old.place)
             < turns_left (quorums_of layout.now) pc
             → steps_left layout.now (claim_of true self.new)
             < steps_left layout.now (placed_at pc (claim_of true self.old)) }
@@ -91,15 +90,15 @@ impl CellClaim {
             → ((kind : Kind) (v : ℕ) (turns : List Turn)
             → PcIsAt (quorums_of layout.now) kind v pc turns
             → IsReached (quorums_of layout.now) kind v
-            (next_from (out_in out) (pc_of self.old.place)) (turn ∷ turns))
+            (flat_next out value self.old.place) (turn ∷ turns))
             → IsClaimIn layout.now (claim_of true self.new)
             (record { object = self.old.object; turn = turn } ∷ xs) }
     {
         places_show_prefixes();
         match out {
             FlatOut::NotYet => Stage::Going,
-            FlatOut::Undecided(value) => self.leave(layout, cell, Out::undecided(value)),
-            FlatOut::Decided(value) => self.leave(layout, cell, Out::decided(value)),
+            FlatOut::Undecided => self.leave(layout, cell, Out::undecided(value)),
+            FlatOut::Decided => self.leave(layout, cell, Out::decided(value)),
         }
     }
 

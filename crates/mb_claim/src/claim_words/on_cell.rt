@@ -44,10 +44,12 @@ impl<A: Allocator + Drop> ClaimWords<A> {
             cell,
             begin: claim.begin,
         };
+        let mut value = 0;
+        let object = claim.object;
         let out = claim
             .place
-            .step(&layout.table, &mut memory, claim.object, word);
-        claim.follow(layout, cell, out)
+            .step(&layout.table, &mut memory, object, word, &mut value);
+        claim.follow(layout, cell, out, value)
     }
 }
 

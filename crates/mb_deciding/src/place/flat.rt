@@ -22,6 +22,24 @@ enum Spot {
     AtLast,
 }
 
+/// An access to this object, with this random word.
+#[derive(Clone, Copy)]
+struct Access {
+    object: u32,
+    word: u64,
+}
+
+/// Whether a process has its output after an access.
+#[derive(Clone, Copy, PartialEq, Eq, Debug)]
+pub enum FlatOut {
+    /// The process goes on.
+    NotYet,
+    /// The output is undecided.
+    Undecided,
+    /// The output is decided.
+    Decided,
+}
+
 // (Two that stand for one place may differ in fields that the place does not have. So they are not `PartialEq`.)
 /// The place of one process in a deciding object, as flat fields. It stands for a [`Pc`], and takes fewer instructions a
 /// step.
@@ -33,41 +51,13 @@ pub struct FlatPlace {
     modulus: u64,
 }
 
-/// The output of a process after an access, if it has one.
-#[derive(Clone, Copy, PartialEq, Eq, Debug)]
-pub enum FlatOut {
-    /// The process goes on.
-    NotYet,
-    /// The output has this value, undecided.
-    Undecided(u32),
-    /// The output has this value, decided.
-    Decided(u32),
-}
-
-impl FlatOut {
-    ghost use Rattle.std.specs.Prelude.{◌≡◌};
-    ghost use Rattle.mb_deciding.specs.FlatPlaces.{out_in};
-
-    /// This output, if there is one.
-    #[inline(always)]
-    fn of(out: Option<Out>) -> FlatOut
-        ensures { out_in result ≡ out }
-    {
-        match out {
-            None => FlatOut::NotYet,
-            Some(out) if out.decided => FlatOut::Decided(out.value),
-            Some(out) => FlatOut::Undecided(out.value),
-        }
-    }
-}
-
 impl FlatPlace {
     ghost use Rattle.std.specs.Prelude.{◌≡◌, ◌<◌, ℕ};
     ghost use Rattle.mb_quorum.specs.Vocabulary.{QuorumTable};
     ghost use Rattle.mb_deciding.specs.{Op, InConciliator, InRatifier, Check, IsConciliatorPlace, IsConciliatorOp};
     ghost use Rattle.mb_deciding.specs.{IsRatifierPlace, IsRatifierOp, IsPlace, IsOpAt, IsNext, IsStep, next_from};
     ghost use Rattle.mb_deciding.specs.{turns_left, turns_after};
-    ghost use Rattle.mb_deciding.specs.FlatPlaces.{pc_of, out_in, stood_on};
+    ghost use Rattle.mb_deciding.specs.FlatPlaces.{pc_of, flat_next, stood_on};
 
     /// This place.
     pub fn of(place: Pc) -> FlatPlace
@@ -99,7 +89,8 @@ impl FlatPlace {
     }
 
     /// Makes the next access, to the object with this number in this memory, as [`Pc::step`] does. Goes on to the place
-    /// that it leads to, or returns the output. After an output the place does not count any more.
+    /// that it leads to, or puts the value of the output into `value`, and says whether that is decided. After an output the
+    /// place does not count any more. (With the value in it the result would cost the caller a second look at each step.)
     #[inline(always)]
     pub fn step<Q: Quorums, M: Memory>(
         &mut self,
@@ -107,21 +98,23 @@ impl FlatPlace {
         memory: &mut M,
         object: u32,
         word: u64,
+        value: &mut u32,
     ) -> FlatOut
         requires place { IsPlace (Q.table q.now) (pc_of self.old) }
         requires may { (op : Op) → IsOpAt (Q.table q.now) (pc_of self.old) op
             → M.can_make memory.old object op }
-        ensures fits { IsNext (Q.table q.now) (next_from (out_in result) (pc_of self.new)) }
-        ensures fewer { turns_after (Q.table q.now) (next_from (out_in result) (pc_of self.new))
+        ensures fits { IsNext (Q.table q.now) (flat_next result value.new self.new) }
+        ensures fewer { turns_after (Q.table q.now) (flat_next result value.new self.new)
             < turns_left (Q.table q.now) (pc_of self.old) }
 
         // The call made the place's next access. A process that was at this place is now at the next one, or has its
         // output.
         ensures step { IsStep (Q.table q.now) (pc_of self.old)
             (λ op seen. M.makes memory.old object op seen memory.new) word
-            (next_from (out_in result) (pc_of self.new)) }
+            (flat_next result value.new self.new) }
     {
         let input = self.value;
+        let access = Access { object, word };
         match self.spot {
             Spot::AtDraw => {
                 let (limit, modulus) = (self.mask, self.modulus);
@@ -130,27 +123,35 @@ impl FlatPlace {
                     limit,
                     modulus,
                 };
-                self.conciliate(q.values(), memory, object, word, place)
+                self.conciliate(q.values(), memory, access, place, value)
             }
             Spot::AtPut => {
                 let place = ConciliatorPlace::Put { input };
-                self.conciliate(q.values(), memory, object, word, place)
+                self.conciliate(q.values(), memory, access, place, value)
             }
             Spot::AtLook => {
                 let place = ConciliatorPlace::Look { input };
-                self.conciliate(q.values(), memory, object, word, place)
+                self.conciliate(q.values(), memory, access, place, value)
             }
-            Spot::AtBegin => self.ratify(q, memory, object, RatifierPlace::Begin { input }),
+            Spot::AtBegin => self.ratify(q, memory, object, RatifierPlace::Begin { input }, value),
             Spot::AtAnnounce => {
-                let place = RatifierPlace::Announce {
-                    input,
-                    left: self.mask,
-                };
-                self.ratify(q, memory, object, place)
+                let left = self.mask;
+                let place = RatifierPlace::Announce { input, left };
+                self.ratify(q, memory, object, place, value)
             }
-            Spot::AtPropose => self.ratify(q, memory, object, RatifierPlace::Propose { input }),
-            Spot::AtCheck => self.check(q, memory, object),
-            Spot::AtLast => FlatOut::of(Some(LastPlace { input }.step(q.values(), memory, object))),
+            Spot::AtPropose => self.ratify(
+                q,
+                memory,
+                object,
+                RatifierPlace::Propose { input },
+                value,
+            ),
+            Spot::AtCheck => self.check(q, memory, object, value),
+            Spot::AtLast => {
+                let was = *self;
+                let out = LastPlace { input }.step(q.values(), memory, object);
+                self.follow(was, Pc::last(input), Some(out), value)
+            }
         }
     }
 
@@ -160,24 +161,25 @@ impl FlatPlace {
         &mut self,
         values: u32,
         memory: &mut M,
-        object: u32,
-        word: u64,
+        access: Access,
         mut place: ConciliatorPlace,
+        value: &mut u32,
     ) -> FlatOut
         requires place { IsConciliatorPlace values place }
-        requires may { (op : Op) → IsConciliatorOp place op → M.can_make memory.old object op }
+        requires may { (op : Op) → IsConciliatorOp place op
+            → M.can_make memory.old access.object op }
         ensures fits { (t : QuorumTable) → t.values ≡ values
-            → IsNext t (next_from (out_in result) (pc_of self.new)) }
+            → IsNext t (flat_next result value.new self.new) }
         ensures fewer { (t : QuorumTable)
-            → turns_after t (next_from (out_in result) (pc_of self.new))
+            → turns_after t (flat_next result value.new self.new)
             < turns_left t (InConciliator place) }
         ensures step { (t : QuorumTable) → t.values ≡ values → IsStep t (InConciliator place)
-            (λ op seen. M.makes memory.old object op seen memory.new) word
-            (next_from (out_in result) (pc_of self.new)) }
+            (λ op seen. M.makes memory.old access.object op seen memory.new) access.word
+            (flat_next result value.new self.new) }
     {
         let was = *self;
-        let out = place.step(values, memory, object, word);
-        self.follow(was, Pc::InConciliator(place), out)
+        let made = place.step(values, memory, access.object, access.word);
+        self.follow(was, Pc::InConciliator(place), made, value)
     }
 
     /// Makes the next access from this place in a ratifier.
@@ -188,60 +190,78 @@ impl FlatPlace {
         memory: &mut M,
         object: u32,
         mut place: RatifierPlace,
+        value: &mut u32,
     ) -> FlatOut
         requires place { IsRatifierPlace (Q.table q.now) place }
         requires may { (op : Op) → IsRatifierOp (Q.table q.now) place op
             → M.can_make memory.old object op }
-        ensures fits { IsNext (Q.table q.now) (next_from (out_in result) (pc_of self.new)) }
-        ensures fewer { turns_after (Q.table q.now) (next_from (out_in result) (pc_of self.new))
+        ensures fits { IsNext (Q.table q.now) (flat_next result value.new self.new) }
+        ensures fewer { turns_after (Q.table q.now) (flat_next result value.new self.new)
             < turns_left (Q.table q.now) (InRatifier place) }
         ensures step { (word : ℕ) → IsStep (Q.table q.now) (InRatifier place)
             (λ op seen. M.makes memory.old object op seen memory.new) word
-            (next_from (out_in result) (pc_of self.new)) }
+            (flat_next result value.new self.new) }
     {
         let was = *self;
-        let out = place.step(q, memory, object);
-        self.follow(was, Pc::InRatifier(place), out)
+        let made = place.step(q, memory, object);
+        self.follow(was, Pc::InRatifier(place), made, value)
     }
 
     /// Makes the next access of a process that loads the registers of its preference's read quorum. If the register is
     /// set, the output is undecided, and is returned at once.
     #[inline(always)]
-    fn check<Q: Quorums, M: Memory>(&mut self, q: &Q, memory: &mut M, object: u32) -> FlatOut
+    fn check<Q: Quorums, M: Memory>(
+        &mut self,
+        q: &Q,
+        memory: &mut M,
+        object: u32,
+        value: &mut u32,
+    ) -> FlatOut
         requires place { IsRatifierPlace (Q.table q.now) (Check self.old.value self.old.mask) }
         requires may { (op : Op)
             → IsRatifierOp (Q.table q.now) (Check self.old.value self.old.mask) op
             → M.can_make memory.old object op }
-        ensures fits { IsNext (Q.table q.now) (next_from (out_in result) (pc_of self.new)) }
-        ensures fewer { turns_after (Q.table q.now) (next_from (out_in result) (pc_of self.new))
+        ensures fits { IsNext (Q.table q.now) (flat_next result value.new self.new) }
+        ensures fewer { turns_after (Q.table q.now) (flat_next result value.new self.new)
             < turns_left (Q.table q.now) (InRatifier (Check self.old.value self.old.mask)) }
         ensures step { (word : ℕ)
             → IsStep (Q.table q.now) (InRatifier (Check self.old.value self.old.mask))
             (λ op seen. M.makes memory.old object op seen memory.new) word
-            (next_from (out_in result) (pc_of self.new)) }
+            (flat_next result value.new self.new) }
     {
         let was = *self;
         let (preference, left) = (was.value, was.mask);
         let seen = memory.perform(object, Op::Load(Reg::Quorum(least(left))));
         let mut place = RatifierPlace::Check { preference, left };
-        let out = place.checked(q, preference, left, seen);
+        let made = place.checked(q, preference, left, seen);
         if seen != 0 {
-            return FlatOut::Undecided(preference);
+            *value = preference;
+            return FlatOut::Undecided;
         }
-        self.follow(was, Pc::InRatifier(place), out)
+        self.follow(was, Pc::InRatifier(place), made, value)
     }
 
-    /// Goes on with what an access led to: this output, or else this place. `was` is the place as it was read before the
-    /// access, so no field is loaded again.
+    /// Goes on with what an access led to: this place, or else the output, whose value it puts into `value`. `was` is the place as
+    /// it was read before the access, so no field is loaded again.
     #[inline(always)]
-    fn follow(&mut self, was: FlatPlace, place: Pc, out: Option<Out>) -> FlatOut
+    fn follow(&mut self, was: FlatPlace, place: Pc, out: Option<Out>, value: &mut u32) -> FlatOut
         requires { was ≡ self.old }
-        ensures { next_from (out_in result) (pc_of self.new) ≡ next_from out place }
+        ensures { flat_next result value.new self.new ≡ next_from out place }
     {
-        if let None = out {
-            self.turn(was, place);
+        match out {
+            None => {
+                self.turn(was, place);
+                FlatOut::NotYet
+            }
+            Some(out) => {
+                *value = out.value;
+                if out.decided {
+                    FlatOut::Decided
+                } else {
+                    FlatOut::Undecided
+                }
+            }
         }
-        FlatOut::of(out)
     }
 
     /// Goes to this place. Stores the mask of the place, and of the other fields only what differs from `was`.

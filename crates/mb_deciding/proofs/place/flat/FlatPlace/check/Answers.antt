@@ -11,8 +11,8 @@ returns-then-seen-ne0-clause-step g c word =
     let place = Check c.args.self.now.value c.args.self.now.mask in
     ratifier_step t place _ (to.Load (Quorum c.least.result)) c.perform-seen.result word _
     c.least.ensures.member c.perform-seen.ensures
-    (subst (λ out. RatifierReaches t place c.perform-seen.result (next_from out (InRatifier c.checked-out.new.self)))
-    (c.checked-out.ensures.contested c.if-seen-ne0.true) c.checked-out.ensures.reached)
+    (subst (λ out. RatifierReaches t place c.perform-seen.result (next_from out (InRatifier c.checked-made.new.self)))
+    (c.checked-made.ensures.contested c.if-seen-ne0.true) c.checked-made.ensures.reached)
 
 pub returns-clause-step : goal.returns-clause-step
 returns-clause-step g c word =
@@ -20,4 +20,4 @@ returns-clause-step g c word =
     let place = Check c.args.self.now.value c.args.self.now.mask in
     subst (IsStep t (InRatifier place) _ word) (sym c.follow.ensures)
     (ratifier_step t place _ (to.Load (Quorum c.least.result)) c.perform-seen.result word _
-    c.least.ensures.member c.perform-seen.ensures c.checked-out.ensures.reached)
+    c.least.ensures.member c.perform-seen.ensures c.checked-made.ensures.reached)

@@ -1,14 +1,7 @@
 -- Proof of `FlatPlace::step`: makes the next access, to the object with this number in this memory.
-use Rattle.std.proofs.Common.{◌≡◌, Some, ap, sym, subst}
-use Rattle.mb_deciding.specs.{InLast, IsStep, Pc, Out, FlatOut, next_from}
-use Rattle.mb_deciding.specs.FlatPlaces.{out_in}
-use Rattle.mb_deciding.specs.declared.place.pc.Next.TheVariants as leads
+use Rattle.std.proofs.Common.{sym, subst}
+use Rattle.mb_deciding.specs.{InLast, IsStep}
 use Rattle.mb_deciding.proofs.place.flat.FlatPlace.step.Goals as goal
-
--- after an output the place does not count
-ends :
-    (out : Out) (flat : FlatOut) (pc : Pc) → out_in flat ≡ Some out → next_from (out_in flat) pc ≡ leads.Out out
-ends out flat pc is = ap (λ o. next_from o pc) is
 
 pub returns-in-AtDraw-clause-step : goal.returns-in-AtDraw-clause-step
 returns-in-AtDraw-clause-step g c =
@@ -40,5 +33,4 @@ pub returns-in-AtLast-clause-step : goal.returns-in-AtLast-clause-step
 returns-in-AtLast-clause-step g c =
     let t = g.Q.Quorums.table c.args.q.now in
     rw (c.in-AtLast.is) (subst (IsStep t (InLast (record { input = c.args.self.now.value })) _ c.args.word)
-    (sym (ends c.step.result c.of.result _ c.of.ensures))
-    (c.step.ensures.step t c.args.word (sym c.values-in-AtLast.ensures)))
+    (sym c.follow.ensures) (c.step-out.ensures.step t c.args.word (sym c.values-in-AtLast.ensures)))
