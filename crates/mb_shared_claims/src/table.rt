@@ -1,6 +1,7 @@
 //! The table: the words of the claims, and the roster.
 mod run;
 mod step;
+mod zeros;
 
 use crate::hub::{AllGiven, ClaimHub};
 use crate::rule::{ClaimsRule, Draws, GivesOut, Settles, TakesIn};
@@ -12,6 +13,7 @@ use mb_claim::laws::layouts_are_sound;
 use mb_claim::steps::{addresses_are_apart, histories_begin_with_zeros, other_words_are_free};
 use std::alloc::{AllocError as NoMemory, Allocator};
 use std::marker::Model;
+use zeros::zeros;
 
 /// The words of the claims on some cells, which threads share, and the roster after them. As many threads as there are
 /// seats may use it at once, each by a `&`.
@@ -54,7 +56,7 @@ impl<A: Allocator + Clone + Drop> SharedClaims<A> {
         layouts_are_sound();
         addresses_are_apart();
         histories_begin_with_zeros();
-        let words = vec![in alloc.clone()?; 0u64; layout.words(cells) + 1]?;
+        let words = zeros(alloc.clone()?, layout.words(cells) + 1)?;
         let size = TableSize { layout, cells };
         let (table, seat) = Table::of_words(alloc, words.as_slice(), &size)?;
         let hub = ClaimHub {
