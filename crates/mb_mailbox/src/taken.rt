@@ -76,22 +76,6 @@ impl<A: Allocator + Drop> ConsumerRecord<A> {
         }
     }
 
-    /// How many items of lane `p` the consumer took, if its notes are cut by lane. It only says how much room to
-    /// take.
-    pub(crate) fn count_taken(&self, p: u32) -> usize {
-        let mut count: usize = 0;
-        if let Kept::Cut(lists) = &self.notes {
-            if let Some(notes) = lists.as_slice().get(p as usize) {
-                for note in notes.iter() {
-                    if let Note::Took(_) = note {
-                        count = count.saturating_add(1);
-                    }
-                }
-            }
-        }
-        count
-    }
-
     /// The notes of each lane.
     fn lists(&self) -> &[Vec<Note, A>]
         requires cut { self.now.is_cut ≡ true }

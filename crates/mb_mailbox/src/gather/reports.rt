@@ -73,17 +73,6 @@ impl<A: Allocator + Drop> CutHub<A> {
         }
         false
     }
-
-    /// How many of the `put` items of lane `p` no consumer has noted as taken. It only says how much room to take.
-    fn left_room(&self, p: u32, put: usize) -> usize {
-        let mut room = put;
-        for ledger in self.ledgers.iter() {
-            if let Some(ledger) = ledger {
-                room = room.saturating_sub(ledger.count_taken(p));
-            }
-        }
-        room
-    }
 }
 
 impl<A: Allocator + Clone + Drop> CutHub<A> {
@@ -130,7 +119,7 @@ impl<A: Allocator + Clone + Drop> CutHub<A> {
     {
         let items = self.items(p);
         let put = Vec::new(alloc.clone()?);
-        let mut left = Vec::with_capacity(alloc, self.left_room(p, items.len()))?;
+        let mut left = Vec::new(alloc);
         for (j, item) in items.iter().enumerate() {
             if !self.is_taken(consumers, p, j) {
                 left.push(*item)?;
