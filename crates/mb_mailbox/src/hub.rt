@@ -1,5 +1,5 @@
 //! The hub of a mailbox, which gives producers and consumers and takes them in.
-ghost use Rattle.std.specs.Prelude.{◌≤◌};
+ghost use Rattle.std.specs.Prelude.{◌≡◌, ◌≤◌, []};
 ghost use Rattle.mb_mailbox.specs.NewConsumers.{AreHeads};
 
 use crate::consumer::{Consumer, ConsumerFields};
@@ -212,25 +212,26 @@ impl<A: Allocator + Clone + Drop> Hub<A> {
         };
         let reader = mailbox.cells.enroll_reader(&mut self.cells);
         self.ledgers.push_reserved(None);
-        Ok(Consumer {
-            fields: ConsumerFields {
-                reader,
-                seat,
-                places: before_heads(mailbox.lanes),
-                notes,
-            },
-        })
+        let mut fields = ConsumerFields {
+            reader,
+            seat,
+            places: ArrayVec::new(),
+            notes,
+        };
+        before_heads(&mut fields.places, mailbox.lanes);
+        Ok(Consumer { fields })
     }
 }
 
-/// The places of a consumer that has done nothing: before the head of each lane.
-fn before_heads(lanes: u32) -> ArrayVec<Place, 16>
-    requires { lanes ≤ 16 }
-    ensures { AreHeads lanes result.items }
+/// Adds the places of a consumer that has done nothing: before the head of each lane. They are added to the consumer's
+/// own list, which is long, so that it is not copied.
+#[inline(always)]
+fn before_heads(places: &mut ArrayVec<Place, 16>, lanes: u32)
+    requires few { lanes ≤ 16 }
+    requires none { places.old.items ≡ [] }
+    ensures { AreHeads lanes places.new.items }
 {
-    let mut places = ArrayVec::new();
     for p in 0..lanes {
         places.push(Place::Before(Cursor::head(p)));
     }
-    places
 }
