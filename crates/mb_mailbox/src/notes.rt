@@ -52,6 +52,13 @@ impl Mark {
     }
 }
 
+/// How many items were put on each lane, and on all lanes together.
+#[derive(Clone, Copy)]
+pub(crate) struct PutCounts {
+    pub(crate) lanes: [usize; 16],
+    pub(crate) all: usize,
+}
+
 /// The notes on this many lanes, in the order of time.
 #[derive(Drop)]
 pub(crate) struct Notes<A: Allocator + Drop> {
@@ -109,6 +116,16 @@ impl<A: Allocator + Drop> Notes<A> {
         }
         counts
     }
+
+    /// How much room the notes of each lane need. If there are as many notes as items, each item has its note. Then no
+    /// note is counted.
+    fn rooms(&self, puts: &PutCounts) -> [usize; 16] {
+        if self.marks.len() == puts.all {
+            puts.lanes
+        } else {
+            self.counts()
+        }
+    }
 }
 
 impl<A: Allocator + Clone + Drop> Notes<A> {
@@ -130,14 +147,14 @@ impl<A: Allocator + Clone + Drop> Notes<A> {
     }
 
     /// The notes of each lane in a list of its own.
-    pub(crate) fn cut(&self, alloc: A) -> Result<Vec<Vec<Note, A>, A>, NoMemory>
+    pub(crate) fn cut(&self, alloc: A, puts: &PutCounts) -> Result<Vec<Vec<Note, A>, A>, NoMemory>
         ensures { IfOk result (λ lists. map (λ v. v.items) lists.items ≡ self.now.lists) }
     {
         let marks = self.marks.as_slice();
         let words = self.words.as_slice();
         let lanes = self.lanes;
-        let counts = self.counts();
-        let mut lists = empty_lists(alloc, lanes, &counts)?;
+        let rooms = self.rooms(puts);
+        let mut lists = empty_lists(alloc, lanes, &rooms)?;
         let mut read = 0;
         for mark in marks {
             file_mark(&mut lists, *mark, words, &mut read)?;

@@ -1,5 +1,5 @@
 //! What a hub keeps of the producers and consumers that it took in.
-use crate::notes::Notes;
+use crate::notes::{Notes, PutCounts};
 use arrayvec::ArrayVec;
 use mb_cells::NoMemory;
 use mb_world::{Note, Place};
@@ -103,7 +103,7 @@ impl<A: Allocator + Clone + Drop> ConsumerRecord<A> {
     ghost use Rattle.std.specs.Prelude.{◌≡◌, IfOk, OnErr, true};
 
     /// Cuts the notes by lane. Their marks and words go back to the allocator.
-    pub(crate) fn cut(&mut self, alloc: A) -> Result<(), NoMemory>
+    pub(crate) fn cut(&mut self, alloc: A, puts: &PutCounts) -> Result<(), NoMemory>
         ensures same { self.new.ledger ≡ self.old.ledger }
         ensures cut { IfOk result (λ _. self.new.is_cut ≡ true) }
         ensures refused { OnErr result (self.new ≡ self.old) }
@@ -111,7 +111,7 @@ impl<A: Allocator + Clone + Drop> ConsumerRecord<A> {
         let Kept::Marked(notes) = &self.notes else {
             return Ok(());
         };
-        let lists = notes.cut(alloc)?;
+        let lists = notes.cut(alloc, puts)?;
         self.notes = Kept::Cut(lists);
         Ok(())
     }

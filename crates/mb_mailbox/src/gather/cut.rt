@@ -4,6 +4,7 @@ ghost use Rattle.std.specs.Prelude.{◌≡◌, IfOk, OnErr, Some, true, vec_capa
 ghost use Rattle.mb_mailbox.specs.Ledgers.{AreCut, KeptView, ledger_in, ledgers_in};
 
 use crate::hub::Hub;
+use crate::notes::PutCounts;
 use crate::taken::{ConsumerRecord, PutList};
 use mb_cells::NoMemory;
 use mb_shared_cells::CellHub;
@@ -82,7 +83,8 @@ impl<A: Allocator + Clone + Drop> Hub<A> {
             puts,
             mut ledgers,
         } = self;
-        match cut_all(&mut ledgers, alloc) {
+        let counts = put_counts(puts.as_slice());
+        match cut_all(&mut ledgers, alloc, &counts) {
             Ok(_) => Ok(CutHub {
                 cells,
                 claims,
@@ -103,13 +105,14 @@ impl<A: Allocator + Clone + Drop> Hub<A> {
 fn cut_all<A: Allocator + Clone + Drop>(
     ledgers: &mut Vec<Option<ConsumerRecord<A>>, A>,
     alloc: A,
+    puts: &PutCounts,
 ) -> Result<(), NoMemory>
     ensures same { ledgers_in ledgers.new.items ≡ ledgers_in ledgers.old.items }
     ensures room { vec_capacity ledgers.new ≡ vec_capacity ledgers.old }
     ensures cut { IfOk result (λ _. AreCut ledgers.new.items) }
 {
     for c in 0..ledgers.len() {
-        cut_one(&mut ledgers[c], alloc.clone()?)?;
+        cut_one(&mut ledgers[c], alloc.clone()?, puts)?;
     }
     Ok(())
 }
@@ -118,13 +121,29 @@ fn cut_all<A: Allocator + Clone + Drop>(
 fn cut_one<A: Allocator + Clone + Drop>(
     ledger: &mut Option<ConsumerRecord<A>>,
     alloc: A,
+    puts: &PutCounts,
 ) -> Result<(), NoMemory>
     ensures same { ledger_in ledger.new ≡ ledger_in ledger.old }
     ensures cut { IfOk result (λ _. (k : KeptView) → ledger.new ≡ Some k → k.is_cut ≡ true) }
     ensures refused { OnErr result (ledger.new ≡ ledger.old) }
 {
     match ledger {
-        Some(ledger) => ledger.cut(alloc),
+        Some(ledger) => ledger.cut(alloc, puts),
         None => Ok(()),
     }
+}
+
+/// How many items were put on each lane. It only says how much room to take.
+fn put_counts<A: Allocator + Drop>(puts: &[Option<PutList<A>>]) -> PutCounts {
+    let mut lanes = [0usize; 16];
+    let mut all = 0usize;
+    for (p, kept) in puts.iter().enumerate() {
+        if let Some(kept) = kept {
+            let many = kept.items.len();
+            // There are at most 16 lanes.
+            lanes[p % 16] = many;
+            all = all.wrapping_add(many);
+        }
+    }
+    PutCounts { lanes, all }
 }

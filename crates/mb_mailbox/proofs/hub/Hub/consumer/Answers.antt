@@ -44,7 +44,7 @@ invariant_of-result g c =
     let its : c.enroll_reader-reader.result.table.size.cells
     ≡ m.cells.size.cells = ap (λ (r : ReaderSeatView). r.table.size.cells) reader in (
       subst IsConsumer (λ j. at_views (sym reader j) (sym seat j) c.before_heads.new.places.items
-      c.in-Ok.notes.lists) new,
+          c.in-Ok.notes.lists) new,
       (let room = none.room in omega arith),
     )
 
