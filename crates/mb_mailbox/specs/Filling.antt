@@ -1,8 +1,8 @@
 -- Lists that are moved into the outline of a report, each to its place.
-use Rattle.std.specs.Prelude.{ℕ, zero, suc, ◌*◌, List, [], ◌∷◌, Option, Some, None}
+use Rattle.std.specs.Prelude.{ℕ, zero, suc, List, [], ◌∷◌, Option, Some, None}
 use Rattle.mb_world.specs.Report.{DiaryView, LaneView}
 use Rattle.mb_mailbox.specs.Imports.{Note}
-use Rattle.mb_mailbox.specs.Hubs.{ConsumerRecordView, PutListView}
+use Rattle.mb_mailbox.specs.Hubs.{PutListView}
 
 -- the list with the element at place n changed by f, if there is such an element
 abbrev pub changed_at : {X : Type 0} → List X → ℕ → (X → X) → List X
@@ -28,12 +28,3 @@ with_items (Some k) l = record l { put = k.items }
 -- the diary with these notes
 abbrev pub with_notes : List Note → DiaryView → DiaryView
 with_notes notes d = record d { notes = notes }
-
--- the diaries with the notes of a consumer, if it was taken in. Its first diary stands at this place
-abbrev pub with_row : ℕ → Option ConsumerRecordView → List DiaryView → List DiaryView
-with_row first None ds = ds
-with_row first (Some l) ds = changed_from with_notes first l.notes ds
-
--- the diaries with the notes of all consumers from c on, if there are this many lanes
-abbrev pub with_rows : ℕ → ℕ → List (Option ConsumerRecordView) → List DiaryView → List DiaryView
-with_rows lanes c os ds = in_turn (λ d o es. with_row (d * lanes) o es) c os ds

@@ -68,25 +68,29 @@ diary_in c p h = record { consumer = c; lane = p; notes = notes_in c p h; begun 
 abbrev pub lane_outline : ℕ → ℕ → HubView → LaneView
 lane_outline n p h = record (lane_in n p h) { put = [] }
 
--- the diary as in the report, but without the notes. They are moved in later, from the lists that the hub keeps
+-- the diary as in the report, but without the notes. They are added later, from the marks that the hub keeps
 abbrev pub diary_outline : ℕ → ℕ → HubView → DiaryView
 diary_outline c p h = record (diary_in c p h) { notes = [] }
+
+-- the notes of consumer c on lane p in these diaries, which stand consumer by consumer, with this many lanes each
+abbrev pub notes_among : ℕ → ℕ → ℕ → List DiaryView → List Note
+notes_among lanes c p ds = option_map_or (λ d. d.notes) (slice_get ds (c * lanes + p)) []
 
 -- these are the outlines of the first n lanes, if there are this many consumers
 pub record AreLanesOutlined (consumers : ℕ) (h : HubView) (n : ℕ) (ls : List LaneView) : Type 0 where
   pub count : length ls ≡ n
   pub each : (p : ℕ) → p < n → slice_get ls p ≡ Some (lane_outline consumers p h)
 
--- these are the outlines of the first n diaries: consumer by consumer, lane by lane
-pub record AreDiariesOutlined (lanes : ℕ) (h : HubView) (n : ℕ) (ds : List DiaryView) : Type 0 where
+-- these are the first n diaries: consumer by consumer, lane by lane
+pub record AreDiaries (lanes : ℕ) (h : HubView) (n : ℕ) (ds : List DiaryView) : Type 0 where
   pub count : length ds ≡ n
   pub each : (c p : ℕ) → p < lanes → c * lanes + p < n
-      → slice_get ds (c * lanes + p) ≡ Some (diary_outline c p h)
+      → slice_get ds (c * lanes + p) ≡ Some (diary_in c p h)
 
--- this is the outline of the hub's report: the report before items and notes are moved in
+-- this is the outline of the hub's report: the report before items are moved in
 pub record IsOutlineIn (lanes consumers : ℕ) (h : HubView) (r : ReportView) : Type 0 where
   pub each_lane : AreLanesOutlined consumers h lanes r.lanes
-  pub each_diary : AreDiariesOutlined lanes h (consumers * lanes) r.diaries
+  pub each_diary : AreDiaries lanes h (consumers * lanes) r.diaries
 
 -- this is the report of what the hub has taken in: each lane is that of its producer, and each diary that of its
 -- consumer. Each is in its place

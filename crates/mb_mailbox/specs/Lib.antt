@@ -12,7 +12,6 @@ pub mod Producers
 pub mod PutLaws
 pub mod PartPlaces
 pub mod Hubs
-pub mod Ledgers
 pub mod NewConsumers
 pub mod Examples
 pub mod Jobs

@@ -1,5 +1,4 @@
 //! The end of a mailbox: the report of all that was taken in.
-mod cut;
 mod draft;
 mod fill;
 mod reports;
@@ -8,8 +7,7 @@ mod sound;
 ghost use Rattle.std.specs.Prelude.{◌≡◌, ◌≤◌, length};
 ghost use Rattle.mb_mailbox.specs.Gathering.{count_missing};
 
-use crate::gather::cut::CutHub;
-use crate::gather::fill::{fill_diaries, fill_lanes};
+use crate::gather::fill::fill_lanes;
 use crate::hub::Hub;
 use crate::mailbox::Mailbox;
 pub use draft::Draft;
@@ -114,16 +112,9 @@ impl<A: Allocator + Clone + Drop> Mailbox<A> {
         ensures refused { IfErr result (λ back. back ≡ hub) }
     {
         layouts_are_sound();
-        let Ok(for_cut) = alloc.clone() else {
-            return Err(hub);
-        };
-        let hub = match hub.cut(for_cut) {
-            Ok(hub) => hub,
-            Err(hub) => return Err(hub),
-        };
         match hub.outline(alloc, self.lanes, self.claims.layout().consumers()) {
             Ok(outline) => Ok(Draft { hub, outline }),
-            Err(_) => Err(hub.undone()),
+            Err(_) => Err(hub),
         }
     }
 
@@ -143,23 +134,22 @@ impl<A: Allocator + Clone + Drop> Mailbox<A> {
         gathering_is_sound();
         layouts_are_sound();
         let Mailbox {
-            lanes,
+            lanes: _,
             cells,
             claims,
         } = self;
         let Draft { hub, outline } = draft;
-        let CutHub {
+        let Hub {
             cells: lanes_hub,
             claims: claims_hub,
             puts,
-            ledgers,
+            ledgers: _,
         } = hub;
         let Report {
             lanes: mut reports,
-            mut diaries,
+            diaries,
         } = outline;
         fill_lanes(&mut reports, puts);
-        fill_diaries(&mut diaries, lanes, ledgers);
         cells.close(lanes_hub);
         claims.close(claims_hub);
         Report {

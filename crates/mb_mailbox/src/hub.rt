@@ -1,5 +1,6 @@
 //! The hub of a mailbox, which gives producers and consumers and takes them in.
-ghost use Rattle.std.specs.Prelude.{◌≡◌, ◌≤◌, []};
+ghost use Rattle.std.specs.Prelude.{◌≤◌, IfOk};
+ghost use Rattle.arrayvec.specs.ArrayVec.{array_vec_len};
 ghost use Rattle.mb_mailbox.specs.NewConsumers.{AreHeads};
 
 use crate::consumer::{Consumer, ConsumerFields};
@@ -7,7 +8,7 @@ use crate::mailbox::Mailbox;
 use crate::notes::Notes;
 use crate::producer::Producer;
 use crate::spare::trim;
-use crate::taken::{ConsumerRecord, Kept, PutList};
+use crate::taken::{ConsumerRecord, PutList};
 use arrayvec::ArrayVec;
 use mb_cells::Cursor;
 use mb_cells::laws::{lanes_share_cells, parts_tell_lanes};
@@ -54,7 +55,6 @@ impl<A: Allocator + Drop> Model for Hub<A> {
     ghost use Rattle.std.specs.Prelude.{◌≤◌, vec_capacity};
     ghost use Rattle.mb_mailbox.specs.Imports.{claims_at};
     ghost use Rattle.mb_mailbox.specs.Hubs.{HubView, IsHub};
-    ghost use Rattle.mb_mailbox.specs.Ledgers.{ledgers_in};
 
     ghost Value = { HubView };
 
@@ -62,14 +62,14 @@ impl<A: Allocator + Drop> Model for Hub<A> {
       cells = h.cells;
       claims = h.claims;
       puts = h.puts.items;
-      ledgers = ledgers_in h.ledgers.items;
+      ledgers = h.ledgers.items;
     } };
 
     ghost invariant = { λ h. IsHub (record {
       cells = h.cells;
       claims = h.claims;
       puts = h.puts.items;
-      ledgers = ledgers_in h.ledgers.items;
+      ledgers = h.ledgers.items;
     })
         × (h.cells.table.size.lanes ≤ vec_capacity h.puts)
         × ((claims_at h.claims.table).table.values ≤ vec_capacity h.ledgers) };
@@ -174,7 +174,6 @@ impl<A: Allocator + Drop> Hub<A> {
         notes.trim();
         mailbox.cells.take_reader(&mut self.cells, reader);
         mailbox.claims.take_in(&mut self.claims, seat);
-        let notes = Kept::Marked(notes);
         self.ledgers[number as usize] = Some(ConsumerRecord { places, notes });
     }
 }
@@ -223,12 +222,12 @@ impl<A: Allocator + Clone + Drop> Hub<A> {
     }
 }
 
-/// Adds the places of a consumer that has done nothing: before the head of each lane. They are added to the consumer's
-/// own list, which is long, so that it is not copied.
+/// Makes these the places of a consumer that has done nothing: before the head of each lane. They are made where the
+/// consumer has them, since the list is too long to be copied for nothing.
 #[inline(always)]
 fn before_heads(places: &mut ArrayVec<Place, 16>, lanes: u32)
     requires few { lanes ≤ 16 }
-    requires none { places.old.items ≡ [] }
+    requires none { array_vec_len places.old ≡ 0 }
     ensures { AreHeads lanes places.new.items }
 {
     for p in 0..lanes {

@@ -4,12 +4,12 @@
 ghost use Rattle.std.specs.Prelude.{◌≡◌, ◌+◌, ◌^◌, ◌<◌, ◌++◌, ◌∷◌, [], IfOk, Some, map, vec_capacity, vec_len};
 ghost use Rattle.std.specs.Option.{option_map_or};
 ghost use Rattle.mb_mailbox.specs.LaneNotes.{noted, told, word_at, words_in};
-ghost use Rattle.mb_mailbox.specs.NewConsumers.{AreEmptyLists};
+ghost use Rattle.mb_mailbox.specs.Filling.{with_notes};
 ghost use Rattle.mb_mailbox.specs.Steps.{with_note};
 
 use crate::spare::trim;
 use mb_cells::NoMemory;
-use mb_world::Note;
+use mb_world::{Diary, Note};
 use std::alloc::Allocator;
 use std::marker::Model;
 
@@ -51,6 +51,10 @@ impl Mark {
         }
     }
 }
+
+/// How far ahead a loss on the same lane shows that losses follow each other. A run of fewer is not worth moving its
+/// list out.
+const AHEAD: usize = 3;
 
 /// How many items were put on each lane, and on all lanes together.
 #[derive(Clone, Copy)]
@@ -117,9 +121,8 @@ impl<A: Allocator + Drop> Notes<A> {
         counts
     }
 
-    /// How much room the notes of each lane need. If there are as many notes as items, each item has its note. Then no
-    /// note is counted.
-    fn rooms(&self, puts: &PutCounts) -> [usize; 16] {
+    /// How much room the notes of each lane need. If there are as many notes as items, each item has its note.
+    pub(crate) fn rooms(&self, puts: &PutCounts) -> [usize; 16] {
         if self.marks.len() == puts.all {
             puts.lanes
         } else {
@@ -129,8 +132,9 @@ impl<A: Allocator + Drop> Notes<A> {
 }
 
 impl<A: Allocator + Clone + Drop> Notes<A> {
-    ghost use Rattle.std.specs.Prelude.{◌≡◌, ◌≤◌, IfOk, map};
-    ghost use Rattle.mb_mailbox.specs.NewConsumers.{AreNoNotes};
+    ghost use Rattle.std.specs.Prelude.{◌≡◌, ◌≤◌, IfOk, [], length, map};
+    ghost use Rattle.mb_mailbox.specs.Filling.{with_notes};
+    ghost use Rattle.mb_mailbox.specs.NewConsumers.{AreEmptyDiaries, AreNoNotes};
 
     /// The notes of a new consumer: none yet on this many lanes, and room for this many.
     pub(crate) fn new(alloc: A, lanes: u32, room: usize) -> Result<Notes<A>, NoMemory>
@@ -146,20 +150,23 @@ impl<A: Allocator + Clone + Drop> Notes<A> {
         })
     }
 
-    /// The notes of each lane in a list of its own.
-    pub(crate) fn cut(&self, alloc: A, puts: &PutCounts) -> Result<Vec<Vec<Note, A>, A>, NoMemory>
-        ensures { IfOk result (λ lists. map (λ v. v.items) lists.items ≡ self.now.lists) }
+    /// Adds the notes to these diaries, each to that of its lane. The diaries are those of the lanes in order, and have
+    /// no note yet.
+    #[inline(never)]
+    pub(crate) fn fill(&self, alloc: A, row: &mut [Diary<A>]) -> Result<(), NoMemory>
+        requires { AreEmptyDiaries (length self.now.lists) row.old }
+        ensures notes { IfOk result (λ _. map (λ d. d.notes) row.new ≡ self.now.lists) }
+        ensures same { IfOk result (λ _. map (with_notes []) row.new ≡ map (with_notes []) row.old) }
     {
         let marks = self.marks.as_slice();
         let words = self.words.as_slice();
-        let lanes = self.lanes;
-        let rooms = self.rooms(puts);
-        let mut lists = empty_lists(alloc, lanes, &rooms)?;
         let mut read = 0;
-        for mark in marks {
-            file_mark(&mut lists, *mark, words, &mut read)?;
+        let mut at = 0;
+        while at < marks.len() {
+            at = file_singly(row, marks, at, words, &mut read)?;
+            at = file_losses(row, marks, at, &alloc);
         }
-        Ok(lists)
+        Ok(())
     }
 }
 
@@ -194,59 +201,123 @@ fn next_word(words: &[u64], read: &mut usize) -> u64
 /// note by itself, so the kind is looked at once.
 #[inline(always)]
 fn file_mark<A: Allocator + Drop>(
-    lists: &mut Vec<Vec<Note, A>, A>,
+    row: &mut [Diary<A>],
     mark: Mark,
     words: &[u64],
     read: &mut usize,
 ) -> Result<(), NoMemory>
     requires { read.old + 1 < 2 ^ 64 }
-    ensures lists { IfOk result (λ _. map (λ v. v.items) lists.new.items
+    ensures notes { IfOk result (λ _. map (λ d. d.notes) row.new
         ≡ with_note (told mark (word_at words.now read.old)).lane
         (Some (told mark (word_at words.now read.old)).note)
-        (map (λ v. v.items) lists.old.items)) }
+        (map (λ d. d.notes) row.old)) }
+    ensures same { IfOk result (λ _. map (with_notes []) row.new ≡ map (with_notes []) row.old) }
     ensures read { read.new ≡ read.old + words_in mark }
 {
     match mark {
-        Mark::Took { lane } => file(lists, lane, Note::Took(next_word(words, read))),
-        Mark::Lost { lane, to } => file(lists, lane, Note::Lost(to as u32)),
+        Mark::Took { lane } => file(row, lane, Note::Took(next_word(words, read))),
+        Mark::Lost { lane, to } => file(row, lane, Note::Lost(to as u32)),
         Mark::LostFar { lane } => {
             let word = next_word(words, read);
             let to = if word < 1 << 32 { word as u32 } else { 0 };
-            file(lists, lane, Note::Lost(to))
+            file(row, lane, Note::Lost(to))
         }
-        Mark::Undecided { lane } => file(lists, lane, Note::Undecided),
+        Mark::Undecided { lane } => file(row, lane, Note::Undecided),
     }
 }
 
 /// Adds a note to the list of its lane, if there is such a list.
 #[inline(always)]
-fn file<A: Allocator + Drop>(
-    lists: &mut Vec<Vec<Note, A>, A>,
-    lane: u8,
-    note: Note,
-) -> Result<(), NoMemory>
-    ensures { IfOk result (λ _. map (λ v. v.items) lists.new.items
-        ≡ with_note lane (Some note) (map (λ v. v.items) lists.old.items)) }
+fn file<A: Allocator + Drop>(row: &mut [Diary<A>], lane: u8, note: Note) -> Result<(), NoMemory>
+    ensures notes { IfOk result (λ _. map (λ d. d.notes) row.new
+        ≡ with_note lane (Some note) (map (λ d. d.notes) row.old)) }
+    ensures same { IfOk result (λ _. map (with_notes []) row.new ≡ map (with_notes []) row.old) }
 {
     let lane = lane as usize;
-    if lane < lists.len() {
-        lists[lane].push(note)?;
+    if lane < row.len() {
+        row[lane].notes.push(note)?;
     }
     Ok(())
 }
 
-/// Makes an empty list for each lane, with room for as many notes as are counted there.
-fn empty_lists<A: Allocator + Clone + Drop>(
-    alloc: A,
-    lanes: u32,
-    counts: &[usize; 16],
-) -> Result<Vec<Vec<Note, A>, A>, NoMemory>
-    ensures { IfOk result (λ lists. AreEmptyLists lanes lists.items) }
-{
-    let mut lists = Vec::with_capacity(alloc.clone()?, lanes as usize)?;
-    for lane in 0..lanes {
-        let room = counts.get(lane as usize).copied().unwrap_or(0);
-        lists.push(Vec::with_capacity(alloc.clone()?, room)?)?;
+/// Adds the notes of the marks from this place on, up to one after which losses on its lane seem to follow. Returns the
+/// place of the next mark.
+#[inline(always)]
+fn file_singly<A: Allocator + Drop>(
+    row: &mut [Diary<A>],
+    marks: &[Mark],
+    from: usize,
+    words: &[u64],
+    read: &mut usize,
+) -> Result<usize, NoMemory> {
+    let mut at = from;
+    while at < marks.len() {
+        let mark = marks[at];
+        file_mark(row, mark, words, read)?;
+        at += 1;
+        if is_run(mark.lane(), marks, at) {
+            break;
+        }
     }
-    Ok(lists)
+    Ok(at)
+}
+
+/// Whether losses on this lane seem to follow from this place on: whether the mark some places on is one.
+#[inline(always)]
+fn is_run(lane: u8, marks: &[Mark], from: usize) -> bool {
+    match marks.get(from.wrapping_add(AHEAD)) {
+        Some(Mark::Lost { lane: of, to: _ }) => *of == lane,
+        _ => false,
+    }
+}
+
+/// Adds the notes of the marks from this place on, as long as they are losses on one lane and its list has room.
+/// Returns the place of the next mark.
+#[inline(always)]
+fn file_losses<A: Allocator + Clone + Drop>(
+    row: &mut [Diary<A>],
+    marks: &[Mark],
+    from: usize,
+    alloc: &A,
+) -> usize {
+    let Some(Mark::Lost { lane, to: _ }) = marks.get(from).copied() else {
+        return from;
+    };
+    if lane as usize >= row.len() {
+        return from;
+    }
+    let Ok(alloc) = alloc.clone() else {
+        return from;
+    };
+    // The list is moved out, so that its length and its place stand in registers meanwhile.
+    let mut list = std::mem::replace(&mut row[lane as usize].notes, Vec::new(alloc));
+    let next = losses(&mut list, lane, marks, from);
+    row[lane as usize].notes = list;
+    next
+}
+
+/// Adds the notes of the marks from this place on, as long as they are losses on this lane and the list has room.
+/// Returns the place of the next mark.
+#[inline(always)]
+fn losses<A: Allocator + Drop>(
+    list: &mut Vec<Note, A>,
+    lane: u8,
+    marks: &[Mark],
+    from: usize,
+) -> usize {
+    let room = list.capacity().wrapping_sub(list.len());
+    let most = room.min(marks.len().wrapping_sub(from));
+    // How far the marks are ahead of the notes in this list.
+    let ahead = from.wrapping_sub(list.len());
+    let full = list.len().wrapping_add(most);
+    while list.len() < full {
+        let Mark::Lost { lane: of, to } = marks[list.len().wrapping_add(ahead)] else {
+            break;
+        };
+        if of != lane {
+            break;
+        }
+        list.push_reserved(Note::Lost(to as u32));
+    }
+    list.len().wrapping_add(ahead)
 }

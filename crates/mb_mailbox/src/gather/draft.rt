@@ -1,5 +1,4 @@
 //! A hub with all the room that its report needs.
-use crate::gather::cut::CutHub;
 use crate::hub::Hub;
 use mb_world::Report;
 use std::alloc::Allocator;
@@ -9,7 +8,7 @@ use std::marker::Model;
 /// completes the report without memory. Its view is that of its hub.
 #[derive(Drop)]
 pub struct Draft<A: Allocator + Drop> {
-    pub(super) hub: CutHub<A>,
+    pub(super) hub: Hub<A>,
     pub(super) outline: Report<A>,
 }
 
@@ -33,6 +32,6 @@ impl<A: Allocator + Drop> Draft<A> {
     pub fn undone(self) -> Hub<A>
         ensures { result ≡ self }
     {
-        self.hub.undone()
+        self.hub
     }
 }

@@ -1,14 +1,19 @@
-//! The outline of the report of what a hub has taken in: all of it except the lists that the hub keeps already.
-use crate::gather::cut::CutHub;
-use crate::taken::ConsumerRecord;
+//! The outline of the report of what a hub has taken in: all of it except the items put, whose lists the hub keeps.
+ghost use Rattle.std.specs.Prelude.{◌≡◌, ◌<◌, ◌≤◌, slice_get};
+ghost use Rattle.mb_world.specs.Reporting.{any_below, is_took};
+ghost use Rattle.mb_mailbox.specs.Gathering.{notes_among};
+
+use crate::hub::Hub;
+use crate::notes::PutCounts;
+use crate::taken::{ConsumerRecord, PutList};
 use mb_cells::NoMemory;
 use mb_world::{Diary, LaneReport, Note, Report};
 use std::alloc::Allocator;
 
-impl<A: Allocator + Drop> CutHub<A> {
-    ghost use Rattle.std.specs.Prelude.{◌≡◌, IfSome, slice_get, true};
+impl<A: Allocator + Drop> Hub<A> {
+    ghost use Rattle.std.specs.Prelude.{◌≡◌};
     ghost use Rattle.std.specs.Option.{option_map};
-    ghost use Rattle.mb_mailbox.specs.Gathering.{begun_in, ended_in, is_taken_in, items_in, kept_at, notes_in};
+    ghost use Rattle.mb_mailbox.specs.Gathering.{ended_in, items_in, kept_at};
 
     /// The items that the producer of lane `p` put, or none if it was not taken in.
     fn items(&self, p: u32) -> &[u64]
@@ -32,8 +37,7 @@ impl<A: Allocator + Drop> CutHub<A> {
 
     /// What the hub keeps of consumer `c`, if it was taken in.
     fn ledger(&self, c: u32) -> Option<&ConsumerRecord<A>>
-        ensures ledger { option_map (λ k. k.now.ledger) result ≡ kept_at self.now.ledgers c }
-        ensures cut { IfSome result (λ k. k.now.is_cut ≡ true) }
+        ensures { option_map (λ k. k.now) result ≡ kept_at self.now.ledgers c }
     {
         match self.ledgers.as_slice().get(c as usize) {
             Some(Some(ledger)) => Some(ledger),
@@ -41,43 +45,50 @@ impl<A: Allocator + Drop> CutHub<A> {
             None => None,
         }
     }
+}
 
-    /// Whether consumer `c` was taken in with a claim on lane `p` that has made an access.
-    fn begun(&self, c: u32, p: u32) -> bool
-        ensures { result ≡ begun_in c p self.now }
-    {
-        match self.ledger(c) {
-            Some(ledger) => ledger.begun(p),
-            None => false,
-        }
-    }
-
-    /// The note of consumer `c` on the item at position `j` of lane `p`.
-    fn note(&self, c: u32, p: u32, j: usize) -> Option<Note>
-        ensures { result ≡ slice_get (notes_in c p self.now) j }
-    {
-        match self.ledger(c) {
-            Some(ledger) => ledger.note(p, j),
-            None => None,
-        }
-    }
-
-    /// Whether one of the first `consumers` consumers has taken the item at position `j` of lane `p`.
-    fn is_taken(&self, consumers: u32, p: u32, j: usize) -> bool
-        ensures { result ≡ is_taken_in consumers p j self.now }
-    {
-        for c in 0..consumers {
-            if let Some(Note::Took(_)) = self.note(c, p, j) {
+/// Whether one of the first `consumers` consumers has taken the item at position `j` of lane `p`.
+fn is_taken<A: Allocator + Drop>(
+    diaries: &[Diary<A>],
+    lanes: u32,
+    consumers: u32,
+    p: u32,
+    j: usize,
+) -> bool
+    requires few { (lanes ≤ 16) × (consumers ≤ 64) }
+    requires lane { p < lanes }
+    ensures { result ≡ any_below consumers
+        (λ c. is_took (slice_get (notes_among lanes c p diaries.now) j)) }
+{
+    for c in 0..consumers {
+        let at = c as usize * lanes as usize + p as usize;
+        if let Some(diary) = diaries.get(at) {
+            if let Some(Note::Took(_)) = diary.notes.as_slice().get(j) {
                 return true;
             }
         }
-        false
     }
+    false
 }
 
-impl<A: Allocator + Clone + Drop> CutHub<A> {
+/// How many items were put on each lane. It only says how much room to take.
+fn put_counts<A: Allocator + Drop>(puts: &[Option<PutList<A>>]) -> PutCounts {
+    let mut lanes = [0usize; 16];
+    let mut all = 0usize;
+    for (p, kept) in puts.iter().enumerate() {
+        if let Some(kept) = kept {
+            let many = kept.items.len();
+            // There are at most 16 lanes.
+            lanes[p % 16] = many;
+            all = all.wrapping_add(many);
+        }
+    }
+    PutCounts { lanes, all }
+}
+
+impl<A: Allocator + Clone + Drop> Hub<A> {
     ghost use Rattle.std.specs.Prelude.{◌≡◌, ◌<◌, ◌≤◌, ◌*◌, IfOk};
-    ghost use Rattle.mb_mailbox.specs.Gathering.{AreDiariesOutlined, AreLanesOutlined, IsOutlineIn, lane_outline};
+    ghost use Rattle.mb_mailbox.specs.Gathering.{AreDiaries, AreLanesOutlined, IsOutlineIn, lane_outline};
 
     /// The outline for this many lanes and consumers. It takes all the room that the report needs beside the hub.
     pub(super) fn outline(
@@ -89,39 +100,52 @@ impl<A: Allocator + Clone + Drop> CutHub<A> {
         requires few { (lanes ≤ 16) × (consumers ≤ 64) }
         ensures { IfOk result (λ r. IsOutlineIn lanes consumers self.now r) }
     {
-        let reports = self.lane_reports(alloc.clone()?, lanes, consumers)?;
-        let diaries = self.diaries(alloc, lanes, consumers)?;
+        let diaries = self.diaries(alloc.clone()?, lanes, consumers)?;
+        let reports = self.lane_reports(alloc, lanes, consumers, diaries.as_slice())?;
         Ok(Report {
             lanes: reports,
             diaries,
         })
     }
 
-    /// The outlines of all lanes.
+    /// The outlines of all lanes. The diaries are those of all consumers on all lanes.
     fn lane_reports(
         &self,
         alloc: A,
         lanes: u32,
         consumers: u32,
+        diaries: &[Diary<A>],
     ) -> Result<Vec<LaneReport<A>, A>, NoMemory>
+        requires few { (lanes ≤ 16) × (consumers ≤ 64) }
+        requires diaries { AreDiaries lanes self.now (consumers * lanes) diaries.now }
         ensures { IfOk result (λ ls. AreLanesOutlined consumers self.now lanes ls.items) }
     {
         let mut reports = Vec::with_capacity(alloc.clone()?, lanes as usize)?;
         for p in 0..lanes {
-            reports.push(self.lane_report(alloc.clone()?, consumers, p)?)?;
+            reports.push(self.lane_report(alloc.clone()?, lanes, consumers, p, diaries)?)?;
         }
         Ok(reports)
     }
 
     /// The outline of lane `p`, with this many consumers.
-    fn lane_report(&self, alloc: A, consumers: u32, p: u32) -> Result<LaneReport<A>, NoMemory>
+    fn lane_report(
+        &self,
+        alloc: A,
+        lanes: u32,
+        consumers: u32,
+        p: u32,
+        diaries: &[Diary<A>],
+    ) -> Result<LaneReport<A>, NoMemory>
+        requires few { (lanes ≤ 16) × (consumers ≤ 64) }
+        requires lane { p < lanes }
+        requires diaries { AreDiaries lanes self.now (consumers * lanes) diaries.now }
         ensures { IfOk result (λ l. l ≡ lane_outline consumers p self.now) }
     {
         let items = self.items(p);
         let put = Vec::new(alloc.clone()?);
         let mut left = Vec::new(alloc);
         for (j, item) in items.iter().enumerate() {
-            if !self.is_taken(consumers, p, j) {
+            if !is_taken(diaries, lanes, consumers, p, j) {
                 left.push(*item)?;
             }
         }
@@ -132,21 +156,36 @@ impl<A: Allocator + Clone + Drop> CutHub<A> {
         })
     }
 
-    /// The outlines of the diaries of all consumers on all lanes.
+    /// The diaries of all consumers on all lanes.
     fn diaries(&self, alloc: A, lanes: u32, consumers: u32) -> Result<Vec<Diary<A>, A>, NoMemory>
         requires few { (lanes ≤ 16) × (consumers ≤ 64) }
         ensures { IfOk result (λ ds.
-            AreDiariesOutlined lanes self.now (consumers * lanes) ds.items) }
+            AreDiaries lanes self.now (consumers * lanes) ds.items) }
     {
         let mut diaries = Vec::with_capacity(alloc.clone()?, consumers as usize * lanes as usize)?;
+        let puts = put_counts(self.puts.as_slice());
         for c in 0..consumers {
+            let first = diaries.len();
+            let ledger = self.ledger(c);
+            let rooms = match ledger {
+                Some(ledger) => ledger.notes.rooms(&puts),
+                None => [0; 16],
+            };
             for p in 0..lanes {
-                diaries.push(Diary {
+                diaries.push_reserved(Diary {
                     consumer: c,
                     lane: p,
-                    notes: Vec::new(alloc.clone()?),
-                    begun: self.begun(c, p),
-                })?;
+                    notes: Vec::with_capacity(alloc.clone()?, rooms[p as usize % 16])?,
+                    begun: match ledger {
+                        Some(ledger) => ledger.begun(p),
+                        None => false,
+                    },
+                });
+            }
+            if let Some(ledger) = ledger {
+                ledger
+                    .notes
+                    .fill(alloc.clone()?, diaries.slice_mut(first..))?;
             }
         }
         Ok(diaries)

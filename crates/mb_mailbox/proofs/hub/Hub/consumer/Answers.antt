@@ -37,14 +37,13 @@ invariant_of-result g c =
     c.in-Ok-enroll.ensures.seat ∙ (λ j. record { table = claims j; consumer = sym i.seats j; part = [] }) in
     let none = c.in-Ok.ensures in
     let new = is_new c.mailbox.inside.lanes c.cells.result c.in-Ok.notes none
-    c.parts_fit_on.ensures.empty m n h.cells.roll.lanes c.before_heads.new.places.items
+    c.parts_fit_on.ensures.empty m n h.cells.roll.lanes c.before_heads.result.items
     c.before_heads.ensures c.mailbox.invariant.1 in
     let few = c.cells.ensures in
     let same = c.mailbox.invariant.0.cells in
     let its : c.enroll_reader-reader.result.table.size.cells
     ≡ m.cells.size.cells = ap (λ (r : ReaderSeatView). r.table.size.cells) reader in (
-      subst IsConsumer (λ j. at_views (sym reader j) (sym seat j) c.before_heads.new.places.items
-          c.in-Ok.notes.lists) new,
+      subst IsConsumer (λ j. at_views (sym reader j) (sym seat j) c.before_heads.result.items c.in-Ok.notes.lists) new,
       (let room = none.room in omega arith),
     )
 
@@ -125,7 +124,7 @@ returns-clause-consumer g c =
     let seat : c.in-Ok-enroll.seat ≡ new_seat m n =
     c.in-Ok-enroll.ensures.seat ∙ (λ j. record { table = claims j; consumer = sym i.seats j; part = [] }) in
     subst (λ (z : MailboxView × HubView). IsNewConsumer z.0 z.1
-    (at_views c.enroll_reader-reader.result c.in-Ok-enroll.seat c.before_heads.new.places.items
+    (at_views c.enroll_reader-reader.result c.in-Ok-enroll.seat c.before_heads.result.items
     c.in-Ok.notes.lists))
     (λ j. (c.mailbox.view_is j, c.self.view_is j))
     (record { reader = reader; seat = seat; notes = c.in-Ok.ensures.empty })
