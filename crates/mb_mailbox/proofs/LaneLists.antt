@@ -1,16 +1,20 @@
--- A list of notes with their lanes, cut by lane: how it grows by a note, and how the notes are filed into lists.
-use Rattle.std.proofs.Common.{◌≡◌, ◌≢◌, ℕ, zero, suc, ◌+◌, ◌<◌, ◌≤◌, List, [], ◌∷◌, ◌++◌, length, map, refl, sym, ap, ◌∙◌, append-nil, Bool, true, false, arith}
-use Rattle.std.specs.Prelude.{Option, Some, Vec, if◌then◌else◌, nat_eq, slice_get, slice_set, sum_by}
+-- A list of notes with their lanes, cut by lane: how it grows by a note, and how the notes are filed into diaries.
+use Rattle.std.proofs.Common.{◌≡◌, ◌≢◌, ℕ, zero, suc, ◌+◌, ◌<◌, ◌≤◌, List, [], ◌∷◌, ◌++◌, length, map, take, get_or, refl, sym, ap, ◌∙◌, append-nil, append_assoc, length-set, Bool, true, false, arith}
+use Rattle.std.specs.Prelude.{Option, Some, if◌then◌else◌, nat_eq, slice_get, slice_set, sum_by}
 use Rattle.std.specs.Option.{option_map_or}
 use Rattle.std.proofs.lemmas.Bool.{ne_eqb, eq-eqb}
-use Rattle.std.proofs.lemmas.List.{length-append, length-map}
+use Rattle.std.proofs.lemmas.List.{length-append, length-map, length-take, map_push, take_all, take_more}
 use Rattle.std.proofs.lemmas.List.Sums.{sum_by-cons}
-use Rattle.std.proofs.lemmas.Option.{slice_get_past}
-use Rattle.mb_mailbox.specs.Imports.{Note}
-use Rattle.mb_mailbox.specs.LaneNotes.{Noted, by_lane, noted, on_lane, on_lanes}
+use Rattle.mb_world.specs.Report.{DiaryView}
+use Rattle.mb_mailbox.specs.Filling.{with_notes}
+use Rattle.mb_mailbox.specs.Imports.{Lost, Note}
+use Rattle.mb_mailbox.specs.LaneNotes.{AreFiled, AreLosses, Noted, all_told, by_lane, noted, on_lane, on_lanes, told, word_at, words_among, words_in}
 use Rattle.mb_mailbox.specs.Steps.{notes_on, with_note}
-use Rattle.mb_mailbox.specs.NewConsumers.{AreEmptyLists}
-use Rattle.mb_mailbox.proofs.Lists.{map_get, map_set, set_else, some_same}
+use Rattle.mb_mailbox.specs.NewConsumers.{AreEmptyDiaries}
+use Rattle.mb_mailbox.specs.declared.notes.Mark.{Mark}
+use Rattle.mb_mailbox.specs.declared.notes.Mark.TheVariants as mark
+use Rattle.mb_mailbox.proofs.Lists.{map_get, map_set, set_here, set_same, set_twice, some_same}
+use Rattle.mb_mailbox.proofs.Marked.{among_end, among_losses, few_words, told_last, told_length, told_losses}
 
 -- ---- how many lanes there are
 -- a list that is cut has as many lists as lanes
@@ -138,60 +142,198 @@ counted_on lanes p note x xs ys e f low is =
     let long : length ys ≡ length xs + 1 = ap length e ∙ length-append xs (x ∷ []) in
     omega (arith, more, new, long, is)
 
--- ---- the lists into which notes are filed, one for each lane
--- empty lists, one for each lane, are the empty list cut by lane
-none_from : {Z : Type 0} (p n : ℕ) (vs : List (Vec Note Z)) → length vs ≡ n
-    → ((q : ℕ) (v : Vec Note Z) → slice_get vs q ≡ Some v → v.items ≡ [])
-    → map (λ (v : Vec Note Z). v.items) vs ≡ on_lanes p n []
+-- a lane has no more notes than there are on all lanes
+lane_few : (q : ℕ) (xs : List Noted) → length (on_lane q xs) ≤ length xs
+lane_few q [] = omega arith
+lane_few q (y ∷ ys) = by (nat_eq q y.lane) (lane_few q ys)
+  where
+    by : (b : Bool) → length (on_lane q ys) ≤ length ys
+        → length (if b then y.note ∷ on_lane q ys else on_lane q ys) ≤ suc (length ys)
+    by true rest = omega (arith, rest)
+    by false rest = omega (arith, rest)
+
+list_few : (p n q : ℕ) (xs : List Noted) (l : List Note) → slice_get (on_lanes p n xs) q ≡ Some l → length l ≤ length xs
+list_few p zero q xs l e = absurd (cc)
+list_few p (suc n) zero xs l e =
+    let few = lane_few p xs in
+    let same : length (on_lane p xs) ≡ length l = ap length (some_same (on_lane p xs) l e) in
+    omega (arith, few, same)
+list_few p (suc n) (suc q) xs l e = list_few (suc p) n q xs l e
+
+-- ---- several losses on one lane
+-- the notes of losses on a lane are added to the list of that lane
+losses_more : (n p : ℕ) (to : List ℕ) (xs : List Noted) (l : List Note) → slice_get (by_lane n xs) p ≡ Some l
+    → by_lane n (xs ++ map (λ (w : ℕ). noted p (Lost w)) to)
+    ≡ slice_set (by_lane n xs) p (l ++ map (λ (w : ℕ). Lost w) to)
+losses_more n p [] xs l at =
+    ap (by_lane n) (append-nil xs)
+    ∙ sym (set_same (by_lane n xs) p (l ++ []) (at ∙ ap Some (sym (append-nil l))))
+losses_more n p (w ∷ ws) xs l at =
+    let x = noted p (Lost w) in
+    let old = by_lane n xs in
+    let own : notes_on p old ≡ l = ap (λ (o : Option (List Note)). option_map_or (λ (ns : List Note). ns) o []) at in
+    let more : by_lane n (xs ++ x ∷ []) ≡ slice_set old p (l ++ Lost w ∷ []) = noted_more n p (Lost w) xs
+    ∙ ap (λ (ns : List Note). slice_set old p (ns ++ Lost w ∷ [])) own in
+    ap (by_lane n) (sym (append_assoc xs (x ∷ []) (map (λ (v : ℕ). noted p (Lost v)) ws)))
+    ∙ losses_more n p ws (xs ++ x ∷ []) (l ++ Lost w ∷ [])
+    (ap (λ (ls : List (List Note)). slice_get ls p) more ∙ set_here old p (l ++ Lost w ∷ []) l at)
+    ∙ (λ j. slice_set (more j) p (append_assoc l (Lost w ∷ []) (map (λ (v : ℕ). Lost v) ws) j))
+    ∙ set_twice old p (l ++ Lost w ∷ []) (l ++ Lost w ∷ map (λ (v : ℕ). Lost v) ws)
+
+-- ---- the diaries into which notes are filed, one for each lane
+-- diaries without notes, one for each lane, have the lists of the empty list cut by lane
+none_from : (p n : ℕ) (ds : List DiaryView) → length ds ≡ n
+    → ((q : ℕ) (d : DiaryView) → slice_get ds q ≡ Some d → d.notes ≡ [])
+    → map (λ (d : DiaryView). d.notes) ds ≡ on_lanes p n []
 none_from p zero [] e each = refl
-none_from p zero (v ∷ vs) e each = absurd (omega (arith, e))
+none_from p zero (d ∷ ds) e each = absurd (omega (arith, e))
 none_from p (suc n) [] e each = absurd (omega (arith, e))
-none_from p (suc n) (v ∷ vs) e each = λ i.
-    each 0 v refl i ∷ none_from (suc p) n vs (omega (arith, e)) (λ q w f. each (suc q) w f) i
+none_from p (suc n) (d ∷ ds) e each = λ i.
+    each 0 d refl i ∷ none_from (suc p) n ds (omega (arith, e)) (λ q w f. each (suc q) w f) i
 
-pub none_cut : {Z : Type 0} (n : ℕ) (vs : List (Vec Note Z)) → AreEmptyLists n vs
-    → map (λ (v : Vec Note Z). v.items) vs ≡ by_lane n []
-none_cut n vs none = none_from 0 n vs none.count none.empty
+-- diaries without notes have the notes of no mark
+pub none_filed : (n : ℕ) (ms : List Mark) (ws : List ℕ) (ds : List DiaryView) → AreEmptyDiaries n ds → AreFiled ms ws 0 ds
+none_filed n ms ws ds none = record {
+  within = omega arith;
+  notes = none_from 0 (length ds) ds refl none.empty;
+}
 
--- the notes on a lane are the list at its place
-on_own : {Z : Type 0} (vs : List (Vec Note Z)) (p : ℕ) (v : Vec Note Z) → slice_get vs p ≡ Some v
-    → notes_on p (map (λ (v : Vec Note Z). v.items) vs) ≡ v.items
-on_own {Z} vs p v e =
+-- the notes on a lane are those of the diary at its place
+on_own : (ds : List DiaryView) (p : ℕ) (d : DiaryView) → slice_get ds p ≡ Some d
+    → notes_on p (map (λ (d : DiaryView). d.notes) ds) ≡ d.notes
+on_own ds p d e =
     ap (λ (o : Option (List Note)). option_map_or (λ (l : List Note). l) o [])
-    (map_get (λ (v : Vec Note Z). v.items) vs p v e)
+    (map_get (λ (d : DiaryView). d.notes) ds p d e)
 
--- a note goes to the list of its lane
-pub filed_on : {Z : Type 0} (vs : List (Vec Note Z)) (p : ℕ) (n : Note) (v w : Vec Note Z) → slice_get vs p ≡ Some v
-    → w.items ≡ v.items ++ n ∷ []
-    → map (λ (v : Vec Note Z). v.items) (slice_set vs p w) ≡ with_note p (Some n) (map (λ (v : Vec Note Z). v.items) vs)
-filed_on {Z} vs p n v w e put =
-    map_set (λ (v : Vec Note Z). v.items) vs p w
-    ∙ ap (λ (l : List Note). slice_set (map (λ (v : Vec Note Z). v.items) vs) p l)
-    (put ∙ ap (λ (l : List Note). l ++ n ∷ []) (sym (on_own vs p v e)))
+-- a note goes to the diary of its lane
+pub filed_on : (ds : List DiaryView) (p : ℕ) (n : Note) (d e : DiaryView) → slice_get ds p ≡ Some d
+    → e ≡ with_notes (d.notes ++ n ∷ []) d
+    → map (λ (d : DiaryView). d.notes) (slice_set ds p e) ≡ with_note p (Some n) (map (λ (d : DiaryView). d.notes) ds)
+filed_on ds p n d e at put =
+    map_set (λ (d : DiaryView). d.notes) ds p e
+    ∙ ap (λ (l : List Note). slice_set (map (λ (d : DiaryView). d.notes) ds) p l)
+    (ap (λ (d : DiaryView). d.notes) put ∙ ap (λ (l : List Note). l ++ n ∷ []) (sym (on_own ds p d at)))
 
--- a note of a lane without a list goes nowhere
-pub filed_past : {Z : Type 0} (vs : List (Vec Note Z)) (p : ℕ) (n : Note) → length vs ≤ p
-    → map (λ (v : Vec Note Z). v.items) vs ≡ with_note p (Some n) (map (λ (v : Vec Note Z). v.items) vs)
-filed_past {Z} vs p n past =
-    let count : length (map (λ (v : Vec Note Z). v.items) vs)
-    ≡ length vs = length-map vs (λ (v : Vec Note Z). v.items) in
-    sym (note_past p n (map (λ (v : Vec Note Z). v.items) vs) (omega (arith, count, past)))
+-- a note of a lane without a diary goes nowhere
+pub filed_past : (ds : List DiaryView) (p : ℕ) (n : Note) → length ds ≤ p
+    → map (λ (d : DiaryView). d.notes) ds ≡ with_note p (Some n) (map (λ (d : DiaryView). d.notes) ds)
+filed_past ds p n past =
+    let count : length (map (λ (d : DiaryView). d.notes) ds) ≡ length ds = length-map ds (λ (d : DiaryView). d.notes) in
+    sym (note_past p n (map (λ (d : DiaryView). d.notes) ds) (omega (arith, count, past)))
 
--- ---- a list that is set, and a list that is not there
--- a list that is set leaves the notes on other lanes as they are
-pub own_else : {Z : Type 0} (vs : List (Vec Note Z)) (p q : ℕ) (w : Vec Note Z) → q ≢ p
-    → notes_on q (map (λ (v : Vec Note Z). v.items) (slice_set vs p w))
-    ≡ notes_on q (map (λ (v : Vec Note Z). v.items) vs)
-own_else {Z} vs p q w ne =
-    ap (λ (ls : List (List Note)). notes_on q ls) (map_set (λ (v : Vec Note Z). v.items) vs p w)
-    ∙ ap (λ (o : Option (List Note)). option_map_or (λ (l : List Note). l) o [])
-    (set_else (map (λ (v : Vec Note Z). v.items) vs) p q w.items ne)
+-- a diary that changes in its notes only leaves all that is beside the notes
+pub same_beside : (ds : List DiaryView) (p : ℕ) (d e : DiaryView) → slice_get ds p ≡ Some d
+    → with_notes [] e ≡ with_notes [] d → map (with_notes []) (slice_set ds p e) ≡ map (with_notes []) ds
+same_beside ds p d e at same =
+    map_set (with_notes []) ds p e
+    ∙ ap (λ (z : DiaryView). slice_set (map (with_notes []) ds) p z) same
+    ∙ set_same (map (with_notes []) ds) p (with_notes [] d) (map_get (with_notes []) ds p d at)
 
--- on a lane without a list there are no notes
-pub own_past : {Z : Type 0} (vs : List (Vec Note Z)) (p : ℕ) → length vs ≤ p
-    → notes_on p (map (λ (v : Vec Note Z). v.items) vs) ≡ []
-own_past {Z} vs p past =
-    let count : length (map (λ (v : Vec Note Z). v.items) vs)
-    ≡ length vs = length-map vs (λ (v : Vec Note Z). v.items) in
-    ap (λ (o : Option (List Note)). option_map_or (λ (l : List Note). l) o [])
-    (slice_get_past (map (λ (v : Vec Note Z). v.items) vs) p (omega (arith, count, past)))
+-- rows that are the same beside the notes have as many diaries
+pub same_count : (new old : List DiaryView) → map (with_notes []) new ≡ map (with_notes []) old → length new ≡ length old
+same_count new old same = sym (length-map new (with_notes [])) ∙ ap length same ∙ length-map old (with_notes [])
+
+-- ---- marks that are filed one after the other
+-- there are no more words than marks before this place
+pub few_read : (k : ℕ) (ms : List Mark) → words_among (take k ms) ≤ k
+few_read k ms = let few = few_words (take k ms) in let long = length-take k ms in omega (arith, few, long)
+
+-- one mark more needs its words
+pub read_more : (ms : List Mark) (k : ℕ) (d : Mark) → k < length ms
+    → words_among (take (k + 1) ms) ≡ words_among (take k ms) + words_in (get_or ms k d)
+read_more ms k d low = ap words_among (take_more ms k d low) ∙ among_end (take k ms) (get_or ms k d)
+
+-- the note of the next mark, with the next word, goes to the diary of its lane
+pub filed_more : (ms : List Mark) (ws : List ℕ) (k read : ℕ) (m d : Mark) (old new : List DiaryView) → k < length ms
+    → m ≡ get_or ms k d → read ≡ words_among (take k ms) → AreFiled ms ws k old
+    → map (λ (d : DiaryView). d.notes) new ≡ with_note (told m (word_at ws read)).lane
+    (Some (told m (word_at ws read)).note) (map (λ (d : DiaryView). d.notes) old)
+    → map (with_notes []) new ≡ map (with_notes []) old → AreFiled ms ws (k + 1) new
+filed_more ms ws k read m d old new low is words before put same =
+    let front = take k ms in
+    let filed : ℕ → Noted = λ t. told m (word_at ws t) in
+    let more : take (k + 1) ms ≡ front ++ m ∷ [] = take_more ms k d low ∙ ap (λ (z : Mark). front ++ z ∷ []) (sym is) in
+    let all : all_told (take (k + 1) ms) ws ≡ all_told front ws ++ filed (words_among front) ∷ [] =
+    ap (λ (zs : List Mark). all_told zs ws) more ∙ told_last front m ws in
+    record {
+      within = omega (arith, low);
+      notes = put
+          ∙ (λ j. with_note (filed (words j)).lane (Some (filed (words j)).note) (before.notes j))
+          ∙ sym (cut_more (length old) (all_told front ws) (filed (words_among front)))
+          ∙ (λ j. by_lane (sym (same_count new old same) j) (sym all j));
+    }
+
+-- if all marks are filed, the diaries have the notes of all
+pub all_filed : (lanes : ℕ) (ms : List Mark) (ws : List ℕ) (k : ℕ) (ds : List DiaryView) → AreFiled ms ws k ds
+    → length ms ≤ k → length ds ≡ lanes → map (λ (d : DiaryView). d.notes) ds ≡ by_lane lanes (all_told ms ws)
+all_filed lanes ms ws k ds filed all count =
+    filed.notes ∙ (λ j. by_lane (count j) (all_told (take_all k ms all j) ws))
+
+-- ---- losses that are filed together
+-- no mark is no loss
+pub no_losses : (p from k : ℕ) (ms : List Mark) (old : List Note) → from ≤ length ms → k ≡ from
+    → AreLosses p from k ms old old
+no_losses p from k ms old low same = record {
+  since = omega (arith, same);
+  within = omega (arith, low, same);
+  winners = [];
+  marks = ap (λ (n : ℕ). take n ms) same ∙ sym (append-nil (take from ms));
+  notes = sym (append-nil old);
+}
+
+-- the next mark is a loss too
+pub loss_more : (p from k j w : ℕ) (ms : List Mark) (d : Mark) (old new all : List Note) → AreLosses p from k ms old new
+    → k < length ms → get_or ms k d ≡ mark.Lost p w → j ≡ k + 1 → all ≡ new ++ Lost w ∷ []
+    → AreLosses p from j ms old all
+loss_more p from k j w ms d old new all before low is next put =
+    let loss : ℕ → Mark = λ v. mark.Lost p v in
+    let note : ℕ → Note = λ v. Lost v in
+    let ws = before.winners in
+    let since = before.since in
+    record {
+      since = omega (arith, since, next);
+      within = omega (arith, low, next);
+      winners = ws ++ w ∷ [];
+      marks = ap (λ (n : ℕ). take n ms) next ∙ take_more ms k d low ∙ (λ i. before.marks i ++ is i ∷ [])
+          ∙ append_assoc (take from ms) (map loss ws) (loss w ∷ [])
+          ∙ ap (λ (zs : List Mark). take from ms ++ zs) (sym (map_push loss ws w));
+      notes = put ∙ ap (λ (ns : List Note). ns ++ note w ∷ []) before.notes
+          ∙ append_assoc old (map note ws) (note w ∷ [])
+          ∙ ap (λ (ns : List Note). old ++ ns) (sym (map_push note ws w));
+    }
+
+-- losses need no words
+pub losses_read : (p from k : ℕ) (ms : List Mark) (old new : List Note) → AreLosses p from k ms old new
+    → words_among (take k ms) ≡ words_among (take from ms)
+losses_read p from k ms old new are = ap words_among are.marks ∙ among_losses (take from ms) p are.winners
+
+-- a diary has no more notes than there are marks before this place
+pub filed_few : (ms : List Mark) (ws : List ℕ) (k p : ℕ) (ds : List DiaryView) (d : DiaryView) → AreFiled ms ws k ds
+    → slice_get ds p ≡ Some d → length d.notes ≤ k
+filed_few ms ws k p ds d filed at =
+    let xs = all_told (take k ms) ws in
+    let few : length d.notes ≤ length xs = list_few 0 (length ds) p xs d.notes
+    (ap (λ (ls : List (List Note)). slice_get ls p) (sym filed.notes)
+    ∙ map_get (λ (d : DiaryView). d.notes) ds p d at) in
+    let same = told_length 0 (take k ms) ws in
+    let long = length-take k ms in
+    omega (arith, few, same, long)
+
+-- the notes of losses go to the diary of their lane
+pub losses_filed : (ms : List Mark) (ws : List ℕ) (p from k : ℕ) (ds : List DiaryView) (d e : DiaryView)
+    → slice_get ds p ≡ Some d → AreLosses p from k ms d.notes e.notes → AreFiled ms ws from ds
+    → AreFiled ms ws k (slice_set ds p e)
+losses_filed ms ws p from k ds d e at are filed =
+    let xs = all_told (take from ms) ws in
+    let n = length ds in
+    let front : slice_get (by_lane n xs) p ≡ Some d.notes = ap (λ (ls : List (List Note)). slice_get ls p)
+    (sym filed.notes) ∙ map_get (λ (d : DiaryView). d.notes) ds p d at in
+    let all : all_told (take k ms) ws ≡ xs ++ map (λ (w : ℕ). noted p (Lost w)) are.winners =
+    ap (λ (zs : List Mark). all_told zs ws) are.marks ∙ told_losses 0 (take from ms) p are.winners ws in
+    record {
+      within = are.within;
+      notes = map_set (λ (d : DiaryView). d.notes) ds p e
+          ∙ (λ j. slice_set (filed.notes j) p (are.notes j))
+          ∙ sym (losses_more n p are.winners xs d.notes front)
+          ∙ (λ j. by_lane (sym (length-set ds p e) j) (sym all j));
+    }

@@ -1,9 +1,10 @@
 -- Notes as marks and words: what one more mark, with or without a word, adds to them.
-use Rattle.std.proofs.Common.{◌≡◌, ℕ, zero, suc, ◌+◌, ◌<◌, ◌≤◌, List, [], ◌∷◌, ◌++◌, length, refl, ap, ◌∙◌, append-nil, arith}
+use Rattle.std.proofs.Common.{◌≡◌, ℕ, zero, suc, ◌+◌, ◌<◌, ◌≤◌, List, [], ◌∷◌, ◌++◌, length, map, refl, ap, ◌∙◌, append-nil, arith}
 use Rattle.std.proofs.lemmas.List.{length-append}
 use Rattle.std.specs.Prelude.{Option, Some, None}
 use Rattle.std.specs.Option.{option_map_or}
-use Rattle.mb_mailbox.specs.LaneNotes.{Noted, all_told, told, told_from, word_at, words_among, words_in}
+use Rattle.mb_mailbox.specs.Imports.{Lost}
+use Rattle.mb_mailbox.specs.LaneNotes.{Noted, all_told, noted, told, told_from, word_at, words_among, words_in}
 use Rattle.mb_mailbox.specs.declared.notes.Mark.{Mark}
 use Rattle.mb_mailbox.specs.declared.notes.Mark.TheVariants as mark
 
@@ -48,6 +49,23 @@ pub told_last : (ms : List Mark) (m : Mark) (ws : List ℕ)
 told_last ms m ws =
     let same : 0 + words_among ms ≡ words_among ms = omega arith in
     told_end 0 ms m ws ∙ ap (λ (n : ℕ). all_told ms ws ++ told m (word_at ws n) ∷ []) same
+
+-- ---- losses at the end
+-- losses at the end need no words
+pub among_losses : (ms : List Mark) (p : ℕ) (to : List ℕ) → words_among (ms ++ map (λ (w : ℕ). mark.Lost p w) to)
+    ≡ words_among ms
+among_losses [] p [] = refl
+among_losses [] p (w ∷ ws) = let rest = among_losses [] p ws in omega (arith, rest)
+among_losses (m ∷ ms) p to = let rest = among_losses ms p to in omega (arith, rest)
+
+-- losses at the end add their notes
+pub told_losses : (t : ℕ) (ms : List Mark) (p : ℕ) (to : List ℕ) (ws : List ℕ)
+    → told_from t (ms ++ map (λ (w : ℕ). mark.Lost p w) to) ws
+    ≡ told_from t ms ws ++ map (λ (w : ℕ). noted p (Lost w)) to
+told_losses t [] p [] ws = refl
+told_losses t [] p (w ∷ to) ws = ap (λ (ns : List Noted). noted p (Lost w) ∷ ns) (told_losses (t + 0) [] p to ws)
+told_losses t (m ∷ ms) p to ws =
+    ap (λ (ns : List Noted). told m (word_at ws t) ∷ ns) (told_losses (t + words_in m) ms p to ws)
 
 -- ---- a word at the end
 -- a word at the end leaves the words before it

@@ -1,6 +1,7 @@
 -- The notes of a consumer in the order of time, each with its lane, as marks and words. And the notes cut by lane.
-use Rattle.std.specs.Prelude.{ℕ, zero, suc, ◌≡◌, ◌+◌, ◌^◌, ◌≤◌, List, [], ◌∷◌, if◌then◌else◌, length, nat_eq, nat_lt, slice_get, sum_by}
+use Rattle.std.specs.Prelude.{ℕ, zero, suc, ◌≡◌, ◌+◌, ◌^◌, ◌≤◌, List, [], ◌∷◌, ◌++◌, if◌then◌else◌, length, map, nat_eq, nat_lt, slice_get, sum_by, take}
 use Rattle.std.specs.Option.{option_map_or}
+use Rattle.mb_world.specs.Report.{DiaryView}
 use Rattle.mb_mailbox.specs.Imports.{Note}
 use Rattle.mb_mailbox.specs.Imports.{Took, Lost, Undecided}
 use Rattle.mb_mailbox.specs.declared.notes.Mark.{Mark}
@@ -72,3 +73,18 @@ pub record AreMarked (lanes : ℕ) (ms : List Mark) (ws : List ℕ) : Type 0 whe
   pub few : lanes ≤ 16
   pub words : words_among ms ≡ length ws
   pub count : length ms ≡ sum_by length (by_lane lanes (all_told ms ws))
+
+-- ---- diaries filled from marks
+-- the diaries of a row have the notes of the first k marks, each note in the diary of its lane
+pub record AreFiled (ms : List Mark) (ws : List ℕ) (k : ℕ) (row : List DiaryView) : Type 0 where
+  pub within : k ≤ length ms
+  pub notes : map (λ d. d.notes) row ≡ by_lane (length row) (all_told (take k ms) ws)
+
+-- the marks from place `from` up to place k are losses on lane p, and their notes are what `new` has more than `old`
+pub record AreLosses (p from k : ℕ) (ms : List Mark) (old new : List Note) : Type 0 where
+  pub since : from ≤ k
+  pub within : k ≤ length ms
+  -- the consumers that won the items
+  pub winners : List ℕ
+  pub marks : take k ms ≡ take from ms ++ map (λ w. mark.Lost p w) winners
+  pub notes : new ≡ old ++ map (λ w. Lost w) winners

@@ -1,9 +1,9 @@
 //! The notes of a consumer on all lanes, in the order of time. Each has a mark of three bytes. The item of a `Took`
 //! note stands in a second list, so a note on an item that another took needs no word. Both lists have their room
 //! from the beginning, since all lanes together have no more cells than the mailbox.
-ghost use Rattle.std.specs.Prelude.{◌≡◌, ◌+◌, ◌^◌, ◌<◌, ◌++◌, ◌∷◌, [], IfOk, Some, map, vec_capacity, vec_len};
+ghost use Rattle.std.specs.Prelude.{◌≡◌, ◌+◌, ◌^◌, ◌<◌, ◌≤◌, ◌++◌, ◌∷◌, ℕ, List, [], IfOk, Some, length, map, take, vec_capacity, vec_len};
 ghost use Rattle.std.specs.Option.{option_map_or};
-ghost use Rattle.mb_mailbox.specs.LaneNotes.{noted, told, word_at, words_in};
+ghost use Rattle.mb_mailbox.specs.LaneNotes.{AreFiled, AreLosses, noted, told, word_at, words_among, words_in};
 ghost use Rattle.mb_mailbox.specs.Filling.{with_notes};
 ghost use Rattle.mb_mailbox.specs.Steps.{with_note};
 
@@ -235,8 +235,17 @@ fn file<A: Allocator + Drop>(row: &mut [Diary<A>], lane: u8, note: Note) -> Resu
 {
     let lane = lane as usize;
     if lane < row.len() {
-        row[lane].notes.push(note)?;
+        add_note(&mut row[lane], note)?;
     }
+    Ok(())
+}
+
+/// Adds a note to a diary.
+#[inline(always)]
+fn add_note<A: Allocator + Drop>(diary: &mut Diary<A>, note: Note) -> Result<(), NoMemory>
+    ensures { IfOk result (λ _. diary.new ≡ with_notes (diary.old.notes ++ note ∷ []) diary.old) }
+{
+    diary.notes.push(note)?;
     Ok(())
 }
 
@@ -249,7 +258,14 @@ fn file_singly<A: Allocator + Drop>(
     from: usize,
     words: &[u64],
     read: &mut usize,
-) -> Result<usize, NoMemory> {
+) -> Result<usize, NoMemory>
+    requires filed { AreFiled marks.now words.now from row.old }
+    requires read { read.old ≡ words_among (take from marks.now) }
+    ensures filed { IfOk result (λ k. AreFiled marks.now words.now k row.new) }
+    ensures read { IfOk result (λ k. read.new ≡ words_among (take k marks.now)) }
+    ensures same { IfOk result (λ _. map (with_notes []) row.new ≡ map (with_notes []) row.old) }
+    ensures further { IfOk result (λ k. from < length marks.now → from < k) }
+{
     let mut at = from;
     while at < marks.len() {
         let mark = marks[at];
@@ -272,14 +288,21 @@ fn is_run(lane: u8, marks: &[Mark], from: usize) -> bool {
 }
 
 /// Adds the notes of the marks from this place on, as long as they are losses on one lane and its list has room.
-/// Returns the place of the next mark.
+/// Returns the place of the next mark. The clauses hold for any words, since a loss near by needs none.
 #[inline(always)]
 fn file_losses<A: Allocator + Clone + Drop>(
     row: &mut [Diary<A>],
     marks: &[Mark],
     from: usize,
     alloc: &A,
-) -> usize {
+) -> usize
+    requires { (ws : List ℕ) × AreFiled marks.now ws from row.old }
+    ensures filed { (ws : List ℕ) → AreFiled marks.now ws from row.old
+        → AreFiled marks.now ws result row.new }
+    ensures read { words_among (take result marks.now) ≡ words_among (take from marks.now) }
+    ensures same { map (with_notes []) row.new ≡ map (with_notes []) row.old }
+    ensures since { from ≤ result }
+{
     let Some(Mark::Lost { lane, to: _ }) = marks.get(from).copied() else {
         return from;
     };
@@ -289,10 +312,28 @@ fn file_losses<A: Allocator + Clone + Drop>(
     let Ok(alloc) = alloc.clone() else {
         return from;
     };
+    add_losses(&mut row[lane as usize], lane, marks, from, alloc)
+}
+
+/// Adds the notes of the marks from this place on to a diary, as long as they are losses on this lane and its list has
+/// room. Returns the place of the next mark.
+#[inline(always)]
+fn add_losses<A: Allocator + Drop>(
+    diary: &mut Diary<A>,
+    lane: u8,
+    marks: &[Mark],
+    from: usize,
+    alloc: A,
+) -> usize
+    requires from { from ≤ length marks.now }
+    requires few { length diary.old.notes ≤ from }
+    ensures losses { AreLosses lane from result marks.now diary.old.notes diary.new.notes }
+    ensures same { with_notes [] diary.new ≡ with_notes [] diary.old }
+{
     // The list is moved out, so that its length and its place stand in registers meanwhile.
-    let mut list = std::mem::replace(&mut row[lane as usize].notes, Vec::new(alloc));
+    let mut list = std::mem::replace(&mut diary.notes, Vec::new(alloc));
     let next = losses(&mut list, lane, marks, from);
-    row[lane as usize].notes = list;
+    diary.notes = list;
     next
 }
 
@@ -304,14 +345,18 @@ fn losses<A: Allocator + Drop>(
     lane: u8,
     marks: &[Mark],
     from: usize,
-) -> usize {
-    let room = list.capacity().wrapping_sub(list.len());
-    let most = room.min(marks.len().wrapping_sub(from));
+) -> usize
+    requires from { from ≤ length marks.now }
+    requires few { vec_len list.old ≤ from }
+    ensures { AreLosses lane from result marks.now list.old.items list.new.items }
+{
+    let room = list.capacity() - list.len();
+    let most = room.min(marks.len() - from);
     // How far the marks are ahead of the notes in this list.
-    let ahead = from.wrapping_sub(list.len());
-    let full = list.len().wrapping_add(most);
+    let ahead = from - list.len();
+    let full = list.len() + most;
     while list.len() < full {
-        let Mark::Lost { lane: of, to } = marks[list.len().wrapping_add(ahead)] else {
+        let Mark::Lost { lane: of, to } = marks[list.len() + ahead] else {
             break;
         };
         if of != lane {
@@ -319,5 +364,5 @@ fn losses<A: Allocator + Drop>(
         }
         list.push_reserved(Note::Lost(to as u32));
     }
-    list.len().wrapping_add(ahead)
+    list.len() + ahead
 }

@@ -1,18 +1,20 @@
-use Rattle.std.proofs.Common.{◌≡◌, ◌∙◌, ◌++◌, ◌∷◌, [], arith}
-use Rattle.std.proofs.lemmas.Option.{get_or_from_slice_get}
-use Rattle.mb_mailbox.proofs.LaneLists.{filed_on}
-use Rattle.mb_mailbox.proofs.Lists.{get_some}
+-- Proof of `file`: adds a note to the list of its lane, if there is such a list.
+use Rattle.std.proofs.Common.{◌≡◌, ◌∙◌, ◌<◌, arith, length, refl}
+use Rattle.std.specs.Prelude.{Some, slice_get}
+use Rattle.std.proofs.lemmas.Option.{slice_get_read}
+use Rattle.mb_mailbox.specs.Filling.{with_notes}
+use Rattle.mb_mailbox.proofs.LaneLists.{filed_on, same_beside}
 use Rattle.mb_mailbox.proofs.notes.file.Goals as goal
 
--- `was` says that the list taken out is the one of the note's lane
-pub returns-in_ok-push : goal.returns-in_ok-push
-returns-in_ok-push g c =
-    let vs = c.args.lists.now.items in
+-- the diary that is changed is the one of the note's lane
+pub returns-in_ok-add_note : goal.returns-in_ok-add_note
+returns-in_ok-add_note g c =
+    let ds = c.args.row.now in
     let p = c.args.lane in
-    let low = c.if-lane-len.true in
-    let len = c.len.ensures in
-    let t = get_some vs p (omega (arith, low, len)) in
-    let was : c.index_mut.result.now ≡ t.0 = c.index_mut.ensures.value
-    ∙ get_or_from_slice_get vs p t.0 c.index_mut.result.now t.1 in
-    filed_on vs p c.args.note t.0 c.push.new.self t.1
-    (c.in_ok-push.ensures.items ∙ (λ j. (was j).items ++ c.args.note ∷ []))
+    let d = c.index-row-lane.result in
+    let low : p < length ds = omega arith in
+    let at : slice_get ds p ≡ Some d = slice_get_read ds (length ds) p d refl low c.index-row-lane.is in
+    record {
+      notes = filed_on ds p c.args.note d c.add_note.new.diary at c.in_ok-add_note.ensures;
+      same = same_beside ds p d c.add_note.new.diary at (ap (with_notes []) c.in_ok-add_note.ensures);
+    }

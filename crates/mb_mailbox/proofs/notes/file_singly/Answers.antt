@@ -1,0 +1,31 @@
+-- Proof of `file_singly`: adds the notes of marks, one after the other.
+use Rattle.std.proofs.Common.{◌≡◌, ◌+◌, ◌<◌, ◌∙◌, arith, get_or, length, refl}
+use Rattle.mb_mailbox.specs.declared.notes.Mark.TheVariants as mark
+use Rattle.mb_mailbox.proofs.LaneLists.{few_read, filed_more, read_more}
+use Rattle.mb_mailbox.proofs.notes.file_singly.Goals as goal
+
+pub file_mark-requires : goal.file_mark-requires
+file_mark-requires g c =
+    let few = few_read c.loop-at.at c.args.marks.now in
+    let read = c.loop-at.invariant.read in
+    omega (arith, few, read)
+
+-- the note of the next mark and the next word goes to the diary of its lane
+pub loop-at-preserved : goal.loop-at-preserved
+loop-at-preserved g c =
+    let ms = c.args.marks.now in
+    let k = c.loop-at.at in
+    let low : k < length ms = omega arith in
+    let before = c.loop-at.invariant in
+    let more = read_more ms k (mark.Took 0) low in
+    let words = c.file_mark.ensures.read in
+    let read = before.read in
+    let since = before.since in
+    record {
+      filed = filed_more ms c.args.words.now k c.loop-at.read (get_or ms k (mark.Took 0)) (mark.Took 0) c.loop-at.row
+          c.file_mark.new.row low refl before.read before.filed c.in_ok-file_mark.ensures.notes
+          c.in_ok-file_mark.ensures.same;
+      read = omega (arith, words, read, more);
+      same = c.in_ok-file_mark.ensures.same ∙ before.same;
+      since = omega (arith, since);
+    }
