@@ -51,19 +51,28 @@ told_last ms m ws =
     told_end 0 ms m ws ∙ ap (λ (n : ℕ). all_told ms ws ++ told m (word_at ws n) ∷ []) same
 
 -- ---- losses at the end
+-- losses on a lane need no words
+among_only : (p : ℕ) (to : List ℕ) → words_among (map (λ (w : ℕ). mark.Lost p w) to) ≡ 0
+among_only p [] = refl
+among_only p (w ∷ to) = let rest = among_only p to in omega (arith, rest)
+
 -- losses at the end need no words
 pub among_losses : (ms : List Mark) (p : ℕ) (to : List ℕ) → words_among (ms ++ map (λ (w : ℕ). mark.Lost p w) to)
     ≡ words_among ms
-among_losses [] p [] = refl
-among_losses [] p (w ∷ ws) = let rest = among_losses [] p ws in omega (arith, rest)
+among_losses [] p to = among_only p to
 among_losses (m ∷ ms) p to = let rest = among_losses ms p to in omega (arith, rest)
 
+-- the notes of losses on a lane
+told_only : (t p : ℕ) (to ws : List ℕ) → told_from t (map (λ (w : ℕ). mark.Lost p w) to) ws
+    ≡ map (λ (w : ℕ). noted p (Lost w)) to
+told_only t p [] ws = refl
+told_only t p (w ∷ to) ws = ap (λ (ns : List Noted). noted p (Lost w) ∷ ns) (told_only (t + 0) p to ws)
+
 -- losses at the end add their notes
-pub told_losses : (t : ℕ) (ms : List Mark) (p : ℕ) (to : List ℕ) (ws : List ℕ)
+pub told_losses : (t : ℕ) (ms : List Mark) (p : ℕ) (to ws : List ℕ)
     → told_from t (ms ++ map (λ (w : ℕ). mark.Lost p w) to) ws
     ≡ told_from t ms ws ++ map (λ (w : ℕ). noted p (Lost w)) to
-told_losses t [] p [] ws = refl
-told_losses t [] p (w ∷ to) ws = ap (λ (ns : List Noted). noted p (Lost w) ∷ ns) (told_losses (t + 0) [] p to ws)
+told_losses t [] p to ws = told_only t p to ws
 told_losses t (m ∷ ms) p to ws =
     ap (λ (ns : List Noted). told m (word_at ws t) ∷ ns) (told_losses (t + words_in m) ms p to ws)
 
