@@ -1,18 +1,18 @@
 -- Proof of `file_losses`: adds the notes of losses that follow each other on one lane.
-use Rattle.std.proofs.Common.{◌≡◌, ◌<◌, arith, length, refl}
+use Rattle.std.proofs.Common.{◌≡◌, ◌<◌, arith, get_or, length}
 use Rattle.std.specs.Prelude.{Some, slice_get}
-use Rattle.std.proofs.lemmas.Option.{slice_get_read}
+use Rattle.std.proofs.lemmas.Option.{slice_get-get_or}
 use Rattle.mb_mailbox.proofs.LaneLists.{filed_few, losses_filed, losses_read, same_beside}
 use Rattle.mb_mailbox.proofs.notes.file_losses.Goals as goal
 
--- In each proof the diary that is changed is the one of the lane
+-- In each proof d is the diary of the lane, before
 pub add_losses-requires : goal.add_losses-requires
 add_losses-requires g c =
     let ds = c.args.row.now in
     let p = c.in-Some-Lost.lane in
-    let d = c.index-row-lane.result in
+    let d = get_or ds p c.index-row-lane.result in
     let low : p < length ds = omega arith in
-    let at : slice_get ds p ≡ Some d = slice_get_read ds (length ds) p d refl low c.index-row-lane.is in
+    let at : slice_get ds p ≡ Some d = slice_get-get_or ds p c.index-row-lane.result low in
     record {
       from = c.requires.1.within;
       few = filed_few c.args.marks.now c.requires.0 c.args.from p ds d c.requires.1 at;
@@ -22,10 +22,10 @@ pub returns : goal.returns
 returns g c =
     let ds = c.args.row.now in
     let p = c.in-Some-Lost.lane in
-    let d = c.index-row-lane.result in
+    let d = get_or ds p c.index-row-lane.result in
     let e = c.add_losses.new.diary in
     let low : p < length ds = omega arith in
-    let at : slice_get ds p ≡ Some d = slice_get_read ds (length ds) p d refl low c.index-row-lane.is in
+    let at : slice_get ds p ≡ Some d = slice_get-get_or ds p c.index-row-lane.result low in
     let losses = c.add_losses.ensures.losses in
     record {
       filed = λ ws. losses_filed c.args.marks.now ws p c.args.from c.add_losses.result ds d e at losses;

@@ -29,3 +29,20 @@ loop-at-preserved g c =
       same = c.in_ok-file_mark.ensures.same ∙ before.same;
       since = omega (arith, since);
     }
+
+-- before a run, the note of the last mark is in the diary of its lane
+pub returns-then-is_run-clause-filed : goal.returns-then-is_run-clause-filed
+returns-then-is_run-clause-filed g c =
+    let ms = c.args.marks.now in
+    let k = c.loop-at.at in
+    let before = c.loop-at.invariant in
+    filed_more ms c.args.words.now k c.loop-at.read (get_or ms k (mark.Took 0)) (mark.Took 0) c.loop-at.row
+    c.file_mark.new.row (omega arith) refl before.read before.filed c.in_ok-file_mark.ensures.notes
+    c.in_ok-file_mark.ensures.same
+
+pub returns-then-is_run-clause-read : goal.returns-then-is_run-clause-read
+returns-then-is_run-clause-read g c =
+    let more = read_more c.args.marks.now c.loop-at.at (mark.Took 0) (omega arith) in
+    let words = c.file_mark.ensures.read in
+    let read = c.loop-at.invariant.read in
+    omega (arith, words, read, more)

@@ -1,5 +1,5 @@
 -- Proof of `losses`: adds the notes of losses that follow each other on one lane.
-use Rattle.std.proofs.Common.{◌≡◌, ◌+◌, ◌<◌, ◌∙◌, arith, length, get_or, refl, sym, ap}
+use Rattle.std.proofs.Common.{◌≡◌, ◌+◌, ◌-◌, ◌<◌, ◌∙◌, ap, arith, get_or, length, refl, sym, vec_len}
 use Rattle.mb_mailbox.specs.declared.notes.Mark.TheVariants as mark
 use Rattle.mb_mailbox.proofs.LaneLists.{loss_more, no_losses}
 use Rattle.mb_mailbox.proofs.notes.losses.Goals as goal
@@ -10,11 +10,20 @@ loop-list-init g c = record {
   room = refl;
 }
 
--- the mark at this place is a loss on the lane, and its note is added
+-- the mark at place k is a loss on the lane, and its note is added
 pub loop-list-preserved : goal.loop-list-preserved
 loop-list-preserved g c =
-    let k = vec_len c.loop-list.list + c.sub-ahead.result in
+    let ms = c.args.marks.now in
+    let ahead = c.args.from - c.len-2.result in
+    let k = vec_len c.loop-list.list + ahead in
+    let low : k < length ms = omega arith in
+    let len = c.push_reserved.ensures.len in
+    let is : get_or ms k (mark.Took 0) ≡ mark.Lost c.args.lane c.in-Lost.to =
+    ap (λ n. get_or ms (n + ahead) (mark.Took 0)) (sym c.len-in-loop-list-2.ensures) ∙ c.in-Lost.is
+    ∙ ap (λ p. mark.Lost p c.in-Lost.to) c.if-of-lane.false in
     record {
-      losses = ?;
-      room = ?;
+      losses = loss_more c.args.lane c.args.from k (vec_len c.push_reserved.new.self + ahead) c.in-Lost.to ms
+          (mark.Took 0) c.args.list.now.items c.loop-list.list.items c.push_reserved.new.self.items
+          c.loop-list.invariant.losses low is (omega (arith, len)) c.push_reserved.ensures.items;
+      room = c.push_reserved.ensures.capacity ∙ c.loop-list.invariant.room;
     }

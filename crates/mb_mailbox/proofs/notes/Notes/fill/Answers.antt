@@ -12,13 +12,13 @@ loop-at-init g c = record {
   same = refl;
 }
 
-pub file_losses-requires : goal.file_losses-requires
-file_losses-requires g c = (c.as_slice-words.result.now, c.in_ok-file_singly.ensures.filed)
+pub file_losses-at-requires : goal.file_losses-at-requires
+file_losses-at-requires g c = (c.as_slice-words.result.now, c.in_ok-at.ensures.filed)
 
 pub loop-at-preserved : goal.loop-at-preserved
 loop-at-preserved g c =
-    let losses = c.file_losses.ensures in
-    let singly = c.in_ok-file_singly.ensures in
+    let losses = c.file_losses-at.ensures in
+    let singly = c.in_ok-at.ensures in
     record {
       filed = losses.filed c.as_slice-words.result.now singly.filed;
       read = singly.read ∙ sym losses.read;
@@ -27,8 +27,8 @@ loop-at-preserved g c =
 
 pub loop-at-smaller : goal.loop-at-smaller
 loop-at-smaller g c =
-    let further = c.in_ok-file_singly.ensures.further c.loop-at-test.true in
-    let since = c.file_losses.ensures.since in
+    let further = c.in_ok-at.ensures.further c.loop-at-test.true in
+    let since = c.file_losses-at.ensures.since in
     let test = c.loop-at-test.true in
     omega (arith, further, since, test)
 
