@@ -1,5 +1,5 @@
 -- A list of notes with their lanes, cut by lane: how it grows by a note, and how the notes are filed into diaries.
-use Rattle.std.proofs.Common.{◌≡◌, ◌≢◌, ℕ, zero, suc, ◌+◌, ◌<◌, ◌≤◌, List, [], ◌∷◌, ◌++◌, length, map, take, get_or, refl, sym, ap, ◌∙◌, append-nil, append_assoc, length-set, Bool, true, false, arith}
+use Rattle.std.proofs.Common.{◌≡◌, ℕ, zero, suc, ◌+◌, ◌<◌, ◌≤◌, List, [], ◌∷◌, ◌++◌, length, map, take, get_or, refl, sym, ap, ◌∙◌, append-nil, append_assoc, length-set, Bool, true, false, arith}
 use Rattle.std.specs.Prelude.{Option, Some, if◌then◌else◌, nat_eq, slice_get, slice_set, sum_by}
 use Rattle.std.specs.Option.{option_map_or}
 use Rattle.std.proofs.lemmas.Bool.{ne_eqb, eq-eqb}
@@ -99,16 +99,6 @@ pub noted_more : (n p : ℕ) (note : Note) (xs : List Noted) → by_lane n (xs +
     ≡ with_note p (Some note) (by_lane n xs)
 noted_more n p note xs = cut_more n xs (noted p note)
 
--- an element that is set past a list changes nothing
-set_past : {X : Type 0} (xs : List X) (p : ℕ) (x : X) → length xs ≤ p → slice_set xs p x ≡ xs
-set_past [] p x e = refl
-set_past (y ∷ ys) zero x e = absurd (omega (arith, e))
-set_past (y ∷ ys) (suc p) x e = ap (λ zs. y ∷ zs) (set_past ys p x (omega (arith, e)))
-
--- a note on a lane that is not there changes nothing
-pub note_past : (p : ℕ) (n : Note) (ls : List (List Note)) → length ls ≤ p → with_note p (Some n) ls ≡ ls
-note_past p n ls e = set_past ls p (notes_on p ls ++ n ∷ []) e
-
 -- ---- how many notes there are on all lanes together
 -- with one note more there is one more
 pub sum_more : (ls : List (List Note)) (p : ℕ) (n : Note) → p < length ls
@@ -152,6 +142,7 @@ lane_few q (y ∷ ys) = by (nat_eq q y.lane) (lane_few q ys)
     by true rest = omega (arith, rest)
     by false rest = omega (arith, rest)
 
+-- the list of a lane has no more notes than there are on all lanes
 list_few : (p n q : ℕ) (xs : List Noted) (l : List Note) → slice_get (on_lanes p n xs) q ≡ Some l → length l ≤ length xs
 list_few p zero q xs l e = absurd (cc)
 list_few p (suc n) zero xs l e =
@@ -192,7 +183,8 @@ none_from p (suc n) (d ∷ ds) e each = λ i.
     each 0 d refl i ∷ none_from (suc p) n ds (omega (arith, e)) (λ q w f. each (suc q) w f) i
 
 -- diaries without notes have the notes of no mark
-pub none_filed : (n : ℕ) (ms : List Mark) (ws : List ℕ) (ds : List DiaryView) → AreEmptyDiaries n ds → AreFiled ms ws 0 ds
+pub none_filed : (n : ℕ) (ms : List Mark) (ws : List ℕ) (ds : List DiaryView) → AreEmptyDiaries n ds
+    → AreFiled ms ws 0 ds
 none_filed n ms ws ds none = record {
   within = omega arith;
   notes = none_from 0 (length ds) ds refl none.empty;
@@ -214,13 +206,6 @@ filed_on ds p n d e at put =
     ∙ ap (λ (l : List Note). slice_set (map (λ (d : DiaryView). d.notes) ds) p l)
     (ap (λ (d : DiaryView). d.notes) put ∙ ap (λ (l : List Note). l ++ n ∷ []) (sym (on_own ds p d at)))
 
--- a note of a lane without a diary goes nowhere
-pub filed_past : (ds : List DiaryView) (p : ℕ) (n : Note) → length ds ≤ p
-    → map (λ (d : DiaryView). d.notes) ds ≡ with_note p (Some n) (map (λ (d : DiaryView). d.notes) ds)
-filed_past ds p n past =
-    let count : length (map (λ (d : DiaryView). d.notes) ds) ≡ length ds = length-map ds (λ (d : DiaryView). d.notes) in
-    sym (note_past p n (map (λ (d : DiaryView). d.notes) ds) (omega (arith, count, past)))
-
 -- a diary that changes in its notes only leaves all that is beside the notes
 pub same_beside : (ds : List DiaryView) (p : ℕ) (d e : DiaryView) → slice_get ds p ≡ Some d
     → with_notes [] e ≡ with_notes [] d → map (with_notes []) (slice_set ds p e) ≡ map (with_notes []) ds
@@ -230,7 +215,8 @@ same_beside ds p d e at same =
     ∙ set_same (map (with_notes []) ds) p (with_notes [] d) (map_get (with_notes []) ds p d at)
 
 -- rows that are the same beside the notes have as many diaries
-pub same_count : (new old : List DiaryView) → map (with_notes []) new ≡ map (with_notes []) old → length new ≡ length old
+pub same_count : (new old : List DiaryView) → map (with_notes []) new ≡ map (with_notes []) old
+    → length new ≡ length old
 same_count new old same = sym (length-map new (with_notes [])) ∙ ap length same ∙ length-map old (with_notes [])
 
 -- ---- marks that are filed one after the other

@@ -156,7 +156,8 @@ impl<A: Allocator + Clone + Drop> Notes<A> {
     pub(crate) fn fill(&self, alloc: A, row: &mut [Diary<A>]) -> Result<(), NoMemory>
         requires { AreEmptyDiaries (length self.now.lists) row.old }
         ensures notes { IfOk result (λ _. map (λ d. d.notes) row.new ≡ self.now.lists) }
-        ensures same { IfOk result (λ _. map (with_notes []) row.new ≡ map (with_notes []) row.old) }
+        ensures same { IfOk result (λ _. map (with_notes []) row.new
+            ≡ map (with_notes []) row.old) }
     {
         let marks = self.marks.as_slice();
         let words = self.words.as_slice();
@@ -288,7 +289,7 @@ fn is_run(lane: u8, marks: &[Mark], from: usize) -> bool {
 }
 
 /// Adds the notes of the marks from this place on, as long as they are losses on one lane and its list has room.
-/// Returns the place of the next mark. The clauses hold for any words, since a loss near by needs none.
+/// Returns the place of the next mark. The clauses hold for any words, since these marks need none.
 #[inline(always)]
 fn file_losses<A: Allocator + Clone + Drop>(
     row: &mut [Diary<A>],

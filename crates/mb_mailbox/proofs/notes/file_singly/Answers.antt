@@ -1,5 +1,5 @@
 -- Proof of `file_singly`: adds the notes of marks, one after the other.
-use Rattle.std.proofs.Common.{◌≡◌, ◌+◌, ◌<◌, ◌∙◌, arith, get_or, length, refl}
+use Rattle.std.proofs.Common.{◌<◌, ◌∙◌, arith, get_or, length, refl}
 use Rattle.mb_mailbox.specs.declared.notes.Mark.TheVariants as mark
 use Rattle.mb_mailbox.proofs.LaneLists.{few_read, filed_more, read_more}
 use Rattle.mb_mailbox.proofs.notes.file_singly.Goals as goal

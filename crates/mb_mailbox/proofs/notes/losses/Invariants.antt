@@ -1,4 +1,4 @@
-use Rattle.std.proofs.Common.{◌≡◌, ◌+◌, ◌-◌, ◌≤◌, vec_capacity, vec_len}
+use Rattle.std.proofs.Common.{◌≡◌, ◌+◌, ◌-◌, vec_capacity, vec_len}
 use Rattle.mb_mailbox.specs.LaneNotes.{AreLosses}
 use Rattle.mb_mailbox.proofs.notes.losses.Given as goal
 

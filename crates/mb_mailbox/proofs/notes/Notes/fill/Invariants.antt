@@ -1,4 +1,4 @@
-use Rattle.std.proofs.Common.{◌≡◌, ◌-◌, ◌≤◌, [], length, map, take}
+use Rattle.std.proofs.Common.{◌≡◌, ◌-◌, [], length, map, take}
 use Rattle.mb_mailbox.specs.Filling.{with_notes}
 use Rattle.mb_mailbox.specs.LaneNotes.{AreFiled, words_among}
 use Rattle.mb_mailbox.proofs.notes.Notes.fill.Given as goal
