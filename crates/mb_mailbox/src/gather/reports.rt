@@ -85,7 +85,7 @@ fn note_at<A: Allocator + Drop>(diaries: &[Diary<A>], at: usize, j: usize) -> Op
 /// Whether a consumer of which this is kept holds a claim on lane `p` that has made an access.
 #[inline(always)]
 fn has_begun<A: Allocator + Drop>(ledger: Option<&ConsumerRecord<A>>, p: u32) -> bool
-    ensures { result ≡ begun_of p (option_map (λ k. k.now) ledger) }
+    ensures { result ≡ begun_of p (option_map (λ k. k.now) ledger.entry) }
 {
     match ledger {
         Some(ledger) => ledger.begun(p),
@@ -106,7 +106,7 @@ fn add_outlines<A: Allocator + Clone + Drop>(
     requires room { vec_len diaries.old + lanes ≤ vec_capacity diaries.old }
     ensures room { vec_capacity diaries.new ≡ vec_capacity diaries.old }
     ensures outlines { IfOk result (λ _. diaries.new.items
-        ≡ diaries.old.items ++ outline_row c (option_map (λ k. k.now) ledger) lanes) }
+        ≡ diaries.old.items ++ outline_row c (option_map (λ k. k.now) ledger.entry) lanes) }
 {
     let rooms = match ledger {
         Some(ledger) => ledger.notes.rooms(puts),
