@@ -1,5 +1,5 @@
 -- The diaries of consumers, one consumer after the other: their outlines, to which the notes are added.
-use Rattle.std.proofs.Common.{◌≡◌, ℕ, zero, suc, ◌+◌, ◌-◌, ◌*◌, ◌<◌, ◌≤◌, List, [], ◌∷◌, ◌++◌, length, map, take, drop, refl, sym, ◌∙◌, ap, inl, inr, arith, append-nil}
+use Rattle.std.proofs.Common.{◌≡◌, ℕ, zero, suc, ◌+◌, ◌-◌, ◌*◌, ◌<◌, ◌≤◌, List, [], ◌∷◌, ◌++◌, length, map, take, drop, refl, sym, ◌∙◌, ap, subst, inl, inr, arith, append-nil}
 use Rattle.std.specs.Prelude.{Option, Some, None, Vec, slice_get}
 use Rattle.std.specs.Option.{option_map_or}
 use Rattle.std.specs.Vec.{with_items_from}
@@ -22,12 +22,12 @@ use Rattle.mb_mailbox.proofs.Turned.{get_end}
 
 -- ---- one consumer
 -- these are the first n diaries of consumer c
-pub record IsRow (c n : ℕ) (h : HubView) (ds : List DiaryView) : Type 0 where
+record IsRow (c n : ℕ) (h : HubView) (ds : List DiaryView) : Type 0 where
   pub count : length ds ≡ n
   pub each : (p : ℕ) → p < n → slice_get ds p ≡ Some (diary_in c p h)
 
 -- there is an outline for each lane
-pub outlines_count : (c n : ℕ) (kept : Option ConsumerRecordView) → length (outline_row c kept n) ≡ n
+outlines_count : (c n : ℕ) (kept : Option ConsumerRecordView) → length (outline_row c kept n) ≡ n
 outlines_count c zero kept = refl
 outlines_count c (suc n) kept =
     let more = length_push (outline_row c kept n) (diary_outline c n kept) in
@@ -72,7 +72,7 @@ pub notes_full : (h : HubView) (c : ℕ) (l : ConsumerRecordView) → IsHub h �
 notes_full h c l i e = (i.taken c l (kept_there h.ledgers c l e)).2.2.notes_count
 
 -- a consumer of which nothing is kept has no notes, so its outlines are its diaries
-pub row_without : (c n : ℕ) (h : HubView) → None ≡ kept_at h.ledgers c → IsRow c n h (outline_row c None n)
+row_without : (c n : ℕ) (h : HubView) → None ≡ kept_at h.ledgers c → IsRow c n h (outline_row c None n)
 row_without c n h none = record {
   count = outlines_count c n None;
   each = λ p low. outline_at c n p None low ∙ ap (λ (o : Option ConsumerRecordView). Some (record {
@@ -93,7 +93,7 @@ diary_is d e same notes = λ j. record {
 }
 
 -- diaries that are the outlines with the notes that are kept of the consumer are its diaries
-pub row_with : (c n : ℕ) (h : HubView) (l : ConsumerRecordView) (ds : List DiaryView) → Some l ≡ kept_at h.ledgers c
+row_with : (c n : ℕ) (h : HubView) (l : ConsumerRecordView) (ds : List DiaryView) → Some l ≡ kept_at h.ledgers c
     → map (λ (d : DiaryView). d.notes) ds ≡ l.notes
     → map (with_notes []) ds ≡ map (with_notes []) (outline_row c (Some l) n) → IsRow c n h ds
 row_with c n h l ds kept notes same = record { count = count; each = each }
@@ -154,7 +154,7 @@ pub no_rows : (w : ℕ) (h : HubView) → AreDiaries w h (0 * w) []
 no_rows w h = record { count = omega arith; each = λ e q low less. absurd (omega (arith, less)) }
 
 -- with the diaries of the next consumer at their end, these are the diaries of one consumer more
-pub rows_more : (w c : ℕ) (h : HubView) (ds row : List DiaryView) → AreDiaries w h (c * w) ds → IsRow c w h row
+rows_more : (w c : ℕ) (h : HubView) (ds row : List DiaryView) → AreDiaries w h (c * w) ds → IsRow c w h row
     → AreDiaries w h ((c + 1) * w) (ds ++ row)
 rows_more w c h ds row old new = record {
   count =
@@ -180,7 +180,7 @@ part_past xs ys zs first end e at all =
     ∙ take_all (end - first) ys (omega (arith, count, at, all))
 
 -- if all elements from the end of xs on are written, the list is xs and what was written
-pub rewritten : {X Z : Type 0} (v : Vec X Z) (xs ys ws : List X) (first : ℕ) → v.items ≡ xs ++ ys → first ≡ length xs
+rewritten : {X Z : Type 0} (v : Vec X Z) (xs ys ws : List X) (first : ℕ) → v.items ≡ xs ++ ys → first ≡ length xs
     → length ws ≡ length ys → (with_items_from v first ws).items ≡ xs ++ ws
 rewritten {X} v xs ys ws first e at same =
     with_items_is v (take first v.items ++ (ws ++ drop (length ws) (drop first v.items)))
@@ -199,6 +199,37 @@ rewritten {X} v xs ys ws first e at same =
 
     is : take first v.items ++ (ws ++ drop (length ws) (drop first v.items)) ≡ xs ++ ws
     is = (λ j. front j ++ (ws ++ end j)) ∙ ap (λ (zs : List X). xs ++ zs) (append-nil ws)
+
+-- ---- one consumer more
+-- the outlines by what was told of a consumer are those by what is kept of it
+pub outlined : (c n : ℕ) (ds all : List DiaryView) (told kept here : Option ConsumerRecordView)
+    → all ≡ ds ++ outline_row c told n → told ≡ here → kept ≡ here → all ≡ ds ++ outline_row c kept n
+outlined c n ds all told kept here is e f =
+    is ∙ ap (λ (o : Option ConsumerRecordView). ds ++ outline_row c o n) (e ∙ sym f)
+
+-- if the outlines `part` of a consumer that was taken in are written over by `filled`, which has its notes, its diaries
+-- are added
+pub row_filled : {Z : Type 0} (w c : ℕ) (h : HubView) (l : ConsumerRecordView) (v : Vec DiaryView Z)
+    (ds part filled : List DiaryView) (first : ℕ) (notes : List (List Note)) → AreDiaries w h (c * w) ds
+    → Some l ≡ kept_at h.ledgers c → v.items ≡ ds ++ outline_row c (Some l) w → first ≡ length ds
+    → part ≡ outline_row c (Some l) w → map (λ (d : DiaryView). d.notes) filled ≡ notes → notes ≡ l.notes
+    → map (with_notes []) filled ≡ map (with_notes []) part
+    → AreDiaries w h ((c + 1) * w) (with_items_from v first filled).items
+row_filled w c h l v ds part filled first notes old kept more at is told its same =
+    subst (AreDiaries w h ((c + 1) * w))
+    (sym (rewritten v ds (outline_row c (Some l) w) filled first more at
+    (row.count ∙ sym (outlines_count c w (Some l)))))
+    (rows_more w c h ds filled old row)
+  where
+    row : IsRow c w h filled
+    row = row_with c w h l filled kept (told ∙ its) (same ∙ ap (map (with_notes [])) is)
+
+-- if nothing is kept of a consumer, its diaries are added with its outlines
+pub row_kept : (w c : ℕ) (h : HubView) (ds all : List DiaryView) → AreDiaries w h (c * w) ds
+    → None ≡ kept_at h.ledgers c → all ≡ ds ++ outline_row c None w → AreDiaries w h ((c + 1) * w) all
+row_kept w c h ds all old none more =
+    subst (AreDiaries w h ((c + 1) * w)) (sym more)
+    (rows_more w c h ds (outline_row c None w) old (row_without c w h none))
 
 -- ---- what was taken
 -- the notes that the hub keeps stand in the diaries
