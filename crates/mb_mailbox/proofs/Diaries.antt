@@ -1,5 +1,5 @@
 -- The diaries of consumers, one consumer after the other: their outlines, to which the notes are added.
-use Rattle.std.proofs.Common.{◌≡◌, ℕ, zero, suc, ◌+◌, ◌-◌, ◌*◌, ◌<◌, ◌≤◌, List, [], ◌∷◌, ◌++◌, length, map, take, drop, refl, sym, ◌∙◌, ap, subst, inl, inr, arith, append-nil}
+use Rattle.std.proofs.Common.{◌≡◌, ℕ, zero, suc, ◌+◌, ◌-◌, ◌*◌, ◌<◌, ◌≤◌, Bool, List, [], ◌∷◌, ◌++◌, length, map, take, drop, refl, sym, ◌∙◌, ap, subst, inl, inr, arith, append-nil, append_assoc}
 use Rattle.std.specs.Prelude.{Option, Some, None, Vec, slice_get}
 use Rattle.std.specs.Option.{option_map_or}
 use Rattle.std.specs.Vec.{with_items_from}
@@ -201,6 +201,18 @@ rewritten {X} v xs ys ws first e at same =
     is = (λ j. front j ++ (ws ++ end j)) ∙ ap (λ (zs : List X). xs ++ zs) (append-nil ws)
 
 -- ---- one consumer more
+-- what a loop keeps that adds outlines lane by lane
+pub outlines_more : (c p : ℕ) (kept : Option ConsumerRecordView) (old now new : List DiaryView) (made : DiaryView)
+    → new ≡ now ++ made ∷ [] → now ≡ old ++ outline_row c kept p → made ≡ diary_outline c p kept
+    → new ≡ old ++ outline_row c kept (p + 1)
+outlines_more c p kept old now new made more before is =
+    more ∙ (λ j. before j ++ is j ∷ [])
+    ∙ append_assoc old (outline_row c kept p) (diary_outline c p kept ∷ [])
+    ∙ ap (λ n. old ++ outline_row c kept n) next
+  where
+    next : suc p ≡ p + 1
+    next = omega arith
+
 -- the outlines by what was told of a consumer are those by what is kept of it
 pub outlined : (c n : ℕ) (ds all : List DiaryView) (told kept here : Option ConsumerRecordView)
     → all ≡ ds ++ outline_row c told n → told ≡ here → kept ≡ here → all ≡ ds ++ outline_row c kept n
@@ -239,9 +251,10 @@ among_told w n c p h ds all known low =
     ap (λ (z : Option DiaryView). option_map_or (λ (d : DiaryView). d.notes) z [])
     (all.each c p low (within_grid w n c p known low))
 
--- an item is taken by the diaries if it is by the notes that the hub keeps
-pub taken_told : (w n p j : ℕ) (h : HubView) (ds : List DiaryView) → AreDiaries w h (n * w) ds → p < w
-    → any_below n (λ c. is_took (slice_get (notes_among w c p ds) j)) ≡ is_taken_in n p j h
-taken_told w n p j h ds all low =
-    any_below-same n (λ c. is_took (slice_get (notes_among w c p ds) j)) (λ c. is_took (slice_get (notes_in c p h) j))
+-- what the diaries tell of an item, the notes that the hub keeps tell
+pub taken_told : (w n p j : ℕ) (h : HubView) (ds : List DiaryView) (told : Bool) → AreDiaries w h (n * w) ds → p < w
+    → told ≡ any_below n (λ c. is_took (slice_get (notes_among w c p ds) j)) → told ≡ is_taken_in n p j h
+taken_told w n p j h ds told all low is =
+    is ∙ any_below-same n (λ c. is_took (slice_get (notes_among w c p ds) j))
+    (λ c. is_took (slice_get (notes_in c p h) j))
     (λ c known. ap (λ (ns : List Note). is_took (slice_get ns j)) (among_told w n c p h ds all known low))

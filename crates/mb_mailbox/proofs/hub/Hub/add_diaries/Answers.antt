@@ -1,5 +1,5 @@
 -- Proof of `Hub::add_diaries`: the outlines of a consumer's diaries are added, and then the notes.
-use Rattle.std.proofs.Common.{◌≡◌, ◌∙◌, ◌++◌, ap, arith, length, subst, sym}
+use Rattle.std.proofs.Common.{◌≡◌, ◌∙◌, ap, arith, length, subst, sym}
 use Rattle.std.specs.Prelude.{None, Option, Some}
 use Rattle.std.specs.Option.{option_map}
 use Rattle.mb_mailbox.specs.Gathering.{kept_at, outline_row}

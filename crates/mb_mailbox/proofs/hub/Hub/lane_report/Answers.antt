@@ -1,5 +1,5 @@
 -- Proof of `Hub::lane_report`: the outline of a lane.
-use Rattle.std.proofs.Common.{◌≡◌, ℕ, ◌∙◌, ap, not, sym}
+use Rattle.std.proofs.Common.{ℕ, ◌∙◌, ap, not, sym}
 use Rattle.mb_mailbox.specs.Gathering.{is_taken_in}
 use Rattle.mb_mailbox.proofs.Diaries.{taken_told}
 use Rattle.mb_mailbox.proofs.Listed.{chosen_none, chosen_one}
@@ -13,10 +13,8 @@ loop-j-preserved g c =
     let xs = c.items-items.result.now in
     let left = c.loop-j.left.items in
     let old = c.loop-j.invariant in
-    let is : c.is_taken.result ≡ is_taken_in c.args.consumers c.args.p c.loop-j.j c.args.self.now =
-    c.is_taken.ensures
-    ∙ taken_told c.args.lanes c.args.consumers c.args.p c.loop-j.j c.args.self.now c.args.diaries.now
-    c.requires.diaries c.requires.lane in
+    let is = taken_told c.args.lanes c.args.consumers c.args.p c.loop-j.j c.args.self.now c.args.diaries.now
+    c.is_taken.result c.requires.diaries c.requires.lane c.is_taken.ensures in
     elim c.if-not-is_taken.branch [
       | then-not-is_taken+in_ok-push w ↦
           ap (λ v. v.items) w.left-is ∙ w.in_ok-push.ensures.items
