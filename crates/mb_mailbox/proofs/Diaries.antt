@@ -21,6 +21,11 @@ use Rattle.mb_mailbox.proofs.Lists.{get_some, map_get, some_same}
 use Rattle.mb_mailbox.proofs.Turned.{get_end}
 
 -- ---- one consumer
+-- the notes on lane p, if this is kept of the consumer
+abbrev notes_of : ℕ → Option ConsumerRecordView → List Note
+notes_of p kept =
+    option_map_or (λ (l : ConsumerRecordView). option_map_or (λ (ns : List Note). ns) (slice_get l.notes p) []) kept []
+
 -- these are the first n diaries of consumer c
 record IsRow (c n : ℕ) (h : HubView) (ds : List DiaryView) : Type 0 where
   pub count : length ds ≡ n
@@ -76,11 +81,11 @@ row_without : (c n : ℕ) (h : HubView) → None ≡ kept_at h.ledgers c → IsR
 row_without c n h none = record {
   count = outlines_count c n None;
   each = λ p low. outline_at c n p None low ∙ ap (λ (o : Option ConsumerRecordView). Some (record {
-      consumer = c;
-      lane = p;
-      notes = option_map_or (λ (l : ConsumerRecordView). option_map_or (λ (ns : List Note). ns) (slice_get l.notes p) []) o [];
-      begun = begun_of p o;
-    })) none;
+    consumer = c;
+    lane = p;
+    notes = notes_of p o;
+    begun = begun_of p o;
+  })) none;
 }
 
 -- a diary is determined by its notes and by what it is without them
@@ -106,15 +111,16 @@ row_with c n h l ds kept notes same = record { count = count; each = each }
     each p low =
         let t = get_some ds p (omega (arith, low, count)) in
         let here : slice_get l.notes p ≡ Some t.0.notes =
-        ap (λ (ns : List (List Note)). slice_get ns p) (sym notes) ∙ map_get (λ (d : DiaryView). d.notes) ds p t.0 t.1 in
+        ap (λ (ns : List (List Note)). slice_get ns p) (sym notes)
+        ∙ map_get (λ (d : DiaryView). d.notes) ds p t.0 t.1 in
         let told : t.0.notes ≡ notes_in c p h =
         ap (λ (z : Option (List Note)). option_map_or (λ (ns : List Note). ns) z []) (sym here)
-        ∙ ap (λ (o : Option ConsumerRecordView). option_map_or (λ (l : ConsumerRecordView). option_map_or
-        (λ (ns : List Note). ns) (slice_get l.notes p) []) o []) kept in
+        ∙ ap (notes_of p) kept in
         let outline : with_notes [] t.0 ≡ diary_outline c p (Some l) =
         some_same (with_notes [] t.0) (diary_outline c p (Some l))
         (sym (map_get (with_notes []) ds p t.0 t.1) ∙ ap (λ (es : List DiaryView). slice_get es p) same
-        ∙ map_get (with_notes []) (outline_row c (Some l) n) p (diary_outline c p (Some l)) (outline_at c n p (Some l) low)) in
+        ∙ map_get (with_notes []) (outline_row c (Some l) n) p (diary_outline c p (Some l))
+        (outline_at c n p (Some l) low)) in
         t.1 ∙ ap Some (diary_is t.0 (diary_in c p h) (outline ∙ ap (diary_outline c p) kept) told)
 
 -- ---- one consumer after the other

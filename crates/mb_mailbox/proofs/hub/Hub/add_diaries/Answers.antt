@@ -28,9 +28,9 @@ fill-requires g c =
     let all = c.add_outlines.new.diaries in
     let more = outlined c.args.c c.args.lanes ds all.items told (Some l) here c.in_ok-add_outlines.ensures.outlines
     c.ledger-ledger.ensures c.in-Some.ensures in
+    let at = c.len-first.ensures ∙ c.args.diaries.now.ok.0 in
     let part : c.slice_mut.result.now ≡ row =
-    c.slice_mut.ensures.value
-    ∙ part_past ds row all.items c.len-first.result all.len more (c.len-first.ensures ∙ c.args.diaries.now.ok.0) all.ok.0 in
+    c.slice_mut.ensures.value ∙ part_past ds row all.items c.len-first.result all.len more at all.ok.0 in
     let full : length c.ledger.inside.notes.lists ≡ c.args.lanes =
     ap (λ (v : ConsumerRecordView). length v.notes) c.ledger.view_is
     ∙ notes_full h c.args.c l (subst IsHub c.self.view_is c.self.invariant.0) c.in-Some.ensures
