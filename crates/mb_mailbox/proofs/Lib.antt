@@ -48,6 +48,7 @@ pub mod Noted
 pub mod Final
 -- What is gathered
 pub mod Filled
+pub mod Diaries
 pub mod ToldDiaries
 pub mod TakenIn
 pub mod Reported

@@ -1,6 +1,6 @@
 -- The report of what a hub has taken in.
-use Rattle.std.specs.Prelude.{ℕ, suc, ◌≡◌, ◌≢◌, ◌+◌, ◌*◌, ◌<◌, Bool, false, not, List}
-use Rattle.std.specs.Prelude.{[], ◌∷◌, Option, Some, None, length, slice_get, sum_by}
+use Rattle.std.specs.Prelude.{ℕ, zero, suc, ◌≡◌, ◌≢◌, ◌+◌, ◌*◌, ◌<◌, Bool, false, not, List}
+use Rattle.std.specs.Prelude.{[], ◌∷◌, ◌++◌, Option, Some, None, length, slice_get, sum_by}
 use Rattle.std.specs.Option.{option_map_or}
 use Rattle.mb_shared_cells.specs.Vocabulary.{IsRollOf}
 use Rattle.mb_shared_claims.specs.Vocabulary.{taken_part}
@@ -13,7 +13,7 @@ use Rattle.mb_world.specs.Report.{DiaryView, LaneView, ReportView, note}
 use Rattle.mb_world.specs.Reporting.{IsReportOf, any_below, is_took}
 use Rattle.mb_world.specs.Sound.{AreSound}
 use Rattle.mb_mailbox.specs.Imports.{HasFoundNone, History, Note, Undecided, consumer_part}
-use Rattle.mb_mailbox.specs.Hubs.{HubView}
+use Rattle.mb_mailbox.specs.Hubs.{ConsumerRecordView, HubView}
 use Rattle.mb_mailbox.specs.Mailboxes.{MailboxView, plan_at}
 
 -- ---- what is missing
@@ -41,11 +41,14 @@ abbrev pub notes_in : ℕ → ℕ → HubView → List Note
 notes_in c p h =
     option_map_or (λ l. option_map_or (λ ns. ns) (slice_get l.notes p) []) (kept_at h.ledgers c) []
 
+-- whether a consumer of which this is kept holds a claim on lane p that has made an access. One of which nothing is
+-- kept was not taken in
+abbrev pub begun_of : ℕ → Option ConsumerRecordView → Bool
+begun_of p kept = option_map_or (λ l. option_map_or has_begun_at (slice_get l.places p) false) kept false
+
 -- whether consumer c was taken in with a claim on lane p that has made an access
 abbrev pub begun_in : ℕ → ℕ → HubView → Bool
-begun_in c p h =
-    option_map_or (λ l. option_map_or has_begun_at (slice_get l.places p) false)
-    (kept_at h.ledgers c) false
+begun_in c p h = begun_of p (kept_at h.ledgers c)
 
 -- whether one of the first n consumers has noted that it took the item at position j of lane p
 abbrev pub is_taken_in : ℕ → ℕ → ℕ → HubView → Bool
@@ -68,9 +71,15 @@ diary_in c p h = record { consumer = c; lane = p; notes = notes_in c p h; begun 
 abbrev pub lane_outline : ℕ → ℕ → HubView → LaneView
 lane_outline n p h = record (lane_in n p h) { put = [] }
 
--- the diary as in the report, but without the notes. They are added later, from the marks that the hub keeps
-abbrev pub diary_outline : ℕ → ℕ → HubView → DiaryView
-diary_outline c p h = record (diary_in c p h) { notes = [] }
+-- the diary of consumer c on lane p, but without the notes, if this is kept of the consumer. The notes are added later,
+-- from the marks that the hub keeps
+abbrev pub diary_outline : ℕ → ℕ → Option ConsumerRecordView → DiaryView
+diary_outline c p kept = record { consumer = c; lane = p; notes = []; begun = begun_of p kept }
+
+-- the consumer's diaries on the first n lanes, without the notes
+abbrev pub outline_row : ℕ → Option ConsumerRecordView → ℕ → List DiaryView
+outline_row c kept zero = []
+outline_row c kept (suc n) = outline_row c kept n ++ diary_outline c n kept ∷ []
 
 -- the notes of consumer c on lane p in these diaries, which stand consumer by consumer, with this many lanes each
 abbrev pub notes_among : ℕ → ℕ → ℕ → List DiaryView → List Note

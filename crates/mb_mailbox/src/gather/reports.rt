@@ -1,7 +1,8 @@
 //! The outline of the report of what a hub has taken in: all of it except the items put, whose lists the hub keeps.
-ghost use Rattle.std.specs.Prelude.{◌≡◌, ◌<◌, ◌≤◌, slice_get};
+ghost use Rattle.std.specs.Prelude.{◌≡◌, ◌+◌, ◌<◌, ◌≤◌, ◌++◌, [], IfOk, slice_get, vec_capacity, vec_len};
+ghost use Rattle.std.specs.Option.{option_map, option_map_or};
 ghost use Rattle.mb_world.specs.Reporting.{any_below, is_took};
-ghost use Rattle.mb_mailbox.specs.Gathering.{notes_among};
+ghost use Rattle.mb_mailbox.specs.Gathering.{begun_of, notes_among, outline_row};
 
 use crate::hub::Hub;
 use crate::notes::PutCounts;
@@ -62,13 +63,64 @@ fn is_taken<A: Allocator + Drop>(
 {
     for c in 0..consumers {
         let at = c as usize * lanes as usize + p as usize;
-        if let Some(diary) = diaries.get(at) {
-            if let Some(Note::Took(_)) = diary.notes.as_slice().get(j) {
-                return true;
-            }
+        if let Some(Note::Took(_)) = note_at(diaries, at, j) {
+            return true;
         }
     }
     false
+}
+
+/// The note at position `j` of the diary at this place.
+#[inline(always)]
+fn note_at<A: Allocator + Drop>(diaries: &[Diary<A>], at: usize, j: usize) -> Option<Note>
+    ensures { result ≡ slice_get
+        (option_map_or (λ d. d.notes) (slice_get diaries.now at) []) j }
+{
+    match diaries.get(at) {
+        Some(diary) => diary.notes.as_slice().get(j).copied(),
+        None => None,
+    }
+}
+
+/// Whether a consumer of which this is kept holds a claim on lane `p` that has made an access.
+#[inline(always)]
+fn has_begun<A: Allocator + Drop>(ledger: Option<&ConsumerRecord<A>>, p: u32) -> bool
+    ensures { result ≡ begun_of p (option_map (λ k. k.now) ledger.entry) }
+{
+    match ledger {
+        Some(ledger) => ledger.begun(p),
+        None => false,
+    }
+}
+
+/// Adds the diaries of consumer `c`, of which this is kept, with room for their notes and without the notes.
+#[inline(always)]
+fn add_outlines<A: Allocator + Clone + Drop>(
+    diaries: &mut Vec<Diary<A>, A>,
+    alloc: &A,
+    lanes: u32,
+    c: u32,
+    ledger: Option<&ConsumerRecord<A>>,
+    puts: &PutCounts,
+) -> Result<(), NoMemory>
+    requires room { vec_len diaries.old + lanes ≤ vec_capacity diaries.old }
+    ensures room { vec_capacity diaries.new ≡ vec_capacity diaries.old }
+    ensures outlines { IfOk result (λ _. diaries.new.items
+        ≡ diaries.old.items ++ outline_row c (option_map (λ k. k.now) ledger.entry) lanes) }
+{
+    let rooms = match ledger {
+        Some(ledger) => ledger.notes.rooms(puts),
+        None => [0; 16],
+    };
+    for p in 0..lanes {
+        diaries.push_reserved(Diary {
+            consumer: c,
+            lane: p,
+            notes: Vec::with_capacity(alloc.clone()?, rooms[p as usize % 16])?,
+            begun: has_begun(ledger, p),
+        });
+    }
+    Ok(())
 }
 
 /// How many items were put on each lane. It only says how much room to take.
@@ -87,7 +139,7 @@ fn put_counts<A: Allocator + Drop>(puts: &[Option<PutList<A>>]) -> PutCounts {
 }
 
 impl<A: Allocator + Clone + Drop> Hub<A> {
-    ghost use Rattle.std.specs.Prelude.{◌≡◌, ◌<◌, ◌≤◌, ◌*◌, IfOk};
+    ghost use Rattle.std.specs.Prelude.{◌≡◌, ◌+◌, ◌<◌, ◌≤◌, ◌*◌, IfOk, vec_capacity};
     ghost use Rattle.mb_mailbox.specs.Gathering.{AreDiaries, AreLanesOutlined, IsOutlineIn, lane_outline};
 
     /// The outline for this many lanes and consumers. It takes all the room that the report needs beside the hub.
@@ -98,6 +150,7 @@ impl<A: Allocator + Clone + Drop> Hub<A> {
         consumers: u32,
     ) -> Result<Report<A>, NoMemory>
         requires few { (lanes ≤ 16) × (consumers ≤ 64) }
+        requires lanes { lanes ≡ self.now.cells.table.size.lanes }
         ensures { IfOk result (λ r. IsOutlineIn lanes consumers self.now r) }
     {
         let diaries = self.diaries(alloc.clone()?, lanes, consumers)?;
@@ -159,35 +212,48 @@ impl<A: Allocator + Clone + Drop> Hub<A> {
     /// The diaries of all consumers on all lanes.
     fn diaries(&self, alloc: A, lanes: u32, consumers: u32) -> Result<Vec<Diary<A>, A>, NoMemory>
         requires few { (lanes ≤ 16) × (consumers ≤ 64) }
+        requires lanes { lanes ≡ self.now.cells.table.size.lanes }
         ensures { IfOk result (λ ds.
             AreDiaries lanes self.now (consumers * lanes) ds.items) }
     {
         let mut diaries = Vec::with_capacity(alloc.clone()?, consumers as usize * lanes as usize)?;
         let puts = put_counts(self.puts.as_slice());
         for c in 0..consumers {
-            let first = diaries.len();
-            let ledger = self.ledger(c);
-            let rooms = match ledger {
-                Some(ledger) => ledger.notes.rooms(&puts),
-                None => [0; 16],
-            };
-            for p in 0..lanes {
-                diaries.push_reserved(Diary {
-                    consumer: c,
-                    lane: p,
-                    notes: Vec::with_capacity(alloc.clone()?, rooms[p as usize % 16])?,
-                    begun: match ledger {
-                        Some(ledger) => ledger.begun(p),
-                        None => false,
-                    },
-                });
-            }
-            if let Some(ledger) = ledger {
+            self.add_diaries(&alloc, lanes, c, &puts, &mut diaries)?;
+        }
+        Ok(diaries)
+    }
+
+    /// Adds the diaries of consumer `c` on all lanes, for which there is room.
+    #[inline(always)]
+    fn add_diaries(
+        &self,
+        alloc: &A,
+        lanes: u32,
+        c: u32,
+        puts: &PutCounts,
+        diaries: &mut Vec<Diary<A>, A>,
+    ) -> Result<(), NoMemory>
+        requires lanes { lanes ≡ self.now.cells.table.size.lanes }
+        requires before { AreDiaries lanes self.now (c * lanes) diaries.old.items }
+        requires room { (c + 1) * lanes ≤ vec_capacity diaries.old }
+        ensures room { vec_capacity diaries.new ≡ vec_capacity diaries.old }
+        ensures diaries { IfOk result (λ _.
+            AreDiaries lanes self.now ((c + 1) * lanes) diaries.new.items) }
+    {
+        // Naming a field makes the invariant known: each consumer has notes on each lane.
+        let _ = &self.cells;
+        let first = diaries.len();
+        let ledger = self.ledger(c);
+        add_outlines(diaries, alloc, lanes, c, ledger, puts)?;
+        match ledger {
+            Some(ledger) => {
                 ledger
                     .notes
                     .fill(alloc.clone()?, diaries.slice_mut(first..))?;
+                Ok(())
             }
+            None => Ok(()),
         }
-        Ok(diaries)
     }
 }
