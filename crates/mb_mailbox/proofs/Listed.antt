@@ -7,7 +7,7 @@ use Rattle.std.proofs.Math.Nat.{mul-le-mul_right}
 use Rattle.mb_world.proofs.Positions.{get-front}
 use Rattle.mb_world.specs.Assignment.{items_where}
 use Rattle.mb_world.specs.Report.{DiaryView}
-use Rattle.mb_mailbox.specs.Gathering.{AreDiariesOutlined, count_missing, diary_outline}
+use Rattle.mb_mailbox.specs.Gathering.{AreDiaries, count_missing, diary_in}
 use Rattle.mb_mailbox.specs.Hubs.{HubView}
 use Rattle.mb_mailbox.proofs.Turned.{get_end}
 
@@ -82,18 +82,18 @@ row_is w c e p q ps qs same = elim (cases_lt e c) [
 
 -- what a loop keeps that makes diaries, consumer by consumer and lane by lane
 pub diaries_more : (w : ℕ) (h : HubView) (c p : ℕ) (d : DiaryView) (ds : List DiaryView) → p < w
-    → AreDiariesOutlined w h (c * w + p) ds → d ≡ diary_outline c p h
-    → AreDiariesOutlined w h (c * w + (p + 1)) (ds ++ d ∷ [])
+    → AreDiaries w h (c * w + p) ds → d ≡ diary_in c p h
+    → AreDiaries w h (c * w + (p + 1)) (ds ++ d ∷ [])
 diaries_more w h c p d ds ps told here = record {
   count = omega (arith, length-append ds (d ∷ []), told.count);
   each = λ e q qs less. elim (cases_lt (e * w + q) (c * w + p)) [
-    | inl old ↦ get-front ds (d ∷ []) (e * w + q) (diary_outline e q h) (told.each e q qs old)
+    | inl old ↦ get-front ds (d ∷ []) (e * w + q) (diary_in e q h) (told.each e q qs old)
     | inr new ↦
         let same : e * w + q ≡ c * w + p = omega (arith, less, new) in
         let row : e ≡ c = row_is w c e p q ps qs same in
         let column : q ≡ p = omega (arith, same, ap (λ i. i * w) row) in
         get_end ds d (e * w + q) (same ∙ sym told.count) ∙ ap Some here
-        ∙ (λ i. Some (diary_outline (sym row i) (sym column i) h))
+        ∙ (λ i. Some (diary_in (sym row i) (sym column i) h))
   ];
 }
 
