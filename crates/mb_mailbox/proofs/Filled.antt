@@ -36,7 +36,8 @@ pub turned : {X Y : Type 0} (change : Y → X → X) (n : ℕ) (ys zs : List Y) 
     → zs ≡ ys ++ y ∷ [] → i ≡ n + length ys → i < length xs → x ≡ get_or xs i x → new ≡ change y x
     → changed_from change n zs xs ≡ rest → changed_from change n ys (set xs i new) ≡ rest
 turned change n ys zs y xs rest i x new e at low is made same =
-    ap (changed_from change n ys) (set_changed xs i (change y) x new low is made ∙ ap (λ j. changed_at xs j (change y)) at)
+    ap (changed_from change n ys)
+    (set_changed xs i (change y) x new low is made ∙ ap (λ j. changed_at xs j (change y)) at)
     ∙ sym (last_first change n ys y xs) ∙ ap (λ us. changed_from change n us xs) (sym e) ∙ same
 
 -- ---- the lengths stay
