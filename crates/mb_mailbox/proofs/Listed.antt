@@ -1,15 +1,10 @@
--- Lists with one more element at their end: what is missing or chosen in them, and diaries in a row.
-use Rattle.std.proofs.Common.{◌≡◌, ℕ, suc, ◌+◌, ◌*◌, ◌<◌, ◌≤◌, Bool, true, false, List, [], ◌∷◌, ◌++◌, length, get_or, take, refl, sym, ◌∙◌, ap, inl, inr, arith, append-nil}
+-- Lists with one more element at their end: what is missing or chosen in them. Places in a grid.
+use Rattle.std.proofs.Common.{◌≡◌, ℕ, suc, ◌+◌, ◌*◌, ◌<◌, ◌≤◌, Bool, true, false, List, [], ◌∷◌, ◌++◌, length, get_or, take, refl, sym, ◌∙◌, ap, arith, append-nil}
 use Rattle.std.specs.Prelude.{Option, Some, None, if◌then◌else◌}
-use Rattle.std.proofs.lemmas.Bool.{cases_lt}
-use Rattle.std.proofs.lemmas.List.{length-append, length-take-le, take_more}
+use Rattle.std.proofs.lemmas.List.{length-take-le, take_more}
 use Rattle.std.proofs.Math.Nat.{mul-le-mul_right}
-use Rattle.mb_world.proofs.Positions.{get-front}
 use Rattle.mb_world.specs.Assignment.{items_where}
-use Rattle.mb_world.specs.Report.{DiaryView}
-use Rattle.mb_mailbox.specs.Gathering.{AreDiaries, count_missing, diary_in}
-use Rattle.mb_mailbox.specs.Hubs.{HubView}
-use Rattle.mb_mailbox.proofs.Turned.{get_end}
+use Rattle.mb_mailbox.specs.Gathering.{count_missing}
 
 -- ---- what is missing
 -- a list with one more at its end has as many missing as the list and that one
@@ -62,41 +57,7 @@ chosen_none f xs left i low old e =
     sym (append-nil left) ∙ ap (λ b. left ++ (if b then get_or xs i 0 ∷ [] else [])) (sym e)
     ∙ chosen_more f xs left i low old
 
--- ---- diaries, consumer by consumer
--- a place in a row is not one in an earlier row
-not_before : (w c e p q : ℕ) → p < w → e * w + q ≡ c * w + p → e < c → q < w → ⊥
-not_before w c e p q ps same less qs =
-    let most : suc e * w ≤ c * w = mul-le-mul_right w less in
-    let more : suc e * w ≡ e * w + w = grind arith in
-    omega (arith, most, more, same, ps, qs)
-
--- a place in the grid is of one row and one column
-row_is : (w c e p q : ℕ) → p < w → q < w → e * w + q ≡ c * w + p → e ≡ c
-row_is w c e p q ps qs same = elim (cases_lt e c) [
-  | inl less ↦ absurd (not_before w c e p q ps same less qs)
-  | inr not ↦ elim (cases_lt c e) [
-    | inl more ↦ absurd (not_before w e c q p qs (sym same) more ps)
-    | inr least ↦ omega (arith, not, least)
-  ]
-]
-
--- what a loop keeps that makes diaries, consumer by consumer and lane by lane
-pub diaries_more : (w : ℕ) (h : HubView) (c p : ℕ) (d : DiaryView) (ds : List DiaryView) → p < w
-    → AreDiaries w h (c * w + p) ds → d ≡ diary_in c p h
-    → AreDiaries w h (c * w + (p + 1)) (ds ++ d ∷ [])
-diaries_more w h c p d ds ps told here = record {
-  count = omega (arith, length-append ds (d ∷ []), told.count);
-  each = λ e q qs less. elim (cases_lt (e * w + q) (c * w + p)) [
-    | inl old ↦ get-front ds (d ∷ []) (e * w + q) (diary_in e q h) (told.each e q qs old)
-    | inr new ↦
-        let same : e * w + q ≡ c * w + p = omega (arith, less, new) in
-        let row : e ≡ c = row_is w c e p q ps qs same in
-        let column : q ≡ p = omega (arith, same, ap (λ i. i * w) row) in
-        get_end ds d (e * w + q) (same ∙ sym told.count) ∙ ap Some here
-        ∙ (λ i. Some (diary_in (sym row i) (sym column i) h))
-  ];
-}
-
+-- ---- places in a grid, row by row
 -- a row and a column below their numbers are a place within the grid
 pub within_grid : (w n c p : ℕ) → c < n → p < w → c * w + p < n * w
 within_grid w n c p known low =

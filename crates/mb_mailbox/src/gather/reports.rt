@@ -98,6 +98,7 @@ impl<A: Allocator + Clone + Drop> Hub<A> {
         consumers: u32,
     ) -> Result<Report<A>, NoMemory>
         requires few { (lanes ≤ 16) × (consumers ≤ 64) }
+        requires lanes { lanes ≡ self.now.cells.table.size.lanes }
         ensures { IfOk result (λ r. IsOutlineIn lanes consumers self.now r) }
     {
         let diaries = self.diaries(alloc.clone()?, lanes, consumers)?;
