@@ -32,7 +32,6 @@ pub mod Taking
 pub mod Endings
 pub mod EndsMet
 -- Producers and the hub
-pub mod CutLists
 pub mod Putting
 pub mod Closing
 pub mod HubMoves

@@ -1,4 +1,4 @@
--- Lists that are moved into the outline of a report, each to its place.
+-- The lists of items that are moved into the outline of a report, each to its place, and diaries with other notes.
 use Rattle.std.specs.Prelude.{ℕ, zero, suc, List, [], ◌∷◌, Option, Some, None}
 use Rattle.mb_world.specs.Report.{DiaryView, LaneView}
 use Rattle.mb_mailbox.specs.Imports.{Note}
@@ -10,15 +10,10 @@ changed_at [] n f = []
 changed_at (x ∷ xs) zero f = f x ∷ xs
 changed_at (x ∷ xs) (suc n) f = x ∷ changed_at xs n f
 
--- what the elements of a list make of x, one after the other. They have the numbers from n on, and the last one is
--- applied first
-abbrev pub in_turn : {X Y : Type 0} → (ℕ → Y → X → X) → ℕ → List Y → X → X
-in_turn f n [] x = x
-in_turn f n (y ∷ ys) x = f n y (in_turn f (suc n) ys x)
-
 -- the list whose elements from place n on are changed, each by the next of these
 abbrev pub changed_from : {X Y : Type 0} → (Y → X → X) → ℕ → List Y → List X → List X
-changed_from change n ys xs = in_turn (λ i y zs. changed_at zs i (change y)) n ys xs
+changed_from change n [] xs = xs
+changed_from change n (y ∷ ys) xs = changed_at (changed_from change (suc n) ys xs) n (change y)
 
 -- the lane with the items of its producer, if the producer was taken in
 abbrev pub with_items : Option PutListView → LaneView → LaneView

@@ -1,6 +1,5 @@
 //! The hub of a mailbox, which gives producers and consumers and takes them in.
-ghost use Rattle.std.specs.Prelude.{◌≤◌, IfOk};
-ghost use Rattle.arrayvec.specs.ArrayVec.{array_vec_len};
+ghost use Rattle.std.specs.Prelude.{◌≡◌, ◌≤◌, []};
 ghost use Rattle.mb_mailbox.specs.NewConsumers.{AreHeads};
 
 use crate::consumer::{Consumer, ConsumerFields};
@@ -222,12 +221,12 @@ impl<A: Allocator + Clone + Drop> Hub<A> {
     }
 }
 
-/// Makes these the places of a consumer that has done nothing: before the head of each lane. They are made where the
-/// consumer has them, since the list is too long to be copied for nothing.
+/// Adds the places of a consumer that has done nothing: before the head of each lane. They are added to the consumer's
+/// own list, which is long, so that it is not copied.
 #[inline(always)]
 fn before_heads(places: &mut ArrayVec<Place, 16>, lanes: u32)
     requires few { lanes ≤ 16 }
-    requires none { array_vec_len places.old ≡ 0 }
+    requires none { places.old.items ≡ [] }
     ensures { AreHeads lanes places.new.items }
 {
     for p in 0..lanes {

@@ -129,9 +129,9 @@ const CALLS: &[(&str, Call, u64)] = &[
     ("producer", OPEN_LANE, 1),
     // The marks and the words of the consumer's notes.
     ("consumer", Call::Consumer, 2),
-    // The list of lanes and that of diaries, the consumer's lists, and its note.
+    // The list of lanes and that of diaries, and the list of the consumer's note.
     ("gather", Call::Gather(ONE_TAKEN), 4),
-    // The lanes, the item left, the diaries, the lists of both consumers, and the note of each.
+    // The lanes, the item left, the diaries, and the list of each consumer's note.
     ("gather of two", Call::Gather(ONE_TAKEN_AND_ONE_LEFT), 7),
     // At least the list of the producer's items.
     ("lone producer", ENDED_LANE, 1),

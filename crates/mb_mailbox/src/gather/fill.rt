@@ -1,4 +1,4 @@
-//! The lists that a hub has kept, moved into the outline of its report. Nothing is copied, and no memory is taken.
+//! The items that a hub has kept, moved into the outline of its report. Nothing is copied, and no memory is taken.
 ghost use Rattle.std.specs.Prelude.{◌≡◌, ◌≤◌, vec_len};
 ghost use Rattle.mb_mailbox.specs.Filling.{changed_from, with_items};
 

@@ -1,13 +1,11 @@
-use Rattle.std.proofs.Common.{[], None, ◌≡◌, ◌∙◌, ◌≤◌, ◌<◌, ℕ, ap, arith, length, subst, sym}
+use Rattle.std.proofs.Common.{[], ◌≡◌, ◌∙◌, ◌≤◌, ◌<◌, ℕ, ap, arith, length, subst, sym}
 use Rattle.mb_shared_cells.specs.Vocabulary.{CellHubView, CellsName, roll_with_reader}
 use Rattle.mb_shared_claims.specs.Vocabulary.{HubView as ClaimHubView}
 use Rattle.mb_mailbox.specs.Imports.{ClaimTable, ReaderSeatView, claims_at, consumer_count, name_of}
 use Rattle.mb_mailbox.specs.Consumers.{IsConsumer}
 use Rattle.mb_mailbox.specs.Mailboxes.{MailboxView}
-use Rattle.mb_mailbox.specs.Ledgers.{ledgers_in}
 use Rattle.mb_mailbox.specs.Hubs.{HubView, IsHub, IsNewConsumer, with_consumer}
 use Rattle.mb_mailbox.proofs.Made.{at_views}
-use Rattle.mb_mailbox.proofs.CutLists.{ledgers_count, ledgers_more}
 use Rattle.mb_mailbox.proofs.HubMoves.{gave_consumer}
 use Rattle.mb_mailbox.proofs.NewConsumer.{is_new, new_reader, new_seat}
 use Rattle.mb_mailbox.proofs.hub.Hub.consumer.Goals as goal
@@ -20,7 +18,7 @@ invariant_of-result g c =
       cells = c.self.inside.cells;
       claims = c.self.inside.claims;
       puts = c.self.inside.puts.items;
-      ledgers = ledgers_in c.self.inside.ledgers.items;
+      ledgers = c.self.inside.ledgers.items;
     } in
     let m : MailboxView = record { cells = c.mailbox.inside.cells; claims = c.mailbox.inside.claims } in
     let table : h.cells.table ≡ m.cells =
@@ -37,13 +35,14 @@ invariant_of-result g c =
     c.in-Ok-enroll.ensures.seat ∙ (λ j. record { table = claims j; consumer = sym i.seats j; part = [] }) in
     let none = c.in-Ok.ensures in
     let new = is_new c.mailbox.inside.lanes c.cells.result c.in-Ok.notes none
-    c.parts_fit_on.ensures.empty m n h.cells.roll.lanes c.before_heads.result.items
+    c.parts_fit_on.ensures.empty m n h.cells.roll.lanes c.before_heads.new.places.items
     c.before_heads.ensures c.mailbox.invariant.1 in
     let few = c.cells.ensures in
     let same = c.mailbox.invariant.0.cells in
     let its : c.enroll_reader-reader.result.table.size.cells
     ≡ m.cells.size.cells = ap (λ (r : ReaderSeatView). r.table.size.cells) reader in (
-      subst IsConsumer (λ j. at_views (sym reader j) (sym seat j) c.before_heads.result.items c.in-Ok.notes.lists) new,
+      subst IsConsumer (λ j. at_views (sym reader j) (sym seat j) c.before_heads.new.places.items
+          c.in-Ok.notes.lists) new,
       (let room = none.room in omega arith),
     )
 
@@ -53,7 +52,7 @@ invariant_of-self g c =
       cells = c.self.inside.cells;
       claims = c.self.inside.claims;
       puts = c.self.inside.puts.items;
-      ledgers = ledgers_in c.self.inside.ledgers.items;
+      ledgers = c.self.inside.ledgers.items;
     } in
     let m : MailboxView = record { cells = c.mailbox.inside.cells; claims = c.mailbox.inside.claims } in
     let table : h.cells.table ≡ m.cells =
@@ -78,13 +77,12 @@ invariant_of-self g c =
       cells = c.enroll_reader-reader.new.hub;
       claims = c.enroll.new.hub;
       puts = h.puts;
-      ledgers = ledgers_in c.push_reserved.new.self.items;
+      ledgers = c.push_reserved.new.self.items;
     } = λ j. record {
       cells = sym cells j;
       claims = sym seats j;
       puts = h.puts;
-      ledgers = sym (ap ledgers_in c.push_reserved.ensures.items
-          ∙ ledgers_more c.self.inside.ledgers.items None) j;
+      ledgers = sym c.push_reserved.ensures.items j;
     } in
     let cap = c.push_reserved.ensures.capacity in
     let wide = subst (λ (t : ClaimHubView). (claims_at t.table).table.values ≤
@@ -92,7 +90,6 @@ invariant_of-self g c =
     let low : length h.ledgers < (claims_at h.claims.table).table.values =
     (let few = c.if-len-consumers.false in
     let n = c.len.ensures in
-    let count = ledgers_count c.self.inside.ledgers.items in
     let all : c.consumers.result ≡ (claims_at h.claims.table).table.values =
     c.consumers.ensures ∙ ap consumer_count c.layout.ensures
     ∙ ap (λ (t : ClaimTable). (claims_at t).table.values) (sym claims) in
@@ -108,7 +105,7 @@ returns-clause-consumer g c =
       cells = c.self.inside.cells;
       claims = c.self.inside.claims;
       puts = c.self.inside.puts.items;
-      ledgers = ledgers_in c.self.inside.ledgers.items;
+      ledgers = c.self.inside.ledgers.items;
     } in
     let m : MailboxView = record { cells = c.mailbox.inside.cells; claims = c.mailbox.inside.claims } in
     let table : h.cells.table ≡ m.cells =
@@ -124,7 +121,7 @@ returns-clause-consumer g c =
     let seat : c.in-Ok-enroll.seat ≡ new_seat m n =
     c.in-Ok-enroll.ensures.seat ∙ (λ j. record { table = claims j; consumer = sym i.seats j; part = [] }) in
     subst (λ (z : MailboxView × HubView). IsNewConsumer z.0 z.1
-    (at_views c.enroll_reader-reader.result c.in-Ok-enroll.seat c.before_heads.result.items
+    (at_views c.enroll_reader-reader.result c.in-Ok-enroll.seat c.before_heads.new.places.items
     c.in-Ok.notes.lists))
     (λ j. (c.mailbox.view_is j, c.self.view_is j))
     (record { reader = reader; seat = seat; notes = c.in-Ok.ensures.empty })

@@ -1,7 +1,6 @@
 use Rattle.std.proofs.Common.{[], ◌≡◌, ◌∙◌, ◌∷◌, ◌++◌, ◌<◌, None, ap, arith, length, subst, sym}
 use Rattle.mb_shared_cells.specs.Vocabulary.{CellHubView, CellsName, roll_with_lane}
 use Rattle.mb_mailbox.specs.Mailboxes.{MailboxView}
-use Rattle.mb_mailbox.specs.Ledgers.{ledgers_in}
 use Rattle.mb_mailbox.specs.Hubs.{HubView, IsHub, with_producer}
 use Rattle.mb_mailbox.proofs.HubMoves.{gave_producer}
 use Rattle.mb_mailbox.proofs.hub.Hub.producer.Goals as goal
@@ -14,7 +13,7 @@ invariant_of-self g c =
       cells = c.self.inside.cells;
       claims = c.self.inside.claims;
       puts = c.self.inside.puts.items;
-      ledgers = ledgers_in c.self.inside.ledgers.items;
+      ledgers = c.self.inside.ledgers.items;
     } in
     let lists : c.push_reserved.new.self.items ≡ c.self.inside.puts.items ++ None
     ∷ [] = c.push_reserved.ensures.items in
@@ -32,12 +31,12 @@ invariant_of-self g c =
       cells = c.enroll_lane.new.hub;
       claims = c.self.inside.claims;
       puts = c.push_reserved.new.self.items;
-      ledgers = ledgers_in c.self.inside.ledgers.items;
+      ledgers = c.self.inside.ledgers.items;
     } = λ j. record {
       cells = sym cells j;
       claims = c.self.inside.claims;
       puts = sym lists j;
-      ledgers = ledgers_in c.self.inside.ledgers.items;
+      ledgers = c.self.inside.ledgers.items;
     } in
     let low : length h.puts < h.cells.table.size.lanes =
     (let few = c.if-len-mailbox.false in

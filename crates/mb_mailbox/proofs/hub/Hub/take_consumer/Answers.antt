@@ -1,14 +1,12 @@
-use Rattle.std.proofs.Common.{◌≡◌, ◌∙◌, ◌≤◌, None, Some, false, ap, subst, sym}
+use Rattle.std.proofs.Common.{◌≡◌, ◌∙◌, ◌≤◌, None, Some, ap, subst, sym}
 use Rattle.std.specs.Prelude.{slice_get, slice_set}
 use Rattle.mb_shared_cells.specs.Vocabulary.{CellHubView, CellsName, roll_with_part}
 use Rattle.mb_shared_claims.specs.Vocabulary.{HubView as ClaimHubView}
 use Rattle.mb_mailbox.specs.Imports.{claims_at, name_of, Reader}
 use Rattle.mb_mailbox.specs.Consumers.{ConsumerView}
 use Rattle.mb_mailbox.specs.Mailboxes.{MailboxView}
-use Rattle.mb_mailbox.specs.Ledgers.{KeptView, ledgers_in}
-use Rattle.mb_mailbox.specs.Hubs.{HubView, IsHub, ledger_of, with_taken_consumer}
+use Rattle.mb_mailbox.specs.Hubs.{ConsumerRecordView, HubView, IsHub, ledger_of, with_taken_consumer}
 use Rattle.mb_mailbox.specs.Pursuits.{with_fields}
-use Rattle.mb_mailbox.proofs.CutLists.{ledgers_set}
 use Rattle.mb_mailbox.proofs.HubMoves.{seat_is_out, took_consumer}
 use Rattle.mb_mailbox.proofs.hub.Hub.take_consumer.Goals as goal
 
@@ -21,7 +19,7 @@ invariant_of-self g c =
       cells = c.self.inside.cells;
       claims = c.self.inside.claims;
       puts = c.self.inside.puts.items;
-      ledgers = ledgers_in c.self.inside.ledgers.items;
+      ledgers = c.self.inside.ledgers.items;
     } in
     let s = with_fields c.consumer.inside.fields in
     let table : h.cells.table ≡ c.mailbox.inside.cells =
@@ -37,19 +35,15 @@ invariant_of-self g c =
     }) (sym table) in
     let seats : c.take_in.new.hub ≡ (with_taken_consumer s h).claims = c.take_in.ensures.hub in
     let number : c.consumer-number.result ≡ s.seat.consumer = c.consumer-number.ensures.exact in
-    let taken : KeptView = record {
-      ledger = record { places = s.places; notes = c.trim.new.self.lists };
-      is_cut = false;
-    } in
-    let ledgers : ledgers_in (slice_set c.self.inside.ledgers.items c.consumer-number.result (Some taken))
+    let taken : ConsumerRecordView = record { places = s.places; notes = c.trim.new.self.lists } in
+    let ledgers : slice_set h.ledgers c.consumer-number.result (Some taken)
     ≡ slice_set h.ledgers s.seat.consumer (Some (ledger_of s)) =
-    ledgers_set c.self.inside.ledgers.items c.consumer-number.result (Some taken)
-    ∙ (λ j. slice_set h.ledgers (number j) (Some (record { places = s.places; notes = c.trim.ensures j }))) in
+    λ j. slice_set h.ledgers (number j) (Some (record { places = s.places; notes = c.trim.ensures j })) in
     let is : with_taken_consumer s h ≡ record {
       cells = c.take_reader.new.hub;
       claims = c.take_in.new.hub;
       puts = h.puts;
-      ledgers = ledgers_in (slice_set c.self.inside.ledgers.items c.consumer-number.result (Some taken));
+      ledgers = slice_set h.ledgers c.consumer-number.result (Some taken);
     } = λ j. record { cells = sym cells j; claims = sym seats j; puts = h.puts; ledgers = sym ledgers j } in
     let same : s.seat.table ≡ h.claims.table =
     ap (λ (v : ConsumerView). v.seat.table) c.consumer.view_is ∙ c.requires.consumer.claims
@@ -71,7 +65,7 @@ returns-clause-hub g c =
       cells = c.self.inside.cells;
       claims = c.self.inside.claims;
       puts = c.self.inside.puts.items;
-      ledgers = ledgers_in c.self.inside.ledgers.items;
+      ledgers = c.self.inside.ledgers.items;
     } in
     let s = with_fields c.consumer.inside.fields in
     let table : h.cells.table ≡ c.mailbox.inside.cells =
@@ -84,19 +78,15 @@ returns-clause-hub g c =
     }) (sym table) in
     let seats : c.take_in.new.hub ≡ (with_taken_consumer s h).claims = c.take_in.ensures.hub in
     let number : c.consumer-number.result ≡ s.seat.consumer = c.consumer-number.ensures.exact in
-    let taken : KeptView = record {
-      ledger = record { places = s.places; notes = c.trim.new.self.lists };
-      is_cut = false;
-    } in
-    let ledgers : ledgers_in (slice_set c.self.inside.ledgers.items c.consumer-number.result (Some taken))
+    let taken : ConsumerRecordView = record { places = s.places; notes = c.trim.new.self.lists } in
+    let ledgers : slice_set h.ledgers c.consumer-number.result (Some taken)
     ≡ slice_set h.ledgers s.seat.consumer (Some (ledger_of s)) =
-    ledgers_set c.self.inside.ledgers.items c.consumer-number.result (Some taken)
-    ∙ (λ j. slice_set h.ledgers (number j) (Some (record { places = s.places; notes = c.trim.ensures j }))) in
+    λ j. slice_set h.ledgers (number j) (Some (record { places = s.places; notes = c.trim.ensures j })) in
     let is : record {
       cells = c.take_reader.new.hub;
       claims = c.take_in.new.hub;
       puts = h.puts;
-      ledgers = ledgers_in (slice_set c.self.inside.ledgers.items c.consumer-number.result (Some taken));
+      ledgers = slice_set h.ledgers c.consumer-number.result (Some taken);
     } ≡ with_taken_consumer s h = λ j. record {
       cells = cells j;
       claims = seats j;
@@ -111,7 +101,7 @@ returns-clause-was_out g c =
       cells = c.self.inside.cells;
       claims = c.self.inside.claims;
       puts = c.self.inside.puts.items;
-      ledgers = ledgers_in c.self.inside.ledgers.items;
+      ledgers = c.self.inside.ledgers.items;
     } in
     let s = with_fields c.consumer.inside.fields in
     subst (λ (z : HubView × ConsumerView). slice_get z.0.ledgers z.1.seat.consumer ≡ Some None)

@@ -4,7 +4,6 @@ use Rattle.mb_cells.specs.Vocabulary.{Entry, IsLaneAfter, fetch}
 use Rattle.mb_shared_cells.specs.Vocabulary.{CellHubView, CellsName, roll_with_part}
 use Rattle.mb_mailbox.specs.Imports.{Has, PoolSize, Producer, linked_cells}
 use Rattle.mb_mailbox.specs.Mailboxes.{MailboxView}
-use Rattle.mb_mailbox.specs.Ledgers.{ledgers_in}
 use Rattle.mb_mailbox.specs.Hubs.{HubView, IsHub, IsPutList, PutListView, put_list_of, with_taken_producer}
 use Rattle.mb_mailbox.specs.Producers.{ProducerView}
 use Rattle.mb_mailbox.proofs.HubMoves.{is_out, kept_list, took_producer}
@@ -19,7 +18,7 @@ invariant_of-self g c =
       cells = c.self.inside.cells;
       claims = c.self.inside.claims;
       puts = c.self.inside.puts.items;
-      ledgers = ledgers_in c.self.inside.ledgers.items;
+      ledgers = c.self.inside.ledgers.items;
     } in
     let s : ProducerView = record { seat = c.producer.inside.seat; items = c.producer.inside.items.items } in
     let table : h.cells.table ≡ c.mailbox.inside.cells =
@@ -45,12 +44,12 @@ invariant_of-self g c =
       cells = c.take_lane.new.hub;
       claims = c.self.inside.claims;
       puts = slice_set h.puts c.lane-lane.result (Some kept);
-      ledgers = ledgers_in c.self.inside.ledgers.items;
+      ledgers = c.self.inside.ledgers.items;
     } = λ j. record {
       cells = sym cells j;
       claims = c.self.inside.claims;
       puts = sym lists j;
-      ledgers = ledgers_in c.self.inside.ledgers.items;
+      ledgers = c.self.inside.ledgers.items;
     } in
     let pool = c.has_history.ensures.history.0 in
     let lawful = c.has_history.ensures.history.1 in
@@ -84,7 +83,7 @@ returns-clause-was_out g c =
       cells = c.self.inside.cells;
       claims = c.self.inside.claims;
       puts = c.self.inside.puts.items;
-      ledgers = ledgers_in c.self.inside.ledgers.items;
+      ledgers = c.self.inside.ledgers.items;
     } in
     let s : ProducerView = record { seat = c.producer.inside.seat; items = c.producer.inside.items.items } in
     subst (λ (z : HubView × ProducerView). slice_get z.0.puts z.1.seat.lane ≡ Some None)
@@ -97,7 +96,7 @@ returns-clause-hub g c =
       cells = c.self.inside.cells;
       claims = c.self.inside.claims;
       puts = c.self.inside.puts.items;
-      ledgers = ledgers_in c.self.inside.ledgers.items;
+      ledgers = c.self.inside.ledgers.items;
     } in
     let s : ProducerView = record { seat = c.producer.inside.seat; items = c.producer.inside.items.items } in
     let table : h.cells.table ≡ c.mailbox.inside.cells =
@@ -123,11 +122,11 @@ returns-clause-hub g c =
       cells = c.take_lane.new.hub;
       claims = c.self.inside.claims;
       puts = slice_set h.puts c.lane-lane.result (Some kept);
-      ledgers = ledgers_in c.self.inside.ledgers.items;
+      ledgers = c.self.inside.ledgers.items;
     } = λ j. record {
       cells = sym cells j;
       claims = c.self.inside.claims;
       puts = sym lists j;
-      ledgers = ledgers_in c.self.inside.ledgers.items;
+      ledgers = c.self.inside.ledgers.items;
     } in
     sym is ∙ (λ j. with_taken_producer (c.producer.view_is j) (c.self.view_is j))

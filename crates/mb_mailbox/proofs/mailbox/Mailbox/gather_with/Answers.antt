@@ -1,12 +1,10 @@
-use Rattle.std.proofs.Common.{◌≡◌, ◌∙◌, ◌≤◌, ◌*◌, ap, arith, length, subst, sym}
+use Rattle.std.proofs.Common.{◌≡◌, ◌∙◌, ap, arith, subst, sym}
 use Rattle.mb_world.specs.Report.{ReportView}
 use Rattle.mb_mailbox.specs.Gathering.{count_missing, IsGathered, IsOutlineIn, IsReportIn}
-use Rattle.mb_mailbox.specs.Imports.{CellsName, ClaimTable, claims_at, consumer_count, name_of}
+use Rattle.mb_mailbox.specs.Imports.{claims_at, consumer_count, name_of}
 use Rattle.mb_mailbox.specs.Hubs.{HubView, IsHub, IsHubOf}
-use Rattle.mb_mailbox.specs.Ledgers.{ledgers_in}
 use Rattle.mb_mailbox.specs.Mailboxes.{MailboxView}
-use Rattle.mb_mailbox.proofs.CutLists.{have_lists, ledgers_count}
-use Rattle.mb_mailbox.proofs.Filled.{full_ledgers, report_of, rows_fit}
+use Rattle.mb_mailbox.proofs.Filled.{report_of}
 use Rattle.mb_mailbox.proofs.mailbox.Mailbox.gather_with.Goals as goal
 
 -- The terms that come again: the hub h, the mailbox m, the outline o and the report r by their fields. `of` says that
@@ -21,59 +19,6 @@ fill_lanes-requires g c =
     let puts = c.hub.inside.puts.ok.0 in
     let lanes = c.outline.inside.lanes.ok.0 in
     omega (arith, few, count, puts, lanes)
-
-pub fill_diaries-requires-clause-few : goal.fill_diaries-requires-clause-few
-fill_diaries-requires-clause-few g c =
-    let is = c.hub.view_is ∙ c.draft.view_is in
-    let count = ledgers_count c.hub.inside.ledgers.items in
-    let few = c.hub.invariant.0.few_consumers in
-    let same = ap (λ (h : HubView). (claims_at h.claims.table).table.values) is
-    ∙ ap (λ (t : ClaimTable). (claims_at t).table.values) c.requires.of.claims in
-    let most = (c.layouts_are_sound.ensures.consumers c.args.self.claims.layout).1 in
-    let len = c.hub.inside.ledgers.ok.0 in
-    let lanes = c.self.invariant.1 in
-    let sixteen = c.self.invariant.0.lanes in
-    (omega (arith, lanes, sixteen), omega (arith, count, few, same, most, len))
-
-pub fill_diaries-requires-clause-room : goal.fill_diaries-requires-clause-room
-fill_diaries-requires-clause-room g c =
-    let h : HubView = record {
-      cells = c.hub.inside.cells;
-      claims = c.hub.inside.claims;
-      puts = c.hub.inside.puts.items;
-      ledgers = ledgers_in c.hub.inside.ledgers.items;
-    } in
-    let m : MailboxView = record { cells = c.self.inside.cells; claims = c.self.inside.claims } in
-    let o : ReportView = record { lanes = c.outline.inside.lanes.items; diaries = c.outline.inside.diaries.items } in
-    let of : IsHubOf m h = subst (λ (z : MailboxView × HubView). IsHubOf z.0 z.1)
-    (λ j. (sym c.self.view_is j, sym (c.hub.view_is ∙ c.draft.view_is) j)) c.requires.of in
-    let out = subst (λ (z : HubView × ReportView). IsOutlineIn z.0.cells.table.size.lanes
-    (claims_at z.0.claims.table).table.values z.0 z.1)
-    (λ j. (sym c.hub.view_is j, sym c.outline.view_is j)) c.draft.invariant in
-    let count = ledgers_count c.hub.inside.ledgers.items in
-    let rows : length h.ledgers * c.self.inside.lanes ≤ length o.diaries =
-    rows_fit m h o c.self.inside.lanes c.hub.invariant.0 of c.self.invariant.1 out in
-    let few = c.hub.inside.ledgers.ok.0 in
-    let diaries = c.outline.inside.diaries.ok.0 in
-    let same = ap (λ n. n * c.self.inside.lanes) (few ∙ sym count) in
-    omega (arith, rows, same, diaries)
-
-pub fill_diaries-requires-clause-cut : goal.fill_diaries-requires-clause-cut
-fill_diaries-requires-clause-cut g c = c.hub.invariant.3
-
-pub fill_diaries-requires-clause-lists : goal.fill_diaries-requires-clause-lists
-fill_diaries-requires-clause-lists g c =
-    let h : HubView = record {
-      cells = c.hub.inside.cells;
-      claims = c.hub.inside.claims;
-      puts = c.hub.inside.puts.items;
-      ledgers = ledgers_in c.hub.inside.ledgers.items;
-    } in
-    let wide = ap (λ (v : HubView). v.cells.table.size.lanes) (c.hub.view_is ∙ c.draft.view_is)
-    ∙ ap (λ (t : CellsName). t.size.lanes) c.requires.of.cells
-    ∙ sym (ap (λ (v : MailboxView). v.cells.size.lanes) c.self.view_is) ∙ sym c.self.invariant.1 in
-    have_lists c.self.inside.lanes c.hub.inside.ledgers.items
-    (λ d l e. full_ledgers h c.hub.invariant.0 d l e ∙ wide)
 
 pub close-requires : goal.close-requires
 close-requires g c =
@@ -91,7 +36,7 @@ close-requires-2-clause-all_in g c =
       cells = c.hub.inside.cells;
       claims = c.hub.inside.claims;
       puts = c.hub.inside.puts.items;
-      ledgers = ledgers_in c.hub.inside.ledgers.items;
+      ledgers = c.hub.inside.ledgers.items;
     } in
     let ledgers : count_missing h.ledgers ≡ 0 = ap (λ (x : HubView). count_missing x.ledgers)
     (c.hub.view_is ∙ c.draft.view_is) ∙ c.requires.consumers in
@@ -103,11 +48,11 @@ returns-clause-lists g c =
       cells = c.hub.inside.cells;
       claims = c.hub.inside.claims;
       puts = c.hub.inside.puts.items;
-      ledgers = ledgers_in c.hub.inside.ledgers.items;
+      ledgers = c.hub.inside.ledgers.items;
     } in
     let m : MailboxView = record { cells = c.self.inside.cells; claims = c.self.inside.claims } in
     let o : ReportView = record { lanes = c.outline.inside.lanes.items; diaries = c.outline.inside.diaries.items } in
-    let r : ReportView = record { lanes = c.fill_lanes.new.lanes.items; diaries = c.fill_diaries.new.diaries.items } in
+    let r : ReportView = record { lanes = c.fill_lanes.new.lanes.items; diaries = c.outline.inside.diaries.items } in
     let is : h ≡ c.args.draft = c.hub.view_is ∙ c.draft.view_is in
     let of : IsHubOf m h = subst (λ (z : MailboxView × HubView). IsHubOf z.0 z.1)
     (λ j. (sym c.self.view_is j, sym is j)) c.requires.of in
@@ -116,8 +61,7 @@ returns-clause-lists g c =
     (λ j. (sym c.hub.view_is j, sym c.outline.view_is j)) c.draft.invariant in
     subst (λ (z : MailboxView × HubView). IsReportIn z.0.cells.size.lanes (consumer_count z.0.claims.layout) z.1 r)
     (λ j. (c.self.view_is j, is j))
-    (report_of m h o r c.self.inside.lanes c.hub.invariant.0 of c.self.invariant.1 out c.fill_lanes.ensures
-    c.fill_diaries.ensures)
+    (report_of m h o r.lanes of out c.fill_lanes.ensures)
 
 pub returns-clause-headline : goal.returns-clause-headline
 returns-clause-headline g c =
@@ -125,10 +69,10 @@ returns-clause-headline g c =
       cells = c.hub.inside.cells;
       claims = c.hub.inside.claims;
       puts = c.hub.inside.puts.items;
-      ledgers = ledgers_in c.hub.inside.ledgers.items;
+      ledgers = c.hub.inside.ledgers.items;
     } in
     let m : MailboxView = record { cells = c.self.inside.cells; claims = c.self.inside.claims } in
-    let r : ReportView = record { lanes = c.fill_lanes.new.lanes.items; diaries = c.fill_diaries.new.diaries.items } in
+    let r : ReportView = record { lanes = c.fill_lanes.new.lanes.items; diaries = c.outline.inside.diaries.items } in
     let is : h ≡ c.args.draft = c.hub.view_is ∙ c.draft.view_is in
     let of : IsHubOf m h = subst (λ (z : MailboxView × HubView). IsHubOf z.0 z.1)
     (λ j. (sym c.self.view_is j, sym is j)) c.requires.of in
@@ -147,11 +91,11 @@ returns-clause-headline g c =
 pub returns-clause-full : goal.returns-clause-full
 returns-clause-full g c =
     let i : IsHub c.args.draft = subst IsHub (c.hub.view_is ∙ c.draft.view_is) c.hub.invariant.0 in
-    let r : ReportView = record { lanes = c.fill_lanes.new.lanes.items; diaries = c.fill_diaries.new.diaries.items } in
+    let r : ReportView = record { lanes = c.fill_lanes.new.lanes.items; diaries = c.outline.inside.diaries.items } in
     c.gathering_is_sound.ensures.full c.args.self c.args.draft r i c.requires.of
     c.requires.producers (returns-clause-headline g c)
 
 pub returns-clause-undecided : goal.returns-clause-undecided
 returns-clause-undecided g c =
-    let r : ReportView = record { lanes = c.fill_lanes.new.lanes.items; diaries = c.fill_diaries.new.diaries.items } in
+    let r : ReportView = record { lanes = c.fill_lanes.new.lanes.items; diaries = c.outline.inside.diaries.items } in
     c.gathering_is_sound.ensures.undecided c.args.self c.args.draft r (returns-clause-headline g c)

@@ -1,7 +1,6 @@
 use Rattle.std.proofs.Common.{ap, rules}
 use Rattle.mb_shared_cells.specs.Vocabulary.{CellHubView}
 use Rattle.mb_shared_claims.specs.Vocabulary.{HubView as ClaimHubView}
-use Rattle.mb_mailbox.specs.Ledgers.{ledgers_in}
 use Rattle.mb_mailbox.proofs.HubMoves.{new_hub}
 use Rattle.mb_mailbox.proofs.mailbox.Mailbox.new.Goals as goal
 
@@ -9,10 +8,10 @@ use Rattle.mb_mailbox.proofs.mailbox.Mailbox.new.Goals as goal
 pub invariant_of-hub : goal.invariant_of-hub
 invariant_of-hub g c = (
   new_hub c.in_ok-cells.lanes_hub c.in_ok-claims.claims_hub c.in_ok-puts.puts.items
-      (ledgers_in c.in_ok-ledgers.ledgers.items)
+      c.in_ok-ledgers.ledgers.items
       (ap (λ (h : CellHubView). h.roll) c.in_ok-cells.ensures.hub)
       (ap (λ (h : ClaimHubView). h.roll) c.in_ok-claims.ensures.hub)
-      c.in_ok-puts.ensures.items (ap ledgers_in c.in_ok-ledgers.ensures.items),
+      c.in_ok-puts.ensures.items c.in_ok-ledgers.ensures.items,
   search rules,
   search rules,
 )
