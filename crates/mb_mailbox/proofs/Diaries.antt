@@ -11,11 +11,10 @@ use Rattle.mb_world.proofs.Positions.{get-front}
 use Rattle.mb_world.proofs.StateNotes.{any_below-same}
 use Rattle.mb_world.specs.Report.{DiaryView}
 use Rattle.mb_world.specs.Reporting.{any_below, is_took}
-use Rattle.mb_mailbox.specs.Filling.{with_notes}
+use Rattle.mb_mailbox.specs.Filling.{AreEmptyDiaries, with_notes}
 use Rattle.mb_mailbox.specs.Gathering.{AreDiaries, begun_of, diary_in, diary_outline, is_taken_in, kept_at, notes_among, notes_in, outline_row}
 use Rattle.mb_mailbox.specs.Hubs.{ConsumerRecordView, HubView, IsHub}
 use Rattle.mb_mailbox.specs.Imports.{Note}
-use Rattle.mb_mailbox.specs.NewConsumers.{AreEmptyDiaries}
 use Rattle.mb_mailbox.proofs.Listed.{within_grid}
 use Rattle.mb_mailbox.proofs.Lists.{get_some, map_get, some_same}
 use Rattle.mb_mailbox.proofs.Turned.{get_end}

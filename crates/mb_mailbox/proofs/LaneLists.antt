@@ -6,11 +6,10 @@ use Rattle.std.proofs.lemmas.Bool.{ne_eqb, eq-eqb}
 use Rattle.std.proofs.lemmas.List.{length-append, length-map, length-take, map_push, take_all, take_more}
 use Rattle.std.proofs.lemmas.List.Sums.{sum_by-cons}
 use Rattle.mb_world.specs.Report.{DiaryView}
-use Rattle.mb_mailbox.specs.Filling.{with_notes}
+use Rattle.mb_mailbox.specs.Filling.{AreEmptyDiaries, with_notes}
 use Rattle.mb_mailbox.specs.Imports.{Lost, Note}
 use Rattle.mb_mailbox.specs.LaneNotes.{AreFiled, AreLosses, Noted, all_told, by_lane, noted, on_lane, on_lanes, told, word_at, words_among, words_in}
 use Rattle.mb_mailbox.specs.Steps.{notes_on, with_note}
-use Rattle.mb_mailbox.specs.NewConsumers.{AreEmptyDiaries}
 use Rattle.mb_mailbox.specs.declared.notes.Mark.{Mark}
 use Rattle.mb_mailbox.specs.declared.notes.Mark.TheVariants as mark
 use Rattle.mb_mailbox.proofs.Lists.{map_get, map_set, set_here, set_same, set_twice, some_same}

@@ -1,5 +1,5 @@
 -- The lists of items that are moved into the outline of a report, each to its place, and diaries with other notes.
-use Rattle.std.specs.Prelude.{ℕ, zero, suc, List, [], ◌∷◌, Option, Some, None}
+use Rattle.std.specs.Prelude.{ℕ, zero, suc, ◌≡◌, List, [], ◌∷◌, Option, Some, None, length, slice_get}
 use Rattle.mb_world.specs.Report.{DiaryView, LaneView}
 use Rattle.mb_mailbox.specs.Imports.{Note}
 use Rattle.mb_mailbox.specs.Hubs.{PutListView}
@@ -23,3 +23,8 @@ with_items (Some k) l = record l { put = k.items }
 -- the diary with these notes
 abbrev pub with_notes : List Note → DiaryView → DiaryView
 with_notes notes d = record d { notes = notes }
+
+-- there is a diary for each of this many lanes, and none has a note
+pub record AreEmptyDiaries (lanes : ℕ) (row : List DiaryView) : Type 0 where
+  pub count : length row ≡ lanes
+  pub empty : (p : ℕ) (d : DiaryView) → slice_get row p ≡ Some d → d.notes ≡ []

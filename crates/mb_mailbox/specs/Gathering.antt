@@ -81,7 +81,8 @@ abbrev pub outline_row : ℕ → Option ConsumerRecordView → ℕ → List Diar
 outline_row c kept zero = []
 outline_row c kept (suc n) = outline_row c kept n ++ diary_outline c n kept ∷ []
 
--- the notes of consumer c on lane p in these diaries, which stand consumer by consumer, with this many lanes each
+-- the notes of consumer c on lane p, or none, in diaries that stand consumer by consumer. There are this many lanes, and
+-- p is one
 abbrev pub notes_among : ℕ → ℕ → ℕ → List DiaryView → List Note
 notes_among lanes c p ds = option_map_or (λ d. d.notes) (slice_get ds (c * lanes + p)) []
 
@@ -96,7 +97,7 @@ pub record AreDiaries (lanes : ℕ) (h : HubView) (n : ℕ) (ds : List DiaryView
   pub each : (c p : ℕ) → p < lanes → c * lanes + p < n
       → slice_get ds (c * lanes + p) ≡ Some (diary_in c p h)
 
--- this is the outline of the hub's report: the report before items are moved in
+-- this is the outline of the hub's report: the report before the items are moved in
 pub record IsOutlineIn (lanes consumers : ℕ) (h : HubView) (r : ReportView) : Type 0 where
   pub each_lane : AreLanesOutlined consumers h lanes r.lanes
   pub each_diary : AreDiaries lanes h (consumers * lanes) r.diaries

@@ -1,9 +1,8 @@
--- The places, the notes and the diaries of a consumer that has done nothing.
+-- The places and the notes of a consumer that has done nothing.
 use Rattle.std.specs.Prelude.{ℕ, ◌≡◌, ◌≤◌, List, [], Some, length, slice_get}
 use Rattle.mb_cells.specs.declared.cursor.Cursor.TheVariants.{Head}
 use Rattle.mb_mailbox.specs.Imports.{Note}
 use Rattle.mb_mailbox.specs.LaneNotes.{NotesView}
-use Rattle.mb_world.specs.Report.{DiaryView}
 use Rattle.mb_world.specs.declared.place.Place.{Place}
 use Rattle.mb_world.specs.declared.place.Place.TheVariants.{Before}
 
@@ -17,8 +16,3 @@ pub record AreNoNotes (lanes most : ℕ) (notes : NotesView) : Type 0 where
   pub count : length notes.lists ≡ lanes
   pub empty : (p : ℕ) (list : List Note) → slice_get notes.lists p ≡ Some list → list ≡ []
   pub room : most ≤ notes.room
-
--- these are the diaries of this many lanes, and none has a note
-pub record AreEmptyDiaries (lanes : ℕ) (row : List DiaryView) : Type 0 where
-  pub count : length row ≡ lanes
-  pub empty : (p : ℕ) (d : DiaryView) → slice_get row p ≡ Some d → d.notes ≡ []

@@ -221,8 +221,8 @@ impl<A: Allocator + Clone + Drop> Hub<A> {
     }
 }
 
-/// Adds the places of a consumer that has done nothing: before the head of each lane. They are added to the consumer's
-/// own list, which is long, so that it is not copied.
+/// Adds the places of a consumer that has done nothing: before the head of each lane. They go straight into the
+/// consumer. A list that is returned would be copied, and it is long.
 #[inline(always)]
 fn before_heads(places: &mut ArrayVec<Place, 16>, lanes: u32)
     requires few { lanes ≤ 16 }

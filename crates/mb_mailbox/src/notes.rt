@@ -52,8 +52,8 @@ impl Mark {
     }
 }
 
-/// How far ahead a loss on the same lane shows that losses follow each other. A run of fewer is not worth moving its
-/// list out.
+/// How many marks ahead a loss on the same lane is looked for. If there is one, those between are most likely losses
+/// there, too. Fewer are not worth moving the list out.
 const AHEAD: usize = 3;
 
 /// How many items were put on each lane, and on all lanes together.
@@ -121,10 +121,11 @@ impl<A: Allocator + Drop> Notes<A> {
         counts
     }
 
-    /// How much room the notes of each lane need. If there are as many notes as items, each item has its note.
-    pub(crate) fn rooms(&self, puts: &PutCounts) -> [usize; 16] {
-        if self.marks.len() == puts.all {
-            puts.lanes
+    /// How much room the notes of each lane need. If all producers were taken in and there are as many notes as items,
+    /// each item has its note, and no note is counted. It only says how much room to take.
+    pub(crate) fn rooms(&self, counts: &PutCounts) -> [usize; 16] {
+        if self.marks.len() == counts.all {
+            counts.lanes
         } else {
             self.counts()
         }
@@ -133,8 +134,8 @@ impl<A: Allocator + Drop> Notes<A> {
 
 impl<A: Allocator + Clone + Drop> Notes<A> {
     ghost use Rattle.std.specs.Prelude.{◌≡◌, ◌≤◌, IfOk, [], length, map};
-    ghost use Rattle.mb_mailbox.specs.Filling.{with_notes};
-    ghost use Rattle.mb_mailbox.specs.NewConsumers.{AreEmptyDiaries, AreNoNotes};
+    ghost use Rattle.mb_mailbox.specs.Filling.{AreEmptyDiaries, with_notes};
+    ghost use Rattle.mb_mailbox.specs.NewConsumers.{AreNoNotes};
 
     /// The notes of a new consumer: none yet on this many lanes, and room for this many.
     pub(crate) fn new(alloc: A, lanes: u32, room: usize) -> Result<Notes<A>, NoMemory>
@@ -152,6 +153,7 @@ impl<A: Allocator + Clone + Drop> Notes<A> {
 
     /// Adds the notes to these diaries, each to that of its lane. The diaries are those of the lanes in order, and have
     /// no note yet.
+    // It stands alone, so that its loops have all registers.
     #[inline(never)]
     pub(crate) fn fill(&self, alloc: A, row: &mut [Diary<A>]) -> Result<(), NoMemory>
         requires { AreEmptyDiaries (length self.now.lists) row.old }
@@ -250,7 +252,7 @@ fn add_note<A: Allocator + Drop>(diary: &mut Diary<A>, note: Note) -> Result<(),
     Ok(())
 }
 
-/// Adds the notes of the marks from this place on, up to one after which losses on its lane seem to follow. Returns the
+/// Adds the notes of the marks from this place on, up to one after which losses on its lane may follow. Returns the
 /// place of the next mark.
 #[inline(always)]
 fn file_singly<A: Allocator + Drop>(
@@ -279,7 +281,7 @@ fn file_singly<A: Allocator + Drop>(
     Ok(at)
 }
 
-/// Whether losses on this lane seem to follow from this place on: whether the mark some places on is one.
+/// Whether the mark [`AHEAD`] places on is a loss on this lane. It only guesses whether those between are.
 #[inline(always)]
 fn is_run(lane: u8, marks: &[Mark], from: usize) -> bool {
     match marks.get(from.wrapping_add(AHEAD)) {

@@ -6,6 +6,7 @@ ghost use Rattle.mb_mailbox.specs.Gathering.{begun_of, notes_among, outline_row}
 
 use crate::hub::Hub;
 use crate::notes::PutCounts;
+use crate::spare::trim;
 use crate::taken::{ConsumerRecord, PutList};
 use mb_cells::NoMemory;
 use mb_world::{Diary, LaneReport, Note, Report};
@@ -101,7 +102,7 @@ fn add_outlines<A: Allocator + Clone + Drop>(
     lanes: u32,
     c: u32,
     ledger: Option<&ConsumerRecord<A>>,
-    puts: &PutCounts,
+    counts: &PutCounts,
 ) -> Result<(), NoMemory>
     requires room { vec_len diaries.old + lanes ≤ vec_capacity diaries.old }
     ensures room { vec_capacity diaries.new ≡ vec_capacity diaries.old }
@@ -109,7 +110,7 @@ fn add_outlines<A: Allocator + Clone + Drop>(
         ≡ diaries.old.items ++ outline_row c (option_map (λ k. k.now) ledger.entry) lanes) }
 {
     let rooms = match ledger {
-        Some(ledger) => ledger.notes.rooms(puts),
+        Some(ledger) => ledger.notes.rooms(counts),
         None => [0; 16],
     };
     for p in 0..lanes {
@@ -202,6 +203,7 @@ impl<A: Allocator + Clone + Drop> Hub<A> {
                 left.push(*item)?;
             }
         }
+        trim(&mut left);
         Ok(LaneReport {
             put,
             ended: self.ended(p),
@@ -217,9 +219,9 @@ impl<A: Allocator + Clone + Drop> Hub<A> {
             AreDiaries lanes self.now (consumers * lanes) ds.items) }
     {
         let mut diaries = Vec::with_capacity(alloc.clone()?, consumers as usize * lanes as usize)?;
-        let puts = put_counts(self.puts.as_slice());
+        let counts = put_counts(self.puts.as_slice());
         for c in 0..consumers {
-            self.add_diaries(&alloc, lanes, c, &puts, &mut diaries)?;
+            self.add_diaries(&alloc, lanes, c, &counts, &mut diaries)?;
         }
         Ok(diaries)
     }
@@ -231,7 +233,7 @@ impl<A: Allocator + Clone + Drop> Hub<A> {
         alloc: &A,
         lanes: u32,
         c: u32,
-        puts: &PutCounts,
+        counts: &PutCounts,
         diaries: &mut Vec<Diary<A>, A>,
     ) -> Result<(), NoMemory>
         requires lanes { lanes ≡ self.now.cells.table.size.lanes }
@@ -245,7 +247,7 @@ impl<A: Allocator + Clone + Drop> Hub<A> {
         let _ = &self.cells;
         let first = diaries.len();
         let ledger = self.ledger(c);
-        add_outlines(diaries, alloc, lanes, c, ledger, puts)?;
+        add_outlines(diaries, alloc, lanes, c, ledger, counts)?;
         match ledger {
             Some(ledger) => {
                 ledger
