@@ -25,22 +25,24 @@ BY_HAND = pathlib.Path(tempfile.gettempdir()) / "mailbox_bench_by_hand"
 SIZES = {
     "words": (2, 6), "lone": (4, 12), "contended": (2, 6), "tables": (4, 12), "shared": (4, 12), "mail": (2, 6),
     "mailboxes": (2, 6), "puts": (2, 6), "mailbox": (2, 6), "chacha": (2, 6), "play": (100, 300), "ratify": (1, 3),
-    "worlds": (1, 3), "events": (1, 3), "reports": (1, 3),
+    "worlds": (1, 3), "events": (1, 3), "reports": (1, 3), "items": (2, 6),
 }
 UNITS = {
     "lone": "an access", "contended": "an access", "shared": "an access", "mail": "an item", "puts": "a put",
     "mailbox": "an item", "chacha": "an item", "play": "a step", "ratify": "a turn", "events": "an event",
-    "reports": "a note",
+    "reports": "a note", "items": "an item",
 }
+# This is a loop above, counted once more without what it makes.
+SAME = {"items": "mailbox"}
 # What these make at each time, words, tables, a mailbox or a world, is no part of their units.
-LESS = {"lone": "words", "contended": "words", "shared": "tables", "puts": "mailboxes", "events": "worlds"}
+LESS = {"lone": "words", "contended": "words", "shared": "tables", "puts": "mailboxes", "events": "worlds", "items": "mailboxes"}
 # These make claims on so many cells at each time. With fewer accesses in another shape of the cells, an access tells little.
 CLAIMS = ("lone", "contended", "shared")
 CELLS = 256
 # These have no loop by hand.
 ALONE = ("chacha", "events", "reports")
 # These have one more by hand, in which a claim goes straight, by plain loops.
-STRAIGHT = ("lone", "shared", "mail", "mailbox")
+STRAIGHT = ("lone", "shared", "mail", "mailbox", "items")
 
 
 def build():
@@ -55,7 +57,7 @@ def counted(program, what, times):
     """The instructions of a run, and the line that it prints. The program comes with the words before the loop's."""
     loop, shape, table, consumers = what
     valgrind = ["valgrind", "--tool=callgrind", "--callgrind-out-file=/dev/null"]
-    words = [loop, table, consumers, str(times), *([] if shape == "plain" else [shape])]
+    words = [SAME.get(loop, loop), table, consumers, str(times), *([] if shape == "plain" else [shape])]
     ran = subprocess.run([*valgrind, *program, *words], capture_output=True, text=True, check=True)
     return int(re.search(r"Collected : (\d+)", ran.stderr).group(1)), ran.stdout
 
@@ -97,7 +99,7 @@ def told(instructions):
 def main():
     parser = argparse.ArgumentParser()
     # (chacha, events and reports are not there by hand)
-    loops = "lone,contended,shared,mail,puts,mailbox,play,ratify"
+    loops = "lone,contended,shared,mail,puts,mailbox,items,play,ratify"
     parser.add_argument("--loops", default=loops, help=f"which, beside them chacha, events, reports ({loops})")
     parser.add_argument("--shapes", default="plain")
     parser.add_argument("--tables", default="bits,unary,middle")

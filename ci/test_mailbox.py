@@ -7,13 +7,26 @@ import unittest
 
 TOP = os.path.dirname(os.path.dirname(os.path.abspath(__file__)))
 PROGRAM = "crates/mailbox_main/out/mailbox_main"
+KIT = "rattle-kit-13f logic 0"
+ROOM = "MemTotal: 24000000 kB\nMemAvailable: 13000000 kB\n"
+# What stands in the crates: those that the script names.
+CRATES = ("mailbox_main", "mb_quorum", "mb_claim", "mb_script")
 # It says what it was asked, and `rt run` leaves a program that says what it is asked.
 RT = """#!/bin/sh
-if [ "$1" = run ]; then
+if [ "$1" = --version ]; then
+    echo "$KIT"
+elif [ "$1" = doc ]; then
+    echo "$(dirname "$0")/kit/START-HERE.md"
+elif [ "$1" = lib ]; then
+    echo "rt: chose --jobs 2 for $(basename "$PWD")"
+    echo 'so far: 1 of 3 functions checked; the verdict comes last'
+    echo "$PWD" >>"$COPIES"
+    [ "${BROKEN-}" != lib ] || exit 1
+elif [ "$1" = run ]; then
     echo 'rt: chose --jobs 4 for mb_quorum'
     echo 'so far: 2 of 9 functions checked; the verdict comes last'
     echo 'fn mb_quorum::table::Table::new: proved'
-    [ -z "${BROKEN-}" ] || exit 1
+    [ "${BROKEN-}" != run ] || exit 1
     mkdir -p out
     printf '#!/bin/sh\\necho "built $*"\\ncat\\n' >out/mailbox_main
     chmod +x out/mailbox_main
@@ -30,9 +43,12 @@ class TheScript(unittest.TestCase):
         self.top = tempfile.mkdtemp(prefix="mailbox-")
         self.addCleanup(shutil.rmtree, self.top)
         shutil.copy(f"{TOP}/mailbox", self.top)
-        for folder in ("bin", "crates/mailbox_main/src", "crates/mb_quorum/src"):
+        for folder in ("bin", *(f"crates/{it}/src" for it in CRATES)):
             os.makedirs(f"{self.top}/{folder}")
         self.write("crates/mb_quorum/src/lib.rt", "")
+        self.write("crates.txt", "")
+        self.write("HANDLES", "")
+        self.write("memory", ROOM)
         self.write("bin/rt", RT)
         os.chmod(f"{self.top}/bin/rt", 0o755)
 
@@ -40,8 +56,14 @@ class TheScript(unittest.TestCase):
         with open(f"{self.top}/{path}", "w", encoding="utf-8") as file:
             file.write(text)
 
+    def have_processors(self, many):
+        self.write("bin/nproc", f"#!/bin/sh\necho {many}\n")
+        os.chmod(f"{self.top}/bin/nproc", 0o755)
+
     def run_it(self, *words, path=None, **more):
-        env = {"PATH": path or f"{self.top}/bin:/usr/bin:/bin", **more}
+        memory = f"{self.top}/memory"
+        env = {"PATH": path or f"{self.top}/bin:/usr/bin:/bin", "MEMINFO": memory, "KIT": KIT, **more}
+        env["COPIES"] = f"{self.top}/copies"
         how = {"input": "script\n", "capture_output": True, "text": True, "env": env}
         ran = subprocess.run([f"{self.top}/mailbox", *words], check=False, **how)
         return ran.returncode, ran.stdout, ran.stderr
@@ -69,8 +91,33 @@ class TheScript(unittest.TestCase):
         self.assertEqual((status, said), (0, "built ratify\nscript\n"))
         self.assertIn("stale", errors)
 
+    def test_with_room_some_libraries_are_proved_in_a_copy(self):
+        for broken in ("", "lib"):
+            with self.subTest(broken):
+                self.have_processors(2)
+                status, _, errors = self.run_it("--build", BROKEN=broken)
+                self.assertEqual(status, 0)
+                self.assertIn("mailbox: 1 of 3 functions of mb_claim\n", errors)
+                self.assertIn("mailbox: built in ", errors)
+                with open(f"{self.top}/copies", encoding="utf-8") as file:
+                    places = file.read().split()
+                os.remove(f"{self.top}/copies")
+                self.assertEqual([os.path.basename(it) for it in places], ["mb_claim", "mb_script"])
+                # It is another copy, which is gone again.
+                self.assertFalse(any(it.startswith(self.top) or os.path.exists(it) for it in places))
+
+    def test_without_room_there_is_no_copy(self):
+        little = "MemAvailable: 11000000 kB\n"
+        for many, memory, kit in ((1, ROOM, KIT), (2, little, KIT), (2, ROOM, "rattle-kit-13b logic 0")):
+            with self.subTest((many, memory, kit)):
+                self.have_processors(many)
+                self.write("memory", memory)
+                status, _, errors = self.run_it("--build", KIT=kit)
+                self.assertEqual(status, 0)
+                self.assertNotIn("of 3 functions", errors)
+
     def test_a_build_that_fails_leaves_none(self):
-        status, _, errors = self.run_it("--build", BROKEN="yes")
+        status, _, errors = self.run_it("--build", BROKEN="run")
         self.assertEqual(status, 1)
         self.assertIn("could not be built", errors)
         self.assertFalse(os.path.exists(f"{self.top}/{PROGRAM}"))

@@ -130,9 +130,9 @@ const CALLS: &[(&str, Call, u64)] = &[
     // The marks and the words of the consumer's notes.
     ("consumer", Call::Consumer, 2),
     // The list of lanes and that of diaries, and the list of the consumer's note.
-    ("gather", Call::Gather(ONE_TAKEN), 4),
+    ("gather", Call::Gather(ONE_TAKEN), 3),
     // The lanes, the item left, the diaries, and the list of each consumer's note.
-    ("gather of two", Call::Gather(ONE_TAKEN_AND_ONE_LEFT), 7),
+    ("gather of two", Call::Gather(ONE_TAKEN_AND_ONE_LEFT), 5),
     // At least the list of the producer's items.
     ("lone producer", ENDED_LANE, 1),
     // Three lists for each kind of worker, the producer's items, the marks and words of the consumer's notes.
