@@ -48,7 +48,8 @@ pub struct FlatPlace {
     spot: Spot,
     value: u32,
     mask: u64,
-    modulus: u64,
+    // The modulus of a draw, less 1: each draw masks its word with that.
+    top: u64,
 }
 
 impl FlatPlace {
@@ -67,7 +68,7 @@ impl FlatPlace {
             spot: Spot::AtLast,
             value: 0,
             mask: 0,
-            modulus: 0,
+            top: 0,
         };
         flat.go(place);
         flat
@@ -117,7 +118,7 @@ impl FlatPlace {
         let access = Access { object, word };
         match self.spot {
             Spot::AtDraw => {
-                let (limit, modulus) = (self.mask, self.modulus);
+                let (limit, modulus) = (self.mask, self.top.wrapping_add(1));
                 let place = ConciliatorPlace::Draw {
                     input,
                     limit,
@@ -280,8 +281,9 @@ impl FlatPlace {
             ) => {
                 self.stand(was, Spot::AtDraw, input);
                 self.mask = limit;
-                if modulus != was.modulus {
-                    self.modulus = modulus;
+                let top = modulus.wrapping_sub(1);
+                if top != was.top {
+                    self.top = top;
                 }
             }
             Pc::InConciliator(ConciliatorPlace::Put { input }) => {
@@ -336,7 +338,7 @@ impl FlatPlace {
                 self.spot = Spot::AtDraw;
                 self.value = input;
                 self.mask = limit;
-                self.modulus = modulus;
+                self.top = modulus.wrapping_sub(1);
             }
             ConciliatorPlace::Put { input } => {
                 self.spot = Spot::AtPut;
