@@ -230,7 +230,13 @@ impl FlatPlace {
             (λ op seen. M.makes memory.old object op seen memory.new) word
             (flat_next result value.new self.new) }
     {
-        let was = *self;
+        // By fields, so that the spot, which was looked at, is not compared again.
+        let was = FlatPlace {
+            spot: self.spot,
+            value: self.value,
+            mask: self.mask,
+            top: self.top,
+        };
         let (preference, left) = (was.value, was.mask);
         let seen = memory.perform(object, Op::Load(Reg::Quorum(least(left))));
         let mut place = RatifierPlace::Check { preference, left };
