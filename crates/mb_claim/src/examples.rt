@@ -203,7 +203,8 @@ pub fn kept_claims_stand_for_claims()
 
 /// The first access in words of one cell, which were 0.
 pub fn accesses_change_words()
-    ensures load { IsMadeFirst (to.Load Value) 0 (0 ∷ 0 ∷ 0 ∷ 0 ∷ []) (access_at 0 0 (Load Value 0)) }
+    ensures load { IsMadeFirst (to.Load Value) 0 (0 ∷ 0 ∷ 0 ∷ 0 ∷ [])
+        (access_at 0 0 (Load Value 0)) }
     ensures store { IsMadeFirst (to.Store Value 1) 0 (1 ∷ 0 ∷ 0 ∷ 0 ∷ [])
         (access_at 0 0 (Store Value 1)) }
 

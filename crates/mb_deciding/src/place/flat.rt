@@ -114,42 +114,44 @@ impl FlatPlace {
             (λ op seen. M.makes memory.old object op seen memory.new) word
             (flat_next result value.new self.new) }
     {
-        let input = self.value;
+        // Each arm reads the value by itself. So an access that goes on in the same way does not read it.
         let access = Access { object, word };
         match self.spot {
             Spot::AtDraw => {
-                let (limit, modulus) = (self.mask, self.top.wrapping_add(1));
                 let place = ConciliatorPlace::Draw {
-                    input,
-                    limit,
-                    modulus,
+                    input: self.value,
+                    limit: self.mask,
+                    modulus: self.top.wrapping_add(1),
                 };
                 self.conciliate(q.values(), memory, access, place, value)
             }
             Spot::AtPut => {
-                let place = ConciliatorPlace::Put { input };
+                let place = ConciliatorPlace::Put { input: self.value };
                 self.conciliate(q.values(), memory, access, place, value)
             }
             Spot::AtLook => {
-                let place = ConciliatorPlace::Look { input };
+                let place = ConciliatorPlace::Look { input: self.value };
                 self.conciliate(q.values(), memory, access, place, value)
             }
-            Spot::AtBegin => self.ratify(q, memory, object, RatifierPlace::Begin { input }, value),
-            Spot::AtAnnounce => {
-                let left = self.mask;
-                let place = RatifierPlace::Announce { input, left };
+            Spot::AtBegin => {
+                let place = RatifierPlace::Begin { input: self.value };
                 self.ratify(q, memory, object, place, value)
             }
-            Spot::AtPropose => self.ratify(
-                q,
-                memory,
-                object,
-                RatifierPlace::Propose { input },
-                value,
-            ),
+            Spot::AtAnnounce => {
+                let place = RatifierPlace::Announce {
+                    input: self.value,
+                    left: self.mask,
+                };
+                self.ratify(q, memory, object, place, value)
+            }
+            Spot::AtPropose => {
+                let place = RatifierPlace::Propose { input: self.value };
+                self.ratify(q, memory, object, place, value)
+            }
             Spot::AtCheck => self.check(q, memory, object, value),
             Spot::AtLast => {
                 let was = *self;
+                let input = was.value;
                 let out = LastPlace { input }.step(q.values(), memory, object);
                 self.follow(was, Pc::last(input), Some(out), value)
             }
