@@ -114,7 +114,7 @@ impl FlatPlace {
             (λ op seen. M.makes memory.old object op seen memory.new) word
             (flat_next result value.new self.new) }
     {
-        // Each arm reads the value by itself. So an access that goes on in the same way does not read it.
+        // Each arm reads the value by itself, since an access that goes on in the same way does not need it.
         let access = Access { object, word };
         match self.spot {
             Spot::AtDraw => {
@@ -138,10 +138,8 @@ impl FlatPlace {
                 self.ratify(q, memory, object, place, value)
             }
             Spot::AtAnnounce => {
-                let place = RatifierPlace::Announce {
-                    input: self.value,
-                    left: self.mask,
-                };
+                let (input, left) = (self.value, self.mask);
+                let place = RatifierPlace::Announce { input, left };
                 self.ratify(q, memory, object, place, value)
             }
             Spot::AtPropose => {
