@@ -1,6 +1,6 @@
 //! The definitions of `specs` by example: what they admit, and what only looks right. The functions compute nothing:
 //! their contracts are the examples. If the prover needs help with one, its proof is in `proofs/examples`.
-ghost use Rattle.std.specs.Prelude.{◌≡◌, ◌≤◌, ◌<◌, ◌*◌, ℕ, List, [], ◌∷◌, length, slice_index, true, false};
+ghost use Rattle.std.specs.Prelude.{◌≡◌, ◌≤◌, ◌*◌, ℕ, List, [], ◌∷◌, length, slice_index, true, false};
 ghost use Rattle.mb_deciding.specs.declared.place.conciliator.ConciliatorPlace.TheVariants.{Look};
 ghost use Rattle.mb_deciding.specs.declared.place.pc.Pc.TheVariants.{InConciliator};
 ghost use Rattle.mb_claim.specs.declared.access.ClaimAccess.{ClaimAccess};
@@ -61,6 +61,10 @@ pub fn claims_come_to_their_ends()
         → HaveEnded 1 (claim ∷ other ∷ []) }
     ensures second { (claim other : CellClaim) → claim_stage (claim_of true other) ≡ Going
         → HaveEnded 2 (claim ∷ other ∷ []) → ⊥ }
+
+    // A claim that is not there has not ended.
+    ensures missing { (claim : CellClaim) → claim_stage (claim_of true claim) ≡ Going
+        → HaveEnded 1 [] → ⊥ }
 {}
 
 /// What claims can still do is what each of them can.
