@@ -1,5 +1,5 @@
 -- Proof of `examples::consumers_hold_claims_on_cells_met`: a consumer holds claims on cells that it has met.
-use Rattle.std.proofs.Common.{◌≡◌, ◌∙◌, List, ℕ, [], ◌∷◌, sym, ap}
+use Rattle.std.proofs.Common.{◌≡◌, ◌∙◌, [], ◌∷◌, sym, ap}
 use Rattle.mb_world.specs.declared.place.Place.TheVariants.{At}
 use Rattle.mb_mailbox.specs.Imports.{cells_met}
 use Rattle.mb_mailbox.specs.ConsumerWords.{HasPlace, holding}
