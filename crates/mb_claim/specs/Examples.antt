@@ -1,13 +1,14 @@
 -- Histories of claims on one cell, for two consumers and one pair over the unary table. Some are lawful, and some are
--- not. Below them stand the steps and entries of a play of such claims.
-use Rattle.std.specs.Prelude.{ℕ, List, [], ◌∷◌}
+-- not. Below them stand the steps and entries of a play of such claims, and accesses in words.
+use Rattle.std.specs.Prelude.{ℕ, ◌≡◌, ◌+◌, List, [], ◌∷◌}
 use Rattle.mb_quorum.specs.Unary.{unary_table}
 use Rattle.mb_claim.specs.declared.run.ClaimEntry.TheVariants as entry
 use Rattle.mb_claim.specs.AllClaims.{Claims, claims_of}
-use Rattle.mb_claim.specs.ObjectTypes.{Value, Proposal, Quorum, Act, Load, Store}
+use Rattle.mb_claim.specs.ObjectTypes.{Value, Proposal, Quorum, Act, Load, Store, Op}
 use Rattle.mb_claim.specs.Types.{ClaimAccess, Stage, ClaimEntry}
 use Rattle.mb_claim.specs.Rows.{pairs_of}
 use Rattle.mb_claim.specs.Plays.{IsPlayed}
+use Rattle.mb_claim.specs.WordSteps.{MakesInWords}
 
 -- the claims of two consumers on one cell with one pair over the unary table
 abbrev pub two_consumers : Claims
@@ -84,3 +85,15 @@ won_and e =
     ∷ entry.Access 0 1 (Store (Quorum 0) 1) ∷ entry.Access 0 1 (Load Proposal 0) ∷ entry.Access 0 1
     (Store Proposal 1)
     ∷ entry.Access 0 1 (Load (Quorum 1) 0) ∷ e ∷ []
+
+-- ---- accesses in words
+-- a source whose words count on from the number that it is at
+abbrev pub counts_on : ℕ → ℕ → ℕ → Type 0
+counts_on source word after = (word ≡ source) × (after ≡ source + 1)
+
+-- in four words that were 0, with the random word 0 of such a source, consumer 0 made this op on object 0 of cell 0, and
+-- it found this value. It left these words, and is this access
+abbrev pub IsMadeFirst : Op → ℕ → List ℕ → ClaimAccess → Type 0
+IsMadeFirst op seen after access =
+    MakesInWords two_consumers 0 0 counts_on (0 ∷ 0 ∷ 0 ∷ 0 ∷ [], [], 0) 0 (record { object = 0; op = op }) seen
+    (after, access ∷ [], 1)

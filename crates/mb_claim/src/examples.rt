@@ -1,7 +1,7 @@
 //! Small histories and plays of the claims of two consumers on one cell, rows of accesses, and claims that go straight:
 //! what the definitions admit, and what they refuse. The functions compute nothing. The proofs begin in
 //! `proofs/examples`.
-ghost use Rattle.std.specs.Prelude.{ℕ, ◌≡◌, ◌≢◌, ◌+◌, true, false, [], ◌∷◌};
+ghost use Rattle.std.specs.Prelude.{ℕ, ◌≡◌, ◌≢◌, ◌+◌, Bool, true, false, [], ◌∷◌};
 ghost use Rattle.mb_claim.specs.{AreClaimSteps, Claim, Layout, claim_stage};
 ghost use Rattle.mb_claim.specs.declared.run.ClaimEntry.TheVariants as entry;
 ghost use Rattle.mb_claim.specs.{Load, Store, Value, Quorum, IsClaimLawful, HasStage, IsClaimContested, Going, Won};
@@ -9,8 +9,10 @@ ghost use Rattle.mb_claim.specs.{Lost, Undecided, two_consumers, won_and_lost, b
 ghost use Rattle.mb_claim.specs.{after_winning, own_number_again, of_a_stranger, IsPlayedByTwo, step, eight_steps};
 ghost use Rattle.mb_claim.specs.{won_and, two_with, lost_at_second, skip_both_ratifiers, skip_one_ratifier};
 ghost use Rattle.mb_claim.specs.{last_decides, last_found_empty_twice, last_comes_first, through_all, skip_the_pair};
-ghost use Rattle.mb_claim.specs.{IsStanding, HasEnd, HasStopped, site_of, CellClaim, IsOnCell};
-ghost use Rattle.mb_claim.specs.StraightExamples.{IsOfTwo, on_ratifier, told};
+ghost use Rattle.mb_deciding.specs.declared.access.Op.TheVariants as to;
+ghost use Rattle.mb_claim.specs.{IsMadeFirst, access_at};
+ghost use Rattle.mb_claim.specs.{IsStanding, HasEnd, HasStopped, site_of, CellClaim, IsOnCell, IsAtFirst, claim_of};
+ghost use Rattle.mb_claim.specs.StraightExamples.{IsOfTwo, on_ratifier, kept_on, told};
 
 use crate::laws::last_objects_decide_claims;
 use mb_deciding::examples::small_histories;
@@ -182,4 +184,37 @@ pub fn kept_claims_tell_where_they_are()
         → kept.object ≡ 1 → kept.begin ≡ 5 → IsOnCell layout 1 kept }
     ensures elsewhere { (layout : Layout) (kept : CellClaim) → IsOfTwo layout
         → kept.object ≡ 1 → kept.begin ≡ 4 → IsOnCell layout 1 kept → ⊥ }
+{}
+
+/// The claim of consumer 1 on that ratifier, as it is kept.
+pub fn kept_claims_stand_for_claims()
+    // Where its words begin does not count.
+    ensures claim { (begun : Bool) (begin : ℕ)
+        → claim_of begun (kept_on 1 begin) ≡ on_ratifier begun Going }
+
+    // One that has made no access is another, and so is one on another object.
+    ensures fresh { claim_of false (kept_on 1 5) ≡ on_ratifier true Going → ⊥ }
+    ensures object { (begun : Bool) → claim_of begun (kept_on 0 5) ≡ on_ratifier begun Going → ⊥ }
+
+    // Object 0 is the first one.
+    ensures first { (begin : ℕ) → IsAtFirst (kept_on 0 begin) }
+    ensures second { (begin : ℕ) → IsAtFirst (kept_on 1 begin) → ⊥ }
+{}
+
+/// The first access in words of one cell, which were 0.
+pub fn accesses_change_words()
+    ensures load { IsMadeFirst (to.Load Value) 0 (0 ∷ 0 ∷ 0 ∷ 0 ∷ [])
+        (access_at 0 0 (Load Value 0)) }
+    ensures store { IsMadeFirst (to.Store Value 1) 0 (1 ∷ 0 ∷ 0 ∷ 0 ∷ [])
+        (access_at 0 0 (Store Value 1)) }
+
+    // A store that leaves the words, and a load of what is not there.
+    ensures lost { IsMadeFirst (to.Store Value 1) 0 (0 ∷ 0 ∷ 0 ∷ 0 ∷ [])
+        (access_at 0 0 (Store Value 1)) → ⊥ }
+    ensures invented { IsMadeFirst (to.Load Value) 1 (0 ∷ 0 ∷ 0 ∷ 0 ∷ [])
+        (access_at 0 0 (Load Value 1)) → ⊥ }
+
+    // The access is told as consumer 1's.
+    ensures another { IsMadeFirst (to.Load Value) 0 (0 ∷ 0 ∷ 0 ∷ 0 ∷ [])
+        (access_at 1 0 (Load Value 0)) → ⊥ }
 {}

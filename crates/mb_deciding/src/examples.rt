@@ -14,8 +14,9 @@ ghost use Rattle.mb_deciding.specs.{small_ratifier, small_conciliator, history_o
 ghost use Rattle.mb_deciding.specs.{invented_turns, patient_turns, impatient_turns, IsTraceOfOne, entry_of_one};
 ghost use Rattle.mb_deciding.specs.{clear_entries, hidden_entries, patient_entries, impatient_entries};
 ghost use Rattle.mb_deciding.specs.declared.trace.Entry.TheVariants as entry;
-ghost use Rattle.mb_deciding.specs.{InRatifier, Check, AtPut, AtLook, AtCheck, Undecided, Decided};
-ghost use Rattle.mb_deciding.specs.FlatPlaces.{pc_at, out_in};
+ghost use Rattle.mb_deciding.specs.{InConciliator, InRatifier, InLast, Draw, Announce, Check, first_place, checks_of};
+ghost use Rattle.mb_deciding.specs.{FlatPlace, AtDraw, AtPut, AtLook, AtCheck, Undecided, Decided};
+ghost use Rattle.mb_deciding.specs.FlatPlaces.{pc_at, out_in, stood_on};
 
 /// Small histories of one process with the input 0. Those with `→ ⊥` are not lawful.
 pub fn small_histories()
@@ -136,4 +137,38 @@ pub fn flat_places()
     // Two spots are two places, and a decided output is not an undecided one.
     ensures apart { pc_at AtPut 1 4 8 ≡ pc_at AtLook 1 4 8 → ⊥ }
     ensures decided { out_in Decided 1 ≡ out_in Undecided 1 → ⊥ }
+
+    // A draw with the modulus 8 keeps 7.
+    ensures draw { pc_at AtDraw 1 2 7 ≡ InConciliator (Draw 1 2 8) }
+    ensures modulus { pc_at AtDraw 1 2 8 ≡ InConciliator (Draw 1 2 8) → ⊥ }
+
+    // On another spot, with another value, the mask stays.
+    ensures stood { stood_on AtCheck 1 (record { spot = AtPut; value = 0; mask = 4; top = 7 })
+        ≡ record { spot = AtCheck; value = 1; mask = 4; top = 7 } }
+    ensures mask { stood_on AtCheck 1 (record { spot = AtPut; value = 0; mask = 4; top = 7 })
+        ≡ record { spot = AtCheck; value = 1; mask = 0; top = 7 } → ⊥ }
+    ensures spot { (flat : FlatPlace) → flat.spot ≡ AtPut → stood_on AtLook 1 flat ≡ flat → ⊥ }
+{}
+
+/// Where a process with the input 1 begins, over the unary table of two values.
+pub fn first_places()
+    ensures conciliator { first_place (unary_table 2) (Conciliator 2) 1
+        ≡ InConciliator (Draw 1 1 4) }
+    ensures ratifier { first_place (unary_table 2) Ratifier 1 ≡ InRatifier (Announce 1 2) }
+    ensures last { first_place (unary_table 2) LastObject 1 ≡ InLast (record { input = 1 }) }
+
+    // It has not missed an attempt, and it announces no other value.
+    ensures missed { first_place (unary_table 2) (Conciliator 2) 1
+        ≡ InConciliator (Draw 1 2 4) → ⊥ }
+    ensures other { first_place (unary_table 2) Ratifier 1 ≡ InRatifier (Announce 1 1) → ⊥ }
+{}
+
+/// What is left of a check of the value 1.
+pub fn checks_come_to_an_end()
+    ensures some { checks_of 1 4 ≡ leads.Go (InRatifier (Check 1 4)) }
+    ensures none { checks_of 1 0 ≡ leads.Out (answer true 1) }
+
+    // With a register left there is no output, and with none there is no access.
+    ensures early { checks_of 1 4 ≡ leads.Out (answer true 1) → ⊥ }
+    ensures late { checks_of 1 0 ≡ leads.Go (InRatifier (Check 1 0)) → ⊥ }
 {}

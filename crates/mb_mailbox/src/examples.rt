@@ -1,12 +1,13 @@
 //! The definitions by example: what they let in, and what only looks right. The functions compute nothing: their
 //! contracts are the examples. The proofs are in `proofs/examples/`, one folder for each.
-ghost use Rattle.std.specs.Prelude.{◌≡◌, ◌≢◌, List, None, Option, Some, [], ◌∷◌, false, true};
+ghost use Rattle.std.specs.Prelude.{◌≡◌, ◌≢◌, ◌<◌, ℕ, List, None, Option, Some, [], ◌∷◌, false, length, true};
 ghost use Rattle.mb_quorum.specs.Vocabulary.{IsQuorumTable};
 ghost use Rattle.mb_claim.specs.declared.access.Stage.TheVariants as stage;
 ghost use Rattle.mb_cells.specs.Vocabulary.{fetch, new_lane, store};
 ghost use Rattle.mb_mailbox.specs.Imports.{CellsName, Claims, END, Head, IsClaimPrefix, Item, Link, Lost, ObjectTurn, Stream, Took, WorldAccess, claim_step, item_load, link_load, load, ClaimAccess};
-ghost use Rattle.mb_mailbox.specs.Imports.{next_u64};
+ghost use Rattle.mb_mailbox.specs.Imports.{Claim, Cursor, IsStanding, Layout, next_u64};
 ghost use Rattle.mb_mailbox.specs.ConsumerWords.{Poll, ConsumerView, ConsumerStep, head_loaded, link_loaded, met_four, AreMarked, all_told, by_lane, noted, IsPollOf, LeadTo};
+ghost use Rattle.mb_mailbox.specs.ConsumerWords.{HasPlace, IsBeforeObject, IsConsumer, IsHolding, holding};
 ghost use Rattle.mb_mailbox.specs.Vocabulary.{WerePolled, PutDone, PutJob, WorkerResults, IsOnLanes, IsPutEnd, IsStoppedPoll, accesses_made, ends_met, HasNoCellFor, IsEndOfLane, IsFirstPastCells};
 ghost use Rattle.mb_mailbox.specs.Vocabulary.{IsPutInto, IsSameLane, ProducerView, is_over, AreOn, any_call, fetched, has_linked, idle_producer, producer_end, ledger_with, linked_early};
 ghost use Rattle.mb_mailbox.specs.Vocabulary.{producer_of_one, reader_end, seven_put, stopped_as, stopped_lane, AreCutByCells, ConsumerEnd, HasMetEnd, HasMetEnds, HasNoteAtEach, HaveMetEnds};
@@ -15,6 +16,7 @@ ghost use Rattle.mb_mailbox.specs.declared.consumer.Poll.TheVariants as poll;
 ghost use Rattle.mb_mailbox.specs.declared.gate.Who.TheVariants as who;
 ghost use Rattle.mb_mailbox.specs.declared.notes.Mark.TheVariants as mark;
 ghost use Rattle.mb_world.specs.PartSteps.{no_parts};
+ghost use Rattle.mb_world.specs.declared.place.Place.TheVariants.{At, Before};
 
 use crate::laws::calls_draw_the_first_words;
 use mb_claim::laws::prefixes_have_one_stage;
@@ -250,3 +252,20 @@ pub fn consumers_have_sources_of_their_own()
 {
     calls_draw_the_first_words();
 }
+
+/// A consumer holds a claim on a cell, or is before an object of a claim there.
+pub fn consumers_hold_claims_on_cells_met()
+    ensures held { (p k : ℕ) (claim : Claim) (s : ConsumerView) → HasPlace p (At k claim) s
+        → IsHolding p s }
+    ensures before { (p : ℕ) (at : Cursor) (s : ConsumerView) → HasPlace p (Before at) s
+        → IsHolding p s → ⊥ }
+
+    // The place may be out of date: with the claim there, it is one of a consumer.
+    ensures late { (layout : Layout) (p k o v : ℕ) (claim : Claim) (s : ConsumerView)
+        → IsStanding layout s.seat.consumer o v claim → IsConsumer (holding p k claim s)
+        → IsBeforeObject layout p k o v s }
+
+    // A consumer that has loaded nothing has met no cell of any lane.
+    ensures unmet { (layout : Layout) (p k o v : ℕ) (s : ConsumerView) → s.reader.part ≡ []
+        → p < length s.places → IsBeforeObject layout p k o v s → ⊥ }
+{}

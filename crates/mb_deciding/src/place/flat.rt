@@ -48,7 +48,8 @@ pub struct FlatPlace {
     spot: Spot,
     value: u32,
     mask: u64,
-    modulus: u64,
+    // The modulus of a draw, less 1: each draw masks its word with that.
+    top: u64,
 }
 
 impl FlatPlace {
@@ -67,7 +68,7 @@ impl FlatPlace {
             spot: Spot::AtLast,
             value: 0,
             mask: 0,
-            modulus: 0,
+            top: 0,
         };
         flat.go(place);
         flat
@@ -113,42 +114,42 @@ impl FlatPlace {
             (λ op seen. M.makes memory.old object op seen memory.new) word
             (flat_next result value.new self.new) }
     {
-        let input = self.value;
+        // Each arm reads the value by itself, since an access that goes on in the same way does not need it.
         let access = Access { object, word };
         match self.spot {
             Spot::AtDraw => {
-                let (limit, modulus) = (self.mask, self.modulus);
                 let place = ConciliatorPlace::Draw {
-                    input,
-                    limit,
-                    modulus,
+                    input: self.value,
+                    limit: self.mask,
+                    modulus: self.top.wrapping_add(1),
                 };
                 self.conciliate(q.values(), memory, access, place, value)
             }
             Spot::AtPut => {
-                let place = ConciliatorPlace::Put { input };
+                let place = ConciliatorPlace::Put { input: self.value };
                 self.conciliate(q.values(), memory, access, place, value)
             }
             Spot::AtLook => {
-                let place = ConciliatorPlace::Look { input };
+                let place = ConciliatorPlace::Look { input: self.value };
                 self.conciliate(q.values(), memory, access, place, value)
             }
-            Spot::AtBegin => self.ratify(q, memory, object, RatifierPlace::Begin { input }, value),
+            Spot::AtBegin => {
+                let place = RatifierPlace::Begin { input: self.value };
+                self.ratify(q, memory, object, place, value)
+            }
             Spot::AtAnnounce => {
-                let left = self.mask;
+                let (input, left) = (self.value, self.mask);
                 let place = RatifierPlace::Announce { input, left };
                 self.ratify(q, memory, object, place, value)
             }
-            Spot::AtPropose => self.ratify(
-                q,
-                memory,
-                object,
-                RatifierPlace::Propose { input },
-                value,
-            ),
+            Spot::AtPropose => {
+                let place = RatifierPlace::Propose { input: self.value };
+                self.ratify(q, memory, object, place, value)
+            }
             Spot::AtCheck => self.check(q, memory, object, value),
             Spot::AtLast => {
                 let was = *self;
+                let input = was.value;
                 let out = LastPlace { input }.step(q.values(), memory, object);
                 self.follow(was, Pc::last(input), Some(out), value)
             }
@@ -229,7 +230,13 @@ impl FlatPlace {
             (λ op seen. M.makes memory.old object op seen memory.new) word
             (flat_next result value.new self.new) }
     {
-        let was = *self;
+        // By fields, so that the spot, which was looked at, is not compared again.
+        let was = FlatPlace {
+            spot: self.spot,
+            value: self.value,
+            mask: self.mask,
+            top: self.top,
+        };
         let (preference, left) = (was.value, was.mask);
         let seen = memory.perform(object, Op::Load(Reg::Quorum(least(left))));
         let mut place = RatifierPlace::Check { preference, left };
@@ -280,8 +287,9 @@ impl FlatPlace {
             ) => {
                 self.stand(was, Spot::AtDraw, input);
                 self.mask = limit;
-                if modulus != was.modulus {
-                    self.modulus = modulus;
+                let top = modulus.wrapping_sub(1);
+                if top != was.top {
+                    self.top = top;
                 }
             }
             Pc::InConciliator(ConciliatorPlace::Put { input }) => {
@@ -336,7 +344,7 @@ impl FlatPlace {
                 self.spot = Spot::AtDraw;
                 self.value = input;
                 self.mask = limit;
-                self.modulus = modulus;
+                self.top = modulus.wrapping_sub(1);
             }
             ConciliatorPlace::Put { input } => {
                 self.spot = Spot::AtPut;

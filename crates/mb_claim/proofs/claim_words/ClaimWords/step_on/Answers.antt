@@ -1,8 +1,8 @@
 -- Proof of `ClaimWords::step_on`: makes the next access of a claim that is kept on its cell.
-use Rattle.std.proofs.Common.{◌≡◌, ◌<◌, ◌≤◌, ◌*◌, ◌∷◌, ◌∙◌, length, refl, sym, ap, subst, arith}
+use Rattle.std.proofs.Common.{◌≡◌, ◌∷◌, ◌∙◌, refl, sym, ap, subst, arith}
 use Rattle.mb_deciding.specs.Vocabulary.{IsActInWords, act_of, pc_of}
 use Rattle.mb_claim.specs.{ClaimAccess, ClaimOp, part_on, claims_in, consumer_of, IsClaimIn, IsNextOp, CanClaimFind, IsMemoryOf, found_in}
-use Rattle.mb_claim.specs.{access_in, step_of, claim_of, quorums_of, cell_words}
+use Rattle.mb_claim.specs.{access_in, step_of, claim_of, quorums_of}
 use Rattle.mb_claim.proofs.claim_words.ClaimWords.step_on.Goals as goal
 
 pub step-out-requires-clause-place : goal.step-out-requires-clause-place
