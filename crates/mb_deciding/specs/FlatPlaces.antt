@@ -1,8 +1,7 @@
 -- Flat places and their outputs, and what they stand for.
 use Rattle.std.specs.Prelude.{ℕ, ◌+◌, ◌%◌, ◌^◌, Option, None, Some, true, false}
 use Rattle.mb_deciding.specs.Types.{Pc, InConciliator, InRatifier, InLast, Draw, Put, Look, Begin, Announce, Propose, Check, Out}
-use Rattle.mb_deciding.specs.Types.{FlatOut, NotYet, Undecided, Decided}
-use Rattle.mb_deciding.specs.Types.{Next}
+use Rattle.mb_deciding.specs.Types.{FlatOut, NotYet, Undecided, Decided, Next}
 use Rattle.mb_deciding.specs.Objects.{answer}
 use Rattle.mb_deciding.specs.OneStep.{next_from}
 use Rattle.mb_deciding.specs.Types.{FlatPlace, Spot, AtDraw, AtPut, AtLook, AtBegin, AtAnnounce, AtPropose, AtCheck, AtLast}
@@ -32,6 +31,6 @@ out_in NotYet v = None
 out_in Undecided v = Some (answer false v)
 out_in Decided v = Some (answer true v)
 
--- what follows an access from a flat place: the output with this value, if it is one, or else the place
+-- what follows an access: the output with this value, if there is one, or else the place that this stands for
 abbrev pub flat_next : FlatOut → ℕ → FlatPlace → Next
 flat_next out v flat = next_from (out_in out v) (pc_of flat)

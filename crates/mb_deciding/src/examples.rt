@@ -15,8 +15,8 @@ ghost use Rattle.mb_deciding.specs.{invented_turns, patient_turns, impatient_tur
 ghost use Rattle.mb_deciding.specs.{clear_entries, hidden_entries, patient_entries, impatient_entries};
 ghost use Rattle.mb_deciding.specs.declared.trace.Entry.TheVariants as entry;
 ghost use Rattle.mb_deciding.specs.{InConciliator, InRatifier, InLast, Draw, Announce, Check, first_place, checks_of};
-ghost use Rattle.mb_deciding.specs.{FlatPlace, AtDraw, AtPut, AtLook, AtCheck, Undecided, Decided};
-ghost use Rattle.mb_deciding.specs.FlatPlaces.{pc_at, out_in, stood_on};
+ghost use Rattle.mb_deciding.specs.{FlatPlace, AtDraw, AtPut, AtLook, AtCheck, NotYet, Undecided, Decided};
+ghost use Rattle.mb_deciding.specs.FlatPlaces.{pc_at, pc_of, out_in, flat_next, stood_on};
 
 /// Small histories of one process with the input 0. Those with `→ ⊥` are not lawful.
 pub fn small_histories()
@@ -127,7 +127,7 @@ pub fn rows_of_accesses()
         → now ≡ m + 1 }
 {}
 
-/// Flat places, by their fields.
+/// Flat places by their fields, and what follows an access from one.
 pub fn flat_places()
     ensures check { pc_at AtCheck 1 4 8 ≡ InRatifier (Check 1 4) }
 
@@ -137,6 +137,12 @@ pub fn flat_places()
     // Two spots are two places, and a decided output is not an undecided one.
     ensures apart { pc_at AtPut 1 4 8 ≡ pc_at AtLook 1 4 8 → ⊥ }
     ensures decided { out_in Decided 1 ≡ out_in Undecided 1 → ⊥ }
+
+    // Without an output the process goes on from the place, and the value does not count. An output has its value.
+    ensures next { (flat : FlatPlace) → flat_next NotYet 1 flat ≡ leads.Go (pc_of flat) }
+    ensures out { (flat : FlatPlace) → flat_next Decided 1 flat ≡ leads.Out (answer true 1) }
+    ensures value { (flat : FlatPlace)
+        → flat_next Decided 1 flat ≡ leads.Out (answer true 2) → ⊥ }
 
     // A draw with the modulus 8 keeps 7.
     ensures draw { pc_at AtDraw 1 2 7 ≡ InConciliator (Draw 1 2 8) }

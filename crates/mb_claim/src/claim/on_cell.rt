@@ -18,7 +18,7 @@ pub struct CellClaim {
 
 impl CellClaim {
     ghost use Rattle.std.specs.Prelude.{◌≡◌, ◌<◌, Bool, true, false, ℕ, List, [], ◌∷◌, length};
-    ghost use Rattle.mb_deciding.specs.Vocabulary.{PcIsAt, IsNext, IsReached, next_from, turns_left, turns_after};
+    ghost use Rattle.mb_deciding.specs.Vocabulary.{PcIsAt, IsNext, IsReached, turns_left, turns_after};
     ghost use Rattle.mb_deciding.specs.Vocabulary.{pc_of, flat_next};
     ghost use Rattle.mb_deciding.specs.declared.place.pc.Next.TheVariants as leads;
     ghost use Rattle.mb_claim.specs.{Kind, Pc, Turn, Going, ObjectTurn, MAX_LARGE_CELLS, IsClaimIn, IsStanding};
@@ -66,8 +66,8 @@ impl CellClaim {
         self.stage
     }
 
-    /// Goes on with what an access on the claim's object led to. Either this is the output, with this value, or the claim
-    /// has the new place already. Returns how far the claim has come. The claim is going.
+    /// Goes on with what an access on the claim's object led to. Either this is the output, with this value, or the
+    /// claim has the new place already. Returns how far the claim has come. The claim is going.
     #[inline(always)]
     pub(crate) fn follow(&mut self, layout: &Layout, cell: u32, out: FlatOut, value: u32) -> Stage
         requires going { self.old.stage ≡ Going }

@@ -22,9 +22,9 @@ enum Spot {
     AtLast,
 }
 
-/// An access to this object, with this random word.
+/// An object, and the random word of the next access to it.
 #[derive(Clone, Copy)]
-struct Access {
+struct ObjectWord {
     object: u32,
     word: u64,
 }
@@ -90,8 +90,9 @@ impl FlatPlace {
     }
 
     /// Makes the next access, to the object with this number in this memory, as [`Pc::step`] does. Goes on to the place
-    /// that it leads to, or puts the value of the output into `value`, and says whether that is decided. After an output the
-    /// place does not count any more. (With the value in it the result would cost the caller a second look at each step.)
+    /// that it leads to, or puts the output's value into `value`. The result says whether there is an output, and if so,
+    /// whether it is decided. Without an output `value` does not count, and after one the place does not. (A result with
+    /// the value in it would cost the caller a second look at each step.)
     #[inline(always)]
     pub fn step<Q: Quorums, M: Memory>(
         &mut self,
@@ -115,7 +116,7 @@ impl FlatPlace {
             (flat_next result value.new self.new) }
     {
         // Each arm reads the value by itself, since an access that goes on in the same way does not need it.
-        let access = Access { object, word };
+        let at = ObjectWord { object, word };
         match self.spot {
             Spot::AtDraw => {
                 let place = ConciliatorPlace::Draw {
@@ -123,15 +124,15 @@ impl FlatPlace {
                     limit: self.mask,
                     modulus: self.top.wrapping_add(1),
                 };
-                self.conciliate(q.values(), memory, access, place, value)
+                self.conciliate(q.values(), memory, at, place, value)
             }
             Spot::AtPut => {
                 let place = ConciliatorPlace::Put { input: self.value };
-                self.conciliate(q.values(), memory, access, place, value)
+                self.conciliate(q.values(), memory, at, place, value)
             }
             Spot::AtLook => {
                 let place = ConciliatorPlace::Look { input: self.value };
-                self.conciliate(q.values(), memory, access, place, value)
+                self.conciliate(q.values(), memory, at, place, value)
             }
             Spot::AtBegin => {
                 let place = RatifierPlace::Begin { input: self.value };
@@ -162,24 +163,24 @@ impl FlatPlace {
         &mut self,
         values: u32,
         memory: &mut M,
-        access: Access,
+        at: ObjectWord,
         mut place: ConciliatorPlace,
         value: &mut u32,
     ) -> FlatOut
         requires place { IsConciliatorPlace values place }
         requires may { (op : Op) → IsConciliatorOp place op
-            → M.can_make memory.old access.object op }
+            → M.can_make memory.old at.object op }
         ensures fits { (t : QuorumTable) → t.values ≡ values
             → IsNext t (flat_next result value.new self.new) }
         ensures fewer { (t : QuorumTable)
             → turns_after t (flat_next result value.new self.new)
             < turns_left t (InConciliator place) }
         ensures step { (t : QuorumTable) → t.values ≡ values → IsStep t (InConciliator place)
-            (λ op seen. M.makes memory.old access.object op seen memory.new) access.word
+            (λ op seen. M.makes memory.old at.object op seen memory.new) at.word
             (flat_next result value.new self.new) }
     {
         let was = *self;
-        let made = place.step(values, memory, access.object, access.word);
+        let made = place.step(values, memory, at.object, at.word);
         self.follow(was, Pc::InConciliator(place), made, value)
     }
 
@@ -248,8 +249,8 @@ impl FlatPlace {
         self.follow(was, Pc::InRatifier(place), made, value)
     }
 
-    /// Goes on with what an access led to: this place, or else the output, whose value it puts into `value`. `was` is the place as
-    /// it was read before the access, so no field is loaded again.
+    /// Goes on with what an access led to: this place, or else the output, whose value goes into `value`. `was` is the
+    /// place as it was read before the access, so no field is loaded again.
     #[inline(always)]
     fn follow(&mut self, was: FlatPlace, place: Pc, out: Option<Out>, value: &mut u32) -> FlatOut
         requires { was ≡ self.old }

@@ -1,6 +1,6 @@
 -- Proof of `CellClaim::follow`: goes on with what an access on the claim's object led to.
 use Rattle.std.proofs.Common.{◌∷◌, refl, sym, subst}
-use Rattle.mb_deciding.specs.Vocabulary.{IsReached, next_from, out_in, pc_of}
+use Rattle.mb_deciding.specs.Vocabulary.{IsReached, flat_next, pc_of}
 use Rattle.mb_deciding.specs.declared.place.pc.Next.TheVariants as leads
 use Rattle.mb_claim.specs.{ObjectTurn, quorums_of, kinds_of, claims_in}
 use Rattle.mb_claim.proofs.LayoutObjects.{quorums_lawful}
@@ -20,7 +20,7 @@ returns-in-NotYet-clause-path c pc begun xs x of reaches =
     (quorums_lawful layout) in
     let step : ObjectTurn = record { object = old.object; turn = x } in
     let come : IsReached t p.kind p.input (leads.Go (pc_of old.place)) (x ∷ p.turns) =
-    subst (λ out. IsReached t p.kind p.input (next_from (out_in out c.args.value) (pc_of old.place)) (x ∷ p.turns))
+    subst (λ out. IsReached t p.kind p.input (flat_next out c.args.value old.place) (x ∷ p.turns))
     c.in-NotYet.is reached in
     claim_going t kinds _ step xs parts of.known c.requires.going refl
     (same_object t kinds old.consumer old.object pc xs p x (pc_of old.place) come)
@@ -30,7 +30,7 @@ returns-in-Undecided-clause-path c pc begun xs x of reaches =
     let t = quorums_of c.args.layout.now in
     c.leave.ensures.path pc begun xs x of
     (λ kind v turns at. subst (λ out. IsReached t kind v (leads.Out out) (x ∷ turns)) (sym c.undecided.ensures)
-    (subst (λ out. IsReached t kind v (next_from (out_in out c.args.value) (pc_of c.args.self.now.place)) (x ∷ turns))
+    (subst (λ out. IsReached t kind v (flat_next out c.args.value c.args.self.now.place) (x ∷ turns))
     c.in-Undecided.is (reaches kind v turns at)))
 
 pub returns-in-Decided-clause-path : goal.returns-in-Decided-clause-path
@@ -38,5 +38,5 @@ returns-in-Decided-clause-path c pc begun xs x of reaches =
     let t = quorums_of c.args.layout.now in
     c.leave-in-Decided.ensures.path pc begun xs x of
     (λ kind v turns at. subst (λ out. IsReached t kind v (leads.Out out) (x ∷ turns)) (sym c.decided.ensures)
-    (subst (λ out. IsReached t kind v (next_from (out_in out c.args.value) (pc_of c.args.self.now.place)) (x ∷ turns))
+    (subst (λ out. IsReached t kind v (flat_next out c.args.value c.args.self.now.place) (x ∷ turns))
     c.in-Decided.is (reaches kind v turns at)))

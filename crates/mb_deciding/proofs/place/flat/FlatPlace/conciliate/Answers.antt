@@ -8,5 +8,5 @@ returns-clause-fits g c t same = subst (IsNext t) (sym c.follow.ensures) (c.step
 
 pub returns-clause-step : goal.returns-clause-step
 returns-clause-step g c t same =
-    subst (IsStep t (InConciliator c.args.place) _ c.args.access.word) (sym c.follow.ensures)
+    subst (IsStep t (InConciliator c.args.place) _ c.args.at.word) (sym c.follow.ensures)
     (c.step-made.ensures.step t same)
