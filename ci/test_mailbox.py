@@ -7,20 +7,14 @@ import unittest
 
 TOP = os.path.dirname(os.path.dirname(os.path.abspath(__file__)))
 PROGRAM = "crates/mailbox_main/out/mailbox_main"
-KIT = "rattle-kit-13f logic 0"
 ROOM = "MemTotal: 24000000 kB\nMemAvailable: 13000000 kB\n"
 # What stands in the crates: those that the script names.
-CRATES = ("mailbox_main", "mb_quorum", "mb_claim", "mb_script")
+CRATES = ("mailbox_main", "mb_quorum", "mb_shared_cells", "mb_shared_claims")
 # It says what it was asked, and `rt run` leaves a program that says what it is asked.
 RT = """#!/bin/sh
-if [ "$1" = --version ]; then
-    echo "$KIT"
-elif [ "$1" = doc ]; then
-    echo "$(dirname "$0")/kit/START-HERE.md"
-elif [ "$1" = lib ]; then
+if [ "$1" = lib ]; then
     echo "rt: chose --jobs 2 for $(basename "$PWD")"
     echo 'so far: 1 of 3 functions checked; the verdict comes last'
-    echo "$PWD" >>"$COPIES"
     [ "${BROKEN-}" != lib ] || exit 1
 elif [ "$1" = run ]; then
     echo 'rt: chose --jobs 4 for mb_quorum'
@@ -46,8 +40,6 @@ class TheScript(unittest.TestCase):
         for folder in ("bin", *(f"crates/{it}/src" for it in CRATES)):
             os.makedirs(f"{self.top}/{folder}")
         self.write("crates/mb_quorum/src/lib.rt", "")
-        self.write("crates.txt", "")
-        self.write("HANDLES", "")
         self.write("memory", ROOM)
         self.write("bin/rt", RT)
         os.chmod(f"{self.top}/bin/rt", 0o755)
@@ -62,8 +54,7 @@ class TheScript(unittest.TestCase):
 
     def run_it(self, *words, path=None, **more):
         memory = f"{self.top}/memory"
-        env = {"PATH": path or f"{self.top}/bin:/usr/bin:/bin", "MEMINFO": memory, "KIT": KIT, **more}
-        env["COPIES"] = f"{self.top}/copies"
+        env = {"PATH": path or f"{self.top}/bin:/usr/bin:/bin", "MEMINFO": memory, **more}
         how = {"input": "script\n", "capture_output": True, "text": True, "env": env}
         ran = subprocess.run([f"{self.top}/mailbox", *words], check=False, **how)
         return ran.returncode, ran.stdout, ran.stderr
@@ -91,28 +82,22 @@ class TheScript(unittest.TestCase):
         self.assertEqual((status, said), (0, "built ratify\nscript\n"))
         self.assertIn("stale", errors)
 
-    def test_with_room_some_libraries_are_proved_in_a_copy(self):
+    def test_with_room_two_libraries_are_proved_side_by_side(self):
+        self.have_processors(2)
         for broken in ("", "lib"):
             with self.subTest(broken):
-                self.have_processors(2)
                 status, _, errors = self.run_it("--build", BROKEN=broken)
                 self.assertEqual(status, 0)
-                self.assertIn("mailbox: 1 of 3 functions of mb_claim\n", errors)
+                for name in CRATES[2:]:
+                    self.assertIn(f"mailbox: 1 of 3 functions of {name}\n", errors)
                 self.assertIn("mailbox: built in ", errors)
-                with open(f"{self.top}/copies", encoding="utf-8") as file:
-                    places = file.read().split()
-                os.remove(f"{self.top}/copies")
-                self.assertEqual([os.path.basename(it) for it in places], ["mb_claim", "mb_script"])
-                # It is another copy, which is gone again.
-                self.assertFalse(any(it.startswith(self.top) or os.path.exists(it) for it in places))
 
-    def test_without_room_there_is_no_copy(self):
-        little = "MemAvailable: 11000000 kB\n"
-        for many, memory, kit in ((1, ROOM, KIT), (2, little, KIT), (2, ROOM, "rattle-kit-13b logic 0")):
-            with self.subTest((many, memory, kit)):
+    def test_without_room_one_is_proved_after_the_other(self):
+        for many, memory in ((1, ROOM), (2, "MemAvailable: 11000000 kB\n")):
+            with self.subTest((many, memory)):
                 self.have_processors(many)
                 self.write("memory", memory)
-                status, _, errors = self.run_it("--build", KIT=kit)
+                status, _, errors = self.run_it("--build")
                 self.assertEqual(status, 0)
                 self.assertNotIn("of 3 functions", errors)
 
