@@ -25,24 +25,24 @@ BY_HAND = pathlib.Path(tempfile.gettempdir()) / "mailbox_bench_by_hand"
 SIZES = {
     "words": (2, 6), "lone": (4, 12), "contended": (2, 6), "tables": (4, 12), "shared": (4, 12), "mail": (2, 6),
     "mailboxes": (2, 6), "puts": (2, 6), "mailbox": (2, 6), "chacha": (2, 6), "play": (100, 300), "ratify": (1, 3),
-    "worlds": (1, 3), "events": (1, 3), "reports": (1, 3), "items": (2, 6),
+    "worlds": (1, 3), "events": (1, 3), "reports": (1, 3), "polled": (2, 6),
 }
 UNITS = {
     "lone": "an access", "contended": "an access", "shared": "an access", "mail": "an item", "puts": "a put",
     "mailbox": "an item", "chacha": "an item", "play": "a step", "ratify": "a turn", "events": "an event",
-    "reports": "a note", "items": "an item",
+    "reports": "a note", "polled": "an item",
 }
-# This is a loop above, counted once more without what it makes.
-SAME = {"items": "mailbox"}
+# This is a loop above, counted once more without the making of its mailbox and producer.
+SAME = {"polled": "mailbox"}
 # What these make at each time, words, tables, a mailbox or a world, is no part of their units.
-LESS = {"lone": "words", "contended": "words", "shared": "tables", "puts": "mailboxes", "events": "worlds", "items": "mailboxes"}
+LESS = {"lone": "words", "contended": "words", "shared": "tables", "puts": "mailboxes", "events": "worlds", "polled": "mailboxes"}
 # These make claims on so many cells at each time. With fewer accesses in another shape of the cells, an access tells little.
 CLAIMS = ("lone", "contended", "shared")
 CELLS = 256
 # These have no loop by hand.
 ALONE = ("chacha", "events", "reports")
 # These have one more by hand, in which a claim goes straight, by plain loops.
-STRAIGHT = ("lone", "shared", "mail", "mailbox", "items")
+STRAIGHT = ("lone", "shared", "mail", "mailbox", "polled")
 
 
 def build():
@@ -99,7 +99,7 @@ def told(instructions):
 def main():
     parser = argparse.ArgumentParser()
     # (chacha, events and reports are not there by hand)
-    loops = "lone,contended,shared,mail,puts,mailbox,items,play,ratify"
+    loops = "lone,contended,shared,mail,puts,mailbox,polled,play,ratify"
     parser.add_argument("--loops", default=loops, help=f"which, beside them chacha, events, reports ({loops})")
     parser.add_argument("--shapes", default="plain")
     parser.add_argument("--tables", default="bits,unary,middle")

@@ -1,6 +1,7 @@
 """Tests of the script `mailbox`, with a stand-in for the kit's `rt`."""
 import os
 import shutil
+import signal
 import subprocess
 import tempfile
 import unittest
@@ -8,14 +9,15 @@ import unittest
 TOP = os.path.dirname(os.path.dirname(os.path.abspath(__file__)))
 PROGRAM = "crates/mailbox_main/out/mailbox_main"
 ROOM = "MemTotal: 24000000 kB\nMemAvailable: 13000000 kB\n"
-# What stands in the crates: those that the script names.
+# The crates that stand there: those that the script names, and one whose source may be newer.
 CRATES = ("mailbox_main", "mb_quorum", "mb_shared_cells", "mb_shared_claims")
-# It says what it was asked, and `rt run` leaves a program that says what it is asked.
+# It says what it was asked, and `rt run` leaves a program that says what it is asked. `rt lib` says how far it is.
 RT = """#!/bin/sh
 if [ "$1" = lib ]; then
     echo "rt: chose --jobs 2 for $(basename "$PWD")"
     echo 'so far: 1 of 3 functions checked; the verdict comes last'
     [ "${BROKEN-}" != lib ] || exit 1
+    [ -z "${SLOW-}" ] || sleep 60
 elif [ "$1" = run ]; then
     echo 'rt: chose --jobs 4 for mb_quorum'
     echo 'so far: 2 of 9 functions checked; the verdict comes last'
@@ -52,10 +54,11 @@ class TheScript(unittest.TestCase):
         self.write("bin/nproc", f"#!/bin/sh\necho {many}\n")
         os.chmod(f"{self.top}/bin/nproc", 0o755)
 
-    def run_it(self, *words, path=None, **more):
-        memory = f"{self.top}/memory"
-        env = {"PATH": path or f"{self.top}/bin:/usr/bin:/bin", "MEMINFO": memory, **more}
-        how = {"input": "script\n", "capture_output": True, "text": True, "env": env}
+    def environment(self, path=None, **more):
+        return {"PATH": path or f"{self.top}/bin:/usr/bin:/bin", "MEMINFO": f"{self.top}/memory", **more}
+
+    def run_it(self, *words, **more):
+        how = {"input": "script\n", "capture_output": True, "text": True, "env": self.environment(**more)}
         ran = subprocess.run([f"{self.top}/mailbox", *words], check=False, **how)
         return ran.returncode, ran.stdout, ran.stderr
 
@@ -91,6 +94,19 @@ class TheScript(unittest.TestCase):
                 for name in CRATES[2:]:
                     self.assertIn(f"mailbox: 1 of 3 functions of {name}\n", errors)
                 self.assertIn("mailbox: built in ", errors)
+
+    def test_an_interrupt_ends_both(self):
+        self.have_processors(2)
+        how = {"stdin": subprocess.DEVNULL, "stderr": subprocess.PIPE, "text": True, "start_new_session": True}
+        with subprocess.Popen([f"{self.top}/mailbox", "--build"], env=self.environment(SLOW="yes"), **how) as script:
+            # Each says how far it is when it has begun.
+            begun = 0
+            while begun < 2:
+                begun += "of 3 functions" in script.stderr.readline()
+            os.killpg(script.pid, signal.SIGINT)
+            # This waits until nobody is left that could write there.
+            script.communicate(timeout=20)
+            self.assertNotEqual(script.returncode, 0)
 
     def test_without_room_one_is_proved_after_the_other(self):
         for many, memory in ((1, ROOM), (2, "MemAvailable: 11000000 kB\n")):
