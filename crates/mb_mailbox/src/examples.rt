@@ -260,7 +260,7 @@ pub fn consumers_hold_claims_on_cells_met()
     ensures before { (p : ℕ) (at : Cursor) (s : ConsumerView) → HasPlace p (Before at) s
         → IsHolding p s → ⊥ }
 
-    // The place that the consumer keeps may be older. With this claim in it, the consumer is one.
+    // The place may be out of date: with the claim there, it is one of a consumer.
     ensures late { (layout : Layout) (p k o v : ℕ) (claim : Claim) (s : ConsumerView)
         → IsStanding layout s.seat.consumer o v claim → IsConsumer (holding p k claim s)
         → IsBeforeObject layout p k o v s }

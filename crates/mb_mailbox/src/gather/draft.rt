@@ -1,4 +1,4 @@
-//! A hub, and its report but for the items put.
+//! A hub with all the room that its report needs.
 use crate::hub::Hub;
 use mb_world::Report;
 use std::alloc::Allocator;
