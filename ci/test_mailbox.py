@@ -1,4 +1,5 @@
 """Tests of the script `mailbox`, with a stand-in for the kit's `rt`."""
+import functools
 import os
 import shutil
 import signal
@@ -97,7 +98,9 @@ class TheScript(unittest.TestCase):
 
     def test_an_interrupt_ends_both(self):
         self.have_processors(2)
-        how = {"stdin": subprocess.DEVNULL, "stderr": subprocess.PIPE, "text": True, "start_new_session": True}
+        # Whoever runs this in the background may have it ignore interrupts.
+        heeds = functools.partial(signal.signal, signal.SIGINT, signal.SIG_DFL)
+        how = {"stderr": subprocess.PIPE, "text": True, "start_new_session": True, "preexec_fn": heeds}
         with subprocess.Popen([f"{self.top}/mailbox", "--build"], env=self.environment(SLOW="yes"), **how) as script:
             # Each says how far it is when it has begun.
             begun = 0
