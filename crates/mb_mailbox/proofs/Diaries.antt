@@ -154,10 +154,6 @@ row_is w c e q low from to = elim (cases_lt e c) [
   ]
 ]
 
--- before the first consumer there is no diary
-pub no_rows : (w : ℕ) (h : HubView) → AreDiaries w h (0 * w) []
-no_rows w h = record { count = omega arith; each = λ e q low less. absurd (omega (arith, less)) }
-
 -- with the diaries of the next consumer at their end, these are the diaries of one consumer more
 rows_more : (w c : ℕ) (h : HubView) (ds row : List DiaryView) → AreDiaries w h (c * w) ds → IsRow c w h row
     → AreDiaries w h ((c + 1) * w) (ds ++ row)

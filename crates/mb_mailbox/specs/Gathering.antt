@@ -82,7 +82,7 @@ outline_row c kept zero = []
 outline_row c kept (suc n) = outline_row c kept n ++ diary_outline c n kept ∷ []
 
 -- the notes of consumer c on lane p, or none, in diaries that stand consumer by consumer. There are this many lanes, and
--- p is one
+-- p is one of them
 abbrev pub notes_among : ℕ → ℕ → ℕ → List DiaryView → List Note
 notes_among lanes c p ds = option_map_or (λ d. d.notes) (slice_get ds (c * lanes + p)) []
 

@@ -1,4 +1,5 @@
--- The notes of a consumer in the order of time, each with its lane, as marks and words. And the notes cut by lane.
+-- The notes of a consumer in the order of time, each with its lane, as marks and words. Below stand the notes lane by
+-- lane, and diaries filled from marks.
 use Rattle.std.specs.Prelude.{ℕ, zero, suc, ◌≡◌, ◌+◌, ◌^◌, ◌≤◌, List, [], ◌∷◌, ◌++◌, if◌then◌else◌, length, map, nat_eq, nat_lt, slice_get, sum_by, take}
 use Rattle.std.specs.Option.{option_map_or}
 use Rattle.mb_world.specs.Report.{DiaryView}

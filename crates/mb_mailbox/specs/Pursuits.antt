@@ -1,5 +1,5 @@
 -- What a poll does with the claim of its lane. While a new claim goes straight, the place there is out of date.
-use Rattle.std.specs.Prelude.{ℕ, ◌≡◌, ◌≢◌, ◌+◌, ◌≤◌, slice_set}
+use Rattle.std.specs.Prelude.{ℕ, ◌≡◌, ◌≢◌, ◌+◌, ◌<◌, ◌≤◌, length, slice_set}
 use Rattle.mb_mailbox.specs.Imports.{Claim, IsStanding, Layout, SeatView, Stream, claim_stage, note_of}
 use Rattle.mb_mailbox.specs.declared.consumer.ConsumerFields.{ConsumerFields}
 use Rattle.mb_mailbox.specs.declared.consumer.Poll.{Poll}
@@ -26,9 +26,10 @@ pub record IsHolding (p : ℕ) (s : ConsumerView) : Type 0 where
   pub claim : Claim
   pub place : HasPlace p (At cell claim) s
 
--- the consumer is at cell k of lane p with a claim that is about to make its first access to object o, with input v. Its
--- place there may be out of date
+-- the consumer has lane p. It is at cell k there, with a claim that is about to make its first access to object o, with
+-- input v. Its place there may be out of date
 pub record IsBeforeObject (layout : Layout) (p k o v : ℕ) (s : ConsumerView) : Type 0 where
+  pub lane : p < length s.places
   pub claim : Claim
   pub standing : IsStanding layout s.seat.consumer o v claim
   pub is : IsConsumer (holding p k claim s)

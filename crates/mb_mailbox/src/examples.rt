@@ -18,6 +18,8 @@ ghost use Rattle.mb_mailbox.specs.declared.notes.Mark.TheVariants as mark;
 ghost use Rattle.mb_world.specs.PartSteps.{no_parts};
 ghost use Rattle.mb_world.specs.declared.place.Place.TheVariants.{At, Before};
 
+pub mod diaries;
+
 use crate::laws::calls_draw_the_first_words;
 use mb_claim::laws::prefixes_have_one_stage;
 
@@ -260,12 +262,16 @@ pub fn consumers_hold_claims_on_cells_met()
     ensures before { (p : ℕ) (at : Cursor) (s : ConsumerView) → HasPlace p (Before at) s
         → IsHolding p s → ⊥ }
 
-    // The place may be out of date: with the claim there, it is one of a consumer.
+    // The place that the consumer keeps may be older. With this claim in it, the consumer is one.
     ensures late { (layout : Layout) (p k o v : ℕ) (claim : Claim) (s : ConsumerView)
-        → IsStanding layout s.seat.consumer o v claim → IsConsumer (holding p k claim s)
-        → IsBeforeObject layout p k o v s }
+        → p < length s.places → IsStanding layout s.seat.consumer o v claim
+        → IsConsumer (holding p k claim s) → IsBeforeObject layout p k o v s }
 
     // A consumer that has loaded nothing has met no cell of any lane.
     ensures unmet { (layout : Layout) (p k o v : ℕ) (s : ConsumerView) → s.reader.part ≡ []
-        → p < length s.places → IsBeforeObject layout p k o v s → ⊥ }
+        → IsBeforeObject layout p k o v s → ⊥ }
+
+    // On a lane that the consumer does not have, it is before no object.
+    ensures no_lane { (layout : Layout) (p k o v : ℕ) (s : ConsumerView) → s.places ≡ []
+        → IsBeforeObject layout p k o v s → ⊥ }
 {}

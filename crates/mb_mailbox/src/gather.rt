@@ -104,8 +104,8 @@ impl<A: Allocator + Clone + Drop> Mailbox<A> {
         )
     }
 
-    /// Takes all the room that a report of what was taken in so far needs. If the memory is refused, the hub comes
-    /// back as it was.
+    /// Makes the report of what was taken in so far, but for the items put, with all the room that it needs. If the
+    /// memory is refused, the hub comes back as it was.
     pub fn draft(&self, alloc: A, hub: Hub<A>) -> Result<Draft<A>, Hub<A>>
         requires of { IsHubOf self.now hub }
         ensures drafted { IfOk result (λ draft. draft ≡ hub) }

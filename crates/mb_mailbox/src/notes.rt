@@ -122,7 +122,7 @@ impl<A: Allocator + Drop> Notes<A> {
     }
 
     /// How much room the notes of each lane need. If all producers were taken in and there are as many notes as items,
-    /// each item has its note, and no note is counted. It only says how much room to take.
+    /// each item has its note, and the notes need not be counted. It only says how much room to take.
     pub(crate) fn rooms(&self, counts: &PutCounts) -> [usize; 16] {
         if self.marks.len() == counts.all {
             counts.lanes
@@ -200,7 +200,7 @@ fn next_word(words: &[u64], read: &mut usize) -> u64
     }
 }
 
-/// Adds the note of a mark to the list of its lane, and reads its word if it needs one. Each kind of mark files its
+/// Adds the note of a mark to the diary of its lane, and reads its word if it needs one. Each kind of mark files its
 /// note by itself, so the kind is looked at once.
 #[inline(always)]
 fn file_mark<A: Allocator + Drop>(
@@ -229,7 +229,7 @@ fn file_mark<A: Allocator + Drop>(
     }
 }
 
-/// Adds a note to the list of its lane, if there is such a list.
+/// Adds a note to the diary of its lane, if there is one.
 #[inline(always)]
 fn file<A: Allocator + Drop>(row: &mut [Diary<A>], lane: u8, note: Note) -> Result<(), NoMemory>
     ensures notes { IfOk result (λ _. map (λ d. d.notes) row.new
@@ -312,6 +312,7 @@ fn file_losses<A: Allocator + Clone + Drop>(
     if lane as usize >= row.len() {
         return from;
     }
+    // Without a copy of the allocator the notes are added one by one.
     let Ok(alloc) = alloc.clone() else {
         return from;
     };

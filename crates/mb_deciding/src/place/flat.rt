@@ -115,7 +115,7 @@ impl FlatPlace {
             (λ op seen. M.makes memory.old object op seen memory.new) word
             (flat_next result value.new self.new) }
     {
-        // Each arm reads the value by itself, since an access that goes on in the same way does not need it.
+        // Each arm reads the value by itself: if the value stays, that load falls away.
         let at = ObjectWord { object, word };
         match self.spot {
             Spot::AtDraw => {

@@ -108,7 +108,6 @@ pub(super) fn run_new<A: Allocator + Drop, B: Allocator + Drop, R: Rng>(
     requires held { IsBeforeObject mailbox.now.claims.layout lane cell 0 fields.old.seat.consumer
         (with_fields fields.old) }
     requires of { IsConsumerOf mailbox.now (with_fields fields.old) }
-    requires lane { lane < array_vec_len fields.old.places }
     requires wide { HasAllRoom fields.old.reader.table.size.cells fields.old.notes }
     ensures pursued { (from : ConsumerView) (n : ℕ) (t : Stream) (claim : Claim)
         → IsStanding mailbox.now.claims.layout fields.old.seat.consumer 0 fields.old.seat.consumer
@@ -176,7 +175,6 @@ fn run_rest<A: Allocator + Drop, B: Allocator + Drop, R: Rng>(
     requires held { IsBeforeObject mailbox.now.claims.layout lane cell end.object end.value
         (with_fields fields.old) }
     requires of { IsConsumerOf mailbox.now (with_fields fields.old) }
-    requires lane { lane < array_vec_len fields.old.places }
     requires wide { HasAllRoom fields.old.reader.table.size.cells fields.old.notes }
     ensures pursued { (from : ConsumerView) (n : ℕ) (t : Stream) (claim : Claim)
         → IsStanding mailbox.now.claims.layout fields.old.seat.consumer end.object end.value claim

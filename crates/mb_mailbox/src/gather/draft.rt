@@ -1,4 +1,4 @@
-//! A hub with all the room that its report needs.
+//! A hub, and its report but for the items put.
 use crate::hub::Hub;
 use mb_world::Report;
 use std::alloc::Allocator;

@@ -1,13 +1,13 @@
 use Rattle.std.proofs.Common.{[], ◌≡◌, ◌∙◌, ◌+◌, ◌-◌, ◌<◌, ◌≤◌, ◌≢◌, ◌⊎◌, ℕ, List, ap, arith, inl, inr, refl, subst, sym}
 use Rattle.std.specs.Prelude.{None, Some, slice_set}
+use Rattle.std.proofs.lemmas.Option.{slice_get_within}
 use Rattle.mb_cells.specs.declared.answer.Look.TheVariants as look
 use Rattle.mb_mailbox.specs.declared.consumer.Poll.TheVariants as poll
 use Rattle.mb_shared_cells.specs.Vocabulary.{LookMakes}
 use Rattle.mb_world.specs.declared.place.Place.{Place, TheVariants.At, TheVariants.Before}
 use Rattle.mb_mailbox.specs.Imports.{Claim, END, IsAccessAfter, IsClaimIn, IsStanding, Look, MayRead, PoolSize, ReaderSeatView, TableSize, consumer_count, load, word_of}
 use Rattle.mb_mailbox.specs.Consumers.{ConsumerView, IsConsumer, IsConsumerOf}
-use Rattle.mb_mailbox.specs.ConsumerStep.{link_answer}
-use Rattle.mb_mailbox.specs.Mailboxes.{MailboxView}
+use Rattle.mb_mailbox.specs.{ConsumerStep.link_answer, Mailboxes.MailboxView}
 use Rattle.mb_mailbox.specs.Moves.{HasPlace, reads_with_link}
 use Rattle.mb_mailbox.specs.Steps.{AnswerTells, AreSteps, IsPollOf, note_with}
 use Rattle.mb_mailbox.specs.Pursuits.{IsPursuit, with_fields}
@@ -228,6 +228,7 @@ run_new-requires-clause-held g c =
     let there : c.look.new.seat ≡ record s.reader { part = reads_with_link s c.in-Before.at (k + 1) } =
     m.2.1 ∙ ap (λ (n : ℕ). record s.reader { part = reads_with_link s c.in-Before.at n }) is.0 in
     record {
+      lane = slice_get_within s.places c.args.lane (Before c.in-Before.at) e;
       claim = new.0;
       standing = new.1;
       is = moved_has IsConsumer s c.args.lane (At k new.0) None (reads_with_link s c.in-Before.at (k + 1))

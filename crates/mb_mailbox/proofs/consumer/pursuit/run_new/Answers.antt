@@ -37,7 +37,7 @@ module _ (g : Over) (c : After-has_history g) where
   start = record {
     held = c.requires.held.is;
     of = c.requires.of;
-    lane = c.requires.lane;
+    lane = c.requires.held.lane;
     wide = c.requires.wide;
     loads = c.has_history.ensures;
   }
@@ -162,7 +162,7 @@ straight-end-requires g c =
 pub take-requires : goal.take-requires
 take-requires g c =
     let at = (goal.at.take-requires g c).After-has_history in
-    record { table = c.requires.of.cells; may = given g at; place = c.requires.lane; room = has_room g at }
+    record { table = c.requires.of.cells; may = given g at; place = c.requires.held.lane; room = has_room g at }
 
 pub returns-in-Won : goal.returns-in-Won
 returns-in-Won g c =
@@ -188,7 +188,7 @@ returns-in-Won g c =
 pub leave-requires : goal.leave-requires
 leave-requires g c =
     let at = goal.at.leave-requires g c in
-    record { place = c.requires.lane; room = has_room g at.After-has_history }
+    record { place = c.requires.held.lane; room = has_room g at.After-has_history }
 
 pub returns-in-Lost : goal.returns-in-Lost
 returns-in-Lost g c =
@@ -214,7 +214,7 @@ returns-in-Lost g c =
 pub leave-requires-in-Undecided : goal.leave-requires-in-Undecided
 leave-requires-in-Undecided g c =
     let at = goal.at.leave-requires-in-Undecided g c in
-    record { place = c.requires.lane; room = has_room g at.After-has_history }
+    record { place = c.requires.held.lane; room = has_room g at.After-has_history }
 
 pub returns-in-Undecided : goal.returns-in-Undecided
 returns-in-Undecided g c =
@@ -252,6 +252,7 @@ run_rest-requires-clause-held g c =
     let so = ran_on g at.After-straight-end s (with_claim g at.After-has_history) 0 rng first c.requires.held.standing
     (no_steps c.args.lane rng (with_claim g at.After-has_history)) in
     record {
+      lane = c.requires.held.lane;
       claim = end;
       standing = subst (λ x. IsStanding m.claims.layout x c.straight-end.result.object c.straight-end.result.value end)
           (sym (ap (λ (z : SeatView). z.consumer) so.same))

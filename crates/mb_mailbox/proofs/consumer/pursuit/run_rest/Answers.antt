@@ -31,7 +31,7 @@ module _ (g : Over) (c : After-has_history g) where
   start = record {
     held = c.requires.held.is;
     of = c.requires.of;
-    lane = c.requires.lane;
+    lane = c.requires.held.lane;
     wide = c.requires.wide;
     loads = c.has_history.ensures;
   }
@@ -102,7 +102,7 @@ run_held-requires-clause-is g c =
 pub run_held-requires-clause-held : goal.run_held-requires-clause-held
 run_held-requires-clause-held g c =
     let at = goal.at.run_held-requires-clause-held g c in
-    let some = get_some c.args.fields.now.places.items c.args.lane c.requires.lane in
+    let some = get_some c.args.fields.now.places.items c.args.lane c.requires.held.lane in
     record {
       cell = c.args.cell;
       claim = c.standing-claim.result;
@@ -112,7 +112,8 @@ run_held-requires-clause-held g c =
 pub run_held-requires-clause-lane : goal.run_held-requires-clause-lane
 run_held-requires-clause-lane g c =
     subst (λ n. c.args.lane < n) (sym (ap (λ (ps : List Place). length ps) c.stay.ensures
-    ∙ length-set c.args.fields.now.places.items c.args.lane (At c.args.cell c.standing-claim.result))) c.requires.lane
+    ∙ length-set c.args.fields.now.places.items c.args.lane (At c.args.cell c.standing-claim.result)))
+    c.requires.held.lane
 
 -- the claim goes on
 pub run_held-requires-clause-won : goal.run_held-requires-clause-won
@@ -120,7 +121,7 @@ run_held-requires-clause-won g c k claim there won =
     let at = goal.at.run_held-requires-clause-won g c in
     let f = c.args.fields.now in
     let m = c.args.mailbox.now in
-    let some = get_some f.places.items c.args.lane c.requires.lane in
+    let some = get_some f.places.items c.args.lane c.requires.held.lane in
     let is = place_is g at.After-stay (claim_is g at.After-standing-claim) some.0 some.1 in
     let going = standing_going m.claims.layout f.seat.consumer c.args.end.object c.args.end.value
     c.requires.held.claim c.requires.held.standing in
@@ -143,6 +144,6 @@ returns-clause-pursued g c from n t claim is so =
 pub returns-clause-few : goal.returns-clause-few
 returns-clause-few g c spent =
     let at = goal.at.returns-clause-few g c in
-    let some = get_some c.args.fields.now.places.items c.args.lane c.requires.lane in
+    let some = get_some c.args.fields.now.places.items c.args.lane c.requires.held.lane in
     c.run_held.ensures.few c.args.cell c.standing-claim.result
     (place_is g at.After-stay (claim_is g at.After-standing-claim) some.0 some.1) spent
