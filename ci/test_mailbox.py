@@ -10,21 +10,15 @@ import unittest
 TOP = os.path.dirname(os.path.dirname(os.path.abspath(__file__)))
 PROGRAM = "crates/mailbox_main/out/mailbox_main"
 ROOM = "MemTotal: 24000000 kB\nMemAvailable: 13000000 kB\n"
-# What the script proves in the second copy, and what it proves at its place.
-BESIDE = ("mb_shared_claims", "mb_script")
-IN_PLACE = ("mb_cells", "mb_shared_cells", "mb_claim", "mb_world", "mb_mailbox")
-# The crates that stand there.
-CRATES = ("mailbox_main", "mb_quorum", "mb_deciding", *IN_PLACE, *BESIDE)
-# It says what it was asked, and `rt run` leaves a program that says what it is asked. `rt lib` says how far it is, and
-# leaves a library with the place, what it was asked, and the crates that it found.
+# The crates that stand there: those that the script names, and one whose source may be newer.
+CRATES = ("mailbox_main", "mb_quorum", "mb_shared_cells", "mb_shared_claims")
+# It says what it was asked, and `rt run` leaves a program that says what it is asked. `rt lib` says how far it is.
 RT = """#!/bin/sh
 if [ "$1" = lib ]; then
-    [ $# -gt 1 ] || echo "rt: chose --jobs 2 for $(basename "$PWD")"
+    echo "rt: chose --jobs 2 for $(basename "$PWD")"
     echo 'so far: 1 of 3 functions checked; the verdict comes last'
     [ "${BROKEN-}" != lib ] || exit 1
     [ -z "${SLOW-}" ] || sleep 60
-    mkdir -p out/rlib
-    { echo "$PWD $*" && cat ../../crates.txt; } >out/rlib/stamp
 elif [ "$1" = run ]; then
     echo 'rt: chose --jobs 4 for mb_quorum'
     echo 'so far: 2 of 9 functions checked; the verdict comes last'
@@ -49,7 +43,6 @@ class TheScript(unittest.TestCase):
         for folder in ("bin", *(f"crates/{it}/src" for it in CRATES)):
             os.makedirs(f"{self.top}/{folder}")
         self.write("crates/mb_quorum/src/lib.rt", "")
-        self.write("crates.txt", "".join(f"{it}:\n" for it in (*CRATES, "mb_bound")))
         self.write("memory", ROOM)
         self.write("bin/rt", RT)
         os.chmod(f"{self.top}/bin/rt", 0o755)
@@ -93,39 +86,15 @@ class TheScript(unittest.TestCase):
         self.assertEqual((status, said), (0, "built ratify\nscript\n"))
         self.assertIn("stale", errors)
 
-    def stamp(self, name):
-        with open(f"{self.top}/crates/{name}/out/rlib/stamp", encoding="utf-8") as file:
-            return file.read()
-
-    def test_with_room_libraries_are_proved_two_by_two(self):
+    def test_with_room_two_libraries_are_proved_side_by_side(self):
         self.have_processors(2)
-        status, _, errors = self.run_it("--build")
-        self.assertEqual(status, 0)
-        for name in (*IN_PLACE, *BESIDE):
-            self.assertEqual(errors.count(f"mailbox: 1 of 3 functions of {name}\n"), 1, name)
-        self.assertIn("mailbox: built in ", errors)
-        # The second copy has the sources that it needs and no others. Of it only the libraries are left.
-        second = f"{self.top}/crates/mailbox_main/out/second"
-        for name in BESIDE:
-            first, *crates = self.stamp(name).splitlines()
-            self.assertEqual(first, f"{second}/crates/{name} lib --jobs 1")
-            self.assertEqual({"mailbox_main:", "mb_mailbox:", "mb_shared_cells:", "mb_bound:"} & set(crates), set())
-            self.assertEqual(len(crates), 7)
-        self.assertEqual(self.stamp("mb_mailbox").splitlines()[0], f"{self.top}/crates/mb_mailbox lib")
-        self.assertFalse(os.path.exists(second))
-
-    def test_what_is_proved_goes_into_the_second_copy(self):
-        self.have_processors(2)
-        self.write("bin/rt", RT.replace("mkdir -p out/rlib\n", "mkdir -p out/rlib\n    ls -d ../*/out/rlib >out/below\n"))
-        self.run_it("--build")
-        with open(f"{self.top}/crates/mb_script/out/below", encoding="utf-8") as file:
-            self.assertIn("../mb_world/out/rlib", file.read().splitlines())
-
-    def test_what_is_not_proved_two_by_two_is_left_to_the_run(self):
-        self.have_processors(2)
-        status, _, errors = self.run_it("--build", BROKEN="lib")
-        self.assertEqual((status, errors.count("of 3 functions")), (0, 3))
-        self.assertIn("mailbox: built in ", errors)
+        for broken in ("", "lib"):
+            with self.subTest(broken):
+                status, _, errors = self.run_it("--build", BROKEN=broken)
+                self.assertEqual(status, 0)
+                for name in CRATES[2:]:
+                    self.assertIn(f"mailbox: 1 of 3 functions of {name}\n", errors)
+                self.assertIn("mailbox: built in ", errors)
 
     def test_an_interrupt_ends_both(self):
         self.have_processors(2)

@@ -1,6 +1,6 @@
 //! The definitions by example: what they let in, and what only looks right. The functions compute nothing: their
 //! contracts are the examples. The proofs are in `proofs/examples/`, one folder for each.
-ghost use Rattle.std.specs.Prelude.{◌≡◌, ◌≢◌, ◌<◌, ℕ, List, None, Option, Some, [], ◌∷◌, false, length, true};
+ghost use Rattle.std.specs.Prelude.{◌≡◌, ◌≢◌, ◌<◌, ◌≤◌, ℕ, List, None, Option, Some, [], ◌∷◌, false, length, true};
 ghost use Rattle.mb_quorum.specs.Vocabulary.{IsQuorumTable};
 ghost use Rattle.mb_claim.specs.declared.access.Stage.TheVariants as stage;
 ghost use Rattle.mb_cells.specs.Vocabulary.{fetch, new_lane, store};
@@ -262,7 +262,7 @@ pub fn consumers_hold_claims_on_cells_met()
     ensures before { (p : ℕ) (at : Cursor) (s : ConsumerView) → HasPlace p (Before at) s
         → IsHolding p s → ⊥ }
 
-    // The place that the consumer keeps may be older. With this claim in it, the consumer is one.
+    // The place that the consumer keeps may be older: `IsConsumer` holds with this claim there.
     ensures late { (layout : Layout) (p k o v : ℕ) (claim : Claim) (s : ConsumerView)
         → p < length s.places → IsStanding layout s.seat.consumer o v claim
         → IsConsumer (holding p k claim s) → IsBeforeObject layout p k o v s }
@@ -272,6 +272,6 @@ pub fn consumers_hold_claims_on_cells_met()
         → IsBeforeObject layout p k o v s → ⊥ }
 
     // On a lane that the consumer does not have, it is before no object.
-    ensures no_lane { (layout : Layout) (p k o v : ℕ) (s : ConsumerView) → s.places ≡ []
+    ensures no_lane { (layout : Layout) (p k o v : ℕ) (s : ConsumerView) → length s.places ≤ p
         → IsBeforeObject layout p k o v s → ⊥ }
 {}

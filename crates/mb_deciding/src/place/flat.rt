@@ -115,7 +115,7 @@ impl FlatPlace {
             (λ op seen. M.makes memory.old object op seen memory.new) word
             (flat_next result value.new self.new) }
     {
-        // Each arm reads the value by itself: if the value stays, that load falls away.
+        // Each arm reads `self.value` by itself: if it stays as it is, that load falls away.
         let at = ObjectWord { object, word };
         match self.spot {
             Spot::AtDraw => {

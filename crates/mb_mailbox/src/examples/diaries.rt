@@ -10,18 +10,29 @@ ghost use Rattle.mb_mailbox.specs.Vocabulary.{ledger_with};
 ghost use Rattle.mb_mailbox.specs.declared.notes.Mark.TheVariants as mark;
 ghost use Rattle.mb_world.specs.declared.place.Place.TheVariants.{At, Before};
 
-/// The notes of the first marks stand in the diaries of their lanes. Losses that follow each other on one lane go there
-/// together.
+/// The notes of the first marks stand in the diaries of their lanes. Losses that follow each other on one lane go into its
+/// diary together.
 pub fn marks_are_filed()
     ensures filed { AreFiled (mark.Took 0 ∷ mark.Lost 0 1 ∷ []) (7 ∷ []) 1
         (diary_of 0 (Took 7 ∷ []) ∷ []) }
     ensures too_soon { AreFiled (mark.Took 0 ∷ mark.Lost 0 1 ∷ []) (7 ∷ []) 1
         (diary_of 0 (Took 7 ∷ Lost 1 ∷ []) ∷ []) → ⊥ }
+    ensures by_lanes { AreFiled (mark.Took 1 ∷ mark.Lost 0 1 ∷ []) (7 ∷ []) 2
+        (diary_of 0 (Lost 1 ∷ []) ∷ diary_of 0 (Took 7 ∷ []) ∷ []) }
+    ensures swapped { AreFiled (mark.Took 1 ∷ mark.Lost 0 1 ∷ []) (7 ∷ []) 2
+        (diary_of 0 (Took 7 ∷ []) ∷ diary_of 0 (Lost 1 ∷ []) ∷ []) → ⊥ }
     ensures not_filed { AreFiled (mark.Undecided 0 ∷ []) [] 1 (diary_of 0 [] ∷ []) → ⊥ }
     ensures no_mark { AreFiled [] [] 1 [] → ⊥ }
+
+    // A mark of a lane without a diary has no note.
+    ensures no_such_lane { AreFiled (mark.Undecided 3 ∷ []) [] 1 (diary_of 0 [] ∷ []) }
+
     ensures together { AreLosses 1 1 3 (mark.Undecided 1 ∷ mark.Lost 1 2 ∷ mark.Lost 1 3 ∷ [])
         (Undecided ∷ []) (Undecided ∷ Lost 2 ∷ Lost 3 ∷ []) }
+    ensures nothing_new { AreLosses 1 1 1 (mark.Undecided 1 ∷ []) (Undecided ∷ [])
+        (Undecided ∷ []) }
     ensures other_lane { AreLosses 1 0 1 (mark.Lost 0 2 ∷ []) [] (Lost 2 ∷ []) → ⊥ }
+    ensures no_loss { AreLosses 1 0 1 (mark.Undecided 1 ∷ []) [] (Undecided ∷ []) → ⊥ }
     ensures other_winner { AreLosses 1 0 1 (mark.Lost 1 2 ∷ []) [] (Lost 3 ∷ []) → ⊥ }
 {}
 
@@ -31,26 +42,40 @@ pub fn diaries_are_outlined()
     ensures has_a_note { AreEmptyDiaries 1 (diary_of 0 (Undecided ∷ []) ∷ []) → ⊥ }
     ensures no_diary { AreEmptyDiaries 1 [] → ⊥ }
     ensures row { outline_row 0 (Some (ledger_with (Undecided ∷ []))) 1 ≡ diary_of 0 [] ∷ [] }
+    ensures two_lanes { outline_row 3 None 2
+        ≡ diary_of 3 [] ∷ record { consumer = 3; lane = 1; notes = []; begun = false } ∷ [] }
     ensures begun { (k : ℕ) (claim : Claim) → is_begun claim ≡ true
         → begun_of 0 (Some (record { places = At k claim ∷ []; notes = [] })) ≡ true }
+    ensures only_held { (k : ℕ) (claim : Claim) → is_begun claim ≡ false
+        → begun_of 0 (Some (record { places = At k claim ∷ []; notes = [] })) ≡ false }
     ensures on_no_cell { (at : Cursor) → begun_of 0
         (Some (record { places = Before at ∷ []; notes = [] })) ≡ false }
-    ensures other_lane { (k : ℕ) (claim : Claim) → begun_of 1
-        (Some (record { places = At k claim ∷ []; notes = [] })) ≡ false }
+    ensures other_lane { (k : ℕ) (claim : Claim) (at : Cursor) → begun_of 1
+        (Some (record { places = At k claim ∷ Before at ∷ []; notes = [] })) ≡ false }
+    ensures nobody { begun_of 0 None ≡ false }
 
-    // Diary 1 is of consumer 1 if there is one lane, and of lane 1 if there are two.
+    // Only the place counts. If there is one lane, place 1 is that of consumer 1. If there are two, it is that of
+    // consumer 0 on lane 1.
     ensures second { notes_among 1 1 0 (diary_of 0 [] ∷ diary_of 1 (Undecided ∷ []) ∷ [])
         ≡ Undecided ∷ [] }
     ensures second_lane { notes_among 2 0 1 (diary_of 0 [] ∷ diary_of 1 (Undecided ∷ []) ∷ [])
         ≡ Undecided ∷ [] }
     ensures not_there { notes_among 1 2 0 (diary_of 0 [] ∷ diary_of 1 (Undecided ∷ []) ∷ []) ≡ [] }
-    ensures changed { changed_from with_notes 1 ((Undecided ∷ []) ∷ [])
+
+    // From the place on, each diary gets the next notes.
+    ensures changed { changed_from with_notes 0 ((Undecided ∷ []) ∷ (Took 7 ∷ []) ∷ [])
+        (diary_of 0 [] ∷ diary_of 1 [] ∷ [])
+        ≡ diary_of 0 (Undecided ∷ []) ∷ diary_of 1 (Took 7 ∷ []) ∷ [] }
+    ensures from_place { changed_from with_notes 1 ((Undecided ∷ []) ∷ [])
         (diary_of 0 [] ∷ diary_of 1 [] ∷ []) ≡ diary_of 0 [] ∷ diary_of 1 (Undecided ∷ []) ∷ [] }
     ensures past_the_last { changed_from with_notes 1 ((Undecided ∷ []) ∷ []) (diary_of 0 [] ∷ [])
         ≡ diary_of 0 [] ∷ [] }
-    ensures whole { (h : HubView) → h.ledgers ≡ Some (ledger_with (Undecided ∷ [])) ∷ []
-        → AreDiaries 1 h 1 (diary_of 0 (Undecided ∷ []) ∷ []) }
-    ensures forgotten { (h : HubView) → h.ledgers ≡ Some (ledger_with (Undecided ∷ [])) ∷ []
+
+    // Consumer 0 has a note, and consumer 1 was not taken in.
+    ensures whole { (h : HubView) → h.ledgers ≡ Some (ledger_with (Undecided ∷ [])) ∷ None ∷ []
+        → AreDiaries 1 h 2 (diary_of 0 (Undecided ∷ []) ∷ diary_of 1 [] ∷ []) }
+    ensures forgotten { (h : HubView) → h.ledgers ≡ Some (ledger_with (Undecided ∷ [])) ∷ None ∷ []
         → AreDiaries 1 h 1 (diary_of 0 [] ∷ []) → ⊥ }
-    ensures of_another { (h : HubView) → AreDiaries 1 h 1 (diary_of 1 [] ∷ []) → ⊥ }
+    ensures other_order { (h : HubView) → AreDiaries 1 h 2 (diary_of 1 [] ∷ diary_of 0 [] ∷ [])
+        → ⊥ }
 {}

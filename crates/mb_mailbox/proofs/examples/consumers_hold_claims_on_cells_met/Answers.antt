@@ -1,6 +1,6 @@
 -- Proof of `examples::consumers_hold_claims_on_cells_met`: a consumer holds claims on cells that it has met.
-use Rattle.std.proofs.Common.{◌≡◌, ◌∙◌, List, [], ◌∷◌, length, sym, ap, arith}
-use Rattle.mb_world.specs.declared.place.Place.{Place, TheVariants.At}
+use Rattle.std.proofs.Common.{◌≡◌, ◌∙◌, [], ◌∷◌, sym, ap, arith}
+use Rattle.mb_world.specs.declared.place.Place.TheVariants.{At}
 use Rattle.mb_mailbox.specs.Imports.{cells_met}
 use Rattle.mb_mailbox.specs.ConsumerWords.{HasPlace, holding}
 use Rattle.mb_mailbox.proofs.Lists.{get_some, set_here}
@@ -17,7 +17,8 @@ returns-clause-unmet c = λ layout p k o v s none before.
     let met : [] ≡ k ∷ at.cells = sym (ap (cells_met p) none) ∙ at.met in
     absurd (cc)
 
--- no lane is below none
+-- a lane that the consumer has is below their number
 pub returns-clause-no_lane : goal.returns-clause-no_lane
-returns-clause-no_lane c = λ layout p k o v s none before.
-    omega (arith, ap (λ (ps : List Place). length ps) none, before.lane)
+returns-clause-no_lane c = λ layout p k o v s most before.
+    let low = before.lane in
+    omega (arith, most, low)

@@ -13,6 +13,15 @@ returns-clause-together c = record {
   notes = refl;
 }
 
+pub returns-clause-nothing_new : goal.returns-clause-nothing_new
+returns-clause-nothing_new c = record {
+  since = omega arith;
+  within = omega arith;
+  winners = [];
+  marks = refl;
+  notes = refl;
+}
+
 -- a loss on lane 0 is none on lane 1
 no_such : (ws : List ℕ) → mark.Lost 0 2 ∷ [] ≡ map (λ w. mark.Lost 1 w) ws → ⊥
 no_such [] e = cc
@@ -32,3 +41,11 @@ same_winner (w ∷ ws) e n =
 
 pub returns-clause-other_winner : goal.returns-clause-other_winner
 returns-clause-other_winner c = λ a. same_winner a.winners a.marks a.notes
+
+-- what is undecided is no loss
+no_loss : (ws : List ℕ) → mark.Undecided 1 ∷ [] ≡ map (λ w. mark.Lost 1 w) ws → ⊥
+no_loss [] e = cc
+no_loss (w ∷ ws) e = cc
+
+pub returns-clause-no_loss : goal.returns-clause-no_loss
+returns-clause-no_loss c = λ a. no_loss a.winners a.marks
