@@ -24,7 +24,7 @@ with_items (Some k) l = record l { put = k.items }
 abbrev pub with_notes : List Note → DiaryView → DiaryView
 with_notes notes d = record d { notes = notes }
 
--- there are this many diaries, one for each lane, and none has a note
+-- there are this many diaries, and none has a note
 pub record AreEmptyDiaries (lanes : ℕ) (row : List DiaryView) : Type 0 where
   pub count : length row ≡ lanes
   pub empty : (p : ℕ) (d : DiaryView) → slice_get row p ≡ Some d → d.notes ≡ []
