@@ -1,5 +1,6 @@
 /* A mailbox for threads: producers put numbers into lanes of their own, consumers compete for each, and at most one
- * consumer takes each item. A report at the end says who took what. There is no lock, and no call waits for another.
+ * consumer takes each item. A report at the end says who took what. The library has no lock, and waits for the allocator
+ * alone.
  *
  * Link libhazbultra.a and the three allocation functions (heap.c): gcc -pthread your.c heap.c libhazbultra.a
  *
@@ -22,8 +23,8 @@
  * built with it. Equal items are different items: what is put twice may be taken twice.
  *
  * WHAT A CALL CHECKS ITSELF. A handle that leads to nothing (HZ_NONE), or to another kind of thing than the call wants, is
- * HZ_BAD_HANDLE. So is a handle that the call is to fill and that leads to something. After each answer but HZ_DONE,
- * HZ_LINKED, HZ_FULL and a poll's answers nothing has changed, if no line below says another thing. No call loses what a
+ * HZ_BAD_HANDLE. So is a handle that the call is to fill and that leads to something. After each code but HZ_DONE,
+ * HZ_LINKED, HZ_FULL and those of a poll nothing has changed, if no line below says another thing. No call loses what a
  * handle leads to, also if memory is refused.
  */
 #ifndef HAZBULTRA_H
@@ -46,7 +47,7 @@ typedef struct {
 /* A handle that leads to nothing: hz_handle hub = HZ_NONE; */
 #define HZ_NONE { false, NULL }
 
-/* The answers of all calls. No two mean different things by one number. */
+/* The codes that calls return. No two mean different things by one number. */
 typedef enum {
     HZ_DONE = 0,
 
@@ -148,7 +149,7 @@ uint32_t hz_put(hz_handle *producer, uint64_t item);
  * HZ_DONE. HZ_CLOSED: it had ended before. HZ_BAD_HANDLE. */
 uint32_t hz_finish(hz_handle *producer);
 
-/* Makes accesses on a lane until one has an answer, or budget of them were made. It takes no memory.
+/* Makes accesses on a lane until one has a result, or budget of them were made. It takes no memory.
  * HZ_TOOK: the item is this consumer's alone, and value is the item. HZ_LOST: no other consumer but number value can win
  * the item. HZ_UNDECIDED: the claim ended, and nobody knows by it who has won. It never comes if last is true. HZ_NOTHING:
  * no further item is linked yet. HZ_ENDED: no further item comes. HZ_SPENT: the budget is used up, and the next poll of
@@ -163,7 +164,7 @@ uint32_t hz_take_back(hz_handle *hub, hz_handle *part);
 
 /* Ends the mailbox, and makes the report of all that was taken back.
  * HZ_DONE: hub is HZ_NONE then, and report leads to the report. HZ_BAD_HANDLE. HZ_MISSING: so many producers and consumers
- * were given and not taken back; missing is written at this answer only. HZ_NO_MEMORY: it may be called again. */
+ * were given and not taken back; missing is written at this code only. HZ_NO_MEMORY: it may be called again. */
 uint32_t hz_gather(hz_handle *hub, hz_handle *report, hz_missing *missing);
 
 /* How many lanes and how many consumers a report has: those of the setup.

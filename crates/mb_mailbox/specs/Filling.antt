@@ -10,7 +10,8 @@ changed_at [] n f = []
 changed_at (x ∷ xs) zero f = f x ∷ xs
 changed_at (x ∷ xs) (suc n) f = x ∷ changed_at xs n f
 
--- the list whose elements from place n on are changed, each by the next of these
+-- the list after these have changed its elements from place n on, each the next one. The elements past them stay as they
+-- are
 abbrev pub changed_from : {X Y : Type 0} → (Y → X → X) → ℕ → List Y → List X → List X
 changed_from change n [] xs = xs
 changed_from change n (y ∷ ys) xs = changed_at (changed_from change (suc n) ys xs) n (change y)

@@ -76,12 +76,14 @@ pub record AreMarked (lanes : ℕ) (ms : List Mark) (ws : List ℕ) : Type 0 whe
   pub count : length ms ≡ sum_by length (by_lane lanes (all_told ms ws))
 
 -- ---- diaries filled from marks
--- the diaries of a row have the notes of the first k marks, each note in the diary of its lane
+-- the diary at place p of the row has the notes of lane p among those of the first k marks. Notes of lanes without a
+-- diary are left out
 pub record AreFiled (ms : List Mark) (ws : List ℕ) (k : ℕ) (row : List DiaryView) : Type 0 where
   pub within : k ≤ length ms
   pub notes : map (λ d. d.notes) row ≡ by_lane (length row) (all_told (take k ms) ws)
 
--- the marks from place `from` up to place k are losses on lane p, and their notes are what `new` has more than `old`
+-- the marks from place `from` up to place k are losses on lane p that need no word. Their notes are what `new` has more
+-- than `old`
 pub record AreLosses (p from k : ℕ) (ms : List Mark) (old new : List Note) : Type 0 where
   pub since : from ≤ k
   pub within : k ≤ length ms

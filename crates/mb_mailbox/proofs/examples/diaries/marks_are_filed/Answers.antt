@@ -49,3 +49,11 @@ no_loss (w ∷ ws) e = cc
 
 pub returns-clause-no_loss : goal.returns-clause-no_loss
 returns-clause-no_loss c = λ a. no_loss a.winners a.marks
+
+-- a loss that needs a word is none of those without
+no_far : (ws : List ℕ) → mark.LostFar 1 ∷ [] ≡ map (λ w. mark.Lost 1 w) ws → ⊥
+no_far [] e = cc
+no_far (w ∷ ws) e = cc
+
+pub returns-clause-far : goal.returns-clause-far
+returns-clause-far c = λ a. no_far a.winners a.marks
