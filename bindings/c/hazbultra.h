@@ -10,9 +10,9 @@
  *     only one of the two may be used. It may be moved, as a struct is moved by memcpy.
  *  2. No pointer parameter is null, also none of hz_free. Each leads to what its type says, initialised, and to so many if
  *     a length stands beside it. A bool is 0 or 1. Two pointers of one call lead to different objects.
- *  3. A handle is in one call at a time. From call to call it may go from thread to thread, if a lock, the start or the
- *     join of a thread, or a seq_cst atomic orders the calls. Handles of one mailbox may be in calls at the same time:
- *     that is what it is for.
+ *  3. A handle is in one call at a time. From call to call it may go from thread to thread, if the one call happens
+ *     before the other: by a lock, the start or the join of a thread, an atomic, or whatever else orders them. Handles
+ *     of one mailbox may be in calls at the same time: that is what it is for.
  *  4. Each mailbox has a number (id) that no other mailbox of the process was given, also none of another copy of this
  *     library. Equal numbers are not noticed, and the reports may be wrong then. One counter for all mailboxes does.
  *  5. malloc, realloc and free are of one allocator, and malloc and realloc align as the C standard says.

@@ -1,5 +1,6 @@
 //! Links the archive of proved code: the one that stands in the repository, or that of the folder `HAZBULTRA_LIB`.
 use std::env;
+use std::fs;
 use std::path::PathBuf;
 
 const ARCHIVE: &str = "libhazbultra.a";
@@ -14,6 +15,9 @@ fn main() {
     println!("cargo:rerun-if-env-changed=HAZBULTRA_LIB");
     let beside = PathBuf::from(env!("CARGO_MANIFEST_DIR")).join("../prebuilt/x86_64-linux");
     let folder = env::var_os("HAZBULTRA_LIB").map_or(beside, PathBuf::from);
+    // A relative folder is looked up from that of the package, where this runs. rustc runs elsewhere, so it gets the
+    // whole path.
+    let folder = fs::canonicalize(&folder).unwrap_or(folder);
     let archive = folder.join(ARCHIVE);
     assert!(
         archive.is_file(),

@@ -33,6 +33,7 @@ pub enum Shape {
 
 /// How large a mailbox is to be. [`Mailbox::builder`] and [`Mailbox::numbers`] make one, and [`build`](Builder::build) may
 /// be called again and again, as for a mailbox in each round.
+#[must_use = "it builds no mailbox until `build` is called"]
 pub struct Builder<T> {
     carrier: Carrier<T>,
     producers: u64,
@@ -59,13 +60,11 @@ impl<T> Builder<T> {
     }
 
     /// So many producers, 1 to 16. Each has a lane of its own. If you name none, it is 1.
-    #[must_use]
     pub fn producers(self, producers: u64) -> Self {
         Builder { producers, ..self }
     }
 
     /// So many consumers, 1 to 64. If you name none, it is 1.
-    #[must_use]
     pub fn consumers(self, consumers: u64) -> Self {
         Builder { consumers, ..self }
     }
@@ -73,25 +72,21 @@ impl<T> Builder<T> {
     /// So many cells, 0 to 2^24. Each takes one item, and none is used again. If you name none, it is 256.
     ///
     /// Memory grows with it: some 16 bytes for each cell and consumer, and the words of each cell.
-    #[must_use]
     pub fn cells(self, cells: u64) -> Self {
         Builder { cells, ..self }
     }
 
     /// So many pairs of deciding objects in each cell, 1 to 8. If you name none, it is 4.
-    #[must_use]
     pub fn pairs(self, pairs: u64) -> Self {
         Builder { pairs, ..self }
     }
 
     /// This quorum table.
-    #[must_use]
     pub fn table(self, table: Table) -> Self {
         Builder { table, ..self }
     }
 
     /// This shape of each cell.
-    #[must_use]
     pub fn shape(self, shape: Shape) -> Self {
         Builder { shape, ..self }
     }
@@ -99,7 +94,6 @@ impl<T> Builder<T> {
     /// This seed for the random words of all consumers, each of which draws from a stream of ChaCha8 of its own. There is
     /// no other source of random words. So in one thread all goes the same way once more. If you give none, each mailbox
     /// gets a seed of the system's, as hash maps do.
-    #[must_use]
     pub fn seed(self, seed: [u8; 32]) -> Self {
         Builder {
             seed: Some(seed),
@@ -110,6 +104,9 @@ impl<T> Builder<T> {
 
 impl<T: Send> Builder<T> {
     /// Builds a mailbox.
+    ///
+    /// [`BuildError::NoMemory`] covers the archive alone: the `Arc` that the parts share comes from Rust's allocator,
+    /// which aborts the program if there is no memory.
     ///
     /// # Errors
     /// The first number that is out of range, or that there is not enough memory.
@@ -129,6 +126,13 @@ impl<T: Send> Builder<T> {
         };
         let seed = self.seed.unwrap_or_else(seeds::from_system);
         Mailbox::new(&setup, self.carrier, seed)
+    }
+}
+
+// (by hand, since a derived one would want `T: Clone`)
+impl<T> Clone for Builder<T> {
+    fn clone(&self) -> Self {
+        Builder { ..*self }
     }
 }
 

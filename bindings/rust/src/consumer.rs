@@ -5,7 +5,7 @@ use std::fmt;
 use std::iter::FusedIterator;
 use std::sync::Arc;
 
-/// What a poll comes to.
+/// The result of a poll.
 #[derive(Clone, Copy, PartialEq, Eq, Hash, Debug)]
 #[must_use = "a value that was taken is in it"]
 pub enum Poll<T> {
@@ -36,7 +36,7 @@ impl<T> Poll<T> {
     }
 }
 
-/// What going over all lanes comes to.
+/// The result of going over all lanes.
 #[derive(Clone, Copy, PartialEq, Eq, Hash, Debug)]
 #[must_use = "a value that was taken is in it"]
 pub enum Sweep<T> {
@@ -48,17 +48,28 @@ pub enum Sweep<T> {
     Ended,
 }
 
+impl<T> Sweep<T> {
+    /// The value that was taken, if one was.
+    pub fn taken(self) -> Option<T> {
+        match self {
+            Sweep::Took(value) => Some(value),
+            _ => None,
+        }
+    }
+}
+
 /// A consumer, which competes for the items of all lanes. [`Mailbox::consumer`](crate::Mailbox::consumer) gives it.
 ///
 /// When it is dropped, also by a panic, it goes home to its mailbox. It may go to another thread, but no two threads share
 /// it, and it is not `Clone`.
 ///
-/// If it is dropped after a [`poll_within`](Consumer::poll_within) that was [`Poll::Spent`], the item that it competed for
-/// may be left. No other consumer gets it, if this one had won it. The report has such an item. After any other
-/// poll no item is left undecided by the drop. Its number is not given again.
+/// If it is dropped while its last poll of some lane was [`Poll::Spent`], the item that it competed for there may be
+/// left. No other consumer gets it, if this one had won it. The report has such an item. Otherwise the drop leaves no
+/// item undecided. Its number is not given again.
 ///
 /// A value that it took is the caller's. If a thread panics while it has one, the value is dropped, and the report says
 /// that it was taken ([`Report::taker`](crate::Report::taker)).
+#[must_use = "its drop sends it home, and its number is not given again"]
 pub struct Consumer<T> {
     number: u32,
     next: u32,
@@ -109,7 +120,8 @@ impl<T> Consumer<T> {
         self.poll_within(lane, u64::MAX)
     }
 
-    /// The same with at most so many accesses. After [`Poll::Spent`] the next poll of the lane goes on.
+    /// The same with at most so many accesses. With a budget of 0 it makes none. After [`Poll::Spent`] the next poll of
+    /// the lane goes on.
     pub fn poll_within(&mut self, lane: u32, budget: u64) -> Poll<T> {
         let polled = self.part.poll(u64::from(lane), budget);
         if let Poll::Ended = polled {

@@ -136,7 +136,7 @@ impl<T> fmt::Display for GatherError<T> {
                 producers,
                 consumers,
                 ..
-            } => write!(f, "{producers} producers and {consumers} consumers are out"),
+            } => write!(f, "producers out: {producers}, consumers out: {consumers}"),
             GatherError::NoMemory(_) => f.write_str("there is not enough memory for the report"),
         }
     }

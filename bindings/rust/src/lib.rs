@@ -44,15 +44,14 @@
 //! `bindings/c/hazbultra.h`. The types of this crate keep them: a part has its mailbox with it, is in one thread at a time,
 //! is no `Clone`, and is gone after it was dropped. All `unsafe` code is in one module, and each block says why it is sound.
 //!
-//! That a value has one owner *is* the main theorem. A box goes through the mailbox as its address. Whoever is told that
-//! he took it owns it, and the report owns what nobody took. Were two consumers told that they took one item, it would be
-//! freed twice.
+//! That a value has one owner *is* the main theorem. A box goes through the mailbox as its address. A consumer that is
+//! told that it took the value owns it. The report owns what nobody took. Were two consumers told that they took one
+//! item, it would be freed twice.
 //!
 //! [`Consumer::sweep`], [`Consumer::values`] and the calls of [`Report`] are plain Rust over it. They are tested.
 //!
 //! Not promised: that each value is taken, that a consumer who took one does its work, and fairness. But with a last
 //! object, and no [`Consumer::poll_within`], nothing is left if one consumer has read [`Consumer::values`] to its end.
-#![deny(missing_docs, unsafe_code, unsafe_op_in_unsafe_fn)]
 
 mod builder;
 mod consumer;

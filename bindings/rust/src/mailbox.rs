@@ -12,8 +12,12 @@ use std::sync::{Arc, Mutex, MutexGuard, PoisonError};
 ///
 /// Each part has its mailbox with it. So no call takes a part and a mailbox, and none can be handed to another mailbox.
 ///
-/// A mailbox that is dropped, and not gathered, drops what is left inside as soon as its last part is dropped too. If there
-/// is no memory then for the report that this takes, what is left inside leaks.
+/// A mailbox that is dropped, and not gathered, drops what is left inside as soon as its last part is dropped too. If
+/// the archive gets no memory then for the report that this takes, what is left inside leaks. The lists that are read
+/// of the report come from Rust's allocator, which aborts the program if there is no memory.
+///
+/// A part that is forgotten, or put into its own mailbox and left there, keeps the mailbox for ever: all of it leaks.
+#[must_use = "its drop drops what is left inside, as soon as its last part is dropped"]
 pub struct Mailbox<T> {
     home: Arc<Home<T>>,
 }
@@ -124,8 +128,8 @@ impl<T> Mailbox<T> {
         Ok(Consumer::new(number, part, Arc::clone(&self.home)))
     }
 
-    /// Ends each lane whose producer was not given yet. A consumer that goes over all lanes comes to an end only after
-    /// that, or after all producers were given.
+    /// Ends each lane whose producer was not given yet. No producer is given after it. A consumer that goes over all
+    /// lanes comes to an end only after that, or after all producers were given and have ended.
     ///
     /// # Errors
     /// There is not enough memory. Then some of these lanes have not ended.
@@ -141,6 +145,9 @@ impl<T> Mailbox<T> {
 
     /// Ends the mailbox and makes the report, which has the values that nobody took.
     ///
+    /// [`GatherError::NoMemory`] covers the archive alone: the lists of the report come from Rust's allocator, which
+    /// aborts the program if there is no memory.
+    ///
     /// ```
     /// # fn main() -> Result<(), Box<dyn std::error::Error>> {
     /// let mailbox = hazbultra::Mailbox::builder().build()?;
@@ -148,7 +155,7 @@ impl<T> Mailbox<T> {
     /// producer.put("nobody comes for it")?;
     ///
     /// let error = mailbox.gather().expect_err("the producer is out");
-    /// assert_eq!(error.to_string(), "1 producers and 0 consumers are out");
+    /// assert_eq!(error.to_string(), "producers out: 1, consumers out: 0");
     /// let mailbox = error.into_mailbox();
     ///
     /// drop(producer);

@@ -9,6 +9,7 @@ use std::sync::Arc;
 ///
 /// When it is dropped, also by a panic, it ends its lane and goes home to its mailbox. It may go to another thread, but no
 /// two threads share it, and it is not `Clone`.
+#[must_use = "its drop ends its lane"]
 pub struct Producer<T> {
     lane: u32,
     part: ffi::Producer<T>,
@@ -40,6 +41,8 @@ impl<T> Producer<T> {
     /// ```
     ///
     /// The report speaks of places: the first value that was put on a lane has place 0, the next place 1.
+    ///
+    /// A value's box comes from Rust's allocator, which aborts the program if there is no memory for it.
     ///
     /// # Errors
     /// No cell is left, nor will be. The value is in the error.

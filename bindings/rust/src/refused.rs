@@ -1,5 +1,5 @@
-//! What the types refuse. Each example must not compile, and CI runs them with the others. The first one must: it is what
-//! the others are, without the mistake.
+//! What the types refuse. The first example compiles: it is what the others are, without the mistake. Each other must
+//! not compile. CI runs them all. rustdoc checks the codes `E0xxx` on nightly only: on stable any error does.
 //!
 //! ```
 //! use hazbultra::Mailbox;
@@ -32,16 +32,6 @@
 //! let mailbox = Mailbox::<u8>::builder().build().unwrap();
 //! let report = mailbox.gather().unwrap();
 //! let producer = mailbox.producer().unwrap();
-//! ```
-//!
-//! A part that is handed to another mailbox than its own. No call takes it, since each part goes home by itself:
-//!
-//! ```compile_fail,E0599
-//! use hazbultra::Mailbox;
-//!
-//! let (one, two) = (Mailbox::<u8>::builder().build().unwrap(), Mailbox::<u8>::builder().build().unwrap());
-//! let producer = one.producer().unwrap();
-//! two.take_producer(producer);
 //! ```
 //!
 //! One producer in two hands:

@@ -5,6 +5,7 @@
 /// The main theorem is about this report. One assignment explains it: each item goes to at most one consumer, who took it,
 /// and each item that nobody took is left.
 #[derive(Clone, PartialEq, Eq, Hash, Debug)]
+#[must_use = "the values that nobody took are in it"]
 pub struct Report<T> {
     /// One for each lane, in their order.
     pub lanes: Vec<LaneReport<T>>,

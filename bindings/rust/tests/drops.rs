@@ -142,9 +142,9 @@ fn threads_drop_each_value_once() {
         takers.into_iter().map(|it| it.join().unwrap()).sum()
     });
     assert_eq!(drops.count(), taken);
-    let left = mailbox.gather().unwrap().into_left().count();
-    assert_eq!(taken + left, 2 * EACH);
-    assert_eq!(drops.count(), 2 * EACH);
+    // Each consumer read its values to the end, so nothing is left.
+    assert_eq!(mailbox.gather().unwrap().into_left().count(), 0);
+    assert_eq!((taken, drops.count()), (2 * EACH, 2 * EACH));
 }
 
 /// The drop of one left value panics. The others are dropped all the same.

@@ -1,7 +1,16 @@
 //! Parts go home by themselves, and the report waits for them.
 use hazbultra::{BuildError, GatherError, IssueError, Mailbox, Poll, Sweep};
+use std::cell::Cell;
 use std::mem;
+use std::panic::{self, AssertUnwindSafe};
 use std::thread;
+
+// Threads may share a mailbox, also one whose values no two threads may share.
+const _: () = {
+    const fn is_shared<T: Send + Sync>() {}
+    is_shared::<Mailbox<u8>>();
+    is_shared::<Mailbox<Cell<u8>>>();
+};
 
 #[test]
 fn a_report_waits_for_all_parts() {
@@ -44,7 +53,7 @@ fn a_part_that_is_forgotten_stays_missing() {
     let mailbox = Mailbox::<u8>::builder().build().unwrap();
     mem::forget(mailbox.consumer().unwrap());
     let why = mailbox.gather().unwrap_err();
-    assert_eq!(why.to_string(), "0 producers and 1 consumers are out");
+    assert_eq!(why.to_string(), "producers out: 0, consumers out: 1");
     assert_eq!(
         format!("{why:?}"),
         "Missing { producers: 0, consumers: 1, .. }"
@@ -76,6 +85,57 @@ fn a_worker_that_panics_is_no_missing_part() {
     drop(good);
     let report = mailbox.gather().unwrap();
     assert_eq!((report.lanes[0].put, report.lanes[0].ended), (2, true));
+}
+
+#[test]
+fn a_worker_that_took_a_value_and_panicked_is_its_taker() {
+    let mailbox = Mailbox::builder().build().unwrap();
+    let (mut producer, mut consumer) = (mailbox.producer().unwrap(), mailbox.consumer().unwrap());
+    producer.put(String::from("a letter")).unwrap();
+    producer.finish();
+    let worker = thread::spawn(move || {
+        let _letter = consumer.poll(0).taken().unwrap();
+        panic!("with a letter, as it should")
+    });
+    assert!(worker.join().is_err());
+    let report = mailbox.gather().unwrap();
+    assert_eq!(report.taker(0, 0), Some(0));
+    assert!(report.lanes[0].left.is_empty());
+}
+
+#[test]
+fn an_idle_that_panics_leaves_its_consumer_usable() {
+    let mailbox = Mailbox::builder().build().unwrap();
+    let (mut producer, mut consumer) = (mailbox.producer().unwrap(), mailbox.consumer().unwrap());
+    let mut values = consumer.values(|| panic!("nothing is there, as it should"));
+    assert!(panic::catch_unwind(AssertUnwindSafe(|| values.next())).is_err());
+    producer.put('a').unwrap();
+    assert_eq!(values.next(), Some('a'));
+    producer.put('b').unwrap();
+    assert_eq!(consumer.poll(0), Poll::Took('b'));
+}
+
+#[test]
+fn values_that_came_to_their_end_stay_there() {
+    let mailbox = Mailbox::builder().build().unwrap();
+    let (mut producer, mut consumer) = (mailbox.producer().unwrap(), mailbox.consumer().unwrap());
+    producer.put('a').unwrap();
+    producer.finish();
+    let mut values = consumer.values(|| panic!("the lane has ended"));
+    let read = [(); 4].map(|()| values.next());
+    assert_eq!(read, [Some('a'), None, None, None]);
+}
+
+#[test]
+fn parts_go_on_after_their_mailbox_was_dropped() {
+    let mailbox = Mailbox::builder().build().unwrap();
+    let (mut producer, mut consumer) = (mailbox.producer().unwrap(), mailbox.consumer().unwrap());
+    drop(mailbox);
+    producer.put('a').unwrap();
+    assert_eq!(consumer.poll(0), Poll::Took('a'));
+    assert_eq!(consumer.poll(0), Poll::Nothing);
+    producer.finish();
+    assert_eq!(consumer.poll(0), Poll::Ended);
 }
 
 #[test]
@@ -126,7 +186,8 @@ fn a_sweep_takes_the_lanes_in_turn() {
     use Sweep::{Nothing, Took};
     assert_eq!(taken, [Took(0), Took(10), Took(1), Took(11), Nothing]);
     producers[2].put(20).unwrap();
-    assert_eq!(consumer.sweep(), Took(20));
+    assert_eq!(consumer.sweep().taken(), Some(20));
+    assert_eq!(consumer.sweep().taken(), None);
 }
 
 #[test]

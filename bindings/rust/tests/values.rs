@@ -45,6 +45,16 @@ fn closures_go_through() {
 }
 
 #[test]
+fn a_builder_has_a_clone_also_if_its_values_have_none() {
+    struct Single;
+    let builder = Mailbox::<Single>::builder().cells(1);
+    let mailbox = builder.clone().build().unwrap();
+    let mut producer = mailbox.producer().unwrap();
+    assert!(producer.put(Single).is_ok());
+    assert!(producer.put(Single).is_err());
+}
+
+#[test]
 fn values_without_bytes_are_counted_too() {
     let mailbox = Mailbox::builder().consumers(2).cells(3).build().unwrap();
     let mut producer = mailbox.producer().unwrap();

@@ -1,5 +1,6 @@
 //! The calls of the archive, as `bindings/c/hazbultra.h` declares them. CI compares the two, name by name.
 use super::handle::Handle;
+use std::mem::offset_of;
 
 /// How large a mailbox is.
 #[repr(C)]
@@ -68,12 +69,22 @@ pub(crate) const UNARY: u32 = 0;
 pub(crate) const BITS: u32 = 1;
 pub(crate) const MIDDLE: u32 = 2;
 
-// The sizes are those that a C compiler gives these structs.
+// The sizes and offsets are those that a C compiler gives the structs of the header.
 const _: () = {
-    assert!(size_of::<Handle>() == 16);
     assert!(size_of::<Setup>() == 40);
-    assert!(size_of::<Lane>() == 24 && size_of::<Diary>() == 16);
-    assert!(size_of::<Note>() == 16 && size_of::<Missing>() == 8);
+    assert!(offset_of!(Setup, producers) == 0 && offset_of!(Setup, consumers) == 8);
+    assert!(offset_of!(Setup, cells) == 16 && offset_of!(Setup, pairs) == 24);
+    assert!(offset_of!(Setup, table) == 32);
+    assert!(offset_of!(Setup, fast) == 36 && offset_of!(Setup, last) == 37);
+    assert!(size_of::<Lane>() == 24);
+    assert!(offset_of!(Lane, put) == 0 && offset_of!(Lane, left) == 8);
+    assert!(offset_of!(Lane, ended) == 16);
+    assert!(size_of::<Diary>() == 16);
+    assert!(offset_of!(Diary, notes) == 0 && offset_of!(Diary, begun) == 8);
+    assert!(size_of::<Note>() == 16);
+    assert!(offset_of!(Note, value) == 0 && offset_of!(Note, kind) == 8);
+    assert!(size_of::<Missing>() == 8);
+    assert!(offset_of!(Missing, producers) == 0 && offset_of!(Missing, consumers) == 4);
 };
 
 unsafe extern "C" {
@@ -119,7 +130,14 @@ unsafe extern "C" {
     pub(super) fn hz_free(handle: &mut Handle);
 }
 
-/// For an answer that `hazbultra.h` excludes at this call.
-pub(super) fn excluded(call: &str, answer: u32) -> ! {
-    unreachable!("{call} returned {answer}, which its header excludes here")
+/// For a code that `hazbultra.h` excludes at this call.
+pub(super) fn excluded(call: &str, code: u32) -> ! {
+    unreachable!("{call} returned {code}, which its header excludes here")
+}
+
+/// For a call that returns [`DONE`] alone here.
+pub(super) fn expect_done(call: &str, code: u32) {
+    if code != DONE {
+        excluded(call, code)
+    }
 }

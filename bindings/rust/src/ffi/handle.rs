@@ -1,6 +1,7 @@
 //! The owner of what a call of the archive made.
 use super::calls::hz_free;
 use std::ffi::c_void;
+use std::mem::offset_of;
 use std::ptr;
 
 /// What leads to a hub, a producer, a consumer or a report, or to nothing. It is not `Clone`, and its fields are private,
@@ -11,8 +12,15 @@ pub(super) struct Handle {
     at: *mut c_void,
 }
 
-// SAFETY: the archive's own crate has a proof that all that a handle leads to may go from thread to thread. Rust orders
-// the calls of two threads, since each call takes the handle by `&mut`. It is not `Sync`, because of its pointer.
+// The layout is that which a C compiler gives `hz_handle`.
+const _: () = {
+    assert!(size_of::<Handle>() == 16);
+    assert!(offset_of!(Handle, full) == 0 && offset_of!(Handle, at) == 8);
+};
+
+// SAFETY: the archive's own crate compiles only if all that a handle leads to may go from thread to thread
+// (`things_cross_threads`). Rust orders the calls of two threads, since each call takes the handle by `&mut`. It is not
+// `Sync`, because of its pointer.
 unsafe impl Send for Handle {}
 
 impl Handle {

@@ -10,7 +10,7 @@ unsafe extern "C" {
 
 /// Whether there is a block, and where. If there is none, `at` is dangling and not null, and nobody uses it.
 #[repr(C)]
-pub struct Tried {
+struct Tried {
     there: bool,
     at: *mut u8,
 }
@@ -27,8 +27,11 @@ fn tried(at: *mut u8) -> Tried {
 }
 
 /// A block of so many bytes. For none it is one of `align` bytes, so that it has an address of its own.
-#[no_mangle]
+///
+/// `malloc` and `realloc` align to 16. The archive asks for 16 at most, as `bindings/c/heap.c` says too.
+#[unsafe(no_mangle)]
 extern "C" fn rattle_alloc(size: usize, align: usize) -> Tried {
+    debug_assert!(align <= 16);
     // SAFETY: `malloc` takes any size.
     tried(unsafe { malloc(if size == 0 { align } else { size }) })
 }
@@ -37,8 +40,9 @@ extern "C" fn rattle_alloc(size: usize, align: usize) -> Tried {
 ///
 /// # Safety
 /// `at` is a block of these functions, and it is not used again if there is a new one.
-#[no_mangle]
+#[unsafe(no_mangle)]
 unsafe extern "C" fn rattle_realloc(at: *mut u8, _kept: usize, size: usize, align: usize) -> Tried {
+    debug_assert!(align <= 16);
     // SAFETY: the caller's promise. The size is not 0, at which `realloc` would free the block.
     tried(unsafe { realloc(at, if size == 0 { align } else { size }) })
 }
@@ -47,7 +51,7 @@ unsafe extern "C" fn rattle_realloc(at: *mut u8, _kept: usize, size: usize, alig
 ///
 /// # Safety
 /// `at` is a block of these functions, and it is not used again.
-#[no_mangle]
+#[unsafe(no_mangle)]
 unsafe extern "C" fn rattle_dealloc(at: *mut u8) {
     // SAFETY: the caller's promise.
     unsafe { free(at) }

@@ -1,10 +1,10 @@
 //! A hub of the archive, with its mailbox.
-use super::calls::{self, excluded, hz_consumer_new, hz_gather, hz_mailbox_new};
+use super::calls::{self, excluded, expect_done, hz_consumer_new, hz_gather, hz_mailbox_new};
 use super::calls::{hz_producer_new, hz_take_back, Missing, Setup};
 use super::carrier::Carrier;
 use super::handle::Handle;
 use super::parts::{Consumer, Producer};
-use super::report::read_report;
+use super::report::{read_diaries, read_lanes};
 use crate::errors::BuildError;
 use crate::report::Report;
 use std::cell::Cell;
@@ -61,8 +61,8 @@ impl<T> Hub<T> {
     pub(crate) fn producer(&mut self) -> Result<Producer<T>, NotIssued> {
         let mut handle = Handle::empty();
         // SAFETY: the rules of calls.
-        let answer = unsafe { hz_producer_new(&mut self.handle, &mut handle) };
-        issued("hz_producer_new", answer)?;
+        let code = unsafe { hz_producer_new(&mut self.handle, &mut handle) };
+        issued("hz_producer_new", code)?;
         Ok(Producer {
             handle,
             carrier: self.carrier,
@@ -78,8 +78,8 @@ impl<T> Hub<T> {
     ) -> Result<Consumer<T>, NotIssued> {
         let mut handle = Handle::empty();
         // SAFETY: the rules of calls.
-        let answer = unsafe { hz_consumer_new(&mut self.handle, seed, stream, &mut handle) };
-        issued("hz_consumer_new", answer)?;
+        let code = unsafe { hz_consumer_new(&mut self.handle, seed, stream, &mut handle) };
+        issued("hz_consumer_new", code)?;
         Ok(Consumer {
             handle,
             carrier: self.carrier,
@@ -99,17 +99,27 @@ impl<T> Hub<T> {
 
     fn take_back(&mut self, part: &mut Handle) {
         // SAFETY: the rules of calls.
-        let answer = unsafe { hz_take_back(&mut self.handle, part) };
-        debug_assert_eq!(answer, calls::DONE, "a part comes back to its own hub");
+        let code = unsafe { hz_take_back(&mut self.handle, part) };
+        // (a part comes back once, and to its own hub)
+        expect_done("hz_take_back", code);
     }
 
     /// Ends the mailbox and makes the report, with the values that are left. After that the hub leads to nothing.
     pub(crate) fn gather(&mut self) -> Result<Report<T>, Refusal> {
+        let mut report = self.end()?;
+        let diaries = read_diaries(&mut report);
+        // SAFETY: all words of this mailbox are of its carrier, and it has ended now. Its hub leads to nothing now, so
+        // no other report of it is read.
+        let lanes = unsafe { read_lanes(report, self.carrier) };
+        Ok(Report { lanes, diaries })
+    }
+
+    /// Ends the mailbox. The handle leads to its report, and the hub to nothing now.
+    fn end(&mut self) -> Result<Handle, Refusal> {
         let (mut report, mut missing) = (Handle::empty(), Missing::default());
         // SAFETY: the rules of calls.
         match unsafe { hz_gather(&mut self.handle, &mut report, &mut missing) } {
-            // SAFETY: all words of this mailbox are of its carrier, and it has ended now.
-            calls::DONE => Ok(unsafe { read_report(report, self.carrier) }),
+            calls::DONE => Ok(report),
             calls::MISSING => Err(Refusal::Missing(missing.producers, missing.consumers)),
             calls::NO_MEMORY => Err(Refusal::NoMemory),
             other => excluded("hz_gather", other),
@@ -117,19 +127,21 @@ impl<T> Hub<T> {
     }
 }
 
-/// A mailbox that nobody gathered drops what is inside. If a part is out for ever, or there is no memory for the report, the
-/// values leak.
+/// A mailbox that nobody gathered drops what is inside. If there is no memory for the report, the values leak.
 impl<T> Drop for Hub<T> {
     fn drop(&mut self) {
         if self.handle.is_full() {
-            let _ = self.gather();
+            if let Ok(report) = self.end() {
+                // SAFETY: as in `gather`. Nobody wants the diaries, so they are not read.
+                drop(unsafe { read_lanes(report, self.carrier) });
+            }
         }
     }
 }
 
-/// What an answer says that comes to a part being asked for.
-fn issued(call: &str, answer: u32) -> Result<(), NotIssued> {
-    match answer {
+/// What the code that is returned says to a part that is asked for.
+fn issued(call: &str, code: u32) -> Result<(), NotIssued> {
+    match code {
         calls::DONE => Ok(()),
         calls::ALL_GIVEN => Err(NotIssued::AllGiven),
         calls::NO_MEMORY => Err(NotIssued::NoMemory),

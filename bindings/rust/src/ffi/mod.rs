@@ -4,9 +4,12 @@
 //!
 //! 1. A [`Handle`](handle::Handle) begins empty, has private fields and no `Clone`. So only calls of the archive write it.
 //! 2. Pointers are made of references to values of the declared types. Two `&mut` never lead to the same value.
-//! 3. Each call takes the handle by `&mut`. So it is in one call at a time, and whoever has it later was handed it.
-//! 4. [`Hub::new`] takes the number of the mailbox from the one counter of this crate, and parts never leave their copy of
-//!    it (`links` in its `Cargo.toml` allows one). So no two mailboxes that could meet have the same number.
+//! 3. Each call takes the handle by `&mut`. So it is in one call at a time. A `&mut` reaches another thread only by
+//!    what makes the earlier call happen before: a lock, a join, a channel, the count of an `Arc`.
+//! 4. The header asks for a number that no other mailbox of the process was given, also none of another copy of the
+//!    archive. [`Hub::new`] takes it from the one counter of this crate, and `links` in its `Cargo.toml` allows one
+//!    copy of the crate in one cargo build. A copy of another build may give the same number. That does no harm:
+//!    `hz_take_back` alone compares numbers, and each part goes back to its own hub.
 //! 5. [`heap`] takes memory from the one allocator of the C library.
 //! 6. A program without `unsafe` code makes no call from a signal handler or from a forked child.
 //!
@@ -22,8 +25,8 @@
 //!   note of it, which the report has.
 //! - `hz_put`: `linked` and `full`. An item is put by `HZ_LINKED` alone. After `HZ_FULL` it is in no lane.
 //!
-//! The first speaks of a report. But at each moment of a run all parts might be handed back and a report made. So no two
-//! consumers are told `HZ_TOOK` of one item in any run, also if nobody makes a report.
+//! The first speaks of a report. But each run can go on until its calls return, all parts are handed back, and a report
+//! is made. So no two consumers are told `HZ_TOOK` of one item in any run, also if nobody makes a report.
 //!
 //! A word is an item of a place in a lane. Two places may hold equal words: a box that was taken and freed leaves its
 //! address to a later one, and boxes of no bytes share an address. Then each of the two is a value of its own.

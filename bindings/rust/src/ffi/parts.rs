@@ -1,5 +1,5 @@
 //! A producer and a consumer of the archive.
-use super::calls::{self, excluded, hz_finish, hz_poll, hz_put};
+use super::calls::{self, excluded, expect_done, hz_finish, hz_poll, hz_put};
 use super::carrier::Carrier;
 use super::handle::Handle;
 use crate::consumer::Poll;
@@ -38,7 +38,9 @@ impl<T> Producer<T> {
     /// Ends the lane.
     pub(crate) fn finish(&mut self) {
         // SAFETY: the rules of calls.
-        unsafe { hz_finish(&mut self.handle) };
+        let code = unsafe { hz_finish(&mut self.handle) };
+        // (`HZ_CLOSED` comes only after a finish, and `crate::Producer` makes one, in its drop)
+        expect_done("hz_finish", code);
     }
 }
 

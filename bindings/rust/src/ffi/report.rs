@@ -1,30 +1,31 @@
 //! A report of the archive, read into one of Rust.
-use super::calls::{self, excluded, hz_report_diary, hz_report_items, hz_report_lane};
-use super::calls::{hz_report_notes, hz_report_size, Diary, Lane};
+use super::calls::{self, excluded, expect_done, hz_report_diary, hz_report_items};
+use super::calls::{hz_report_lane, hz_report_notes, hz_report_size, Diary, Lane};
 use super::carrier::Carrier;
 use super::handle::Handle;
-use crate::report::{self, LaneReport, Note, Report};
+use crate::report::{self, LaneReport, Note};
 
-/// The report, in which each item that is left is a value again.
+/// The diaries of a report, by consumers, and for each by lanes.
+pub(super) fn read_diaries(report: &mut Handle) -> Vec<report::Diary> {
+    let (lanes, consumers) = read_size(report);
+    (0..consumers)
+        .flat_map(|consumer| (0..lanes).map(move |lane| (consumer, lane)))
+        .map(|(consumer, lane)| read_diary(report, consumer, lane))
+        .collect()
+}
+
+/// The lanes of a report, in which each item that is left is a value again. The report is used up.
 ///
 /// # Safety
 /// The handle leads to a report of a mailbox whose items are words that this carrier made, and no other report of it is
 /// read.
-pub(super) unsafe fn read_report<T>(mut handle: Handle, carrier: Carrier<T>) -> Report<T> {
-    let (mut lanes, mut consumers) = (0, 0);
-    // SAFETY: the rules of calls.
-    let answer = unsafe { hz_report_size(&mut handle, &mut lanes, &mut consumers) };
-    expect_done("hz_report_size", answer);
+pub(super) unsafe fn read_lanes<T>(mut report: Handle, carrier: Carrier<T>) -> Vec<LaneReport<T>> {
+    let (lanes, _) = read_size(&mut report);
     // All words are read before the first of them becomes a value.
     let read: Vec<_> = (0..lanes)
-        .map(|lane| read_lane(&mut handle, lane))
+        .map(|lane| read_lane(&mut report, lane))
         .collect();
-    let diaries = (0..consumers)
-        .flat_map(|consumer| (0..lanes).map(move |lane| (consumer, lane)))
-        .map(|(consumer, lane)| read_diary(&mut handle, consumer, lane))
-        .collect();
-    let lanes = read
-        .into_iter()
+    read.into_iter()
         .map(|(lane, left)| LaneReport {
             put: lane.put as usize,
             ended: lane.ended,
@@ -35,43 +36,51 @@ pub(super) unsafe fn read_report<T>(mut handle: Handle, carrier: Carrier<T>) -> 
                 .map(|word| unsafe { carrier.unpack(word) })
                 .collect(),
         })
-        .collect();
-    Report { lanes, diaries }
+        .collect()
+}
+
+/// How many lanes and consumers there are.
+fn read_size(report: &mut Handle) -> (u64, u64) {
+    let (mut lanes, mut consumers) = (0, 0);
+    // SAFETY: the rules of calls.
+    let code = unsafe { hz_report_size(report, &mut lanes, &mut consumers) };
+    expect_done("hz_report_size", code);
+    (lanes, consumers)
 }
 
 /// The numbers of a lane, and the words that are left of it.
-fn read_lane(handle: &mut Handle, lane: u64) -> (Lane, Vec<u64>) {
+fn read_lane(report: &mut Handle, lane: u64) -> (Lane, Vec<u64>) {
     let mut numbers = Lane::default();
     // SAFETY: the rules of calls.
-    let answer = unsafe { hz_report_lane(handle, lane, &mut numbers) };
-    expect_done("hz_report_lane", answer);
+    let code = unsafe { hz_report_lane(report, lane, &mut numbers) };
+    expect_done("hz_report_lane", code);
     let mut left = vec![0; numbers.left as usize];
     let mut copied = 0;
     // SAFETY: the rules of calls. There is room for as many words as the vector has.
-    let answer = unsafe {
+    let code = unsafe {
         let (items, room) = (left.as_mut_ptr(), left.len());
-        hz_report_items(handle, lane, true, 0, items, room, &mut copied)
+        hz_report_items(report, lane, true, 0, items, room, &mut copied)
     };
-    expect_done("hz_report_items", answer);
-    left.truncate(copied as usize);
+    expect_done("hz_report_items", code);
+    assert_eq!(copied as usize, left.len());
     (numbers, left)
 }
 
 /// The notes of a consumer on a lane.
-fn read_diary(handle: &mut Handle, consumer: u64, lane: u64) -> report::Diary {
+fn read_diary(report: &mut Handle, consumer: u64, lane: u64) -> report::Diary {
     let mut numbers = Diary::default();
     // SAFETY: the rules of calls.
-    let answer = unsafe { hz_report_diary(handle, consumer, lane, &mut numbers) };
-    expect_done("hz_report_diary", answer);
+    let code = unsafe { hz_report_diary(report, consumer, lane, &mut numbers) };
+    expect_done("hz_report_diary", code);
     let mut notes = vec![calls::Note::default(); numbers.notes as usize];
     let mut copied = 0;
     // SAFETY: the rules of calls. There is room for as many notes as the vector has.
-    let answer = unsafe {
+    let code = unsafe {
         let (at, room) = (notes.as_mut_ptr(), notes.len());
-        hz_report_notes(handle, consumer, lane, 0, at, room, &mut copied)
+        hz_report_notes(report, consumer, lane, 0, at, room, &mut copied)
     };
-    expect_done("hz_report_notes", answer);
-    notes.truncate(copied as usize);
+    expect_done("hz_report_notes", code);
+    assert_eq!(copied as usize, notes.len());
     report::Diary {
         consumer: consumer as u32,
         lane: lane as u32,
@@ -86,11 +95,5 @@ fn note_of(note: calls::Note) -> Note {
         calls::LOST => Note::Lost(note.value as u32),
         calls::UNDECIDED => Note::Undecided,
         other => excluded("hz_report_notes", other),
-    }
-}
-
-fn expect_done(call: &str, answer: u32) {
-    if answer != calls::DONE {
-        excluded(call, answer)
     }
 }

@@ -1,0 +1,112 @@
+//! Polls of consumers that come to one item together.
+use hazbultra::{Mailbox, Note, Poll, Shape};
+use std::thread;
+
+/// How many accesses a poll makes at most, with so many consumers. The docs of `Consumer::poll` say it.
+const MOST: [(u64, u64); 5] = [(1, 31), (2, 47), (4, 63), (16, 95), (64, 127)];
+
+/// Two consumers in turn, each poll with a budget of three accesses. With other seeds one of them may win.
+#[test]
+fn a_poll_and_its_note_may_be_undecided() {
+    let builder = Mailbox::numbers().consumers(2).pairs(1).shape(Shape::Plain);
+    let mailbox = builder.seed([0; 32]).build().unwrap();
+    let mut producer = mailbox.producer().unwrap();
+    producer.put(7).unwrap();
+    let mut consumers = [mailbox.consumer().unwrap(), mailbox.consumer().unwrap()];
+    let mut ends = [Poll::Spent; 2];
+    while ends.contains(&Poll::Spent) {
+        for (consumer, end) in consumers.iter_mut().zip(&mut ends) {
+            if *end == Poll::Spent {
+                *end = consumer.poll_within(0, 3);
+            }
+        }
+    }
+    assert_eq!(ends, [Poll::Undecided; 2]);
+    drop((producer, consumers));
+    let report = mailbox.gather().unwrap();
+    for consumer in 0..2 {
+        let diary = report.diary(consumer, 0).unwrap();
+        assert_eq!(diary.notes, [Note::Undecided]);
+    }
+    assert_eq!(report.taker(0, 0), None);
+    assert_eq!(report.into_left().collect::<Vec<_>>(), [7]);
+}
+
+/// All consumers come to each item in step, one access after the other. Then each makes what is left of its budget at
+/// once.
+#[test]
+fn consumers_in_step_need_no_larger_budget_than_the_docs_say() {
+    for (count, most) in MOST {
+        let builder = Mailbox::numbers().consumers(count).seed([1; 32]);
+        let mailbox = builder.build().unwrap();
+        let mut producer = mailbox.producer().unwrap();
+        (0..most).for_each(|item| producer.put(item).unwrap());
+        let mut consumers: Vec<_> = (0..count).map(|_| mailbox.consumer().unwrap()).collect();
+        for in_step in 0..most {
+            let mut ends = vec![Poll::Spent; consumers.len()];
+            for budget in (0..in_step).map(|_| 1).chain([most - in_step]) {
+                for (consumer, end) in consumers.iter_mut().zip(&mut ends) {
+                    if *end == Poll::Spent {
+                        *end = consumer.poll_within(0, budget);
+                    }
+                }
+            }
+            // Each has come to the end of this item, and one has taken it.
+            let took = ends.iter().filter(|end| **end == Poll::Took(in_step));
+            assert_eq!(took.count(), 1);
+            assert!(!ends.contains(&Poll::Spent));
+        }
+    }
+}
+
+#[test]
+fn threads_that_contend_need_no_larger_budget_than_the_docs_say() {
+    for (count, most) in MOST {
+        let mailbox = Mailbox::numbers().consumers(count).build().unwrap();
+        let mut producer = mailbox.producer().unwrap();
+        (0..200).for_each(|item| producer.put(item).unwrap());
+        producer.finish();
+        let consumers: Vec<_> = (0..count).map(|_| mailbox.consumer().unwrap()).collect();
+        thread::scope(|scope| {
+            for mut consumer in consumers {
+                scope.spawn(move || loop {
+                    match consumer.poll_within(0, most) {
+                        Poll::Took(_) | Poll::Lost(_) => (),
+                        Poll::Ended => break,
+                        other => panic!("{other:?}"),
+                    }
+                });
+            }
+        });
+        assert_eq!(mailbox.gather().unwrap().into_left().count(), 0);
+    }
+}
+
+#[test]
+fn a_second_consumer_gets_the_item_of_one_that_stopped_or_its_number() {
+    for shape in [Shape::Last, Shape::FastLast] {
+        let (mut by_first, mut by_second) = (0, 0);
+        for budget in 0.. {
+            let builder = Mailbox::numbers().consumers(2).shape(shape);
+            let mailbox = builder.seed([1; 32]).build().unwrap();
+            let mut producer = mailbox.producer().unwrap();
+            producer.put(7).unwrap();
+            let (mut first, mut second) =
+                (mailbox.consumer().unwrap(), mailbox.consumer().unwrap());
+            let stopped = first.poll_within(0, budget);
+            let other = second.poll(0);
+            if let Poll::Took(7) = stopped {
+                assert_eq!(other, Poll::Lost(0));
+                break;
+            }
+            assert_eq!(stopped, Poll::Spent);
+            // The first goes on, and knows the same winner.
+            match (other, first.poll(0)) {
+                (Poll::Lost(0), Poll::Took(7)) => by_first += 1,
+                (Poll::Took(7), Poll::Lost(1)) => by_second += 1,
+                both => panic!("{both:?} after {budget} accesses"),
+            }
+        }
+        assert!(by_first > 0 && by_second > 0, "there were stops of both");
+    }
+}
