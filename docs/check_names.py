@@ -50,7 +50,7 @@ OUTSIDE = set(
     """
     rt ci run test check try start holes plant fmt doc version cd grep rnE rn l LF CR TAB usr bin time a b i k m n o p q s u v w x y
     Rust std HostRuntime Vec String Option Result Some None Ok Err usize u32 u64 Drop Send Sync Clone Copy Allocator
-    Threads Wait Rng SeedableRng seed_from_u64 ChaCha8 ChaCha8Rng Display Debug stdin stdout stderr sh git clone crossbeam_queue SegQueue mpsc main fn use mod mb_NAME earlier widths
+    Threads Wait Rng SeedableRng forever seed_from_u64 ChaCha8 ChaCha8Rng Display Debug stdin stdout stderr sh git clone crossbeam_queue SegQueue mpsc main fn use mod mb_NAME earlier widths
     """.split()
 )
 

@@ -3,6 +3,7 @@ ghost use Rattle.std.specs.Prelude.{◌≤◌};
 
 use clap::builder::ValueParser;
 use clap::{Arg, ArgAction, ArgMatches, Command, Error};
+use mb_quorum::TableName;
 use std::alloc::Global;
 
 /// The most lanes that a mailbox has.
@@ -46,6 +47,15 @@ impl Asked {
                 .unwrap_or(0)
         };
         (before(producer), before(producer.wrapping_add(1)))
+    }
+
+    /// The quorum table. `Middle` has fewer registers than `Bits` for more than four workers.
+    pub fn table(&self) -> TableName {
+        if self.workers > 4 {
+            TableName::Middle
+        } else {
+            TableName::Bits
+        }
     }
 
     /// After how many jobs a worker stops. Together the workers run fewer jobs than there are, so some jobs are left at

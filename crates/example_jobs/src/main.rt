@@ -11,7 +11,6 @@ use anyhow::{Error, Result};
 use asked::{Asked, asked_in};
 use board::Board;
 use mb_mailbox::Mailbox;
-use mb_quorum::TableName;
 use mb_world::Setup;
 use std::io::IsTerminal;
 use std::process::ExitCode;
@@ -31,7 +30,7 @@ fn main(rt: HostRuntime) -> Result<ExitCode> {
         Ok(asked) => run(&rt, &asked, rt.stderr().is_terminal())?,
         Err(error) => {
             error.print(&rt)?;
-            return Ok(ExitCode::from(u8::from(error.use_stderr()) * 2));
+            return Ok(ExitCode::from(error.exit_code() as u8));
         }
     }
     Ok(ExitCode::SUCCESS)
@@ -48,7 +47,7 @@ fn run<R: RandomSource + AllocGlobal + Clock + Print + Eprint + Threads + Sync>(
         asked.workers,
         asked.jobs,
         PAIRS,
-        TableName::Bits,
+        asked.table(),
     )?;
     let (mailbox, mut hub) = Mailbox::new(rt.alloc(), setup)?;
     let board = Board::new(rt.alloc(), asked.jobs, asked.workers)?;

@@ -11,15 +11,11 @@ mod worker;
 use anyhow::Result;
 use board::Board;
 use clap::Error;
-use clap::error::ErrorKind;
 use options::{Options, options_of};
 use schedule::run_all;
 use std::process::ExitCode;
 use std::sync::Wait;
 use std::thread::Threads;
-
-/// The program's status if the command line is refused.
-const REFUSED: u8 = 2;
 
 fn main(rt: HostRuntime) -> Result<ExitCode> {
     let words = std::env::args(&rt)?.collect::<Vec<String>>(rt.alloc())?;
@@ -42,10 +38,6 @@ fn run<R: AllocGlobal + Print + Eprint + Threads + Wait + Sync>(
 
 /// Prints why the command line is refused, or how the program is used if it asks for that.
 fn refuse<R: AllocGlobal + Print + Eprint>(rt: &R, error: &Error) -> Result<ExitCode> {
-    if error.kind() == ErrorKind::DisplayHelp {
-        print!(rt; "{error}")?;
-        return Ok(ExitCode::SUCCESS);
-    }
-    eprint!(rt; "{error}")?;
-    Ok(ExitCode::from(REFUSED))
+    error.print(rt)?;
+    Ok(ExitCode::from(error.exit_code() as u8))
 }

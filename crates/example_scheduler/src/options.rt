@@ -2,6 +2,7 @@
 
 use clap::builder::ValueParser;
 use clap::{Arg, ArgAction, ArgMatches, Command, Error};
+use mb_quorum::TableName;
 use std::alloc::{AllocError, Global};
 use std::convert::AsStr;
 
@@ -20,6 +21,17 @@ pub struct Options {
     pub seed: u64,
     /// After how many jobs a line goes to standard error. If this is 0, no line does.
     pub progress: u64,
+}
+
+impl Options {
+    /// The quorum table. `Middle` has fewer registers than `Bits` for more than four workers.
+    pub fn table(&self) -> TableName {
+        if self.workers > 4 {
+            TableName::Middle
+        } else {
+            TableName::Bits
+        }
+    }
 }
 
 /// An option that takes a number.

@@ -7,7 +7,6 @@ use crate::worker::{CHAIN, Worker};
 use anyhow::Result;
 use mb_claim::Shape;
 use mb_mailbox::OpenGate;
-use mb_quorum::TableName;
 use mb_rounds::Rounds;
 use mb_world::Setup;
 use std::alloc::Global;
@@ -37,7 +36,7 @@ fn begin(alloc: Global, options: &Options) -> Result<(Rounds<Global>, Vec<Worker
         options.workers,
         options.cells,
         PAIRS,
-        TableName::Bits,
+        options.table(),
     )?;
     let mut workers = Vec::new(alloc);
     for _ in 0..options.workers {
@@ -113,7 +112,7 @@ fn run_round<R: AllocGlobal + Threads + Wait + Sync>(
         },
     );
     for worker in workers.iter_mut() {
-        rounds.hand_in(worker.put()?)?;
+        rounds.hand_in(worker.further()?)?;
         worker.forget();
     }
     Ok(())

@@ -47,7 +47,7 @@ impl Worker {
     }
 
     /// The further jobs that were put since the last `forget`. The error is that there was no memory for one of them.
-    pub fn put(&self) -> Result<&[u64], AllocError> {
+    pub fn further(&self) -> Result<&[u64], AllocError> {
         if self.refused {
             return Err(AllocError);
         }

@@ -19,8 +19,8 @@ use std::marker::Model;
 pub enum Poll {
     /// The consumer has won the item at which it stood, and has loaded this value.
     Took(u64),
-    /// No consumer but this other one can win the item at which it stood. That one may not have won it yet, or may
-    /// end undecided.
+    /// No consumer but the one of this number, from 0 on, can win the item at which it stood. That one may not have won
+    /// it yet, or may end undecided.
     Lost(u32),
     /// This consumer's claim on the item at which it stood ended undecided: another may have won it, or nobody.
     Undecided,

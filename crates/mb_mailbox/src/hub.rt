@@ -95,7 +95,8 @@ impl<A: Allocator + Drop> Hub<A> {
     }
 
     /// Gives the producer of the next lane, which has put nothing. Numbers are given in order, from 0 on.
-    /// [`HubFault::AllGiven`] comes exactly if each lane of the mailbox was given, and is decided first.
+    /// [`HubFault::AllGiven`] comes exactly if each lane of the mailbox was given, and is decided first. Any other error
+    /// is [`HubFault::NoMemory`]. After an error nothing has changed.
     pub fn producer<B: Allocator + Drop>(
         &mut self,
         alloc: A,
@@ -184,7 +185,8 @@ impl<A: Allocator + Clone + Drop> Hub<A> {
     ghost use Rattle.mb_mailbox.specs.Hubs.{IsHubOf, IsNewConsumer, with_consumer};
 
     /// Gives the consumer of the next number, which has done nothing. Numbers are given in order, from 0 on.
-    /// [`HubFault::AllGiven`] comes exactly if all numbers of the mailbox were given, and is decided first.
+    /// [`HubFault::AllGiven`] comes exactly if all numbers of the mailbox were given, and is decided first. Any other
+    /// error is [`HubFault::NoMemory`]. After an error nothing has changed.
     pub fn consumer<B: Allocator + Drop>(
         &mut self,
         alloc: A,

@@ -79,8 +79,10 @@ pub fn diaries_are_outlined()
     // Consumer 0 has a note, and consumer 1 was not taken in.
     ensures whole { (h : HubView) → h.ledgers ≡ Some (ledger_with (Undecided ∷ [])) ∷ None ∷ []
         → AreDiaries 1 h 2 (diary_of 0 (Undecided ∷ []) ∷ diary_of 1 [] ∷ []) }
-    ensures both_lanes { (h : HubView) → h.ledgers ≡ Some (record { places = [];
-            notes = (Undecided ∷ []) ∷ (Took 7 ∷ []) ∷ [] }) ∷ None ∷ []
+    ensures both_lanes { (h : HubView) → h.ledgers ≡ Some (record {
+      places = [];
+      notes = (Undecided ∷ []) ∷ (Took 7 ∷ []) ∷ [];
+    }) ∷ None ∷ []
         → AreDiaries 2 h 2 (diary_of 0 (Undecided ∷ []) ∷ diary_on 0 1 (Took 7 ∷ []) ∷ []) }
     ensures forgotten { (h : HubView) → h.ledgers ≡ Some (ledger_with (Undecided ∷ [])) ∷ None ∷ []
         → AreDiaries 1 h 1 (diary_of 0 [] ∷ []) → ⊥ }
