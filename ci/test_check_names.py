@@ -1,11 +1,12 @@
 """Tests of docs/check_names.py, as far as its functions stand alone."""
 import os
 import sys
+import tempfile
 import unittest
 
 sys.path.insert(0, os.path.join(os.path.dirname(os.path.abspath(__file__)), "..", "docs"))
 
-from check_names import edits_not_named, lengths_over, lines, parts_of, sections_of, shows
+from check_names import edits_not_named, files_below, lengths_over, lines, links_not_found, parts_of, sections_of, shows
 
 SOURCE = """fn main() {
     // One.
@@ -14,6 +15,34 @@ SOURCE = """fn main() {
     let two = 2;
 }
 """
+
+
+class Files(unittest.TestCase):
+    def setUp(self):
+        room = tempfile.TemporaryDirectory()
+        self.addCleanup(room.cleanup)
+        self.top = room.name
+
+    def write(self, path, text=""):
+        os.makedirs(os.path.dirname(f"{self.top}/{path}"), exist_ok=True)
+        with open(f"{self.top}/{path}", "w", encoding="utf-8") as file:
+            file.write(text)
+        return f"{self.top}/{path}"
+
+    def test_what_tools_leave_is_no_source(self):
+        kept = self.write("ci/parts.py")
+        self.write("ci/__pycache__/parts.cpython-311.pyc")
+        self.write("crates/mb_one/out/rlib/lib.rt")
+        self.assertEqual(list(files_below(self.top)), [kept])
+
+    def test_a_link_has_to_lead_to_a_file_and_a_heading(self):
+        self.write("docs/OTHER.md", "# Its title\n")
+        page = self.write("README.md", "# The page\n\n## A heading, of `code`\n")
+        good = "[a](docs/OTHER.md), [b](docs/OTHER.md#its-title), [c](#a-heading-of-code), [d](https://example.org/#any)"
+        self.assertEqual(list(links_not_found(page, good)), [])
+        bad = "[a](docs/GONE.md), [b](docs/OTHER.md#the-page), [c](#its-title)"
+        found = ["the link docs/GONE.md#", "the link docs/OTHER.md#the-page", "the link #its-title"]
+        self.assertEqual(list(links_not_found(page, bad)), found)
 
 
 class Shown(unittest.TestCase):

@@ -3,23 +3,25 @@
 
 The pages are README.md, CONTRIBUTING.md and CHANGELOG.md, those of docs/, bench/ and bindings/, and the README of each crate and of
 the examples.
-A name is a word between backticks, but for words of capitals alone, which stand for others. It is found where the
-code, the definitions, the proofs, the examples or the names of files have it, comments aside. Further:
+A name is a word between backticks, but for words of capitals alone, which stand for others. It is found if the code, the
+definitions, the proofs or the names of files of crates/ have it. Comments do not count there. They do in all else that is
+searched: crates.txt, HANDLES, `mailbox`, ci/, bench/, and the files of examples/, docs/ and bindings/ that are no pages.
+Further:
   - a path has to be the end of the path of a file or folder;
   - in `crate::..::name`, and in `Type::name` of a crate's own page or section, that crate has to have the last word;
   - in "`name` in `specs/File.antt`" one of the files named there has to have the name;
   - in "`function`: `clause`" a function of that name has to have that clause;
-  - a block of Rust has to stand, line by line, in a source file, with all comments of that file or with none; where it
+  - a block of Rust has to stand, line by line, in a source file, with all comments of that file or with none. If it
     has signatures alone, each of them has to. (Those of bindings/ are compiled and run by cargo.)
 It also looks whether docs/PROMISES.md names each mutant of crates/*/must-fail and crates/*/mutants, in the section of its crate
 if there is one. It looks whether `examples/script` prints the script of each example, and whether each sample of a page, and of
 the program's help, is what an example has:
-  - behind a line `$ COMMAND` stands what that command prints, be it a script, an output, or the first or last lines of one;
-    and behind `$ cd crates/NAME && rt run` what the `stdout` of that program has;
+  - after a line `$ COMMAND` stands what that command prints, be it a script, an output, or the first or last lines of one;
+    and after `$ cd crates/NAME && rt run` what the `stdout` of that program has;
   - lines without a command, of which one begins with a word of scripts or outputs, are the first or last lines of one.
 Of README.md it counts the lines and the words, and of every page the words of each sentence and the columns of each line of
 prose (`ci/lengths.py`).
-The status is 0 where all was found, and else 1.
+The status is 0 if all was found, and else 1.
 """
 import os
 import re
@@ -62,7 +64,7 @@ def read(path):
 
 def files_below(folder):
     for at, folders, names in os.walk(folder):
-        folders[:] = sorted(it for it in folders if it not in ("out", ".git", "target", "build"))
+        folders[:] = sorted(it for it in folders if it not in ("out", ".git", "target", "build", "__pycache__"))
         for name in sorted(names):
             yield os.path.join(at, name)
 
@@ -150,13 +152,18 @@ def lines(text):
     return [it.strip() for it in text.splitlines() if it.strip()]
 
 
+def links_not_found(page, text):
+    for target, heading in re.findall(r"\]\(([^)#]*)#?([^)]*)\)", text):
+        # (a link without a target leads to a heading of its own page)
+        path = f"{os.path.dirname(page)}/{target}" if target else page
+        if "://" not in target and (not os.path.exists(path) or heading and heading not in headings_of(path)):
+            yield f"the link {target}#{heading}"
+
+
 def faults_of(page, sources):
     crate = crate_of(page)
     blocks, text = blocks_of(read(page))
-    for target, heading in re.findall(r"\]\(([^)#]+)#?([^)]*)\)", text):
-        path = f"{os.path.dirname(page)}/{target}"
-        if "://" not in target and (not os.path.exists(path) or heading and heading not in headings_of(path)):
-            yield f"the link {target}#{heading}"
+    yield from links_not_found(page, text)
     for section, part in sections_of(text, sources.words).items():
         for span in re.findall(r"`([^`\n]+)`", part):
             yield from faults_of_span(span, section or crate, sources)
@@ -247,7 +254,7 @@ def scripts_not_printed(known):
 
 
 def printed_by(command, known):
-    """The lines that a command of a page prints by the examples, or None where they have no such command."""
+    """The lines that a command of a page prints by the examples, or None if they have no such command."""
     # The program that is run without a proof prints the same.
     command = re.sub(r"\(cd crates/mailbox_main && rt try -- ([^)]*)\)", r"./mailbox \1", command)
     text = []
