@@ -8,6 +8,7 @@
 Each picture of docs/pictures is that of the example of its name, byte by byte. The picture of every other example that is no
 fault has to be well-formed XML, with a title and a description. An example with a fault gets the line and the status that
 `mailbox` gives it, and no picture. The last runs are those that only a process meets: a full device, a directory to read from.
+A build that is missing counts as failed.
 The last line is `N passed, N failed`, and the status is 0 if none failed.
 """
 import argparse
@@ -92,16 +93,15 @@ def main(words):
     asked.add_argument("--program", action="append", help="a build of the program")
     asked.add_argument("--write", action="store_true", help="write docs/pictures anew, by the first build")
     given = asked.parse_args(words)
-    programs = given.program or [it for it in (f"{OUT}/{name}" for name in BUILDS) if os.path.isfile(it)]
-    if not programs:
-        print(f"there is no program in {OUT}: `rt ci` leaves it there")
-    elif given.write:
-        write(programs[0], kept())
-    pictures, passed, failed = kept(), 0, 0
+    programs = given.program or [f"{OUT}/{name}" for name in BUILDS]
+    found = run_program.standing(programs, "`rt ci` leaves both builds there")
+    if given.write and found:
+        write(found[0], kept())
+    pictures, passed, failed = kept(), 0, len(programs) - len(found)
     strays = pictures.keys() - {it.name for it in drawn() if not it.status}
     for name in sorted(strays):
         print(f"docs/pictures/{name}.svg: no example has this name")
-    for program in programs:
+    for program in found:
         runs = [(it, told_of(program, it, pictures)) for it in drawn()]
         for run, told in runs + [(it, run_program.differences(program, it)) for it in ends()]:
             if told:

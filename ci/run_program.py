@@ -7,7 +7,8 @@
 `main` has no contract: it hands the words of the command line and the standard streams to a function that has one, and ends with
 the status of its answer. So each example of crates/test_program/src/examples is run here once more, from `main` on. Then comes
 what only a process can meet: a full device, a directory to read from, a word that is no UTF-8, a thread that is refused, memory
-that is refused, and a terminal.
+that is refused, and a terminal. A build that is missing counts as failed. A run whose limit cannot be set here says that
+it was skipped, and counts as neither passed nor failed.
 The last line is `N passed, N failed`, and the status is 0 if none failed.
 """
 import argparse
@@ -92,6 +93,17 @@ def ends():
     ]
 
 
+def limits_of(run):
+    """The limits that a run sets, each with its size."""
+    return [it for it in ((resource.RLIMIT_STACK, run.stack), (resource.RLIMIT_DATA, run.data)) if it[1]]
+
+
+def can_be_made(run):
+    """Whether a run's limits can be set here. A container may have a lower hard limit, and no process goes above it."""
+    hard = [(size, resource.getrlimit(kind)[1]) for kind, size in limits_of(run)]
+    return all(most == resource.RLIM_INFINITY or size <= most for size, most in hard)
+
+
 def opened(stream, how):
     """What a process is handed for a stream: a pipe for bytes, and for a path what stands there, also if it is a directory."""
     return os.open(stream, how) if isinstance(stream, str) else subprocess.PIPE
@@ -100,9 +112,8 @@ def opened(stream, how):
 def differences(program, run):
     """What the program does otherwise than the run says, in words."""
     def limit():
-        for kind, size in ((resource.RLIMIT_STACK, run.stack), (resource.RLIMIT_DATA, run.data)):
-            if size:
-                resource.setrlimit(kind, (size, resource.getrlimit(kind)[1]))
+        for kind, size in limits_of(run):
+            resource.setrlimit(kind, (size, resource.getrlimit(kind)[1]))
 
     streams = [opened(run.input, os.O_RDONLY), opened(run.output, os.O_WRONLY), opened(run.error, os.O_WRONLY)]
     try:
@@ -124,32 +135,56 @@ def differences(program, run):
     return told
 
 
+def all_said(terminal):
+    """All that was written to a terminal. One read may give a part of it."""
+    said = b""
+    try:
+        while part := os.read(terminal, 4096):
+            said += part
+    except OSError:  # (Linux ends a terminal so once nobody has its other side open)
+        pass
+    return said
+
+
 def at_a_terminal(program):
     """What the program does otherwise than it must if standard error is a terminal: there the words for a person follow."""
     ours, its = pty.openpty()
     started = subprocess.run([program, "replay"], input=BAD_SCRIPT, stdout=subprocess.PIPE, stderr=its, timeout=LIMIT)
     os.close(its)
-    try:
-        said = os.read(ours, 4096).replace(b"\r\n", b"\n")
-    except OSError:  # (nothing was written)
-        said = b""
-    finally:
-        os.close(ours)
+    said = all_said(ours).replace(b"\r\n", b"\n")
+    os.close(ours)
     if (started.returncode, started.stdout, said) == (2, b"", BAD_LINE + IN_WORDS):
         return []
     return [f"status {started.returncode}, standard output {started.stdout[:80]!r}, standard error {said[:200]!r}"]
 
 
+def standing(programs, who):
+    """The builds that stand there, after a word on each that does not, with who leaves it there."""
+    found = [it for it in programs if os.path.isfile(it)]
+    for it in programs:
+        if it not in found:
+            print(f"{it} is missing: {who}")
+    return found
+
+
+def results(program):
+    """Each run by its name, and what the program does otherwise than it must. A run that cannot be made here says so."""
+    for run in [*examples(), *ends()]:
+        if can_be_made(run):
+            yield run.name, differences(program, run)
+        else:
+            print(f"{os.path.basename(program)}: {run.name}: SKIPPED: a hard limit here is lower than the limit that it sets")
+    yield "a fault at a terminal", at_a_terminal(program)
+
+
 def main(words):
     asked = argparse.ArgumentParser(description=__doc__, formatter_class=argparse.RawDescriptionHelpFormatter)
     asked.add_argument("--program", action="append", help="a build of the program")
-    programs = asked.parse_args(words).program or [it for it in (f"{OUT}/{name}" for name in BUILDS) if os.path.isfile(it)]
-    if not programs:
-        print(f"there is no program in {OUT}: `rt ci` leaves it there, and so does a first ./mailbox")
-    passed = failed = 0
-    for program in programs:
-        runs = [(run.name, differences(program, run)) for run in [*examples(), *ends()]]
-        for name, told in [*runs, ("a fault at a terminal", at_a_terminal(program))]:
+    programs = asked.parse_args(words).program or [f"{OUT}/{name}" for name in BUILDS]
+    found = standing(programs, "`rt ci` leaves both builds there, and `./mailbox --build` the first")
+    passed, failed = 0, len(programs) - len(found)
+    for program in found:
+        for name, told in results(program):
             if told:
                 print(f"{os.path.basename(program)}: {name}: {'; '.join(told)}")
             passed, failed = passed + (not told), failed + bool(told)

@@ -4,6 +4,7 @@ import io
 import os
 import tempfile
 import unittest
+from unittest import mock
 
 import pictures
 from run_program import Run
@@ -71,11 +72,17 @@ class Whole(unittest.TestCase):
         self.assertEqual((status, out.getvalue().splitlines()[-1]), (1, f"0 passed, {runs} failed"))
 
     def test_nothing_to_run_is_a_failure(self):
-        old, pictures.BUILDS = pictures.BUILDS, ()
-        with contextlib.redirect_stdout(io.StringIO()) as out:
+        with mock.patch.object(pictures, "BUILDS", ()), contextlib.redirect_stdout(io.StringIO()) as out:
             status = pictures.main([])
-        pictures.BUILDS = old
         self.assertEqual((status, out.getvalue().splitlines()[-1]), (1, "0 passed, 1 failed"))
+
+    def test_each_build_that_is_missing_has_failed(self):
+        with tempfile.TemporaryDirectory() as folder, mock.patch.object(pictures, "OUT", folder):
+            with contextlib.redirect_stdout(io.StringIO()) as out:
+                status = pictures.main(["--write"])
+        *said, last = out.getvalue().splitlines()
+        self.assertEqual([it.partition(":")[0] for it in said], [f"{folder}/{it} is missing" for it in pictures.BUILDS])
+        self.assertEqual((status, last), (1, "0 passed, 2 failed"))
 
 
 if __name__ == "__main__":

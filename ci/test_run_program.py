@@ -2,8 +2,11 @@
 import contextlib
 import io
 import os
+import pty
+import resource
 import tempfile
 import unittest
+from unittest import mock
 
 import run_program
 from run_program import Run
@@ -71,12 +74,41 @@ class Whole(unittest.TestCase):
     def test_a_string_of_rust(self):
         self.assertEqual(run_program.text_of("\\\n    lane 0\nleft é\\n"), "lane 0\nleft é\n".encode())
 
-    def test_nothing_to_run_is_a_failure(self):
-        old, run_program.BUILDS = run_program.BUILDS, ()
+    def run_main(self, *words):
+        """The lines that the script prints. It fails in each of these tests."""
         with contextlib.redirect_stdout(io.StringIO()) as out:
-            status = run_program.main([])
-        run_program.BUILDS = old
-        self.assertEqual((status, out.getvalue().splitlines()[-1]), (1, "0 passed, 1 failed"))
+            self.assertEqual(run_program.main(words), 1)
+        return out.getvalue().splitlines()
+
+    def test_nothing_to_run_is_a_failure(self):
+        with mock.patch.object(run_program, "BUILDS", ()):
+            self.assertEqual(self.run_main(), ["0 passed, 1 failed"])
+
+    def test_each_build_that_is_missing_has_failed(self):
+        with tempfile.TemporaryDirectory() as folder, mock.patch.object(run_program, "OUT", folder):
+            said = self.run_main()
+            self.assertEqual([it.partition(":")[0] for it in said[:-1]], [f"{folder}/{it} is missing" for it in run_program.BUILDS])
+            self.assertEqual(said[-1], "0 passed, 2 failed")
+            with mock.patch.object(run_program, "results", lambda program: [("a run", [])]):
+                said = self.run_main("--program", "/bin/true", "--program", f"{folder}/none")
+        self.assertEqual((len(said), said[-1]), (2, "1 passed, 1 failed"))
+
+    def test_a_run_whose_limit_cannot_be_set_is_skipped(self):
+        with mock.patch.object(resource, "getrlimit", lambda kind: (1 << 23, 1 << 45)):
+            with mock.patch.object(run_program, "differences", lambda program, run: []):
+                with mock.patch.object(run_program, "at_a_terminal", lambda program: ["wrong"]):
+                    said = self.run_main("--program", "/bin/true")
+        self.assertEqual([it.partition(": a hard")[0] for it in said[:-2]], ["true: no thread: SKIPPED"])
+        self.assertEqual(said[-1], f"{len(run_program.examples()) + len(run_program.ends()) - 1} passed, 1 failed")
+
+    def test_all_that_a_terminal_was_given(self):
+        ours, its = pty.openpty()
+        # (one read gives what was there when it began, and no more than it asks for)
+        with mock.patch.object(os, "read", lambda file, size, read=os.read: read(file, min(size, 3))):
+            os.write(its, b"fault 3")
+            os.close(its)
+            self.assertEqual(run_program.all_said(ours), b"fault 3")
+        os.close(ours)
 
     def test_a_terminal_gets_the_words(self):
         both = (run_program.BAD_LINE + run_program.IN_WORDS).decode()
@@ -89,10 +121,9 @@ class Whole(unittest.TestCase):
             self.assertEqual(run_program.at_a_terminal(program), [])
 
     def test_what_failed_is_counted(self):
-        with contextlib.redirect_stdout(io.StringIO()) as out:
-            status = run_program.main(["--program", "/bin/false"])
-        runs = len(run_program.examples()) + len(run_program.ends()) + 1  # (at a terminal)
-        self.assertEqual((status, out.getvalue().splitlines()[-1]), (1, f"0 passed, {runs} failed"))
+        said = self.run_main("--program", "/bin/false")
+        runs = [*run_program.examples(), *filter(run_program.can_be_made, run_program.ends()), "at a terminal"]
+        self.assertEqual(said[-1], f"0 passed, {len(runs)} failed")
 
 
 if __name__ == "__main__":
