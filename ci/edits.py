@@ -8,8 +8,7 @@ from collections import Counter
 # would go on for long after all others.
 MOST = 12
 FUNCTION = re.compile(r'^ *(?:pub(?:\([\w ]+\))? )?(?:const |final |ghost |unsafe |extern "C" )*fn (\w+)', re.M)
-
-
+IMPORT = re.compile(r"use ([\w:]+)::(?:(\w+)|\{([\w:, ]+)\});")
 # Whose the methods below are: of `impl TRAIT for TYPE` or `impl TYPE` these names, and of a trait its own.
 OWNER = re.compile(r"^(?:pub )?(?:impl|trait)\b(?:<[^{]*?>)? *(?:([\w:]+)(?:<[^{]*?>)? for )?&?(?:'\w+ )?([\w:]+)", re.M)
 
@@ -41,24 +40,43 @@ class Edit:
             if texts[path].count(old) != 1:
                 raise Fault(f"the text `{old}` is in {path} {texts[path].count(old)} times, and not once")
             if self.function and not self.alone:
-                self.stay_inside(texts[path], old)
+                self.stay_inside(texts[path], old, new)
             texts[path] = texts[path].replace(old, new)
         return texts
 
-    def stay_inside(self, text, old):
-        """Stops at an old text of another function, unless it is of an import."""
+    def stay_inside(self, text, old, new):
+        """Stops at an old text of another function or of none, unless its edit only adds names to an import.
+
+        Any other edit of an import may change what a name means to other functions of the module."""
         start = text.index(old)
-        if text[text.rfind("\n", 0, start) + 1 :].startswith("use "):
+        line = text[text.rfind("\n", 0, start) + 1 :].partition("\n")[0]
+        if imported(line) and imported(line) <= imported(line.replace(old, new)):
             return
         above = list(FUNCTION.finditer(text[: start + len(old)]))
         *_, owner, name = self.function.split("::")
         if not above or above[-1][1] != name:
             near = f"in or below `fn {above[-1][1]}`" if above else "above each function"
             raise Fault(f"`{old}` is {near}, and not in {self.function}: correct the name, or say `alone: WHY`")
+        if has_ended(above[-1], text, start):
+            raise Fault(f"`{old}` is below `fn {name}`, which ends above it: correct the text, or say `alone: WHY`")
         owners = OWNER.findall(text[: above[-1].start()]) if above[-1][0].startswith(" ") else []
         for it in owners[-1:] and owners[-1]:
             if it.split("::")[-1] not in owner:
                 raise Fault(f"`fn {name}` is a method of {it}, and not of {owner}: correct the name")
+
+
+def imported(line):
+    """The whole paths that a line imports, or nothing if it is no line of one import."""
+    found = IMPORT.fullmatch(line)
+    return {f"{found[1]}::{it.strip()}" for it in (found[2] or found[3]).split(",")} if found else set()
+
+
+def has_ended(head, text, start):
+    """Whether the function of this head ends before the place, by a brace in the head's indent.
+
+    A brace in a smaller indent ends what the function is in: a method of a trait may have no body."""
+    indent = len(head[0]) - len(head[0].lstrip())
+    return bool(re.compile(rf"^ {{0,{indent}}}\}}", re.M).search(text, head.end(), start))
 
 
 def read_lines(text, words):

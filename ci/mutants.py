@@ -5,7 +5,8 @@ A mutant is a crate with one mistake in it, written as a file NAME.edit of these
     refuses: CRATE::MODULE::FUNCTION   the function whose own contract has to refuse the mistake
     alone: WHY                         only if it cannot be judged beside other mutants
     file: src/FILE.rt                  then `old: TEXT` and `new: TEXT`: the old text stands once in that file,
-                                       and in that function, or in an import, if there is no `alone:`
+                                       and in that function, if there is no `alone:`
+An edit that only adds names to an import may stand above the function.
 A control is a file NAME.control with `proves:` in place of `refuses:`. It changes nothing that matters, so its
 function has to come out proved. Each crate with mutants has one, and it stands in the first check of the crate. It shows
 that a check does not refuse everything. The other checks show it by the functions that the mutants call.
@@ -240,11 +241,17 @@ class Trials:
                     it.result()
                     if name not in [*running.values(), *(other.crate.name for other in left)]:
                         shutil.rmtree(f"{room}/{name}", ignore_errors=True)
-        for task in self.killed[:]:
-            self.try_task(task, is_last=True)
+        self.repeat_killed()
         for label, ends in sorted(self.controls.items()):
             word = "proved" if any(ends) else "NOT PROVED"
             self.report.tell(label, any(ends), word, f"in {sum(ends)} of the {len(ends)} checks that it stood in")
+
+    def repeat_killed(self):
+        """Tries each task whose check was killed, one at a time. It waits for rt ci, which may have taken the memory."""
+        while self.killed and is_held(self.beside):
+            time.sleep(PAUSE)
+        for task in self.killed[:]:
+            self.try_task(task, is_last=True)
 
     def with_libraries(self, tasks):
         """The tasks whose libraries stand there, after a word on each crate whose libraries do not."""

@@ -105,8 +105,23 @@ class Applying(WithCrate):
         self.stops(edit("WordsRead::f"))
         self.stops(edit("Words::g", old="3"))
 
-    def test_an_import_or_alone_stands_outside(self):
-        edit("f", old="a::seven", new="a::eight").applied(self.folder, {})
+    def test_what_is_below_a_function_is_not_in_it(self):
+        trait = "trait Read {\n    fn k() -> u64;\n}\n\nconst FIVE: u64 = 5;\n"
+        self.write("src/values.rt", "fn f()\n    ensures {\n        9\n    }\n{\n    1\n}\n\nconst FOUR: u64 = 4;\n" + trait)
+        edit("f", old="9").applied(self.folder, {})
+        edit("f").applied(self.folder, {})
+        self.stops(edit("f", old="= 4;", new="= 5;"))
+        self.stops(edit("Read::k", old="= 5;", new="= 6;"))
+        edit("f", old="= 4;", new="= 5;", alone="a constant").applied(self.folder, {})
+
+    def test_a_name_that_is_added_to_an_import_stands_outside(self):
+        edit("f", old="a::seven", new="a::{eight, seven}").applied(self.folder, {})
+        for new in ("a::eight", "b::seven", "a::{eight as seven}", "a::{seven as eight, eight as seven}", "b::seven; // a::seven"):
+            self.stops(edit("f", old="a::seven", new=new))
+        self.stops(edit("f", old="a::sev", new="a::{sev, b::sev"))
+        edit("f", old="a::seven", new="a::eight", alone="an import").applied(self.folder, {})
+
+    def test_one_that_goes_alone_stands_outside(self):
         edit("f", old="FOUR: u64 = 4", new="FOUR: u64 = 5", alone="a constant").applied(self.folder, {})
 
 

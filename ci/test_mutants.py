@@ -264,6 +264,7 @@ class Beside(WithKit):
         timer = threading.Timer(seconds, lambda: (done.append(len(self.tried())), action()))
         timer.start()
         self.addCleanup(timer.join)
+        self.addCleanup(timer.cancel)
         return done
 
     def tried(self):
@@ -271,7 +272,7 @@ class Beside(WithKit):
 
     def test_a_library_that_is_made_meanwhile(self):
         made = self.later(0.5, lambda: os.makedirs(f"{self.top}/crates/mb_low/out/rlib"))
-        ended = self.later(2, lambda: fcntl.flock(self.lock, fcntl.LOCK_UN))
+        ended = self.later(30, lambda: fcntl.flock(self.lock, fcntl.LOCK_UN))
         self.ends(0, "3 passed, 0 failed", words=["--beside"])
         # (rt ci was still running then)
         self.assertEqual((made, ended), ([0], []))
@@ -280,6 +281,21 @@ class Beside(WithKit):
         ended = self.later(0.5, lambda: fcntl.flock(self.lock, fcntl.LOCK_UN))
         self.ends(1, "0 passed, 2 failed", "mb_a: NOT TRIED: a library below it is not proved", words=["--beside"])
         self.assertEqual((ended, self.tried()), ([0], []))
+
+    def test_a_check_that_was_killed_waits_for_the_end_of_rt_ci(self):
+        self.mutant("g.edit", text_of("values::g", "2", "wrong once"))
+        os.makedirs(f"{self.top}/crates/mb_low/out/rlib")
+        held, check = [], mutants.check
+
+        def checked(*given):
+            held.append(mutants.is_held(self.lock.name))
+            if len(held) == 1:
+                self.later(0.5, lambda: fcntl.flock(self.lock, fcntl.LOCK_UN))
+            return check(*given)
+
+        self.patch(mock.patch.object(mutants, "check", checked))
+        self.ends(0, "3 passed, 0 failed", "mb_a: a check was killed", words=["--beside"])
+        self.assertEqual(held, [True, False])
 
     def test_what_stands_in_out_is_not_taken(self):
         # (rt may be writing there)
