@@ -12,7 +12,8 @@ PROGRAM = "crates/mailbox_main/out/mailbox_main"
 ROOM = "MemTotal: 24000000 kB\nMemAvailable: 13000000 kB\n"
 # The crates that stand there: those that the script names, and one whose source may be newer.
 CRATES = ("mailbox_main", "mb_quorum", "mb_shared_cells", "mb_shared_claims")
-# It says what it was asked, and `rt run` leaves a program that says what it is asked. `rt lib` says how far it is.
+# It says what it was asked, and `rt run` leaves a program that says what it is asked, and a copy of a source. `rt lib` says
+# how far it is.
 RT = """#!/bin/sh
 if [ "$1" = lib ]; then
     echo "rt: chose --jobs 2 for $(basename "$PWD")"
@@ -24,7 +25,9 @@ elif [ "$1" = run ]; then
     echo 'so far: 2 of 9 functions checked; the verdict comes last'
     echo 'fn mb_quorum::table::Table::new: proved'
     [ "${BROKEN-}" != run ] || exit 1
-    mkdir -p out
+    [ -z "${EDITED-}" ] || { sleep 0.1; touch "$EDITED"; sleep 0.1; }
+    mkdir -p out/rlib
+    touch out/rlib/lib.rt
     printf '#!/bin/sh\\necho "built $*"\\ncat\\n' >out/mailbox_main
     chmod +x out/mailbox_main
 else
@@ -86,6 +89,15 @@ class TheScript(unittest.TestCase):
         self.assertEqual((status, said), (0, "built ratify\nscript\n"))
         self.assertIn("stale", errors)
 
+    def test_an_edit_during_the_build_makes_it_stale(self):
+        edited = f"{self.top}/crates/mb_quorum/src/lib.rt"
+        self.run_it("--build", EDITED=edited)
+        self.assertIn(f"stale: {edited} is newer", self.run_it("ratify")[2])
+        self.run_it("--build")
+        self.assertEqual(self.run_it("ratify")[2], "")
+        left = sorted(os.listdir(os.path.dirname(f"{self.top}/{PROGRAM}")))
+        self.assertEqual(left, ["building.minutes", "building.txt", "mailbox_main", "rlib"])
+
     def test_with_room_two_libraries_are_proved_side_by_side(self):
         self.have_processors(2)
         for broken in ("", "lib"):
@@ -104,8 +116,9 @@ class TheScript(unittest.TestCase):
         with subprocess.Popen([f"{self.top}/mailbox", "--build"], env=self.environment(SLOW="yes"), **how) as script:
             # Each says how far it is when it has begun.
             begun = 0
-            while begun < 2:
-                begun += "of 3 functions" in script.stderr.readline()
+            while begun < 2 and (line := script.stderr.readline()):
+                begun += "of 3 functions" in line
+            self.assertEqual(begun, 2)
             os.killpg(script.pid, signal.SIGINT)
             # This waits until nobody is left that could write there.
             script.communicate(timeout=20)
