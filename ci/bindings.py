@@ -37,6 +37,8 @@ SANITIZED = "-O1 -fsanitize=address,undefined -fno-sanitize-recover=all".split()
 MEMCHECK = "valgrind --quiet --error-exitcode=9 --leak-check=full --fair-sched=yes".split()
 EXAMPLES = ("one_letter", "two_threads", "job_queue", "rounds", "many_boxes")
 LIMIT = 1800  # seconds for one command
+# Seconds for a build that proves all libraries first. That took 48 minutes of one processor.
+LIMIT_OF_PROOFS = 3 * 3600
 
 
 class Failed(Exception):
@@ -80,14 +82,14 @@ def want(*names):
             raise Skipped(f"there is no {name} on the PATH")
 
 
-def run(*words, folder=TOP, **more):
-    """Runs a command, and returns what it printed on standard output."""
+def run(*words, folder=TOP, limit=LIMIT, **more):
+    """Runs a command for so many seconds at most, and returns what it printed on standard output."""
     try:
         done = subprocess.run(
-            words, cwd=folder, env={**os.environ, **more}, text=True, errors="replace", capture_output=True, timeout=LIMIT, check=False
+            words, cwd=folder, env={**os.environ, **more}, text=True, errors="replace", capture_output=True, timeout=limit, check=False
         )
     except subprocess.TimeoutExpired as error:
-        raise Failed(f"{' '.join(words)}: no end after {LIMIT} seconds") from error
+        raise Failed(f"{' '.join(words)}: no end after {limit} seconds") from error
     if done.returncode:
         said = "\n".join([*done.stdout.splitlines()[-30:], *done.stderr.splitlines()[-30:]])
         raise Failed(f"{' '.join(words)}: status {done.returncode}\n{said}")
@@ -129,7 +131,7 @@ def built_archive():
     want("rt")
     if not os.path.isdir(CRATE):
         raise Failed("there is no crates/hazbultra")
-    run("rt", "lib", "--jobs", os.environ.get("RT_JOBS", "1"), folder=CRATE)
+    run("rt", "lib", "--jobs", os.environ.get("RT_JOBS", "1"), folder=CRATE, limit=LIMIT_OF_PROOFS)
     return f"{CRATE}/out/libhazbultra.a"
 
 

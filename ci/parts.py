@@ -5,7 +5,8 @@ usage: ci/parts.py 'NAME: COMMAND' ..     at the top of the repository
        ci/parts.py .. 'NAME, from EARLIER on: COMMAND' ..
 
 A part of the second form begins together with the part EARLIER. What it prints is held back until its turn. As long as
-EARLIER runs, the lock of the file that the variable CI_BESIDE names is held.
+EARLIER runs, the lock of the file that the variable CI_BESIDE names is held. SIGTERM stops it, and ends this script with
+status 143.
 A part passed if its command ended with status 0 and told of no edit that is bad or was not tried, which rt ci does not
 count. If the last line of its output is `N passed, N failed`, these numbers count; if not, the part counts as one. The
 first part that fails is the last that runs, and each part after it counts as failed. Elapsed minutes stand in front of
@@ -110,12 +111,12 @@ def run_all(parts, lock, early):
         last, untried = pass_on(begun)
         if beside:
             fcntl.flock(lock, fcntl.LOCK_UN)
-        more, fewer = counted(begun.process.returncode, last, untried)
-        passed, failed = passed + more, failed + fewer
+        part_passed, part_failed = counted(begun.process.returncode, last, untried)
+        passed, failed = passed + part_passed, failed + part_failed
         clock, used = begun.used
         since = f" from {part['earlier']} on" if name in early else ""
         taken = f"{minutes(clock)} by the clock{since}, {minutes(used)} of processors"
-        rows.append(f"{name}: {more} passed, {fewer} failed; {taken}")
+        rows.append(f"{name}: {part_passed} passed, {part_failed} failed; {taken}")
     return rows, passed, failed
 
 
@@ -133,4 +134,6 @@ def main(words):
 
 
 if __name__ == "__main__":
+    # (else no `finally` would run, and what began early would go on)
+    signal.signal(signal.SIGTERM, lambda *_: sys.exit(143))
     sys.exit(main(sys.argv[1:]))

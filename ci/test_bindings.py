@@ -50,6 +50,10 @@ class Steps(unittest.TestCase):
             bindings.run("sh", "-c", "echo why >&2; exit 3")
         self.assertEqual(bindings.run("sh", "-c", "echo $WORD", WORD="yes"), "yes\n")
 
+    def test_a_command_that_does_not_end(self):
+        with self.assertRaisesRegex(Failed, "sleep 60: no end after 0.1 seconds"):
+            bindings.run("sleep", "60", limit=0.1)
+
     @unittest.skipUnless(shutil.which("gcc"), "there is no gcc")
     def test_a_compiler_without_a_runtime(self):
         with tempfile.TemporaryDirectory() as room, self.assertRaisesRegex(Skipped, "cannot build with -fno-such-thing"):
@@ -97,6 +101,11 @@ class Archives(unittest.TestCase):
     def test_a_build_that_cannot_be_made(self):
         with mock.patch.dict(os.environ, PATH=""), self.assertRaisesRegex(Skipped, "no rt on the PATH"):
             bindings.built_archive()
+
+    def test_a_build_has_time_for_the_proofs_of_all_libraries(self):
+        with mock.patch.object(bindings, "want"), mock.patch.object(bindings, "run") as run:
+            bindings.built_archive()
+        self.assertLess(2 * 48 * 60, run.call_args.kwargs["limit"])
 
     @unittest.skipUnless(shutil.which("gcc") and shutil.which("nm"), "there is no gcc or nm")
     def test_symbols_of_an_archive(self):

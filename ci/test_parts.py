@@ -2,6 +2,9 @@
 import contextlib
 import io
 import os
+import signal
+import subprocess
+import sys
 import tempfile
 import time
 import unittest
@@ -53,6 +56,22 @@ class Parts(unittest.TestCase):
             self.assertEqual(said, (1, "0 passed, 3 failed"))
             time.sleep(3)
             self.assertEqual(os.listdir(room), [])
+
+    def test_a_part_that_began_early_ends_at_sigterm(self):
+        with tempfile.TemporaryDirectory() as room:
+            early = f"c, from a on: echo $$ >{room}/new; mv {room}/new {room}/early; sleep 60"
+            words = [sys.executable, parts.__file__, f"a: touch {room}/a; sleep 60", "b: true", early]
+            with subprocess.Popen(words, stdout=subprocess.DEVNULL, start_new_session=True) as run:
+                for _ in range(600):
+                    if {"a", "early"} <= {*os.listdir(room)}:
+                        break
+                    time.sleep(0.05)
+                run.terminate()
+                self.assertEqual(run.wait(20), 143)
+                # (the part a is of the script's own group)
+                os.killpg(run.pid, signal.SIGKILL)
+            with open(f"{room}/early", encoding="ascii") as file, self.assertRaises(ProcessLookupError):
+                os.kill(int(file.read()), 0)
 
 
 if __name__ == "__main__":
