@@ -5,10 +5,13 @@
     bench/check_reports.py --items 1000000      # runs until so many items were put
     bench/check_reports.py --program PATH --seed N
 
-Of each report it checks that one assignment of items to consumers can stand behind it: an item has one taker at most, and
-each taker has its value; what is left is what nobody took; who lost names one winner, not itself, who competed, and nobody
-else took the item; an item competed for and not taken has a claim that is not finished. And what `run` promises further:
-each producer has put all its items and ended its lane, and each consumer has a note at each of them.
+Of each report it checks that one assignment of items to consumers can explain it:
+  - An item has one taker at most, and each taker has its value.
+  - What is left is what nobody took.
+  - All who lost an item name one winner. It competed, it is not the loser itself, and nobody else took the item.
+  - An item that was competed for and not taken has a claim that is not finished.
+It also checks what `run` promises further. Each producer has put all its items and ended its lane, and each consumer has a
+note at each of them.
 """
 import argparse, collections, random, subprocess, sys, time
 

@@ -17,6 +17,8 @@ import subprocess
 import sys
 import tempfile
 
+import measuring
+
 TOP = pathlib.Path(__file__).resolve().parent.parent
 PROGRAM = TOP / "crates" / "bench_loops" / "out" / "bench_loops"
 BY_HAND = pathlib.Path(tempfile.gettempdir()) / "mailbox_bench_by_hand"
@@ -56,10 +58,8 @@ def build():
 def counted(program, what, times):
     """The instructions of a run, and the line that it prints. The program comes with the words before the loop's."""
     loop, shape, table, consumers = what
-    valgrind = ["valgrind", "--tool=callgrind", "--callgrind-out-file=/dev/null"]
     words = [SAME.get(loop, loop), table, consumers, str(times), *([] if shape == "plain" else [shape])]
-    ran = subprocess.run([*valgrind, *program, *words], capture_output=True, text=True, check=True)
-    return int(re.search(r"Collected : (\d+)", ran.stderr).group(1)), ran.stdout
+    return measuring.counted((*program, *words))
 
 
 def difference(program, what):

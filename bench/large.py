@@ -3,10 +3,10 @@
 
 usage: bench/large.py [--limit WORDS] [PRODUCERS,CONSUMERS,PAIRS,ITEMS ...]
 
-Each run has 2^20 items in as many cells where nothing is said: with 1 producer and 1 consumer, 2 and 4, and 16 and 16, each
+Each run has 2^20 items in as many cells if nothing is said: with 1 producer and 1 consumer, 2 and 4, and 16 and 16, each
 with 4 pairs. "Touched" is the most memory that was resident, "reserved" the most address space, both in words of 8 bytes a
 cell, without the stacks of threads. `--limit` gives a run no more address space than so many words a cell and what its
-threads' stacks take. It wants the program built: `cd crates/bench_large && rt run -- 2 4 4 500 1`.
+threads' stacks take. It wants the program built: `cd crates/bench_large && rt run -- 2 4 4 500 1`. It fails if a run does.
 """
 import argparse
 import pathlib
@@ -55,6 +55,8 @@ def one_run(producers, consumers, pairs, items, limit):
     reader.join()
     seconds = time.perf_counter() - start
     out, told = texts
+    if process.returncode:
+        raise SystemExit(f"{' '.join(words)}: status {process.returncode}\n{told}")
     times = re.findall(r"(?:made|worked|gathered|written): ([0-9.]+\w+)", told)
     reserved = max(0, reserved - stacks)
     by_cell = [f"{bytes_ / (8 * items):.1f}" for bytes_ in (touched, reserved)]

@@ -51,11 +51,16 @@ def machine():
 
 
 @functools.cache
-def instructions(words):
-    """The instructions of a run, by callgrind. They repeat exactly if the run has one thread."""
+def counted(words):
+    """The instructions of a run, by callgrind, and what it printed. They repeat exactly if the run has one thread."""
     valgrind = ["valgrind", "--tool=callgrind", "--callgrind-out-file=/dev/null"]
     ran = subprocess.run([*valgrind, *map(str, words)], capture_output=True, text=True, check=True)
-    return int(re.search(r"Collected : (\d+)", ran.stderr)[1])
+    return int(re.search(r"Collected : (\d+)", ran.stderr)[1]), ran.stdout
+
+
+def instructions(words):
+    """The instructions of a run."""
+    return counted(words)[0]
 
 
 def used(words):

@@ -1,7 +1,7 @@
 #!/usr/bin/env python3
 """Refuses each growth of memory, and then each start of a thread, of whole runs of the program, in turn.
 
-    bench/refuse_growths.py                     # after a first ./mailbox; wants a C compiler
+    bench/refuse_growths.py                     # after ./mailbox --build; wants a C compiler
     bench/refuse_growths.py --program PATH
 
 A small library stands before the C library's `malloc`, `realloc` and `pthread_create` (`LD_PRELOAD`). It refuses the call of
@@ -71,7 +71,7 @@ def built(folder):
 
 
 def fixed_part(text):
-    """The report without who takes what, which differs from run to run where there are more consumers."""
+    """The report without who takes what, which differs from run to run if there are more consumers."""
     return [words[:FIXED[words[0]]] for words in map(str.split, text.splitlines())]
 
 
@@ -110,4 +110,5 @@ def main():
                 print(f"{' '.join(words)}: {name}: {said}")
 
 
-main()
+if __name__ == "__main__":
+    main()

@@ -17,9 +17,10 @@ PROGRAM = pathlib.Path(__file__).resolve().parent.parent / "crates" / "example_s
 
 
 def memory(process):
-    """The resident memory of a process now, and the most that it had, in MiB."""
+    """The resident memory of a process now, and the most that it had, in MiB. Of one that has ended nothing tells it."""
     status = pathlib.Path(f"/proc/{process}/status").read_text()
-    return [int(re.search(rf"{name}:\s+(\d+) kB", status)[1]) / 1024 for name in ("VmRSS", "VmHWM")]
+    found = [re.search(rf"{name}:\s+(\d+) kB", status) for name in ("VmRSS", "VmHWM")]
+    return [f"{int(it[1]) / 1024:.1f}" if it else "-" for it in found]
 
 
 def main():
@@ -40,7 +41,7 @@ def main():
     for line in run.stderr:
         count = line.split()[0]
         now, most = memory(run.pid)
-        print(f"| {count} | {time.perf_counter() - start:.1f} | {now:.1f} | {most:.1f} |", flush=True)
+        print(f"| {count} | {time.perf_counter() - start:.1f} | {now} | {most} |", flush=True)
     told = run.stdout.read()
     status = run.wait()
     print(f"{told}{time.perf_counter() - start:.1f} seconds, status {status}")

@@ -1,12 +1,17 @@
 """Tests of what the scripts of bench/ make of figures that programs tell."""
+import os
 import pathlib
+import subprocess
 import sys
 import unittest
+from unittest import mock
 
 sys.path.append(str(pathlib.Path(__file__).resolve().parent.parent / "bench"))
 
 import by_cells
+import large
 import measuring
+import rounds
 
 ANNOTATED = """
 13,554,432 (71.34%)  ???:hz_poll [/tmp/by_cells]
@@ -45,6 +50,16 @@ class Figures(unittest.TestCase):
         self.assertGreater(resident, 0)
         with self.assertRaisesRegex(SystemExit, "status 3"):
             measuring.used(("sh", "-c", "exit 3"))
+
+    def test_a_large_run_that_fails(self):
+        with mock.patch.object(large, "PROGRAM", "/bin/false"), self.assertRaisesRegex(SystemExit, "2 4 4 500 1: status 1"):
+            large.one_run(2, 4, 4, 500, None)
+
+    def test_the_memory_of_a_process_that_has_ended(self):
+        self.assertTrue(all(float(it) > 0 for it in rounds.memory(os.getpid())))
+        with subprocess.Popen(["true"]) as process:
+            os.waitid(os.P_PID, process.pid, os.WEXITED | os.WNOWAIT)
+            self.assertEqual(rounds.memory(process.pid), ["-", "-"])
 
     def test_a_table(self):
         told = measuring.table(("An item", "ns"), [("`SegQueue`", 1234.6), ("none", None)])
