@@ -50,9 +50,9 @@ pub struct Layout {
 /// Why there is no layout.
 #[derive(Clone, Copy, PartialEq, Eq, Debug)]
 pub enum BadLayout {
-    /// The number of consumers is out of range.
+    /// The number of consumers is 0 or above `MAX_VALUES`, which is 64.
     BadConsumers,
-    /// The number of pairs is out of range.
+    /// The number of pairs is 0 or above `MAX_PAIRS`, which is 8.
     BadRounds,
 }
 
@@ -311,8 +311,8 @@ impl Layout {
         self.objects
     }
 
-    #[inline(always)]
     /// How many words each cell has.
+    #[inline(always)]
     fn words_of_cell(&self) -> usize
         ensures small { result ≤ 65 * MAX_OBJECTS }
         ensures exact { result ≡ cell_words self.now }
