@@ -141,7 +141,8 @@ uint32_t hz_producer_new(hz_handle *hub, hz_handle *producer);
 uint32_t hz_consumer_new(hz_handle *hub, const uint8_t (*seed)[32], uint64_t stream, hz_handle *consumer);
 
 /* Puts an item, any number, at the end of the producer's lane. It makes three accesses at most and takes no memory.
- * HZ_LINKED: it is there. HZ_FULL: no cell is left, the item is still the caller's, and each further put is HZ_FULL too.
+ * HZ_LINKED: it is there. HZ_FULL: no cell is left, the item is still the caller's, and each further put
+ * up to hz_finish is HZ_FULL too.
  * HZ_CLOSED: the lane has ended. HZ_BAD_HANDLE. */
 uint32_t hz_put(hz_handle *producer, uint64_t item);
 
@@ -153,7 +154,7 @@ uint32_t hz_finish(hz_handle *producer);
  * HZ_TOOK: the item is this consumer's alone, and value is the item. HZ_LOST: no other consumer but number value can win
  * the item. HZ_UNDECIDED: the claim ended, and nobody knows by it who has won. It never comes if last is true. HZ_NOTHING:
  * no further item is linked yet. HZ_ENDED: no further item comes. HZ_SPENT: the budget is used up, and the next poll of
- * the lane goes on with the claim. It never comes of the budget UINT64_MAX. HZ_NO_LANE: there is no such lane.
+ * the lane goes on from there. It never comes of the budget UINT64_MAX. HZ_NO_LANE: there is no such lane.
  * HZ_BAD_HANDLE. value is written at HZ_TOOK and HZ_LOST only. */
 uint32_t hz_poll(hz_handle *consumer, uint64_t lane, uint64_t budget, uint64_t *value);
 
