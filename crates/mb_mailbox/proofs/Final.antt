@@ -169,6 +169,34 @@ at_most_each f (x ∷ xs) =
     let rest = at_most_each f xs in
     omega (arith, all, one, rest)
 
+-- ---- how many sources a run has
+-- a run with this many sources is one with as many, by whatever name the number goes. Its workers are the same
+sourced : {may_stop : Who → ℕ → Type 0} {budget n k : ℕ} {lists : List (List ℕ)} {w : Worked} {old now : HubView}
+    → n ≡ k → IsWorked may_stop budget lists n w old now → IsWorked may_stop budget lists k w old now
+sourced same is = record {
+  lanes = is.lanes;
+  consumers = is.consumers;
+  run = record {
+    puts = is.run.puts;
+    parts = is.run.parts;
+    fronts = is.run.fronts;
+    ledgers = is.run.ledgers;
+    reads = is.run.reads;
+    claimed = is.run.claimed;
+    count = is.run.count ∙ same;
+  };
+  stopped = is.stopped;
+  stopped_puts = is.stopped_puts;
+  stopped_polls = is.stopped_polls;
+  ends = is.ends;
+  unread = is.unread;
+  met = is.met;
+  only = is.only;
+  full = is.full;
+  cut = is.cut;
+  noted = is.noted;
+}
+
 -- ---- the end of a run
 module _ {R Z : Type 0} (m : MailboxView) (may_stop may_pass : Who → ℕ → Type 0)
     (stream : R → Stream) (items : List (Vec ℕ Z)) (sources from end budget : ℕ) (jobs : WorkerInputs R Z)
@@ -339,15 +367,11 @@ module _ {R Z : Type 0} (m : MailboxView) (may_stop may_pass : Who → ℕ → T
       many : length (map stream rngs) ≡ sources
       many = length-map rngs stream ∙ count
 
-      -- if the run is not aborted, these are its calls
+      -- if the run is not aborted, these are its calls. Its workers are those of `worked`
       pub called : IsCalled may_stop may_pass budget (lists_in items) (map stream rngs) w h now
+      unfolding sourced worked
       called = record {
-        lanes = lanes_of m may_stop may_pass ends.puts.items;
-        consumers = consumer_ends m may_stop may_pass ends.polls.items;
-        run = subst (λ (n : ℕ). IsRunOf (lists_in items) n
-            (lanes_of m may_stop may_pass ends.puts.items)
-            (consumer_ends m may_stop may_pass ends.polls.items) h now) (sym many) run;
-        stopped = total;
+        worked = sourced (sym many) worked;
         puts = run_passes m may_stop may_pass stream h from end budget items jobs.puts.items
             ends.puts.items jobs.polls.items ends.polls.items hub all.puts given.polls came.puts
             came.polls puts_on;

@@ -11,7 +11,7 @@ use Rattle.mb_mailbox.specs.Imports.{Stream}
 use Rattle.mb_mailbox.specs.ConsumerWords.{ConsumerView}
 use Rattle.mb_mailbox.specs.Vocabulary.{WasPassed, WerePassed, WerePolled, ArePassed, ArePollJobs, ArePutJobs, HubView, IsHub, new_producer, put_list_of, HasReadEnds, HasReadToEnd, IsFront, IsOnLanes}
 use Rattle.mb_mailbox.specs.Vocabulary.{IsPollEnd, IsPutEnd, IsStopBefore, IsStoppedPoll, accesses_made, ends_met, MailboxView, FoundNoCell, ProducerView, is_over, AreCutByCells, AreStoppedPolls}
-use Rattle.mb_mailbox.specs.Vocabulary.{AreStoppedPuts, ConsumerEnd, HasMetEnd, HasMetEnds, HaveMetEnds, IsRunOf, IsStoppedPut, ProducerEnd, ended_list, items_behind, items_beyond, lists_in, Who}
+use Rattle.mb_mailbox.specs.Vocabulary.{AreStoppedPuts, ConsumerEnd, HaveMetEnds, IsRunOf, IsStoppedPut, ProducerEnd, ended_list, items_beyond, lists_in, Who}
 use Rattle.mb_mailbox.specs.Vocabulary.{PollDone, PollJob, PutDone, PutJob}
 use Rattle.mb_mailbox.specs.declared.gate.Who.TheVariants as who
 use Rattle.mb_mailbox.proofs.HubRuns.{CountFrom, after, run_claimed, run_ledgers, run_parts, run_puts, run_readers}

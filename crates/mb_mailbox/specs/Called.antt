@@ -1,13 +1,11 @@
 -- What the gate let the workers of a run do, and which calls their consumers made.
 use Rattle.std.specs.Prelude.{ℕ, suc, ◌≡◌, ◌+◌, ◌<◌, List, [], ◌∷◌, false, length}
-use Rattle.std.specs.Int.{from_bool}
-use Rattle.std.specs.List.{sum_by}
 use Rattle.mb_mailbox.specs.Imports.{Stream}
 use Rattle.mb_mailbox.specs.Calls.{ArePassed}
 use Rattle.mb_mailbox.specs.Consumers.{ConsumerView}
 use Rattle.mb_mailbox.specs.Hubs.{HubView}
 use Rattle.mb_mailbox.specs.Jobs.{HasPolled, accesses_made}
-use Rattle.mb_mailbox.specs.Worked.{ConsumerEnd, IsRunOf, ProducerEnd}
+use Rattle.mb_mailbox.specs.Worked.{ConsumerEnd, IsWorked, ProducerEnd}
 use Rattle.mb_mailbox.specs.declared.gate.Who.{Who}
 use Rattle.mb_mailbox.specs.declared.gate.Who.TheVariants as who
 use Rattle.mb_mailbox.specs.declared.crew.Worked.{Worked}
@@ -47,17 +45,14 @@ WerePolled may_stop may_pass from end budget c (source ∷ sources) (l ∷ ls) =
     × WerePolled may_stop may_pass from end budget (suc c) sources ls
 WerePolled may_stop may_pass from end budget c _ _ = ⊥
 
--- all that was given was taken in, and each call was made at a point at which the gate may let it pass. Each call of
--- a consumer is a poll, with this budget, of a lane that was given in this call. It draws from the consumer's own
--- source: the first consumer given in this call has the first source, and so on. `stopped` counts the workers that
--- were stopped
+-- a run came to its end, and each call of its workers was made at a point at which the gate may let it pass. `puts`
+-- and `polls` speak of the workers that `worked` names. So all three agree on which of them were stopped. Each call
+-- of a consumer is a poll, with this budget, of a lane that was given in this call. It draws from the consumer's own
+-- source: the first consumer given in this call has the first source, and so on
 pub record IsCalled (may_stop may_pass : Who → ℕ → Type 0) (budget : ℕ) (lists : List (List ℕ)) (sources : List Stream)
     (w : Worked) (old new : HubView) : Type 0 where
-  pub lanes : List ProducerEnd
-  pub consumers : List ConsumerEnd
-  pub run : IsRunOf lists (length sources) lanes consumers old new
-  pub stopped : w.stopped ≡ sum_by (λ l. from_bool l.stopped) lanes + sum_by (λ c. from_bool c.stopped) consumers
-  pub puts : WerePassed may_pass (length old.puts) lists lanes
+  pub worked : IsWorked may_stop budget lists (length sources) w old new
+  pub puts : WerePassed may_pass (length old.puts) lists worked.lanes
   pub polls : WerePolled may_stop may_pass (length old.puts) (length old.puts + length lists) budget
       (length old.ledgers) sources
-      consumers
+      worked.consumers

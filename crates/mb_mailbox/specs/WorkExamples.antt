@@ -1,11 +1,11 @@
 -- A producer in a pool of one lane and one cell, and what workers come to, by example.
-use Rattle.std.specs.Prelude.{ℕ, List, Some, [], ◌∷◌, false, true}
+use Rattle.std.specs.Prelude.{ℕ, ◌≡◌, List, Some, [], ◌∷◌, false, true}
 use Rattle.mb_cells.specs.Vocabulary.{fetch, new_lane, pool_size, store}
 use Rattle.mb_cells.specs.declared.lane.Lane.{Lane}
 use Rattle.mb_cells.specs.declared.lane.LaneStage.TheVariants as stage
-use Rattle.mb_mailbox.specs.Imports.{CellsName, Head, History, Item, Note}
+use Rattle.mb_mailbox.specs.Imports.{CellsName, END, Head, History, Item, Link, Note}
 use Rattle.mb_mailbox.specs.Consumers.{ConsumerView}
-use Rattle.mb_mailbox.specs.Hubs.{ConsumerRecordView}
+use Rattle.mb_mailbox.specs.Hubs.{ConsumerRecordView, HubView}
 use Rattle.mb_mailbox.specs.Producers.{ProducerView}
 use Rattle.mb_mailbox.specs.Worked.{ConsumerEnd, ProducerEnd}
 use Rattle.mb_mailbox.specs.declared.gate.Who.{Who}
@@ -65,3 +65,28 @@ stopped_as s = record {
 -- a gate that may do anything before each call
 abbrev pub any_call : Who → ℕ → Type 0
 any_call w n = Unit {0}
+
+-- ---- a run that has run out of cells
+-- the lists of two producers
+abbrev pub lists_of_two : List (List ℕ)
+lists_of_two = (7 ∷ 8 ∷ []) ∷ (5 ∷ 6 ∷ []) ∷ []
+
+-- the part of the producer of lane 0, which put 7, and ended its lane
+abbrev pub put_and_ended : History
+put_and_ended = store 0 (Link 0) END ∷ seven_put
+
+-- the part of the producer of lane 1, which found no cell for 5, and ended its lane
+abbrev pub found_no_cell : History
+found_no_cell = store 1 (Head 1) END ∷ fetch 1 (record { cell = 1; value = 5 }) ∷ []
+
+-- the hub had given nothing. Since then it has taken in two producers of a pool of one cell, and no consumer. The
+-- producer of lane 0 has put 7. The producer of lane 1 has put nothing
+pub record HasRunOutOfCells (old new : HubView) : Type 0 where
+  pub no_puts : old.puts ≡ []
+  pub no_parts : old.cells.roll.lanes ≡ []
+  pub cells : new.cells.table.size.cells ≡ 1
+  pub puts : new.puts ≡ Some (record { items = 7 ∷ []; ended = true }) ∷ Some (record { items = []; ended = true }) ∷ []
+  pub parts : new.cells.roll.lanes ≡ Some put_and_ended ∷ Some found_no_cell ∷ []
+  pub ledgers : new.ledgers ≡ old.ledgers
+  pub reads : new.cells.roll.readers ≡ old.cells.roll.readers
+  pub claimed : new.claims.roll ≡ old.claims.roll

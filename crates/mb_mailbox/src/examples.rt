@@ -18,6 +18,7 @@ ghost use Rattle.mb_mailbox.specs.declared.notes.Mark.TheVariants as mark;
 ghost use Rattle.mb_world.specs.PartSteps.{no_parts};
 ghost use Rattle.mb_world.specs.declared.place.Place.TheVariants.{At, Before};
 
+pub mod calls;
 pub mod diaries;
 
 use crate::laws::calls_draw_the_first_words;

@@ -65,9 +65,10 @@ has_drawn law o r x c low =
     let source : 0 + c ≡ c = omega arith in
     let words : slice_get _ c ≡ Some (words_from (source_from o.seed c)) = at
     ∙ ap (λ n. Some (words_from (source_from o.seed n))) source in
-    let drawn = drawn_at law (λ _ _. ⊥) (λ _ _. Unit {0}) _ _ _ _ _ run.called.consumers c _ run.called.polls words in
+    let drawn = drawn_at law (λ _ _. ⊥) (λ _ _. Unit {0}) _ _ _ _ _ run.called.worked.consumers c _
+    run.called.polls words in
     let taken = sym (ap (λ hs. consumer_part c hs.claims) run.histories) ∙ run.gathered.claims c
-    ∙ ap (λ roll. taken_part roll c) run.called.run.claimed in
+    ∙ ap (λ roll. taken_part roll c) run.called.worked.run.claimed in
     subst (λ (done : List ClaimAccess). HasDrawn (words_from (source_from o.seed c)) done) (sym taken) drawn
 
 pub returns-clause-words : goal.returns-clause-words

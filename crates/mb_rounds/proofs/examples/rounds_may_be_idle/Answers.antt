@@ -3,24 +3,43 @@
 use Rattle.std.proofs.Common.{◌≡◌, ◌∙◌, ◌*◌, [], ap, arith, refl, sym}
 use Rattle.mb_mailbox.specs.Imports.{consumer_count}
 use Rattle.mb_mailbox.specs.Hubs.{hub_empty}
-use Rattle.mb_mailbox.specs.Worked.{IsRunOf}
+use Rattle.mb_mailbox.specs.Worked.{IsWorked}
+use Rattle.mb_mailbox.specs.declared.crew.Worked.{Worked}
 use Rattle.mb_rounds.specs.RoundExamples.{at_each_call, at_no_call, idle_terms, no_lanes}
 use Rattle.mb_rounds.proofs.Played.{played}
 use Rattle.mb_rounds.proofs.examples.rounds_may_be_idle.Goals as goal
+
+-- nothing was counted
+abbrev no_counts : Worked
+no_counts = record { full = 0; stopped = 0 }
 
 -- no list is dealt, and the run has no workers
 pub returns : goal.returns
 returns c = λ m size lanes cells gathered.
     let n = consumer_count m.claims.layout in
     let none : n * m.cells.size.lanes ≡ 0 = ap (λ k. n * k) lanes ∙ (omega arith) in
-    let run : IsRunOf [] 0 [] [] (hub_empty m) (hub_empty m) = record {
-      puts = refl;
-      parts = refl;
-      fronts = tt;
-      ledgers = refl;
-      reads = refl;
-      claimed = refl;
-      count = refl;
+    let worked : IsWorked at_no_call (idle_terms m).budget [] 0 no_counts (hub_empty m) (hub_empty m) = record {
+      lanes = [];
+      consumers = [];
+      run = record {
+        puts = refl;
+        parts = refl;
+        fronts = tt;
+        ledgers = refl;
+        reads = refl;
+        claimed = refl;
+        count = refl;
+      };
+      stopped = refl;
+      stopped_puts = tt;
+      stopped_polls = tt;
+      ends = λ k d low. absurd (omega (arith, low));
+      unread = λ k d low. absurd (omega (arith, low));
+      met = tt;
+      only = λ k d low. absurd (omega (arith, low));
+      full = omega arith;
+      cut = tt;
+      noted = λ k d low. absurd (omega (arith, low));
     } in
     record {
       lists = [];
@@ -28,23 +47,8 @@ returns c = λ m size lanes cells gathered.
       dealt = refl;
       amount = omega (arith, cells);
       played = played m (hub_empty m) (hub_empty m) no_lanes (idle_terms m) [] at_no_call at_each_call 0
-          (record { full = 0; stopped = 0 }) refl size lanes refl refl (record { cells = refl; claims = refl })
-          (record {
-            lanes = [];
-            consumers = [];
-            run = run;
-            stopped = refl;
-            stopped_puts = tt;
-            stopped_polls = tt;
-            ends = λ k d low. absurd (omega (arith, low));
-            unread = λ k d low. absurd (omega (arith, low));
-            met = tt;
-            only = λ k d low. absurd (omega (arith, low));
-            full = omega arith;
-            cut = tt;
-            noted = λ k d low. absurd (omega (arith, low));
-          })
-          (record { lanes = []; consumers = []; run = run; stopped = refl; puts = tt; polls = tt })
+          no_counts refl size lanes refl refl (record { cells = refl; claims = refl })
+          worked (record { worked = worked; puts = tt; polls = tt })
           (record {
             lanes_count = sym lanes;
             diaries_count = sym none;
