@@ -1,4 +1,5 @@
--- A producer in a pool of one lane and one cell, and what workers come to, by example.
+-- A producer in a pool of one lane and one cell, a run of two producers that has one cell, and what workers come to, by
+-- example.
 use Rattle.std.specs.Prelude.{ℕ, ◌≡◌, List, Some, [], ◌∷◌, false, true}
 use Rattle.mb_cells.specs.Vocabulary.{fetch, new_lane, pool_size, store}
 use Rattle.mb_cells.specs.declared.lane.Lane.{Lane}
@@ -79,8 +80,8 @@ put_and_ended = store 0 (Link 0) END ∷ seven_put
 abbrev pub found_no_cell : History
 found_no_cell = store 1 (Head 1) END ∷ fetch 1 (record { cell = 1; value = 5 }) ∷ []
 
--- the hub had given nothing. Since then it has taken in two producers of a pool of one cell, and no consumer. The
--- producer of lane 0 has put 7. The producer of lane 1 has put nothing
+-- the hub had given no lane. Since then it has taken in two producers of a pool of one cell, and has given no consumer.
+-- The producer of lane 0 has put 7. The producer of lane 1 has found no cell. Both lanes have ended
 pub record HasRunOutOfCells (old new : HubView) : Type 0 where
   pub no_puts : old.puts ≡ []
   pub no_parts : old.cells.roll.lanes ≡ []
