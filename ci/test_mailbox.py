@@ -13,9 +13,10 @@ ROOM = "MemTotal: 24000000 kB\nMemAvailable: 13000000 kB\n"
 # The crates that stand there: those that the script names, and one whose source may be newer.
 CRATES = ("mailbox_main", "mb_quorum", "mb_shared_cells", "mb_shared_claims")
 # It says what it was asked, and `rt run` leaves a program that says what it is asked, and a copy of a source. `rt lib` says
-# how far it is.
+# how far it is, and heeds no interrupt.
 RT = """#!/bin/sh
 if [ "$1" = lib ]; then
+    trap '' INT
     echo "rt: chose --jobs 2 for $(basename "$PWD")"
     echo 'so far: 1 of 3 functions checked; the verdict comes last'
     [ "${BROKEN-}" != lib ] || exit 1
