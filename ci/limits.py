@@ -6,7 +6,6 @@ The status is 0 if all figures are within their limits.
 """
 import os
 import re
-import subprocess
 import sys
 
 TOP = os.path.dirname(os.path.dirname(os.path.abspath(__file__)))
@@ -169,13 +168,20 @@ def places(files):
             yield from (("modules that import each other", f"{crate}: {it} of {', '.join(knot)}") for it in knot)
 
 
-def main(words):
-    listed = subprocess.run(["git", "ls-files", "crates"], cwd=TOP, capture_output=True, text=True, check=True)
+def sources():
+    """The texts of all sources, specs and proofs, by their paths."""
     files = {}
-    for path in listed.stdout.splitlines():
-        if path.endswith((".rt", ".antt")) and os.path.isfile(f"{TOP}/{path}"):
-            with open(f"{TOP}/{path}", encoding="utf-8") as file:
-                files[path] = file.read()
+    for at, folders, names in os.walk(f"{TOP}/crates"):
+        folders[:] = sorted(it for it in folders if it != "out")
+        for name in sorted(names):
+            if name.endswith((".rt", ".antt")):
+                with open(f"{at}/{name}", encoding="utf-8") as file:
+                    files[os.path.relpath(file.name, TOP)] = file.read()
+    return files
+
+
+def main(words):
+    files = sources()
     found = list(places(files))
     is_over = False
     for what, most in LIMITS.items():

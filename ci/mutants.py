@@ -165,8 +165,10 @@ def is_held(path):
 
 def stand_below(crate):
     """Whether all libraries below the crate are built, and not only just now."""
-    libraries = [it.rlib for it in crate.below()]
-    return all(os.path.isdir(it) and time.time() - os.stat(it).st_mtime > PAUSE for it in libraries)
+    try:
+        return all(time.time() - os.stat(it.rlib).st_mtime > PAUSE for it in crate.below())
+    except FileNotFoundError:
+        return False
 
 
 def cut(why):

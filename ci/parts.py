@@ -7,10 +7,11 @@ usage: ci/parts.py 'NAME: COMMAND' ..     at the top of the repository
 A part of the second form begins together with the part EARLIER. What it prints is held back until its turn. As long as
 EARLIER runs, the lock of the file that the variable CI_BESIDE names is held. SIGTERM stops it, and ends this script with
 status 143.
-A part passed if its command ended with status 0 and told of no edit that is bad or was not tried, which rt ci does not
-count. If the last line of its output is `N passed, N failed`, these numbers count; if not, the part counts as one. The
-first part that fails is the last that runs, and each part after it counts as failed. Elapsed minutes stand in front of
-the lines with which `rt ci` says that it is done with a crate.
+A part passed if its command ended with status 0 and told of nothing that rt ci does not count: an edit that is bad or was
+not tried, or a program that only one of two compilers made. What it skipped counts in its row alone. If the last line of
+its output is `N passed, N failed`, these numbers count; if not, the part counts as one. The first part that fails is the
+last that runs, and each part after it counts as failed. Elapsed minutes stand in front of the lines with which `rt ci`
+says that it is done with a crate.
 The last line is `N passed, N failed`, and the status is 0 if none failed.
 """
 import fcntl
@@ -23,7 +24,8 @@ import tempfile
 import time
 
 COUNTS = re.compile(r"(\d+) passed, (\d+) failed")
-UNTRIED = re.compile(r": (BAD EDIT|NOT TRIED)\b")
+UNTRIED = re.compile(r": (BAD EDIT|NOT TRIED)\b|compiler did not compile this program")
+SKIPPED = re.compile(r": SKIPPED\b")
 PART = re.compile(r"(?P<name>.+?)(?:, from (?P<earlier>.+) on)?: (?P<command>.+)")
 
 
@@ -75,14 +77,15 @@ class Begun:
 
 
 def pass_on(begun):
-    """Passes on what a command prints. Returns its last line, and how many edits it told of that are bad or were not tried."""
-    last, untried = "", 0
+    """Passes on what a command prints. Returns its last line, and how often it told of what was not tried or was skipped."""
+    last, untried, skipped = "", 0, 0
     for line in begun.lines():
         elapsed = f"[{minutes(time.monotonic() - begun.began)}] " if line.startswith("== ") else ""
         print(f"{elapsed}{line}", end="", flush=True)
         last = line.strip() or last
         untried += bool(UNTRIED.search(line))
-    return last, untried
+        skipped += bool(SKIPPED.search(line))
+    return last, untried, skipped
 
 
 def counted(status, last, untried):
@@ -108,7 +111,7 @@ def run_all(parts, lock, early):
             early.update({it["name"]: Begun(it["command"], lock.name) for it in beside})
         print(f"-- {name}: {part['command']}", flush=True)
         begun = early.get(name) or Begun(part["command"])
-        last, untried = pass_on(begun)
+        last, untried, skipped = pass_on(begun)
         if beside:
             fcntl.flock(lock, fcntl.LOCK_UN)
         part_passed, part_failed = counted(begun.process.returncode, last, untried)
@@ -116,7 +119,8 @@ def run_all(parts, lock, early):
         clock, used = begun.used
         since = f" from {part['earlier']} on" if name in early else ""
         taken = f"{minutes(clock)} by the clock{since}, {minutes(used)} of processors"
-        rows.append(f"{name}: {part_passed} passed, {part_failed} failed; {taken}")
+        less = f", {skipped} skipped" if skipped else ""
+        rows.append(f"{name}: {part_passed} passed, {part_failed} failed{less}; {taken}")
     return rows, passed, failed
 
 

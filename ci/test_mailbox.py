@@ -41,7 +41,7 @@ fi
 
 class TheScript(unittest.TestCase):
     def setUp(self):
-        self.top = tempfile.mkdtemp(prefix="mailbox-")
+        self.top = os.path.realpath(tempfile.mkdtemp(prefix="mailbox-"))
         self.addCleanup(shutil.rmtree, self.top)
         shutil.copy(f"{TOP}/mailbox", self.top)
         for folder in ("bin", *(f"crates/{it}/src" for it in CRATES)):

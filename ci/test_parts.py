@@ -19,6 +19,11 @@ class Parts(unittest.TestCase):
         said = out.getvalue().splitlines()
         return status, said[lines:] if lines else said[-1]
 
+    def has_ended(self, path):
+        """The process whose number the file has is there no more."""
+        with open(path, encoding="ascii") as file, self.assertRaises(ProcessLookupError):
+            os.kill(int(file.read()), 0)
+
     def test_counts_are_added(self):
         self.assertEqual(self.run_parts("a: echo 3 passed, 0 failed", "b: echo OK"), (0, "4 passed, 0 failed"))
 
@@ -32,6 +37,14 @@ class Parts(unittest.TestCase):
         for line in ("must-fail a/b.edit: BAD EDIT: it is gone", "rt: must-fail a/b.edit: NOT TRIED: killed"):
             said = self.run_parts(f"a: echo \'{line}\'; echo 3 passed, 0 failed", "b: true")
             self.assertEqual(said, (1, "3 passed, 2 failed"))
+
+    def test_a_program_of_one_compiler_fails_its_part(self):
+        note = "note: Rattle\'s own compiler did not compile this program, so only the LLVM build is run: why"
+        self.assertEqual(self.run_parts(f'a: echo "{note}"; echo 3 passed, 0 failed'), (1, "3 passed, 1 failed"))
+
+    def test_what_was_skipped_is_told(self):
+        says = "echo a: SKIPPED: no tool; echo b: SKIPPED: no tool; echo 3 passed, 0 failed"
+        self.assertRegex(self.run_parts(f"a: {says}", lines=-2)[1][0], "^a: 3 passed, 0 failed, 2 skipped; ")
 
     def test_words_that_are_like_it_fail_nothing(self):
         said = self.run_parts("a: echo \'note: bad must-fail edits: 0, a NOT TRIED one: 0\'; echo 3 passed, 0 failed")
@@ -52,10 +65,10 @@ class Parts(unittest.TestCase):
 
     def test_a_part_that_began_early_ends_if_another_fails(self):
         with tempfile.TemporaryDirectory() as room:
-            said = self.run_parts(f"a: sleep 0.5; false", "b: true", f"c, from a on: sleep 3; touch {room}/ended")
-            self.assertEqual(said, (1, "0 passed, 3 failed"))
-            time.sleep(3)
-            self.assertEqual(os.listdir(room), [])
+            waits = f"until [ -e {room}/early ]; do sleep 0.1; done; false"
+            early = f"c, from a on: echo $$ >{room}/new; mv {room}/new {room}/early; sleep 60"
+            self.assertEqual(self.run_parts(f"a: {waits}", "b: true", early), (1, "0 passed, 3 failed"))
+            self.has_ended(f"{room}/early")
 
     def test_a_part_that_began_early_ends_at_sigterm(self):
         with tempfile.TemporaryDirectory() as room:
@@ -70,8 +83,7 @@ class Parts(unittest.TestCase):
                 self.assertEqual(run.wait(20), 143)
                 # (the part a is of the script's own group)
                 os.killpg(run.pid, signal.SIGKILL)
-            with open(f"{room}/early", encoding="ascii") as file, self.assertRaises(ProcessLookupError):
-                os.kill(int(file.read()), 0)
+            self.has_ended(f"{room}/early")
 
 
 if __name__ == "__main__":
