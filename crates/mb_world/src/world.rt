@@ -86,6 +86,20 @@ impl<A: Allocator + Clone + Drop> World<A> {
     }
 }
 
+impl<A: Allocator + Drop> World<A> {
+    ghost use Rattle.mb_world.specs.World.{WorldHistory};
+    ghost use Rattle.mb_world.specs.WorldState.{IsWorldAfter};
+
+    /// A law of all worlds: some lawful history leaves the world. So whatever the other calls say of each such history
+    /// holds of one. It computes nothing.
+    pub fn has_history(&self)
+        ensures { (h : WorldHistory) × IsWorldAfter h self.now }
+    {
+        // The prover knows the invariant only after a field is named.
+        let _ = &self.setup;
+    }
+}
+
 /// The places of this many consumers that have done nothing, consumer by consumer: each is before the head of its lane.
 fn before_heads<A: Allocator + Drop>(
     alloc: A,

@@ -42,8 +42,9 @@ impl<A: Allocator + Clone + Drop> World<A> {
         // If each cell has a last object, an item that was competed for is left only beside a begun claim. On a lane
         // without a begun claim each such item is taken.
         ensures settled { IfOk result (λ r. (shape_in self.now.setup).last ≡ true
-            → (h : WorldHistory) → IsWorldAfter h self.now → IsLeftBesideBegun r × AreAllTaken r) }
+            → IsLeftBesideBegun r × AreAllTaken r) }
     {
+        self.has_history();
         layouts_are_sound();
         objects_keep_their_promises();
         worlds_are_sound();

@@ -37,8 +37,10 @@ returns-clause-honest g c h is =
 
 -- if each cell has a last object, so has each cell of the plan, and the law of last objects holds of the report
 pub returns-clause-settled : goal.returns-clause-settled
-returns-clause-settled g c last h is =
+returns-clause-settled g c last =
     let s = c.args.self.now in
+    let h = c.has_history.ensures.0 in
+    let is = c.has_history.ensures.1 in
     let plan = plan_in s.setup in
     let r : ReportView =
     record { lanes = c.in_ok-lanes.field-0.items; diaries = c.in_ok-diaries.field-0.items } in
