@@ -211,11 +211,19 @@ fn the_first_random_word_does_not_store(rt: HostRuntime) {
     plays(&rt, &layout, &steps, (0, &entries), &[Stage::Won]);
 }
 
+// A step of a third consumer among those of `WON_AND_LOST` refuses them all. The first such place is returned.
 #[test]
 fn a_step_of_no_consumer(rt: HostRuntime) {
     let layout = one_pair(&rt, 2);
-    let fault = play(rt.alloc(), &layout, &[(0, 0), (1, 0), (2, 0), (3, 0)]).err();
-    same(&rt, &fault, &Some(PlayFault::NoConsumer(2)));
+    for (consumers, place) in &[
+        ([2, 0, 0, 0, 0, 0, 0, 0, 1, 1, 1, 1, 0], 0),
+        ([0, 0, 0, 0, 0, 0, 0, 1, 1, 2, 1, 1, 0], 9),
+        ([0, 0, 0, 0, 0, 0, 0, 1, 1, 1, 1, 0, 2], 12),
+        ([0, 0, 0, 0, 0, 0, 0, 1, 1, 2, 1, 1, 3], 9),
+    ] {
+        let fault = play(rt.alloc(), &layout, &steps_of(*consumers)).err();
+        same(&rt, &fault, &Some(PlayFault::NoConsumer(*place)));
+    }
 }
 
 /// More steps than a run of all claims takes, so that most of them are `Done`.

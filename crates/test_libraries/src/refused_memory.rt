@@ -150,7 +150,7 @@ static CALLS: [(Tried, u64, u64); 10] = [
         MANY,
     ),
     // Lines without events take no memory.
-    (Tried::Script("setup 1 1 0 1 bits\n", Ok(0)), 0, 0),
+    (Tried::Script("setup 1 1 0 1 bits", Ok(0)), 0, 0),
     (
         Tried::Script(
             "setup 1 1 0 1 bits\npush 0 0 0 0 0 0 0 0 0 0 0 0 0 0\n",

@@ -9,7 +9,7 @@ use mb_world::Setup;
 use std::process::Abort;
 use std::sync::Wait;
 use std::sync::atomic::{AtomicU64, Ordering};
-use std::thread::Threads;
+use std::thread::{Threads, yield_now};
 
 /// The most looks of a worker that waits at a gate. So no worker waits for ever.
 pub(crate) const TURNS: u64 = 1_000_000_000;
@@ -38,6 +38,7 @@ impl Gate for AllCome {
             if self.workers <= self.come.load(Ordering::SeqCst) {
                 return true;
             }
+            yield_now();
         }
         false
     }
@@ -170,6 +171,7 @@ impl Gate for ThreeCalls {
             if 4 <= self.made.load(Ordering::SeqCst) {
                 return call <= 3;
             }
+            yield_now();
         }
         false
     }

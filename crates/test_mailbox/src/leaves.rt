@@ -6,6 +6,7 @@ use crate::workers::stop_one;
 use mb_mailbox::{Gate, Who};
 use std::slice;
 use std::sync::atomic::{AtomicBool, AtomicU64, Ordering};
+use std::thread::yield_now;
 
 /// A gate by which the only consumer polls once, while the only producer leaves after its put. Neither waits for ever.
 #[derive(Drop)]
@@ -26,6 +27,7 @@ fn comes(flag: &AtomicBool) -> bool {
         if flag.load(Ordering::SeqCst) {
             return true;
         }
+        yield_now();
     }
     false
 }

@@ -2,10 +2,12 @@
 
 use crate::compare::same;
 use crate::scenes::{play, plays, plays_in};
+use crate::trial::Trial;
 use crate::trials::{ends, new_trial};
 use mb_mailbox::GatherFault;
 use mb_quorum::TableName;
 use mb_world::Setup;
+use std::alloc::Allocator;
 use std::process::Abort;
 
 /// How many producers, consumers and cells a mailbox has, the calls with their answers, and the report.
@@ -64,13 +66,12 @@ diary 1 0
 ",
 );
 
-/// The second producer finds no cell for its items, and ends its lane without one.
+/// The second producer finds no cell for its items, and ends its lane without one. No consumer is given.
 const TWO_PRODUCERS_WANT_THE_ONLY_CELL: Scene = (
     [2, 1, 1],
     "\
 producer: given
 producer: given
-consumer: given
 put 0 5: linked
 put 1 6: full
 put 1 7: full
@@ -123,22 +124,34 @@ fn scenes_of_one_thread(rt: HostRuntime) {
     }
 }
 
-/// Makes the calls of the scene, and takes all in but one consumer. Then `gather` is refused, and all comes back as it
-/// was. After the last consumer is taken in, the report has the scene's text.
-fn one_consumer_is_out<R: Abort + AllocGlobal>(rt: &R, scene: Scene) {
+/// The trial as it comes back from a `gather` that finds so many producers and consumers out.
+fn back_from_gather<A: Allocator + Clone + Drop>(
+    rt: &impl Abort,
+    alloc: A,
+    trial: Trial<A>,
+    producers: u32,
+    consumers: u32,
+) -> Trial<A> {
+    match trial.gather(alloc) {
+        Ok(_) => rt.panic("a report is made while somebody is out"),
+        Err((fault, trial)) => {
+            same(rt, &fault, &GatherFault::Missing(producers, consumers));
+            trial
+        }
+    }
+}
+
+/// Makes the calls of the scene, by which all numbers are given. `gather` is refused before anybody is taken in, and
+/// again while one consumer is out. After all are taken in, the report has the scene's text.
+fn is_gathered_at_last<R: Abort + AllocGlobal>(rt: &R, scene: Scene) {
     let (sizes, lines, report) = scene;
     let alloc = rt.alloc();
     let mut trial = new_trial(rt, alloc, sizes[0], sizes[1], sizes[2]);
     play(rt, &mut trial, alloc, lines);
+    let mut trial = back_from_gather(rt, alloc, trial, sizes[0] as u32, sizes[1] as u32);
     trial.take_producer(0);
     trial.take_consumer(1);
-    match trial.gather(alloc) {
-        Ok(_) => rt.panic("a report is made while a consumer is out"),
-        Err((fault, trial)) => {
-            same(rt, &fault, &GatherFault::Missing(0, 1));
-            ends(rt, alloc, trial, report);
-        }
-    }
+    ends(rt, alloc, back_from_gather(rt, alloc, trial, 0, 1), report);
 }
 
 /// The hub gives one producer and one consumer, and no more.
@@ -178,8 +191,8 @@ diary 1 0 lost 0
 
 #[test]
 fn no_report_is_made_while_one_is_out(rt: HostRuntime) {
-    one_consumer_is_out(&rt, ALL_NUMBERS_ARE_GIVEN);
-    one_consumer_is_out(&rt, A_LATER_CONSUMER_LOSES_TO_ONE_THAT_WENT_AWAY);
+    is_gathered_at_last(&rt, ALL_NUMBERS_ARE_GIVEN);
+    is_gathered_at_last(&rt, A_LATER_CONSUMER_LOSES_TO_ONE_THAT_WENT_AWAY);
 }
 
 /// Appends each of 300 items, in their order, with these texts around it.

@@ -15,25 +15,57 @@ pub(crate) fn replayed<R: AllocGlobal, A: Allocator + Copy>(
     alloc: A,
     script: &str,
 ) -> (Result<(), Fault>, Vec<u8>) {
-    let mut reader = CountingIo::new(script.as_bytes());
+    replayed_bytes(rt, alloc, script.as_bytes())
+}
+
+// The same of a script's bytes.
+fn replayed_bytes<R: AllocGlobal, A: Allocator + Copy>(
+    rt: &R,
+    alloc: A,
+    script: &[u8],
+) -> (Result<(), Fault>, Vec<u8>) {
+    let mut reader = CountingIo::new(script);
     let mut writer = CountingIo::new(Vec::<u8>::new(rt.alloc()));
     let result = run(alloc, &mut reader, &mut writer);
     (result, writer.device)
 }
 
-/// Which fault a script has is tested where scripts are read. Here nothing is written, even if a script begins with good
-/// lines.
+/// Scripts with their first fault, for which nothing is written, even if a script begins with good lines. More rows
+/// stand where scripts are read.
 const REFUSED: &[(&str, Fault)] = &[
+    ("", Fault::NoSetup),
+    ("\n", Fault::NoSetup),
+    (" setup 1 1 1 1 bits\n", Fault::NoSetup),
+    ("setup 1 1 1 1\n", Fault::BadLine(1)),
+    ("setup 1 1 1 1 bits\r\n", Fault::BadLine(1)),
+    ("setup 0 17 300 x bits\n", Fault::BadNumber(1)),
     (
         "setup 0 0 300 0 bits\npush\n",
         Fault::BadSetup(1, SetupFault::BadProducers),
     ),
+    ("setup 1 1 1 1 bits\noffer 0\n", Fault::BadLine(2)),
+    ("setup 1 1 1 1 bits\npush  0\n", Fault::BadLine(2)),
+    ("setup 1 1 1 1 bits\npush 0 \n", Fault::BadLine(2)),
+    ("setup 1 1 1 1 bits\n\n", Fault::BadLine(2)),
+    (
+        "setup 1 1 1 1 bits\nsetup 1 1 1 1 bits\n",
+        Fault::BadLine(2),
+    ),
+    (
+        "setup 1 1 1 1 bits\npush 18446744073709551616\n",
+        Fault::BadNumber(2),
+    ),
+    (
+        "setup 1 1 1 1 bits\npush 18446744073709551615\n",
+        Fault::NoLane(2),
+    ),
+    ("setup 1 1 1 1 bits\nstep 5 5 0\n", Fault::NoLane(2)),
+    ("setup 1 1 1 1 bits\nstep 0 1x 0\n", Fault::BadNumber(2)),
     ("setup 1 1 1 1 bits\npush 0\npush\n", Fault::BadLine(3)),
     ("setup 1 1 1 1 bits\npush 1\npush\n", Fault::NoLane(2)),
-    ("setup 1 1 1 1 bits\npush\npush \u{80}\n", Fault::NotAscii),
     ("setup 1 1 0 1 bits\npush 00\n", Fault::BadNumber(2)),
+    ("setup 1 16 0 1 bits\nstep 16 0 0\n", Fault::NoConsumer(2)),
     ("setup 1 16 0 1 bits\nstep 16 1 0\n", Fault::NoLane(2)),
-    ("", Fault::NoSetup),
     // A shape is a seventh word, and is known before any number is read.
     ("setup x 1 1 1 bits other\n", Fault::BadLine(1)),
     ("setup 1 1 1 1 bits plain\n", Fault::BadLine(1)),
@@ -47,6 +79,18 @@ fn a_fault_leaves_nothing_written(rt: HostRuntime) {
         let (result, text) = replayed(&rt, rt.alloc(), script);
         same_at(&rt, &(result, text.len()), &(Err(want), 0), &script);
     }
+}
+
+// The least byte that is not ASCII comes after a bad line, and decides.
+#[test]
+fn a_byte_128_is_not_ascii(rt: HostRuntime) {
+    let mut script = Vec::new(rt.alloc());
+    script
+        .extend_from_slice("setup 1 1 1 1 bits\npush\npush ".as_bytes())
+        .expect(&rt, "no script");
+    script.push(128).expect(&rt, "no script");
+    let (result, text) = replayed_bytes(&rt, rt.alloc(), script.as_slice());
+    same(&rt, &(result, text.len()), &(Err(Fault::NotAscii), 0));
 }
 
 // The text `first`, then `count` times the text `line`, then the text `last`.
@@ -65,9 +109,9 @@ fn repeated(
     Ok(text)
 }
 
-// A script of `count` pushes on a lane where nothing was offered, and then the text `last`.
-fn pushes<R: Abort + AllocGlobal>(rt: &R, count: usize, last: &str) -> String {
-    repeated(rt.alloc(), "setup 1 1 1 1 bits\n", "push 0\n", count, last).expect(rt, "no script")
+// The text `first`, then `count` pushes on a lane where nothing was offered, then the text `last`.
+fn pushes<R: Abort + AllocGlobal>(rt: &R, first: &str, count: usize, last: &str) -> String {
+    repeated(rt.alloc(), first, "push 0\n", count, last).expect(rt, "no script")
 }
 
 // What is written for a script of `count` such pushes: their results, and the report.
@@ -79,17 +123,28 @@ fn answers<R: Abort + AllocGlobal>(rt: &R, count: usize) -> String {
 #[test]
 fn many_events_are_replayed(rt: HostRuntime) {
     for count in [1_000, 19_999, 20_000] {
-        let (result, text) = replayed(&rt, rt.alloc(), &pushes(&rt, count, ""));
+        let script = pushes(&rt, "setup 1 1 1 1 bits\n", count, "");
+        let (result, text) = replayed(&rt, rt.alloc(), &script);
         let is_whole = text.as_slice() == answers(&rt, count).as_bytes();
         same_at(&rt, &(result, is_whole), &(Ok(()), true), &count);
     }
 }
 
-// A line past the last event that is allowed is one too many, whatever it says.
+// A line past the last event that is allowed is one too many, whatever it says. A bad line before it decides.
 #[test]
 fn a_script_has_a_limit_of_events(rt: HostRuntime) {
-    let (result, text) = replayed(&rt, rt.alloc(), &pushes(&rt, 20_000, "x\n"));
-    same(&rt, &(result, text.len()), &(Err(Fault::TooManyEvents), 0));
+    for (first, count, want) in &[
+        ("setup 1 1 1 1 bits\n", 20_000, Fault::TooManyEvents),
+        (
+            "setup 1 1 1 1 bits\npush 0\npush\n",
+            19_998,
+            Fault::BadLine(3),
+        ),
+    ] {
+        let script = pushes(&rt, *first, *count, "x\n");
+        let (result, text) = replayed(&rt, rt.alloc(), &script);
+        same(&rt, &(result, text.len()), &(Err(*want), 0));
+    }
 }
 
 /// Checks that a text that was made is `want`. Returns whether one was made.
