@@ -152,15 +152,16 @@ uint32_t hz_finish(hz_handle *producer);
 
 /* Makes accesses on a lane until one has a result, or budget of them were made. It takes no memory.
  * HZ_TOOK: the item is this consumer's alone, and value is the item. HZ_LOST: no other consumer but number value can win
- * the item. HZ_UNDECIDED: the claim ended, and nobody knows by it who has won. It never comes if last is true. HZ_NOTHING:
- * no further item is linked yet. HZ_ENDED: no further item comes. HZ_SPENT: the budget is used up, and the next poll of
- * the lane goes on from there. It never comes of the budget UINT64_MAX. HZ_NO_LANE: there is no such lane.
- * HZ_BAD_HANDLE. value is written at HZ_TOOK and HZ_LOST only. */
+ * the item. HZ_UNDECIDED: the claim ended, and does not show who has won, if anybody has. It never comes if last is
+ * true. HZ_NOTHING: no further item is linked yet. HZ_ENDED: no further item comes. HZ_SPENT: the budget is used up,
+ * and the next poll of the lane goes on from there. It never comes of the budget UINT64_MAX. HZ_NO_LANE: there is no
+ * such lane. HZ_BAD_HANDLE. value is written at HZ_TOOK and HZ_LOST only. */
 uint32_t hz_poll(hz_handle *consumer, uint64_t lane, uint64_t budget, uint64_t *value);
 
 /* Takes a producer or a consumer back, also before its lane has ended or while it holds a claim. What it did is kept for
  * the report, and its number is not given again.
- * HZ_DONE: part is HZ_NONE then. HZ_BAD_HANDLE: part is neither. HZ_OTHER_MAILBOX: it has another id than the hub. */
+ * HZ_DONE: part is HZ_NONE then. HZ_BAD_HANDLE: hub is no hub, or part is no producer or consumer. HZ_OTHER_MAILBOX: it
+ * has another id than the hub. */
 uint32_t hz_take_back(hz_handle *hub, hz_handle *part);
 
 /* Ends the mailbox, and makes the report of all that was taken back.
