@@ -141,14 +141,14 @@ fn back_from_gather<A: Allocator + Clone + Drop>(
     }
 }
 
-/// Makes the calls of the scene, by which all numbers are given. `gather` is refused before anybody is taken in, and
-/// again while one consumer is out. After all are taken in, the report has the scene's text.
-fn is_gathered_at_last<R: Abort + AllocGlobal>(rt: &R, scene: Scene) {
+/// Makes the calls of the scene, by which one producer and so many consumers are given. `gather` is refused before
+/// anybody is taken in, and again while one consumer is out. After all are taken in, the report has the scene's text.
+fn is_gathered_at_last<R: Abort + AllocGlobal>(rt: &R, scene: Scene, consumers: u32) {
     let (sizes, lines, report) = scene;
     let alloc = rt.alloc();
     let mut trial = new_trial(rt, alloc, sizes[0], sizes[1], sizes[2]);
     play(rt, &mut trial, alloc, lines);
-    let mut trial = back_from_gather(rt, alloc, trial, sizes[0] as u32, sizes[1] as u32);
+    let mut trial = back_from_gather(rt, alloc, trial, 1, consumers);
     trial.take_producer(0);
     trial.take_consumer(1);
     ends(rt, alloc, back_from_gather(rt, alloc, trial, 0, 1), report);
@@ -191,8 +191,8 @@ diary 1 0 lost 0
 
 #[test]
 fn no_report_is_made_while_one_is_out(rt: HostRuntime) {
-    is_gathered_at_last(&rt, ALL_NUMBERS_ARE_GIVEN);
-    is_gathered_at_last(&rt, A_LATER_CONSUMER_LOSES_TO_ONE_THAT_WENT_AWAY);
+    is_gathered_at_last(&rt, ALL_NUMBERS_ARE_GIVEN, 1);
+    is_gathered_at_last(&rt, A_LATER_CONSUMER_LOSES_TO_ONE_THAT_WENT_AWAY, 2);
 }
 
 /// Appends each of 300 items, in their order, with these texts around it.
