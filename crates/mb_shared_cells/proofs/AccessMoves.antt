@@ -92,7 +92,8 @@ kept_by_access laws size words views id own who known done word act n h at withi
         drawn = subst (λ (z : ℕ). t.lanes ≤ z) (sym same_roster) r.drawn;
         nobody_else = λ x none.
             laws.others t.history a x (λ e. none (subst (IsEnrolled t) e mine.2.enrolled)) ∙ r.nobody_else x none;
-        stands = λ x e. stands_then views id (Member own who known done) now (t.seat_of x) x at (λ y. y) (r.stands x e);
+        stands = λ x e. stands_then views id (Member own who known done) now (t.seat_of x) x at
+            (λ y. (a ∷ done, (y.1.0, refl))) (r.stands x e);
         fits = subst
             (λ (z : ℕ). (j : ℕ) (v : View) → get_elem? (slice_set views id now) j ≡ some v → FitsView size u z j v)
             (sym same_roster)

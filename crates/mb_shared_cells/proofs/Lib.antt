@@ -6,6 +6,7 @@ pub mod Seatings
 -- Each step keeps the rule
 pub mod AccessMoves
 pub mod NextAccesses
+pub mod DrawMoves
 pub mod EnrolMoves
 pub mod TakeMoves
 -- What the calls of seats keep, find and put

@@ -33,24 +33,48 @@ ReaderLaw =
 abbrev pub CounterLaw : Type 0
 CounterLaw = (size : PoolSize) (h : History) → IsPoolLawful size h → value_in Counter h ≤ size.cells + size.lanes
 
+-- a load of a word that its reader may load may follow, if it finds what the word holds
+pub load_follows : ReaderLaw → (size : PoolSize) (r : ℕ) (done : History) (w : Word)
+    → MayRead size.lanes w done → (h : History) (n : ℕ) → IsPoolLawful size h
+    → part (Reader r) h ≡ done → n ≡ value_in w h
+    → IsPoolLawful size (load r w n ∷ h)
+load_follows law size r done w may h n lawful mine is =
+    subst (λ z. IsPoolLawful size (load r w z ∷ h)) (sym is)
+    (law size h r w lawful (subst (λ l. MayRead size.lanes w l) (sym mine) may))
+
 -- a load of a word that its reader may load goes on, whatever it finds
 pub load_goes : ReaderLaw → (size : PoolSize) (r : ℕ) (done : History) (w : Word) → MayRead size.lanes w done
     → GoesOn size (Reader r) done w (λ n. Load n) (λ n. n)
-load_goes law size r done w may h n lawful mine lane is low = (
-  subst (λ z. IsPoolLawful size (load r w z ∷ h)) (sym is)
-      (law size h r w lawful (subst (λ l. MayRead size.lanes w l) (sym mine) may)),
-  refl,
-)
+load_goes law size r done w may h n lawful mine lane is low =
+    (load_follows law size r done w may h n lawful mine is, refl)
+
+-- a store may follow, if its producer's path goes on with it
+pub store_follows : ProducerLaw → (size : PoolSize) (p : ℕ) (done : History) (w : Word) (value : ℕ)
+    → value < 2 ^ 64 → IsLanePrefix size.cells p (store p w value ∷ done)
+    → (h : History) → IsPoolLawful size h → part (Producer p) h ≡ done → p < size.lanes
+    → IsPoolLawful size (store p w value ∷ h)
+store_follows law size p done w value small path h lawful mine lane =
+    law size h (store p w value) p lawful refl lane small tt
+    (subst (λ l. IsLanePrefix size.cells p (store p w value ∷ l)) (sym mine) path)
 
 -- a store goes on, if its producer's path does
 pub store_goes : ProducerLaw → (size : PoolSize) (p : ℕ) (done : History) (w : Word) (value : ℕ) → value < 2 ^ 64
     → IsLanePrefix size.cells p (store p w value ∷ done)
     → GoesOn size (Producer p) done w (λ _. Store value) (λ _. value)
-store_goes law size p done w value small path h n lawful mine lane is low = (
-  law size h (store p w value) p lawful refl lane small tt
-      (subst (λ l. IsLanePrefix size.cells p (store p w value ∷ l)) (sym mine) path),
-  refl,
-)
+store_goes law size p done w value small path h n lawful mine lane is low =
+    (store_follows law size p done w value small path h lawful mine lane, refl)
+
+-- a fetch-add may follow, if its producer's path goes on with it, and it finds what the counter has
+pub fetch_follows : ProducerLaw → (size : PoolSize) (p : ℕ) (done : History) (item n : ℕ)
+    → item < 2 ^ 64 → n < 2 ^ 64
+    → IsLanePrefix size.cells p (fetch p (record { cell = n; value = item }) ∷ done)
+    → (h : History) → IsPoolLawful size h → part (Producer p) h ≡ done → p < size.lanes
+    → n ≡ value_in Counter h
+    → IsPoolLawful size (fetch p (record { cell = n; value = item }) ∷ h)
+fetch_follows law size p done item n small low path h lawful mine lane is =
+    let e : Entry = record { cell = n; value = item } in
+    law size h (fetch p e) p lawful refl lane (small, low) is
+    (subst (λ l. IsLanePrefix size.cells p (fetch p e ∷ l)) (sym mine) path)
 
 -- a fetch-add goes on, if its producer's path does. The counter's bound keeps it from wrapping
 pub fetch_goes : ProducerLaw → CounterLaw → (size : PoolSize) (p : ℕ) (done : History) (item : ℕ)
@@ -59,8 +83,4 @@ pub fetch_goes : ProducerLaw → CounterLaw → (size : PoolSize) (p : ℕ) (don
     → GoesOn size (Producer p) done Counter (λ n. FetchAdd item n) (λ n. (n + 1) % 2 ^ 64)
 fetch_goes law bound size p done item lanes cells small path h n lawful mine lane is low =
     let most = bound size h lawful in
-    let e : Entry = record { cell = n; value = item } in (
-      law size h (fetch p e) p lawful refl lane (small, low) is
-          (subst (λ l. IsLanePrefix size.cells p (fetch p e ∷ l)) (sym mine) (path n)),
-      omega arith,
-    )
+    (fetch_follows law size p done item n small low (path n) h lawful mine lane is, omega arith)

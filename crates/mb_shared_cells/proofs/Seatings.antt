@@ -1,5 +1,5 @@
 -- Who stands at which seat, and what a step leaves of it for the seats that did not make it.
-use Rattle.std.proofs.Common.{List, [], ap, arith, inl, inr, length, length-set, refl, slice_index, slice_set, subst, sym, ℕ, ⊎_elim, ◌++◌, ◌∙◌, ◌∷◌, ◌≡◌, ◌≢◌, ◌≤◌, ◌⊎◌}
+use Rattle.std.proofs.Common.{List, [], ap, arith, inl, inr, length, length-set, refl, slice_set, subst, sym, ℕ, ⊎_elim, ◌++◌, ◌∙◌, ◌∷◌, ◌≡◌, ◌≢◌, ◌≤◌, ◌⊎◌}
 use Rattle.std.specs.Prelude.{None, Option, Some}
 use Rattle.std.proofs.lemmas.Bool.{cases_eq}
 use Rattle.std.proofs.lemmas.Option.{slice_get_within}
@@ -12,7 +12,7 @@ use Rattle.mb_cells.specs.Vocabulary.{History, ProcessFits, part}
 use Rattle.mb_cells.specs.declared.access.Process.{Process}
 use Rattle.mb_cells.specs.declared.access.Process.TheVariants.{Producer, Reader}
 use Rattle.mb_cells.specs.declared.size.PoolSize.{PoolSize}
-use Rattle.mb_shared_cells.specs.Rule.{FitsView, HasPart, HasProcess, IsEnrolled, IsHub, IsTableState, KnowsTaken, Seating, StandsAt, roster_of}
+use Rattle.mb_shared_cells.specs.Rule.{FitsView, HasPart, HasProcess, IsEnrolled, IsHub, IsTableState, KnowsTaken, Seating, StandsAt, TellsPart}
 use Rattle.mb_shared_cells.specs.Views.{PartList, roll_at, roll_with_lane, roll_with_part, roll_with_reader}
 use Rattle.mb_shared_cells.specs.declared.views.Roll.{Roll}
 use Rattle.mb_shared_cells.specs.declared.views.View.{View}
@@ -211,18 +211,33 @@ with_reader-has roll (Producer p) b e = e
 with_reader-has roll (Reader r) b e = longer_has roll.readers r b e
 
 -- ---- a process stands at one seat
--- a process whose part a fitting view has stands at the seat of that view
-view_there : (size : PoolSize) (t : Seating) (roster seat : ℕ) (v : View) (who : Process)
-    → FitsView size t roster seat v → HasProcess v who → t.seat_of who ≡ seat
-view_there size t roster seat (Hub own roll) who f h = (f.0.parts who h.0 h.1).0
-view_there size t roster seat (HubDraws own roll) who f h = (f.0.parts who h.0 h.1).0
-view_there size t roster seat (HubJoins own roll other done) who f (inl e) = ap t.seat_of (sym e) ∙ f.2.here
-view_there size t roster seat (HubJoins own roll other done) who f (inr h) = (f.0.parts who h.0 h.1).0
-view_there size t roster seat (Member own other known done) who f e = ap t.seat_of (sym e) ∙ f.2.here
-view_there size t roster seat Empty who f h = absurd h
+-- a part in the roll of a hub is that of its process, which stands at the hub
+roll_part : (size : PoolSize) (t : Seating) (seat : ℕ) (own : PoolSize) (roll : Roll)
+    (who : Process) (done : History) → IsHub size t seat own roll → roll_at who roll ≡ Some (Some done)
+    → HasPart t seat who done
+roll_part size t seat own roll who done h e =
+    let x = h.parts who done e in
+    let enrolled = roll_enrolled size t seat own roll who (Some done) h e in
+    record { here = x.0; enrolled = enrolled; part = x.1 }
+
+-- a part that a fitting view tells is that of its process, which stands at the seat of that view
+pub told_part : (size : PoolSize) (t : Seating) (roster seat : ℕ) (v : View) (who : Process)
+    (done : History) → FitsView size t roster seat v → TellsPart v who done
+    → HasPart t seat who done
+told_part size t roster seat (Hub own roll) who done f e =
+    roll_part size t seat own roll who done f.0 e
+told_part size t roster seat (HubDraws own roll) who done f e =
+    roll_part size t seat own roll who done f.0 e
+told_part size t roster seat (HubJoins own roll other theirs) who done f (inl e) =
+    subst (λ (z : Process × History). HasPart t seat z.0 z.1) (λ i. (e.0 i, e.1 i)) f.2
+told_part size t roster seat (HubJoins own roll other theirs) who done f (inr e) =
+    roll_part size t seat own roll who done f.0 e
+told_part size t roster seat (Member own other known theirs) who done f e =
+    subst (λ (z : Process × History). HasPart t seat z.0 z.1) (λ i. (e.0 i, e.1 i)) f.2
+told_part size t roster seat Empty who done f e = absurd e
 
 -- a process whose part a seat has stands at that seat
 pub stands_there : (size : PoolSize) (words : List ℕ) (views : List View) (t : Seating) (seat : ℕ) (who : Process)
     → IsTableState size words views t → StandsAt views seat who → t.seat_of who ≡ seat
 stands_there size words views t seat who r h =
-    view_there size t (slice_index words (roster_of size)) seat h.0 who (r.fits seat h.0 h.1) h.2
+    (told_part size t _ seat h.0 who h.2.0 (r.fits seat h.0 h.1) h.2.1).here

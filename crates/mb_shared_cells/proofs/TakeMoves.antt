@@ -10,7 +10,7 @@ use Rattle.mb_cells.specs.Vocabulary.{History, IsPoolLawful, part}
 use Rattle.mb_cells.specs.declared.access.Process.{Process}
 use Rattle.mb_cells.specs.declared.access.Process.TheVariants.{Producer, Reader}
 use Rattle.mb_cells.specs.declared.size.PoolSize.{PoolSize}
-use Rattle.mb_shared_cells.specs.Rule.{FitsView, HasPart, HasProcess, IsCellsState, IsEnrolled, IsHub, IsTableState, KeepsCells, Seating, StandsAt, roster_of}
+use Rattle.mb_shared_cells.specs.Rule.{FitsView, HasPart, HasProcess, IsCellsState, IsEnrolled, IsHub, IsTableState, IsViewAt, KeepsCells, Seating, StandsAt, roster_of}
 use Rattle.mb_shared_cells.specs.Views.{IsRollOf, PartList, SeatState, WasOut, hub_after_join, hub_after_load, roll_at, roll_with_part}
 use Rattle.mb_shared_cells.specs.declared.views.Roll.{Roll}
 use Rattle.mb_shared_cells.specs.declared.views.View.{View}
@@ -20,7 +20,7 @@ use Rattle.mb_shared_cells.proofs.Seatings.{with_part-had, with_part-has, with_p
 use Rattle.mb_shared_cells.proofs.ViewLists.{all_set, at_within, none_past}
 
 -- the hub may join the seat of a process to its own
-takes_in : (size : PoolSize) (id other : ℕ) (own its : PoolSize) (roll : Roll) (who : Process) (known : PartList)
+pub takes_in : (size : PoolSize) (id other : ℕ) (own its : PoolSize) (roll : Roll) (who : Process) (known : PartList)
     (done : History)
     → Joins (KeepsCells size) id (Hub own roll) other (Member its who known done) (HubJoins own roll who done) Empty
 takes_in size id other own its roll who known done s h at apart there =
@@ -89,14 +89,14 @@ takes_in size id other own its roll who known done s h at apart there =
               both,
               set_else joined other id Empty (λ near. apart (sym near))
                   ∙ set_here views id both (at_within views id hub at),
-              inl e,
+              (done, inl (e, refl)),
             ))
             (λ (e : who ≢ x).
             let y = r.stands x enrolled in
             let not_there : t.seat_of x ≡ other → ⊥ = λ there'.
             e (subst (λ v. HasProcess v x)
-            (some-injective y.0 member (sym y.1 ∙ ap (get_elem? views) there' ∙ was)) y.2) in
-            let z = stands_then views id hub both (t.seat_of x) x at (λ y. inr y) y in
+            (some-injective y.0 member (sym y.1 ∙ ap (get_elem? views) there' ∙ was)) y.2).1.0 in
+            let z = stands_then views id hub both (t.seat_of x) x at (λ y. (y.0, inr y.1)) y in
             subst (λ (n : ℕ). StandsAt (slice_set joined other Empty) n x)
             (sym (moved-else who id t.seat_of x e))
             (z.0, set_else joined other (t.seat_of x) Empty not_there ∙ z.1, z.2))
@@ -122,11 +122,12 @@ join_asked key id other v w own its roll who known done is that =
 loaded_keeps : (who : Process) (own : PoolSize) (done : History) (roll : Roll) (x : Process)
     → roll_at who roll ≡ Some None → HasProcess (HubJoins own roll who done) x
     → HasProcess (Hub own (roll_with_part who done roll)) x
-loaded_keeps who own done roll x out (inl e) = (
+loaded_keeps who own done roll x out (d, inl e) = (
   done,
-  subst (λ z. roll_at z (roll_with_part who done roll) ≡ Some (Some done)) e (with_part-here who done roll None out),
+  subst (λ z. roll_at z (roll_with_part who done roll) ≡ Some (Some done)) e.0
+      (with_part-here who done roll None out),
 )
-loaded_keeps who own done roll x out (inr h) = with_part-has who done roll x h.0 h.1
+loaded_keeps who own done roll x out (d, inr e) = with_part-has who done roll x d e
 
 -- a process without a place in the roll was not enrolled
 not_enrolled : (size : PoolSize) (t : Seating) (seat : ℕ) (own : PoolSize) (roll : Roll) (who : Process)
@@ -145,18 +146,13 @@ roll_history size words views t seat own roll r hub = record {
   others = λ who e. r.nobody_else who (not_enrolled size t seat own roll who hub e);
 }
 
--- the hub that has joined a seat may put its part into the roll
-load_allows : (size : PoolSize) (slots id : ℕ) (own : PoolSize) (roll : Roll) (who : Process) (done : History)
-    → Allows (KeepsCells size) slots id (HubJoins own roll who done, []) 0 (λ n. n)
-    (λ n w. WasOut (HubJoins own roll who done) × (w ≡ (Hub own (roll_with_part who done roll), [])))
-load_allows size slots id own roll who done s h _ at _ =
-    let views = s.views in
-    let t = h.0 in
-    let r = h.1 in
-    let was = HubJoins own roll who done in
-    let now = Hub own (roll_with_part who done roll) in
-    let mine = r.fits id was at in
-    let hub_now : IsHub size t id own (roll_with_part who done roll) = record {
+-- the hub that has joined a seat is the hub still once it has put the part into its roll
+loaded_hub : (size : PoolSize) (words : List ℕ) (views : List View) (t : Seating) (id : ℕ)
+    (own : PoolSize) (roll : Roll) (who : Process) (done : History)
+    → IsTableState size words views t → IsViewAt views id (HubJoins own roll who done)
+    → IsHub size t id own (roll_with_part who done roll)
+loaded_hub size words views t id own roll who done r at =
+    let mine = r.fits id (HubJoins own roll who done) at in record {
       sized = mine.0.sized;
       here = mine.0.here;
       lanes = with_part-lanes who done roll ∙ mine.0.lanes;
@@ -166,25 +162,48 @@ load_allows size slots id own roll who done s h _ at _ =
           (ap t.seat_of (sym y.0) ∙ mine.2.here, sym y.1 ∙ mine.2.part ∙ ap (λ z. part z t.history) y.0))
           (λ (y : roll_at x roll ≡ Some (Some d)). mine.0.parts x d y)
           (with_part-had who done roll x d e);
-    } in (
+    }
+
+-- after that the same seating explains the table
+pub after_load : (size : PoolSize) (words : List ℕ) (views : List View) (t : Seating) (id : ℕ)
+    (own : PoolSize) (roll : Roll) (who : Process) (done : History)
+    → IsTableState size words views t → IsViewAt views id (HubJoins own roll who done)
+    → IsTableState size words (slice_set views id (Hub own (roll_with_part who done roll))) t
+after_load size words views t id own roll who done r at =
+    let was = HubJoins own roll who done in
+    let now = Hub own (roll_with_part who done roll) in
+    let mine = r.fits id was at in record {
+      memory = r.memory;
+      wide = r.wide;
+      few = r.few;
+      drawn = r.drawn;
+      nobody_else = r.nobody_else;
+      stands = λ x e.
+          stands_then views id was now (t.seat_of x) x at (loaded_keeps who own done roll x mine.3)
+          (r.stands x e);
+      fits = all_set (λ j v. FitsView size t (slice_index words (roster_of size)) j v) views id now
+          (λ j v apart e. r.fits j v e)
+          (loaded_hub size words views t id own roll who done r at, mine.1);
+    }
+
+-- the hub that has joined a seat may put its part into the roll
+load_allows : (size : PoolSize) (slots id : ℕ) (own : PoolSize) (roll : Roll) (who : Process) (done : History)
+    → Allows (KeepsCells size) slots id (HubJoins own roll who done, []) 0 (λ n. n)
+    (λ n w. WasOut (HubJoins own roll who done) × (w ≡ (Hub own (roll_with_part who done roll), [])))
+load_allows size slots id own roll who done s h _ at _ =
+    let views = s.views in
+    let t = h.0 in
+    let r = h.1 in
+    let now = Hub own (roll_with_part who done roll) in
+    let mine = r.fits id (HubJoins own roll who done) at in
+    let hub = loaded_hub size s.words views t id own roll who done r at in (
       now,
       keeps,
       tt,
-      subst (λ (ws : List ℕ). IsCellsState size ws (slice_set views id now)) (sym (set-get_or s.words 0 0)) (
-        t,
-        record {
-          memory = r.memory;
-          wide = r.wide;
-          few = r.few;
-          drawn = r.drawn;
-          nobody_else = r.nobody_else;
-          stands = λ x e.
-              stands_then views id was now (t.seat_of x) x at (loaded_keeps who own done roll x mine.3) (r.stands x e);
-          fits = all_set (λ j v. FitsView size t (slice_index s.words (roster_of size)) j v) views id now
-              (λ j v apart e. r.fits j v e) (hub_now, mine.1);
-        },
-      ),
-      ((mine.3, (t.history, roll_history size s.words views t id own (roll_with_part who done roll) r hub_now)), refl),
+      subst (λ (ws : List ℕ). IsCellsState size ws (slice_set views id now))
+          (sym (set-get_or s.words 0 0))
+          (t, after_load size s.words views t id own roll who done r at),
+      ((mine.3, (t.history, roll_history size s.words views t id own _ r hub)), refl),
     )
 
 -- the hub may put the part in, if its seat is known by an equation

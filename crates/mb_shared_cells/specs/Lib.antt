@@ -1,4 +1,5 @@
 -- In the order of reading: a file stands on files above it.
+pub mod Types
 pub mod Views
 pub mod Rule
 pub mod Shown

@@ -61,18 +61,30 @@ FitsView size t roster seat (Member own who known done) =
     (own ≡ size) × (seat ≢ t.hub) × HasPart t seat who done × KnowsTaken t known
 FitsView size t roster seat Empty = Unit {0}
 
+-- this seat has this view
+abbrev pub IsViewAt : List View → ℕ → View → Type 0
+IsViewAt views seat v = get_elem? views seat ≡ some v
+
+-- the view tells this part of the process: it is that of its seat, or the hub's that took the seat in
+abbrev pub TellsPart : View → Process → History → Type 0
+TellsPart (Hub own roll) who done = roll_at who roll ≡ Some (Some done)
+TellsPart (HubDraws own roll) who done = roll_at who roll ≡ Some (Some done)
+TellsPart (HubJoins own roll joined part) who done =
+    ((joined ≡ who) × (part ≡ done)) ⊎ (roll_at who roll ≡ Some (Some done))
+TellsPart (Member own seated known part) who done = (seated ≡ who) × (part ≡ done)
+TellsPart Empty who done = ⊥
+
+-- the view of this seat tells this part of the process
+abbrev pub TellsPartAt : List View → ℕ → Process → History → Type 0
+TellsPartAt views seat who done = (v : View) × IsViewAt views seat v × TellsPart v who done
+
 -- the view has a part of the process
 abbrev pub HasProcess : View → Process → Type 0
-HasProcess (Hub own roll) who = (done : History) × (roll_at who roll ≡ Some (Some done))
-HasProcess (HubDraws own roll) who = (done : History) × (roll_at who roll ≡ Some (Some done))
-HasProcess (HubJoins own roll joined done) who =
-    (joined ≡ who) ⊎ ((part : History) × (roll_at who roll ≡ Some (Some part)))
-HasProcess (Member own seated known done) who = seated ≡ who
-HasProcess Empty who = ⊥
+HasProcess v who = (done : History) × TellsPart v who done
 
 -- the view of the seat has a part of the process
 abbrev pub StandsAt : List View → ℕ → Process → Type 0
-StandsAt views seat who = (v : View) × (get_elem? views seat ≡ some v) × HasProcess v who
+StandsAt views seat who = (v : View) × IsViewAt views seat v × HasProcess v who
 
 -- the words and views are those of the history that is seated so
 pub record IsTableState (size : PoolSize) (words : List ℕ) (views : List View) (t : Seating) : Type 0 where
@@ -86,7 +98,7 @@ pub record IsTableState (size : PoolSize) (words : List ℕ) (views : List View)
   pub nobody_else : (who : Process) → (IsEnrolled t who → ⊥) → part who t.history ≡ []
   -- a process that was enrolled is in the view of its seat, and what each view says of a part is true
   pub stands : (who : Process) → IsEnrolled t who → StandsAt views (t.seat_of who) who
-  pub fits : (seat : ℕ) (v : View) → get_elem? views seat ≡ some v
+  pub fits : (seat : ℕ) (v : View) → IsViewAt views seat v
       → FitsView size t (slice_index words (roster_of size)) seat v
 
 -- the words and views are those of some history

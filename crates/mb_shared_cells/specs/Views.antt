@@ -1,7 +1,7 @@
 -- What the view of a seat has, and how each step of the table changes it.
 use Rattle.std.specs.Prelude.{List, None, Option, Some, [], length, slice_get, slice_set, ℕ, ◌++◌, ◌∷◌, ◌≡◌}
 use Rattle.atomic_table.specs.Table.{Me, Step}
-use Rattle.mb_cells.specs.Vocabulary.{History, IsPoolLawful, part}
+use Rattle.mb_cells.specs.Vocabulary.{History, IsMemoryOf, IsPoolLawful, ProcessFits, part}
 use Rattle.mb_cells.specs.declared.access.PoolAccess.{PoolAccess}
 use Rattle.mb_cells.specs.declared.access.PoolAct.{PoolAct}
 use Rattle.mb_cells.specs.declared.access.Process.{Process}
@@ -64,6 +64,13 @@ pub record IsAccessAfter (size : PoolSize) (known : PartList) (a : PoolAccess) (
   pub lawful : IsPoolLawful size (a ∷ older)
   pub own : part a.process older ≡ done
   pub lanes : KnowsLanes known older
+
+-- the access may come next on these words, if its process has done this part: each history that leaves the words,
+-- with just this part of the process, stays lawful with it. A producer has one of the pool's lanes
+abbrev pub MayComeNext : PoolSize → List ℕ → PoolAccess → History → Type 0
+MayComeNext size words a done =
+    (h : History) → IsMemoryOf size words h → part a.process h ≡ done
+    → ProcessFits size.lanes a.process → IsPoolLawful size (a ∷ h)
 
 -- the history is lawful and has the parts that were taken in. A process whose number was not issued did nothing
 pub record IsRollOf (size : PoolSize) (roll : Roll) (h : History) : Type 0 where

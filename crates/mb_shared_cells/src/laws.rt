@@ -1,27 +1,126 @@
-//! Laws of all tables, and of what the calls of seats return. The functions compute nothing: their contracts are the
-//! laws. Their proofs are in `proofs/laws/`, one folder for each. They use the lemmas of `proofs/`.
-ghost use Rattle.std.specs.Prelude.{◌≡◌, ◌+◌, ◌≤◌, ◌∷◌, ◌++◌, ℕ, List, Some, None, [], false, slice_get, slice_index, true};
-ghost use Rattle.mb_cells.specs.Vocabulary.{Entry, Has, HasMet, History, IsLaneAfter, IsStart, address_of, fetch};
-ghost use Rattle.mb_cells.specs.Vocabulary.{has_ended, linked_cells, next_link, place_past, push_store, put_list};
-ghost use Rattle.mb_cells.specs.Vocabulary.{store, word_of};
-ghost use Rattle.mb_cells.specs.declared.access.Process.{Process};
-ghost use Rattle.mb_cells.specs.declared.access.Word.TheVariants.{Counter, Item};
+//! What the rule of a table says, the law that each kind of step keeps it, and laws of what the calls of seats return.
+//! The functions compute nothing: their contracts are the laws. Their proofs are in `proofs/laws/`, one folder for each.
+//! They use the lemmas of `proofs/`.
+//!
+//! Between any two steps of any seats, the words and the views of a table are a state of the cells. The rule of each
+//! table says so: [`CellsRule`](crate::rule::CellsRule). It is checked at each step.
+ghost use Rattle.std.specs.Prelude.{◌≡◌, ◌≢◌, ◌+◌, ◌<◌, ◌≤◌, ◌^◌, ◌∷◌, ◌++◌, ℕ, List, Some, None, [], length, replicate, false};
+ghost use Rattle.std.specs.Prelude.{slice_get, slice_index, slice_set, true};
+ghost use Rattle.mb_cells.specs.Vocabulary.{Entry, Has, HasMet, History, IsLaneAfter, IsLanePrefix, IsMemoryOf, IsStart};
+ghost use Rattle.mb_cells.specs.Vocabulary.{MayRead, address_of, block_after, fetch, has_ended, linked_cells, load};
+ghost use Rattle.mb_cells.specs.Vocabulary.{next_link, part, place_past, push_store, put_list, store, word_of};
 ghost use Rattle.mb_cells.specs.declared.answer.Finish.TheVariants as finish;
 ghost use Rattle.mb_cells.specs.declared.answer.Look.TheVariants as look;
 ghost use Rattle.mb_cells.specs.declared.answer.Offer.TheVariants as offer;
-ghost use Rattle.mb_cells.specs.declared.answer.Push.{Push};
 ghost use Rattle.mb_cells.specs.declared.answer.Push.TheVariants as push;
-ghost use Rattle.mb_cells.specs.declared.cursor.Cursor.{Cursor};
-ghost use Rattle.mb_cells.specs.declared.size.PoolSize.{PoolSize};
-ghost use Rattle.mb_shared_cells.specs.{FinishMakes, IsCellsState, IsTableState, LaneSeatView, LookMakes, OfferMakes};
-ghost use Rattle.mb_shared_cells.specs.{PushMakes, ReaderSeatView, Seating, StandsAt, roster_of};
-ghost use Rattle.mb_shared_cells.specs.declared.views.View.{View};
+ghost use Rattle.mb_shared_cells.specs.{FinishMakes, IsCellsState, IsTableState, IsViewAt, KnowsLanes, LaneSeatView};
+ghost use Rattle.mb_shared_cells.specs.{LookMakes, MayComeNext, OfferMakes, PartList, PushMakes, ReaderSeatView, Seating};
+ghost use Rattle.mb_shared_cells.specs.{StandsAt, TellsPartAt, empty_roll, roll_with_lane, roll_with_part, roll_with_reader, roster_of};
+ghost use Rattle.mb_shared_cells.specs.Types.{Counter, Cursor, END, Empty, Hub, HubDraws, HubJoins, Item, Member};
+ghost use Rattle.mb_shared_cells.specs.Types.{PoolAccess, PoolSize, Process, Producer, Push, Reader, Roll, View, Word};
 
 use mb_cells::laws::{
     cells_stand_once, looks_tell_links, numbers_are_handed_out_once, parts_tell_lanes,
     readers_follow_lanes, words_lead_through_lanes,
 };
-use mb_cells::steps::{accesses_lengthen_one_part, history_extends, put_lists_grow};
+use mb_cells::steps::{
+    accesses_lengthen_one_part, accesses_stay_within, addresses_are_apart, history_extends,
+    put_lists_grow, words_follow_steps,
+};
+
+/// What a state of the cells is. No process is in two views ([`processes_stand_once`]).
+pub fn states_have_one_history()
+    // Some lawful history leaves the words. Its parts are exactly those that the views tell. The parts of lanes that a
+    // seat knows are parts of it, too.
+    ensures history { (size : PoolSize) (words : List ℕ) (views : List View)
+        → IsCellsState size words views
+        → (h : History) × IsMemoryOf size words h
+        × ((seat : ℕ) (who : Process) (done : History) → TellsPartAt views seat who done
+        → done ≡ part who h)
+        × ((who : Process) → part who h ≢ [] → (seat : ℕ) × TellsPartAt views seat who (part who h))
+        × ((seat : ℕ) (own : PoolSize) (who : Process) (known : PartList) (done : History)
+        → IsViewAt views seat (Member own who known done) → KnowsLanes known h) }
+
+    // Each lane in a view is one of those that the roster counts.
+    ensures numbers { (size : PoolSize) (words : List ℕ) (views : List View) (seat p : ℕ)
+        (done : History) → IsCellsState size words views → TellsPartAt views seat (Producer p) done
+        → p < slice_index words (roster_of size) }
+{}
+
+/// Each kind of step leads from a state to a state. It changes only the view of the seat that makes it, with two
+/// exceptions: giving a lane or a reader adds the view of its seat, and a seat taken in has no part any more.
+pub fn steps_keep_states()
+    // A table begins with zeros and its hub. The end mark is the link of none of its cells.
+    ensures new { (size : PoolSize) → size.cells < END
+        → IsCellsState size (replicate (roster_of size + 1) 0) (Hub size empty_roll ∷ []) }
+
+    // One law holds of each access, be it a load, a store or a fetch-add. It has no case for other seats. The next law
+    // says which accesses may come next.
+    ensures access { (size own : PoolSize) (words : List ℕ) (views : List View) (id : ℕ)
+        (known : PartList) (done : History) (a : PoolAccess)
+        → IsCellsState size words views → IsViewAt views id (Member own a.process known done)
+        → MayComeNext size words a done
+        → IsCellsState size (block_after size a words)
+        (slice_set views id (Member own a.process known (a ∷ done))) }
+
+    // The hub draws a lane's number by a fetch-add on the roster. Then it gives the number out, by a split of its view.
+    // A reader's number it gives out by a split alone. That seat knows the parts of the lanes that were taken in.
+    ensures draw { (size own : PoolSize) (words : List ℕ) (views : List View) (id : ℕ) (roll : Roll)
+        → IsCellsState size words views → IsViewAt views id (Hub own roll)
+        → length roll.lanes < size.lanes
+        → IsCellsState size
+        (slice_set words (roster_of size) (slice_index words (roster_of size) + 1))
+        (slice_set views id (HubDraws own roll)) }
+    ensures give_lane { (size own : PoolSize) (words : List ℕ) (views : List View) (id : ℕ)
+        (roll : Roll) → IsCellsState size words views → IsViewAt views id (HubDraws own roll)
+        → IsCellsState size words (slice_set views id (Hub own (roll_with_lane roll))
+        ++ Member own (Producer (length roll.lanes)) [] [] ∷ []) }
+    ensures give_reader { (size own : PoolSize) (words : List ℕ) (views : List View) (id : ℕ)
+        (roll : Roll) → IsCellsState size words views → IsViewAt views id (Hub own roll)
+        → IsCellsState size words (slice_set views id (Hub own (roll_with_reader roll))
+        ++ Member own (Reader (length roll.readers)) roll.lanes [] ∷ []) }
+
+    // The hub takes a seat in by a join of its view. The load after it puts the seat's part into the roll.
+    ensures take { (size own its : PoolSize) (words : List ℕ) (views : List View) (id other : ℕ)
+        (roll : Roll) (who : Process) (known : PartList) (done : History)
+        → IsCellsState size words views → other ≢ id → IsViewAt views id (Hub own roll)
+        → IsViewAt views other (Member its who known done)
+        → IsCellsState size words
+        (slice_set (slice_set views id (HubJoins own roll who done)) other Empty) }
+    ensures settle { (size own : PoolSize) (words : List ℕ) (views : List View) (id : ℕ)
+        (roll : Roll) (who : Process) (done : History)
+        → IsCellsState size words views → IsViewAt views id (HubJoins own roll who done)
+        → IsCellsState size words (slice_set views id (Hub own (roll_with_part who done roll))) }
+{
+    accesses_lengthen_one_part();
+    accesses_stay_within();
+    addresses_are_apart();
+    words_follow_steps();
+}
+
+/// Which accesses may come next. What its process has done says so, whatever other seats did.
+pub fn accesses_may_come_next()
+    // A reader may load a head, and the words of a cell that its loads led it to. It finds what the word holds.
+    ensures load { (size : PoolSize) (words : List ℕ) (r : ℕ) (w : Word) (done : History)
+        → MayRead size.lanes w done
+        → MayComeNext size words (load r w (slice_index words (address_of size w))) done }
+
+    // A producer may make a store with which its path goes on: of an item, a link or the end mark.
+    ensures store { (size : PoolSize) (words : List ℕ) (p : ℕ) (w : Word) (value : ℕ)
+        (done : History) → value < 2 ^ 64
+        → IsLanePrefix size.cells p (store p w value ∷ done)
+        → MayComeNext size words (store p w value) done }
+
+    // It may make a fetch-add with which its path goes on. That finds what the counter holds.
+    ensures fetch_add { (size : PoolSize) (words : List ℕ) (p item : ℕ) (done : History)
+        → let n = slice_index words (address_of size Counter) in
+        let e : Entry = record { cell = n; value = item } in
+        item < 2 ^ 64 → n < 2 ^ 64 → IsLanePrefix size.cells p (fetch p e ∷ done)
+        → MayComeNext size words (fetch p e) done }
+{
+    accesses_stay_within();
+    history_extends();
+}
 
 /// At every moment the counter is at most the number of cells and lanes together, and the roster at most the number of
 /// lanes.

@@ -108,7 +108,7 @@ nobody_else (Reader r) out = refl
 
 -- lane 0 stands at seat 1
 one_stands : (who : Process) → IsEnrolled putting who → StandsAt (hub_of_one ∷ lane_with one_put ∷ []) 1 who
-one_stands (Producer zero) low = (lane_with one_put, refl, refl)
+one_stands (Producer zero) low = (lane_with one_put, refl, (one_put, (refl, refl)))
 one_stands (Producer (suc p)) low = absurd (omega (arith, low))
 one_stands (Reader r) low = absurd (omega (arith, low))
 

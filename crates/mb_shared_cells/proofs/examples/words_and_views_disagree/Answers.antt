@@ -36,7 +36,8 @@ returns-clause-lost c = λ s.
 pub returns-clause-twice : goal.returns-clause-twice
 returns-clause-twice c = λ s.
     let e : 1 ≡ 2 = c.processes_stand_once.ensures _ _ _ s.0 1 2 (Producer 0) s.1
-    (lane_with one_put, refl, refl) (lane_with one_put, refl, refl) in
+    (lane_with one_put, refl, (one_put, (refl, refl)))
+    (lane_with one_put, refl, (one_put, (refl, refl))) in
     omega (arith, e)
 
 pub returns-clause-not_given : goal.returns-clause-not_given

@@ -2,7 +2,8 @@
 use Rattle.std.proofs.Common.{ap, arith, sym, ◌∙◌}
 use Rattle.mb_shared_cells.specs.Seats.{roll_in, size_in}
 use Rattle.mb_shared_cells.specs.Views.{SeatState, hub_after_draw}
-use Rattle.mb_shared_cells.proofs.EnrolMoves.{draw_asked, lane_splits}
+use Rattle.mb_shared_cells.proofs.DrawMoves.{draw_asked}
+use Rattle.mb_shared_cells.proofs.EnrolMoves.{lane_splits}
 use Rattle.mb_shared_cells.proofs.table.SharedCells.enroll_lane.Goals as goal
 
 -- the hub may draw the next number, since fewer lanes were enrolled than there are

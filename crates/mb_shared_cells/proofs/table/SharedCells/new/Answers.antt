@@ -5,7 +5,7 @@ use Rattle.mb_cells.specs.declared.size.PoolSize.{PoolSize}
 use Rattle.mb_shared_cells.specs.Rule.{IsCellsState}
 use Rattle.mb_shared_cells.specs.Views.{empty_roll}
 use Rattle.mb_shared_cells.specs.declared.views.View.TheVariants.{Hub}
-use Rattle.mb_shared_cells.proofs.EnrolMoves.{begins}
+use Rattle.mb_shared_cells.proofs.DrawMoves.{begins}
 use Rattle.mb_shared_cells.proofs.SeatFacts.{empty_roll_history, hub_is}
 use Rattle.mb_shared_cells.proofs.table.SharedCells.new.Goals as goal
 
