@@ -20,7 +20,7 @@ pub struct Board {
 impl Board {
     /// The board of the jobs 0 to `jobs - 1`. None was run yet, and `workers` workers are at work.
     pub fn new(alloc: Global, jobs: u64, workers: u64) -> Result<Board, AllocError> {
-        let mut runs = Vec::new(alloc);
+        let mut runs = Vec::with_capacity(alloc, jobs as usize)?;
         for _ in 0..jobs {
             runs.push(AtomicU64::new(0))?;
         }

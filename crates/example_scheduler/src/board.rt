@@ -22,8 +22,9 @@ pub struct Board {
 impl Board {
     /// The board of the jobs 0 to `jobs - 1`. None was run yet.
     pub fn new(alloc: Global, jobs: u64) -> Result<Board, AllocError> {
-        let mut run = Vec::new(alloc);
-        for _ in 0..jobs.div_ceil(64) {
+        let words = jobs.div_ceil(64);
+        let mut run = Vec::with_capacity(alloc, words as usize)?;
+        for _ in 0..words {
             run.push(AtomicU64::new(0))?;
         }
         Ok(Board {
