@@ -29,7 +29,7 @@ EmptyLaw =
     → IsStateOf size words (λ who. []) []
 
 -- each element of a list of zeros is 0
-zeros : (n i : ℕ) → slice_index (replicate n 0) i ≡ 0
+pub zeros : (n i : ℕ) → slice_index (replicate n 0) i ≡ 0
 zeros zero i = refl
 zeros (suc n) zero = refl
 zeros (suc n) (suc i) = zeros n i

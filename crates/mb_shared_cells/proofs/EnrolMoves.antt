@@ -5,15 +5,15 @@ use Rattle.std.specs.Prelude.{None, Some}
 use Rattle.std.proofs.lemmas.Bool.{cases_eq}
 use Rattle.atomic_table.specs.Table.{Splits}
 use Rattle.atomic_table.proofs.Lists.{at_last}
-use Rattle.mb_cells.specs.Vocabulary.{History, part}
+use Rattle.mb_cells.specs.Vocabulary.{History}
 use Rattle.mb_cells.specs.declared.access.Process.{Process}
 use Rattle.mb_cells.specs.declared.access.Process.TheVariants.{Producer, Reader}
 use Rattle.mb_cells.specs.declared.size.PoolSize.{PoolSize}
-use Rattle.mb_shared_cells.specs.Vocabulary.{FitsView, HasProcess, IsEnrolled, IsHub, KeepsCells, KnowsTaken, Seating, StandsAt, roster_of, IsRollOf, PartList}
+use Rattle.mb_shared_cells.specs.Vocabulary.{FitsView, HasProcess, IsEnrolled, IsHub, KeepsCells, KnowsTaken, PartList, Seating, StandsAt, roster_of}
 use Rattle.mb_shared_cells.specs.Vocabulary.{hub_after_split, newcomer, roll_at, roll_with_lane, roll_with_reader, Roll, View}
 use Rattle.mb_shared_cells.specs.declared.views.View.TheVariants.{Hub, HubDraws, Member}
 use Rattle.mb_shared_cells.proofs.Seatings.{Spares, fits_still, moved, moved-else, moved-here, roll_enrolled, stands_longer, stands_then, with_lane-has, with_reader-has}
-use Rattle.mb_shared_cells.proofs.ViewLists.{all_set, all_snoc, at_within, longer_had, longer_none}
+use Rattle.mb_shared_cells.proofs.ViewLists.{all_set, all_snoc, at_within, longer_had}
 
 -- ---- a seat split off for a lane or a reader
 -- the process has the next number of its kind
@@ -231,30 +231,3 @@ unfolding IsNext grown before known_by
 reader_splits size id v own roll is =
     subst (λ (u : View). Splits (KeepsCells size) id u (hub_after_split u) (newcomer u)) (sym is)
     (hands_out size id own roll (Reader (length roll.readers)) refl)
-
--- a roll with one lane more is that of the same history
-pub with_lane_history : (size : PoolSize) (roll : Roll) (h : History) → IsRollOf size roll h
-    → IsRollOf size (roll_with_lane roll) h
-with_lane_history size roll h r = record { lawful = r.lawful; parts = had; others = none }
-  where
-    had : (who : Process) (done : History) → roll_at who (roll_with_lane roll) ≡ Some (Some done) → part who h ≡ done
-    had (Producer p) done e = r.parts (Producer p) done (longer_had roll.lanes p done e)
-    had (Reader q) done e = r.parts (Reader q) done e
-
-    none : (who : Process) → roll_at who (roll_with_lane roll) ≡ None → part who h ≡ []
-    none (Producer p) e = r.others (Producer p) (longer_none roll.lanes p e)
-    none (Reader q) e = r.others (Reader q) e
-
--- a roll with one reader more is that of the same history
-pub with_reader_history : (size : PoolSize) (roll : Roll) (h : History) → IsRollOf size roll h
-    → IsRollOf size (roll_with_reader roll) h
-with_reader_history size roll h r = record { lawful = r.lawful; parts = had; others = none }
-  where
-    had : (who : Process) (done : History) → roll_at who (roll_with_reader roll) ≡ Some (Some done)
-        → part who h ≡ done
-    had (Producer p) done e = r.parts (Producer p) done e
-    had (Reader q) done e = r.parts (Reader q) done (longer_had roll.readers q done e)
-
-    none : (who : Process) → roll_at who (roll_with_reader roll) ≡ None → part who h ≡ []
-    none (Producer p) e = r.others (Producer p) e
-    none (Reader q) e = r.others (Reader q) (longer_none roll.readers q e)

@@ -61,12 +61,6 @@ longer_had [] (suc k) done e = absurd (cc)
 longer_had (x ∷ xs) zero done e = e
 longer_had (x ∷ xs) (suc k) done e = longer_had xs k done e
 
--- a number without a place in the longer list had none in the shorter one
-pub longer_none : (xs : PartList) (k : ℕ) → slice_get (xs ++ None ∷ []) k ≡ None → slice_get xs k ≡ None
-longer_none [] k e = refl
-longer_none (x ∷ xs) zero e = absurd (cc)
-longer_none (x ∷ xs) (suc k) e = longer_none xs k e
-
 -- what a list has at a number after one is replaced is the new one, or was there before
 pub set_had : (xs : PartList) (i k : ℕ) (a b : Option History) → slice_get (slice_set xs i a) k ≡ Some b
     → ((i ≡ k) × (a ≡ b)) ⊎ (slice_get xs k ≡ Some b)

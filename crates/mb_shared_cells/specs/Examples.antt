@@ -1,5 +1,5 @@
 -- A table of one lane and one cell, by example: its hub, the seat of its lane, and a reader.
-use Rattle.std.specs.Prelude.{List, None, [], ◌∷◌, ℕ}
+use Rattle.std.specs.Prelude.{List, None, Some, [], ◌∷◌, ℕ}
 use Rattle.atomic_table.specs.Seated.{TableId}
 use Rattle.mb_cells.specs.Vocabulary.{History, pool_size}
 use Rattle.mb_cells.specs.declared.access.Process.TheVariants.{Producer}
@@ -10,7 +10,7 @@ use Rattle.mb_shared_cells.specs.Rule.{IsCellsState}
 use Rattle.mb_shared_cells.specs.Views.{first_view}
 use Rattle.mb_shared_cells.specs.Shown.{CellsName, LaneSeatView, ReaderSeatView}
 use Rattle.mb_shared_cells.specs.declared.views.View.{View}
-use Rattle.mb_shared_cells.specs.declared.views.View.TheVariants.{Hub, Member}
+use Rattle.mb_shared_cells.specs.declared.views.View.TheVariants.{Hub, HubJoins, Member}
 
 -- the size of one lane and one cell
 abbrev pub one_by_one : PoolSize
@@ -28,9 +28,25 @@ new_hub = first_view one_by_one
 abbrev pub hub_of_one : View
 hub_of_one = Hub one_by_one (record { lanes = None ∷ []; readers = [] })
 
+-- the view of a hub that joined the seat of lane 0, whose part is not in its roll yet
+abbrev pub hub_joining : History → View
+hub_joining done = HubJoins one_by_one (record { lanes = None ∷ []; readers = [] }) (Producer 0) done
+
+-- the view of a hub that took lane 0 in, whose producer had done this
+abbrev pub hub_with : History → View
+hub_with done = Hub one_by_one (record { lanes = Some done ∷ []; readers = [] })
+
 -- the view of the seat of lane 0, whose producer has done this
 abbrev pub lane_with : History → View
 lane_with done = Member one_by_one (Producer 0) [] done
+
+-- the words of a new table: the counter, the head, the link, the item and the roster
+abbrev pub new_words : List ℕ
+new_words = 0 ∷ 0 ∷ 0 ∷ 0 ∷ 0 ∷ []
+
+-- the words after the lane was given, and its producer got cell 0
+abbrev pub taken_words : List ℕ
+taken_words = 1 ∷ 0 ∷ 0 ∷ 0 ∷ 1 ∷ []
 
 -- the name of the table with this identity and that size
 abbrev pub table_of_one : TableId → CellsName
