@@ -45,6 +45,11 @@ pub fn states_have_one_history()
     ensures numbers { (size : PoolSize) (words : List ℕ) (views : List View) (seat p : ℕ)
         (done : History) → IsCellsState size words views → TellsPartAt views seat (Producer p) done
         → p < slice_index words (roster_of size) }
+
+    // The roster holds the number that the next lane gets.
+    ensures next { (size own : PoolSize) (words : List ℕ) (views : List View) (id : ℕ) (roll : Roll)
+        → IsCellsState size words views → IsViewAt views id (Hub own roll)
+        → slice_index words (roster_of size) ≡ length roll.lanes }
 {}
 
 /// Each kind of step leads from a state to a state. It changes only the view of the seat that makes it, with two

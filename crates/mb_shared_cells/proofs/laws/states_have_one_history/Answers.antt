@@ -1,8 +1,8 @@
 -- Proof of `laws::states_have_one_history`: what a state of the cells is.
-use Rattle.std.proofs.Common.{List, [], arith, subst, sym, ℕ, ◌≢◌}
+use Rattle.std.proofs.Common.{List, [], arith, subst, sym, ℕ, ◌≢◌, ◌∙◌}
 use Rattle.std.proofs.Math.Decide.{dec_lt}
 use Rattle.mb_cells.specs.Vocabulary.{History, part}
-use Rattle.mb_shared_cells.specs.Types.{PoolSize, Process, Producer, Reader, View}
+use Rattle.mb_shared_cells.specs.Types.{Hub, PoolSize, Process, Producer, Reader, View}
 use Rattle.mb_shared_cells.specs.Vocabulary.{HasPart, IsEnrolled, IsTableState, Seating, TellsPart, TellsPartAt}
 use Rattle.mb_shared_cells.proofs.Seatings.{told_part}
 use Rattle.mb_shared_cells.proofs.laws.states_have_one_history.Goals as goal
@@ -46,3 +46,7 @@ returns-clause-numbers c = λ size words views seat p done held x.
     let low = (told size words views held.0 seat (Producer p) done held.1 x).enrolled in
     let drawn = held.1.drawn in
     omega arith
+
+pub returns-clause-next : goal.returns-clause-next
+returns-clause-next c = λ size own words views id roll held is.
+    let x = held.1.fits id (Hub own roll) is in x.1 ∙ sym x.0.lanes
