@@ -49,6 +49,11 @@ impl Asked {
         (before(producer), before(producer.wrapping_add(1)))
     }
 
+    /// The lane that this worker polls first. The workers are dealt to the lanes in turn.
+    pub fn first_lane(&self, worker: u64) -> usize {
+        worker.checked_rem(self.producers).unwrap_or(0) as usize
+    }
+
     /// The quorum table. `Middle` has fewer registers than `Bits` for more than four workers.
     pub fn table(&self) -> TableName {
         if self.workers > 4 {

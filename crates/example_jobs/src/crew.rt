@@ -26,8 +26,8 @@ const BUDGET: u64 = 64;
 pub enum Member {
     /// Puts the jobs from the first of these numbers on and below the second.
     Producer(Producer<Global>, (u64, u64)),
-    /// Takes jobs, with random words from this source.
-    Worker(Consumer<Global>, ChaCha8Rng),
+    /// Takes jobs, from this lane on, with random words from this source.
+    Worker(Consumer<Global>, ChaCha8Rng, usize),
     /// Reports progress.
     Teller,
 }
@@ -46,8 +46,8 @@ impl Member {
     {
         match self {
             Member::Producer(producer, jobs) => put_jobs(mailbox, producer, *jobs),
-            Member::Worker(consumer, source) => {
-                run_jobs(mailbox, consumer, source, board, asked);
+            Member::Worker(consumer, source, first) => {
+                run_jobs(mailbox, consumer, source, *first, board, asked);
                 board.go_home();
             }
             Member::Teller => tell(rt, board),
@@ -72,11 +72,13 @@ fn put_jobs(mailbox: &Mailbox<Global>, producer: &mut Producer<Global>, jobs: (u
     producer.finish(mailbox);
 }
 
-/// Takes jobs until each lane has ended or the shift is over, and runs those that it takes.
+/// Takes jobs until each lane has ended or the shift is over, and runs those that it takes. It goes round the lanes,
+/// from lane `first` on: fewer workers meet on a lane if each begins on another one.
 fn run_jobs(
     mailbox: &Mailbox<Global>,
     consumer: &mut Consumer<Global>,
     source: &mut ChaCha8Rng,
+    first: usize,
     board: &Board,
     asked: &Asked,
 )
@@ -87,7 +89,7 @@ fn run_jobs(
     let shift = asked.shift();
     let mut ended = [false; MAX_LANES];
     let mut open = lanes;
-    let mut lane = 0;
+    let mut lane = if first < lanes { first } else { 0 };
     let mut taken = 0;
     // Rattle wants every loop to end. This one would, after more turns than anybody lives to see.
     for turn in 0..u64::MAX {
@@ -128,7 +130,7 @@ fn new_worker<R: RandomSource + AllocGlobal>(
     rt: &R,
     mailbox: &Mailbox<Global>,
     hub: &mut Hub<Global>,
-    seed: Option<u64>,
+    asked: &Asked,
     number: u64,
 ) -> Result<Member>
     requires of { IsHubOf mailbox.now hub.old }
@@ -136,11 +138,11 @@ fn new_worker<R: RandomSource + AllocGlobal>(
     ensures member { IfOk result (λ member. IsOf mailbox.now member) }
 {
     let consumer = hub.consumer(rt.alloc(), mailbox)?;
-    let source = match seed {
+    let source = match asked.seed {
         Some(seed) => ChaCha8Rng::seed_from_u64(seed.wrapping_add(number)),
         None => make_rng(rt)?,
     };
-    Ok(Member::Worker(consumer, source))
+    Ok(Member::Worker(consumer, source, asked.first_lane(number)))
 }
 
 /// Hires all producers and workers of the mailbox, and a teller if `tells` holds. The producers come first: if no
@@ -162,7 +164,7 @@ pub fn hire<R: RandomSource + AllocGlobal>(
         crew.push(Member::Producer(producer, asked.jobs_of(number)))?;
     }
     for worker in 0..asked.workers {
-        crew.push(new_worker(rt, mailbox, hub, asked.seed, worker)?)?;
+        crew.push(new_worker(rt, mailbox, hub, asked, worker)?)?;
     }
     if tells {
         crew.push(Member::Teller)?;
@@ -179,7 +181,7 @@ pub fn take_in(mailbox: &Mailbox<Global>, hub: &mut Hub<Global>, crew: Vec<Membe
     for member in crew {
         match member {
             Member::Producer(producer, _) => hub.take_producer(mailbox, producer),
-            Member::Worker(consumer, _) => hub.take_consumer(mailbox, consumer),
+            Member::Worker(consumer, _, _) => hub.take_consumer(mailbox, consumer),
             Member::Teller => {}
         }
     }
