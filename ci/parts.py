@@ -89,7 +89,7 @@ def pass_on(begun):
 
 
 def counted(status, last, untried):
-    """How many passed and failed in a part, by its exit status, its last line, and the edits that it did not try."""
+    """How many passed and failed in a part, by its exit status, its last line, and how often it told of what was not tried."""
     found = COUNTS.fullmatch(last)
     passed, failed = (int(found[1]), int(found[2])) if found else (int(status == 0), 0)
     # A part that ended badly has failed, whatever it says.

@@ -54,7 +54,7 @@ class Parts(unittest.TestCase):
         # (the second part ends the first, and the lock says whether that runs)
         with tempfile.TemporaryDirectory() as room:
             asks = f"flock -n $CI_BESIDE true || echo it runs; touch {room}/go; flock $CI_BESIDE echo 1 passed, 0 failed"
-            waits = f"until [ -e {room}/go ]; do sleep 0.1; done; echo 2 passed, 0 failed"
+            waits = f"for i in $(seq 600); do [ -e {room}/go ] && break; sleep 0.1; done; echo 2 passed, 0 failed"
             said = self.run_parts(f"a: {waits}", "b: true", f"c, from a on: {asks}", lines=-8)
         self.assertEqual(said[0], 0)
         self.assertRegex(
@@ -65,7 +65,7 @@ class Parts(unittest.TestCase):
 
     def test_a_part_that_began_early_ends_if_another_fails(self):
         with tempfile.TemporaryDirectory() as room:
-            waits = f"until [ -e {room}/early ]; do sleep 0.1; done; false"
+            waits = f"for i in $(seq 600); do [ -e {room}/early ] && break; sleep 0.1; done; false"
             early = f"c, from a on: echo $$ >{room}/new; mv {room}/new {room}/early; sleep 60"
             self.assertEqual(self.run_parts(f"a: {waits}", "b: true", early), (1, "0 passed, 3 failed"))
             self.has_ended(f"{room}/early")

@@ -160,8 +160,8 @@ uint32_t hz_poll(hz_handle *consumer, uint64_t lane, uint64_t budget, uint64_t *
 
 /* Takes a producer or a consumer back, also before its lane has ended or while it holds a claim. What it did is kept for
  * the report, and its number is not given again.
- * HZ_DONE: part is HZ_NONE then. HZ_BAD_HANDLE: hub is no hub, or part is no producer or consumer. HZ_OTHER_MAILBOX: it
- * has another id than the hub. */
+ * HZ_DONE: part is HZ_NONE then. HZ_BAD_HANDLE: hub is no hub, or part is no producer or consumer. HZ_OTHER_MAILBOX:
+ * part's mailbox has another id than the hub. */
 uint32_t hz_take_back(hz_handle *hub, hz_handle *part);
 
 /* Ends the mailbox, and makes the report of all that was taken back.

@@ -46,7 +46,7 @@ pub fn states_have_one_history()
         (done : History) → IsCellsState size words views → TellsPartAt views seat (Producer p) done
         → p < slice_index words (roster_of size) }
 
-    // The roster holds the number that the next lane gets.
+    // While the hub neither draws nor joins, the roster holds the number that the next lane gets.
     ensures next { (size own : PoolSize) (words : List ℕ) (views : List View) (id : ℕ) (roll : Roll)
         → IsCellsState size words views → IsViewAt views id (Hub own roll)
         → slice_index words (roster_of size) ≡ length roll.lanes }
@@ -103,7 +103,7 @@ pub fn steps_keep_states()
     words_follow_steps();
 }
 
-/// Which accesses may come next. What its process has done says so, whatever other seats did.
+/// Which accesses may come next. What the process of an access has done says so, whatever other seats did.
 pub fn accesses_may_come_next()
     // A reader may load a head, and the words of a cell that its loads led it to. It finds what the word holds.
     ensures load { (size : PoolSize) (words : List ℕ) (r : ℕ) (w : Word) (done : History)

@@ -211,7 +211,7 @@ fn the_first_random_word_does_not_store(rt: HostRuntime) {
     plays(&rt, &layout, &steps, (0, &entries), &[Stage::Won]);
 }
 
-// A step of a third consumer among those of `WON_AND_LOST` refuses them all. The first such place is returned.
+// A step of a consumer past the second among those of `WON_AND_LOST` refuses them all. The first such place is returned.
 #[test]
 fn a_step_of_no_consumer(rt: HostRuntime) {
     let layout = one_pair(&rt, 2);
