@@ -10,7 +10,7 @@ use Rattle.mb_cells.specs.declared.access.Process.TheVariants.{Producer, Reader}
 use Rattle.mb_cells.specs.declared.access.Word.{Word}
 use Rattle.mb_cells.specs.declared.lane.Lane.{Lane}
 use Rattle.mb_cells.specs.declared.size.PoolSize.{PoolSize}
-use Rattle.mb_shared_cells.specs.Seats.{IsHubSeat, IsLaneSeat, IsReaderSeat, done_in, known_in, lane_shown, number_in, reader_shown, size_in}
+use Rattle.mb_shared_cells.specs.Seats.{IsHubSeat, IsLaneSeat, IsReaderSeat, done_in, known_in, number_in, reader_shown, size_in}
 use Rattle.mb_shared_cells.specs.Shown.{HasHistory}
 use Rattle.mb_shared_cells.specs.Views.{IsAccessAfter, IsRollOf, MakesAccess, PartList, SeatState, access_by, empty_roll, roll_at}
 use Rattle.mb_shared_cells.specs.declared.views.Roll.{Roll}
@@ -50,18 +50,6 @@ lane_then law me new number was now word act s m stands =
       stands = stands;
       history = history_then law size (Producer number) [] done word act m'.0;
     })
-
--- an access of a lane's seat, as callers see it
-pub lane_makes : (id then : TableId) (me new : SeatState) (number : ℕ) (was now : Lane) (word : Word) (act : PoolAct)
-    → IsLaneSeat me number was → MakesAccess word act me new → then ≡ id
-    → IsAccessAfter (size_in me.0) [] (access_by (Producer number) word act) (done_in me.0)
-    × (lane_shown then new number now ≡ record (lane_shown id me number was) {
-      place = now;
-      part = access_by (Producer number) word act ∷ done_in me.0;
-    })
-lane_makes id then me new number was now word act s m same =
-    let m' = subst (λ (z : SeatState). MakesAccess word act z new) s.is m in
-    (m'.0, λ i. lane_shown (same i) (m'.1 i) number now)
 
 -- a reader's seat keeps what it has to after an access
 pub reader_then : OwnLaw → (me new : SeatState) (word : Word) (act : PoolAct) → IsReaderSeat me

@@ -25,7 +25,7 @@ use mb_cells::laws::{
 };
 use mb_cells::steps::{
     accesses_lengthen_one_part, accesses_stay_within, addresses_are_apart, history_extends,
-    put_lists_grow, words_follow_steps,
+    lanes_lead_on, put_lists_grow, words_follow_steps,
 };
 
 /// What a state of the cells is. No process is in two views ([`processes_stand_once`]).
@@ -88,7 +88,7 @@ pub fn steps_keep_states()
     // The hub takes a seat in by a join of its view. The load after it puts the seat's part into the roll.
     ensures take { (size own its : PoolSize) (words : List ℕ) (views : List View) (id other : ℕ)
         (roll : Roll) (who : Process) (known : PartList) (done : History)
-        → IsCellsState size words views → other ≢ id → IsViewAt views id (Hub own roll)
+        → IsCellsState size words views → IsViewAt views id (Hub own roll)
         → IsViewAt views other (Member its who known done)
         → IsCellsState size words
         (slice_set (slice_set views id (HubJoins own roll who done)) other Empty) }
@@ -112,8 +112,7 @@ pub fn accesses_may_come_next()
 
     // A producer may make a store with which its path goes on: of an item, a link or the end mark.
     ensures store { (size : PoolSize) (words : List ℕ) (p : ℕ) (w : Word) (value : ℕ)
-        (done : History) → value < 2 ^ 64
-        → IsLanePrefix size.cells p (store p w value ∷ done)
+        (done : History) → IsLanePrefix size.cells p (store p w value ∷ done)
         → MayComeNext size words (store p w value) done }
 
     // It may make a fetch-add with which its path goes on. That finds what the counter holds.
@@ -125,6 +124,7 @@ pub fn accesses_may_come_next()
 {
     accesses_stay_within();
     history_extends();
+    lanes_lead_on();
 }
 
 /// At every moment the counter is at most the number of cells and lanes together, and the roster at most the number of

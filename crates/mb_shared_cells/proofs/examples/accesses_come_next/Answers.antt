@@ -40,7 +40,7 @@ returns-clause-store c =
     let lawful = c.history_extends.ensures.older one_by_one
     (store 0 (Head 0) 1 ∷ []) (store 0 (Item 0) 8 ∷ one_taken) put in
     c.accesses_may_come_next.ensures.store one_by_one taken_words 0 (Item 0) 8 one_taken
-    (omega arith) (lawful.producers 0)
+    (lawful.producers 0)
 
 -- after the empty history the head holds 0
 pub returns-clause-no_link : goal.returns-clause-no_link

@@ -1,5 +1,7 @@
 -- Proof of `laws::steps_keep_states`: each kind of step leads from a state to a state.
-use Rattle.std.proofs.Common.{[], inl, refl, sym, ◌∙◌, ◌∷◌}
+use Rattle.std.proofs.Common.{[], inl, refl, subst, sym, ◌∙◌, ◌∷◌, ◌≡◌, ◌≢◌}
+use mathlib.Core.Option.{some, some-injective}
+use lib.ListN.{get_elem?}
 use Rattle.atomic_table.proofs.Lists.{set_else}
 use Rattle.mb_shared_cells.specs.Types.{Hub, HubDraws, Member}
 use Rattle.mb_shared_cells.proofs.Seatings.{enrolled_fits}
@@ -46,8 +48,13 @@ returns-clause-give_reader c = λ size own words views id roll held is.
     reader_splits size id (Hub own roll) own roll refl
     (record { words = words; homes = []; views = views }) held is
 
+-- the seats are two, since one has the hub's view and the other a member's
 pub returns-clause-take : goal.returns-clause-take
-returns-clause-take c = λ size own its words views id other roll who known done held apart is there.
+returns-clause-take c = λ size own its words views id other roll who known done held is there.
+    let apart : other ≢ id = λ e.
+    let here = subst (λ i. get_elem? views i ≡ some (Member its who known done)) e there in
+    let one = some-injective (Hub own roll) (Member its who known done) (sym is ∙ here) in
+    absurd (cc) in
     takes_in size id other own its roll who known done
     (record { words = words; homes = []; views = views }) held is
     apart (set_else views id other _ apart ∙ there)
