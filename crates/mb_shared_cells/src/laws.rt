@@ -115,7 +115,8 @@ pub fn accesses_may_come_next()
         (done : History) → IsLanePrefix size.cells p (store p w value ∷ done)
         → MayComeNext size words (store p w value) done }
 
-    // It may make a fetch-add with which its path goes on. That finds what the counter holds.
+    // It may make a fetch-add with which its path goes on, which finds what the counter holds, if that number and the
+    // item have 64 bits.
     ensures fetch_add { (size : PoolSize) (words : List ℕ) (p item : ℕ) (done : History)
         → let n = slice_index words (address_of size Counter) in
         let e : Entry = record { cell = n; value = item } in
