@@ -38,8 +38,8 @@ def parts_of(text):
 
 
 def type_in_c(declared):
-    """The type of a C declaration, as `const uint8_t (*seed)[32]` or `hz_handle *hub`."""
-    array = re.fullmatch(r"(const )?(\w+) \(\*\w+\)\[(\d+)\]", declared)
+    """The type of a C parameter, as `const uint8_t seed[32]`, which is a pointer, or `hz_handle *hub`."""
+    array = re.fullmatch(r"(const )?(\w+) \w+\[(\d+)\]", declared)
     if array:
         return f"{'const' if array[1] else 'mut'} [{plain(array[2])}; {array[3]}]"
     const, name, star = re.fullmatch(r"(const )?(\w+) (\*)?\w+", declared).groups()

@@ -17,7 +17,7 @@ typedef struct {
     uint64_t put; /* how many */
     bool ended;
 } hz_lane;
-uint32_t hz_make(uint64_t id, const hz_lane *lane, const uint8_t (*seed)[32], hz_handle *hub);
+uint32_t hz_make(uint64_t id, const hz_lane *lane, const uint8_t seed[32], hz_handle *hub);
 uint32_t hz_items(hz_handle *report, bool left, uint64_t *items, size_t room,
                   uint64_t *copied);
 void hz_free(hz_handle *handle);

@@ -102,14 +102,14 @@ static void kinds(hz_handle *part, bool is_hub, bool is_producer, bool is_consum
     hz_handle none = HZ_NONE;
     hz_missing missing = {7, 7};
     uint64_t word = 7, other = 7;
-    hz_lane lane;
-    hz_diary diary;
-    hz_note note;
+    hz_lane lane = {0};
+    hz_diary diary = {0};
+    hz_note note = {0};
     if (part->full)
         EXPECT(COMES_TO(HZ_BAD_HANDLE, hz_mailbox_new(9, &setup, part)));
     if (!is_hub) {
         EXPECT(COMES_TO(HZ_BAD_HANDLE, hz_producer_new(part, &none)));
-        EXPECT(COMES_TO(HZ_BAD_HANDLE, hz_consumer_new(part, &SEED, 0, &none)));
+        EXPECT(COMES_TO(HZ_BAD_HANDLE, hz_consumer_new(part, SEED, 0, &none)));
         EXPECT(hz_take_back(part, &none) == HZ_BAD_HANDLE);
         EXPECT(hz_gather(part, &none, &missing) == HZ_BAD_HANDLE);
     }
@@ -131,8 +131,8 @@ static void kinds(hz_handle *part, bool is_hub, bool is_producer, bool is_consum
 
 static void report_of_one(hz_handle *report) {
     uint64_t lanes = 0, consumers = 0, copied = 0, items[4] = {9, 9, 9, 9};
-    hz_lane lane;
-    hz_diary diary;
+    hz_lane lane = {0};
+    hz_diary diary = {0};
     hz_note notes[4] = {{9, 9}, {9, 9}, {9, 9}, {9, 9}};
     kinds(report, false, false, false, true);
     EXPECT(hz_report_size(report, &lanes, &consumers) == HZ_DONE && lanes == 2 && consumers == 2);
@@ -172,9 +172,9 @@ static void life(void) {
     EXPECT(COMES_TO(HZ_DONE, hz_mailbox_new(1, &setup, &hub)));
     EXPECT(COMES_TO(HZ_DONE, hz_mailbox_new(2, &setup, &other)));
     EXPECT(COMES_TO(HZ_DONE, hz_producer_new(&hub, &one)));
-    EXPECT(COMES_TO(HZ_DONE, hz_consumer_new(&hub, &SEED, 0, &two)));
-    EXPECT(COMES_TO(HZ_DONE, hz_consumer_new(&hub, &SEED, 1, &three)));
-    EXPECT(COMES_TO(HZ_ALL_GIVEN, hz_consumer_new(&hub, &SEED, 2, &stranger)) && !stranger.full);
+    EXPECT(COMES_TO(HZ_DONE, hz_consumer_new(&hub, SEED, 0, &two)));
+    EXPECT(COMES_TO(HZ_DONE, hz_consumer_new(&hub, SEED, 1, &three)));
+    EXPECT(COMES_TO(HZ_ALL_GIVEN, hz_consumer_new(&hub, SEED, 2, &stranger)) && !stranger.full);
     EXPECT(COMES_TO(HZ_BAD_HANDLE, hz_producer_new(&hub, &one)));
     kinds(&hub, true, false, false, false);
     kinds(&one, false, true, false, false);

@@ -6,13 +6,13 @@
 #include <string.h>
 
 int main(int count, char **words) {
-    uint64_t items = count > 1 ? strtoull(words[1], NULL, 10) : 1000, taken = 0, value;
+    uint64_t items = count > 1 ? strtoull(words[1], NULL, 10) : 1000, taken = 0, value = 0;
     hz_setup setup = {.producers = 1, .consumers = 4, .cells = 65536, .pairs = 4, .table = HZ_BITS};
     hz_handle hub = HZ_NONE, producer = HZ_NONE, consumer = HZ_NONE;
     uint8_t seed[32];
     memset(seed, 1, sizeof seed);
     if (hz_mailbox_new(1, &setup, &hub) || hz_producer_new(&hub, &producer)
-        || hz_consumer_new(&hub, (const uint8_t (*)[32])&seed, 0, &consumer))
+        || hz_consumer_new(&hub, seed, 0, &consumer))
         return 1;
     for (uint64_t item = 0; item < items; item++) {
         if (hz_put(&producer, item) != HZ_LINKED)

@@ -69,7 +69,7 @@ static void *consume(void *arg) {
 static uint64_t do_what_is_left(hz_handle *report) {
     uint64_t all = 0;
     for (uint64_t lane = 0; lane < PRODUCERS; lane++) {
-        uint64_t jobs[JOBS], left = 0;
+        uint64_t jobs[JOBS] = {0}, left = 0;
         expect(hz_report_items(report, lane, true, 0, jobs, JOBS, &left) == HZ_DONE, "the lane is there");
         for (uint64_t i = 0; i < left; i++)
             done[jobs[i]]++;
@@ -90,7 +90,7 @@ int main(void) {
     for (int c = 0; c < CONSUMERS; c++) {
         struct worker *one = &consumers[c];
         one->number = c;
-        expect(hz_consumer_new(&hub, &seed, (uint64_t)c, &one->part) == HZ_DONE, "a consumer is given");
+        expect(hz_consumer_new(&hub, seed, (uint64_t)c, &one->part) == HZ_DONE, "a consumer is given");
         expect(pthread_create(&one->thread, NULL, consume, one) == 0, "a thread starts");
     }
     for (int p = 0; p < PRODUCERS; p++) {
@@ -108,7 +108,7 @@ int main(void) {
         expect(hz_take_back(&hub, &consumers[c].part) == HZ_DONE, "a consumer comes back");
     }
 
-    hz_missing missing;
+    hz_missing missing = {0, 0};
     expect(hz_gather(&hub, &report, &missing) == HZ_DONE, "the report is made");
     uint64_t left = do_what_is_left(&report);
     hz_free(&report);

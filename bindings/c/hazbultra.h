@@ -8,8 +8,8 @@
  *
  *  1. Each hz_handle begins as HZ_NONE. After that only calls of this library write it. It is not copied: after a copy,
  *     only one of the two may be used. It may be moved, as a struct is moved by memcpy.
- *  2. No pointer parameter is null, also none of hz_free. Each leads to what its type says, initialised, and to so many if
- *     a length stands beside it. A bool is 0 or 1. Two pointers of one call lead to different objects.
+ *  2. No pointer is null, not even that of hz_free. Each leads to an initialised value of its type, or to as many as the
+ *     length beside it says. A bool is 0 or 1. Two pointers of one call lead to different objects.
  *  3. A handle is in one call at a time. From call to call it may go from thread to thread, if the one call happens
  *     before the other: by a lock, the start or the join of a thread, an atomic, or whatever else orders them. Handles
  *     of one mailbox may be in calls at the same time: that is what it is for.
@@ -24,7 +24,7 @@
  *
  * WHAT A CALL CHECKS ITSELF. A handle that leads to nothing (HZ_NONE), or to another kind of thing than the call wants, is
  * HZ_BAD_HANDLE. So is a handle that the call is to fill and that leads to something. After each code but HZ_DONE,
- * HZ_LINKED, HZ_FULL and those of a poll nothing has changed, if no line below says another thing. No call loses what a
+ * HZ_LINKED, HZ_FULL and those of a poll nothing has changed, if no line below says otherwise. No call loses what a
  * handle leads to, also if memory is refused.
  */
 #ifndef HAZBULTRA_H
@@ -138,7 +138,7 @@ uint32_t hz_producer_new(hz_handle *hub, hz_handle *producer);
  * seed and stream: give each consumer of a mailbox another seed or another stream. Equal words make polls longer, and
  * never wrong.
  * HZ_DONE: consumer leads to it. HZ_BAD_HANDLE. HZ_ALL_GIVEN: every number was given. HZ_NO_MEMORY. */
-uint32_t hz_consumer_new(hz_handle *hub, const uint8_t (*seed)[32], uint64_t stream, hz_handle *consumer);
+uint32_t hz_consumer_new(hz_handle *hub, const uint8_t seed[32], uint64_t stream, hz_handle *consumer);
 
 /* Puts an item, any number, at the end of the producer's lane. It makes three accesses at most and takes no memory.
  * HZ_LINKED: it is there. HZ_FULL: no cell is left, the item is still the caller's, and each further put
@@ -181,14 +181,14 @@ uint32_t hz_report_lane(hz_handle *report, uint64_t lane, hz_lane *out);
  * HZ_DONE. HZ_BAD_HANDLE. HZ_NOT_THERE: there is no such consumer or lane. */
 uint32_t hz_report_diary(hz_handle *report, uint64_t consumer, uint64_t lane, hz_diary *out);
 
-/* Copies items of a lane, in the order of the lane, from place from on: those put, or with left those that nobody took.
- * copied is how many there were, room at most. The rest of items is as it was.
+/* Copies items of a lane in their order, from position from on: if left is true those that nobody took, else those put.
+ * copied is how many were copied, at most room. The rest of items is as it was.
  * HZ_DONE. HZ_BAD_HANDLE. HZ_NOT_THERE: there is no such lane. */
 uint32_t hz_report_items(hz_handle *report, uint64_t lane, bool left, uint64_t from, uint64_t *items, size_t room,
                          uint64_t *copied);
 
-/* Copies notes of a diary, in the order of the lane, from place from on.
- * copied is how many there were, room at most. The rest of notes is as it was.
+/* Copies notes of a diary in their order, from position from on.
+ * copied is how many were copied, at most room. The rest of notes is as it was.
  * HZ_DONE. HZ_BAD_HANDLE. HZ_NOT_THERE: there is no such consumer or lane. */
 uint32_t hz_report_notes(hz_handle *report, uint64_t consumer, uint64_t lane, uint64_t from, hz_note *notes, size_t room,
                          uint64_t *copied);

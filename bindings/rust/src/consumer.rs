@@ -64,8 +64,8 @@ impl<T> Sweep<T> {
 /// it, and it is not `Clone`.
 ///
 /// If it is dropped while its last poll of some lane was [`Poll::Spent`], the item that it competed for there may be
-/// left. No other consumer gets it, if this one had won it. The report has such an item. Otherwise the drop leaves no
-/// item undecided. Its number is not given again.
+/// left. No other consumer gets it, if this one had won it. The report has such an item. Otherwise a drop cuts
+/// no claim short. Its number is not given again.
 ///
 /// A value that it took is the caller's. If a thread panics while it has one, the value is dropped, and the report says
 /// that it was taken ([`Report::taker`](crate::Report::taker)).

@@ -3,7 +3,7 @@
 //! takes a lock or waits, but for what the allocator does with a box.
 //!
 //! The mailbox is written in Rattle, which is Rust with contracts, and proved for every run: every order of the threads'
-//! steps, and all random words. This crate links the archive that was built of it, and needs nothing else.
+//! steps, and all random words. This crate links the archive built from it, and needs nothing else.
 //!
 //! ```
 //! use hazbultra::Mailbox;
@@ -36,13 +36,15 @@
 //! - A [`Consumer`] polls one lane, or goes over all of them. It goes home when it is dropped.
 //! - [`Mailbox::gather`] makes the [`Report`] after all parts are home.
 //!
-//! A mailbox takes as many items as it has cells, and uses none again. For a long-lived service build one in each round.
+//! A mailbox takes as many items as it has cells, and uses none again. A long-lived service builds one for each round
+//! (`examples/rounds.rs`).
 //!
 //! # What is proved, and what the types add
 //!
 //! The archive is proved on condition that its caller keeps some rules. They stand at the head of
-//! `bindings/c/hazbultra.h`. The types of this crate keep them: a part has its mailbox with it, is in one thread at a time,
-//! is no `Clone`, and is gone after it was dropped. All `unsafe` code is in one module, and each block says why it is sound.
+//! `bindings/c/hazbultra.h`. This crate keeps them, unless other `unsafe` code forks or handles signals: a part has its
+//! mailbox with it, is in one thread at a time, is no `Clone`, and is gone after it was dropped. All `unsafe` code is in
+//! one module, and each block says why it is sound.
 //!
 //! That a value has one owner *is* the main theorem. A box goes through the mailbox as its address. A consumer that is
 //! told that it took the value owns it. The report owns what nobody took. Were two consumers told that they took one

@@ -8,13 +8,14 @@ use crate::report::Report;
 use std::fmt;
 use std::sync::{Arc, Mutex, MutexGuard, PoisonError};
 
-/// A mailbox for values of `T`. It gives producers and consumers, and makes the report.
+/// A mailbox for values of `T`. It gives producers and consumers, also to threads that share it by `&`, and makes the
+/// report.
 ///
 /// Each part has its mailbox with it. So no call takes a part and a mailbox, and none can be handed to another mailbox.
 ///
 /// A mailbox that is dropped, and not gathered, drops what is left inside as soon as its last part is dropped too. If
 /// the archive gets no memory then for the report that this takes, what is left inside leaks. The lists that are read
-/// of the report come from Rust's allocator, which aborts the program if there is no memory.
+/// from the report come from Rust's allocator, which aborts the program if there is no memory.
 ///
 /// A part that is forgotten, or put into its own mailbox and left there, keeps the mailbox for ever: all of it leaks.
 #[must_use = "its drop drops what is left inside, as soon as its last part is dropped"]

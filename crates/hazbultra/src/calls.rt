@@ -88,7 +88,7 @@ pub extern "C" fn hz_finish(producer: &mut Handle) -> u32
 }
 
 /// Polls a lane, with at most `budget` accesses. `value` becomes the item taken, or the number of the consumer to which
-/// the item is lost. Else `value` is not written. The code is that of the answer, or `BAD_HANDLE` if the handle leads
+/// the item is lost. Else `value` is not written. The code is that of the result, or `BAD_HANDLE` if the handle leads
 /// to no consumer.
 #[unsafe(no_mangle)]
 pub extern "C" fn hz_poll(consumer: &mut Handle, lane: u64, budget: u64, value: &mut u64) -> u32

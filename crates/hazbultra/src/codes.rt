@@ -1,4 +1,4 @@
-//! The answers of the calls, as numbers. They are those of `bindings/c/hazbultra.h`.
+//! The codes that calls return, as numbers. They are those of `bindings/c/hazbultra.h`.
 ghost use Rattle.std.specs.Prelude.{◌≡◌, ◌↔◌, ◌⊎◌};
 ghost use Rattle.mb_mailbox.specs.declared.hub.HubFault.TheVariants as hub;
 ghost use Rattle.hazbultra.specs.Calls.{table_numbered};

@@ -51,7 +51,7 @@ impl<A: Allocator + Drop> BoundConsumer<A> {
         let _ = &self.consumer;
     }
 
-    /// Makes at most `budget` accesses on a lane, until one of them gives an answer, as [`Consumer::poll`] does.
+    /// Makes at most `budget` accesses on a lane, until one of them has a result, as [`Consumer::poll`] does.
     pub fn poll<R: Rng>(&mut self, lane: u64, budget: u64, rng: &mut R) -> Poll
         ensures no_lane { (result ≡ NoLane) ↔ (self.old.mailbox.cells.size.lanes ≤ lane) }
         ensures refused { result ≡ NoLane

@@ -69,7 +69,7 @@ impl<A: Allocator + Drop> BoundProducer<A> {
         self.producer.put(&self.mailbox, x)
     }
 
-    /// Ends the lane, as [`Producer::finish`] does. The answer is never `Busy`.
+    /// Ends the lane, as [`Producer::finish`] does. It never returns `Busy`.
     pub fn finish(&mut self) -> Finish
         ensures ended { result ≡ finish.Ended
             → IsEndOfLane self.old.producer self.new.producer }

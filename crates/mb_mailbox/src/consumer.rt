@@ -29,7 +29,7 @@ pub enum Poll {
     Nothing,
     /// The lane has ended: no further item comes.
     Ended,
-    /// The poll made as many accesses as the budget allows, and none of them led to another answer.
+    /// The poll made as many accesses as the budget allows, and none of them had another result.
     Spent,
     /// There is no such lane.
     NoLane,

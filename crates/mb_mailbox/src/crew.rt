@@ -41,8 +41,8 @@ use threads::{end_all, run};
 /// What the workers of a run came to.
 #[derive(Clone, Copy, PartialEq, Eq, Debug)]
 pub struct Worked {
-    /// Items that the producers that were not stopped did not put: each got the answer `Full`, or follows an item
-    /// that got it. It stays at 2^64 - 1 once there.
+    /// Items that the producers that were not stopped did not put: for each a put returned `Full`, or it follows
+    /// such an item. It stays at 2^64 - 1 once there.
     pub full: u64,
     /// Workers that were stopped. Each was stopped before call 2^64 - 1, or before a call at which the gate may stop
     /// it.

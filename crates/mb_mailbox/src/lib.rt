@@ -1,6 +1,6 @@
 //! A mailbox for threads. Producers put items into lanes of their own, consumers compete for each item, and a report
 //! at the end says who took what. There is no lock. Nobody waits for anybody, except that [`work`] waits for its own
-//! threads. Cells of the plain shape need no compare-exchange. A last object makes one.
+//! threads. Only a last object makes a compare-exchange.
 //!
 //! # How an item goes through
 //!

@@ -18,11 +18,11 @@ impl<A: Allocator + Drop> Consumer<A> {
     ghost use Rattle.mb_mailbox.specs.Consumers.{IsConsumerOf};
     ghost use Rattle.mb_mailbox.specs.Steps.{AnswerTells, IsPollOf, outcome};
 
-    /// Makes accesses on a lane until one has an answer, or until it has made as many as the budget allows. Lanes count
-    /// from 0. It draws one word from the source for each access of a claim. If the consumer then holds a claim, it
-    /// keeps it, and the next poll of the lane goes on with it. With a budget of 0 it is [`Poll::Spent`], and with one
-    /// of at least [`max_steps`](mb_claim::Layout::max_steps) plus 2 it never is. [`Poll::NoLane`] comes first, if there
-    /// is no such lane, and changes nothing. It waits for nobody and takes no memory.
+    /// Makes accesses on a lane until one has a result, or until it has made as many as the budget allows. Lanes count
+    /// from 0. It draws one word from the source for each access of a claim. A claim that the budget cuts short is kept,
+    /// and the next poll of the lane goes on with it. With a budget of 0 it is [`Poll::Spent`], and with one of at least
+    /// [`max_steps`](mb_claim::Layout::max_steps) plus 2 it never is. [`Poll::NoLane`] comes first, if there is no such
+    /// lane, and changes nothing. It waits for nobody and takes no memory.
     pub fn poll<B: Allocator + Drop, R: Rng>(
         &mut self,
         mailbox: &Mailbox<B>,
