@@ -19,7 +19,7 @@ import sys
 import xml.etree.ElementTree
 
 import run_program
-from run_program import GOOD_SCRIPT, RATIFIER, TOP, Run
+from run_program import GOOD_SCRIPT, NO_WORD, RATIFIER, TOP, Run
 
 OUT = f"{TOP}/crates/mailbox_draw/out"
 # As LLVM builds it, and as Rattle's own compiler does.
@@ -52,7 +52,7 @@ def ends():
         Run("a refusal, the errors full", (), 2, b"", b"", "/dev/full"),
         Run("a replay of a directory", ("replay",), 3, "/", b"", b"fault 11 ReadFault\n"),
         Run("a ratifier of a directory", ("ratify",), 3, "/", b"", b"fault 9 ReadFault\n"),
-        Run("a word that is no UTF-8", (b"\xff",), 2),
+        Run("a word that is no UTF-8", (b"\xff",), 2, error=NO_WORD),
     ]
 
 

@@ -37,6 +37,7 @@ LITTLE = 384 << 10
 BAD_SCRIPT = b"setup 1 1 1 1 bits\npush  0\n"
 BAD_LINE = b"fault 3 BadLine 2\n"
 IN_WORDS = b"line 2: expected `offer <lane> <item>`, `push <lane>`, `finish <lane>` or `step <consumer> <lane> <word>`\n"
+NO_WORD = b"error: a word of the command line is not UTF-8\n"
 GOOD_SCRIPT = b"setup 1 1 0 1 bits\n"
 RATIFIER = b"ratify unary 1\ninputs 0\nturns 0\n"
 RUN = ("run", "--producers", "1", "--consumers", "1", "--items", "2", "--pairs", "1")
@@ -86,7 +87,7 @@ def ends():
         Run("a refusal, the errors full", (), 2, b"", b"", "/dev/full"),
         Run("a replay of a directory", ("replay",), 3, "/", b"", b"fault 11 ReadFault\n"),
         Run("a ratifier of a directory", ("ratify",), 3, "/", b"", b"fault 9 ReadFault\n"),
-        Run("a word that is no UTF-8", (b"replay", b"\xff"), 2, GOOD_SCRIPT),
+        Run("a word that is no UTF-8", (b"replay", b"\xff"), 2, GOOD_SCRIPT, b"", NO_WORD),
         Run("no thread", RUN, 3, error=b"fault 3 NoThread\n", stack=TOO_LARGE),
         Run("no memory for a mailbox", LARGE_RUN, 3, error=b"fault 2 NoMemory\n", data=LITTLE),
         Run("no memory for a script", ("replay",), 3, LONGEST, error=b"fault 10 NoMemory\n", data=LITTLE),

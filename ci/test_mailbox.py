@@ -1,4 +1,4 @@
-"""Tests of the script `mailbox`, with a stand-in for the kit's `rt`."""
+"""Tests of the script `mailbox`, with stand-ins for the kit's `rt` and for the Python that runs ci/libraries.py."""
 import functools
 import os
 import shutil
@@ -9,19 +9,11 @@ import unittest
 
 TOP = os.path.dirname(os.path.dirname(os.path.abspath(__file__)))
 PROGRAM = "crates/mailbox_main/out/mailbox_main"
-ROOM = "MemTotal: 24000000 kB\nMemAvailable: 13000000 kB\n"
-# The crates that stand there: those that the script names, and one whose source may be newer.
-CRATES = ("mailbox_main", "mb_quorum", "mb_shared_cells", "mb_shared_claims")
-# It says what it was asked, and `rt run` leaves a program that says what it is asked, and a copy of a source. `rt lib` says
-# how far it is, and heeds no interrupt.
+# The crates that stand there: that of the program, and one whose source may be newer.
+CRATES = ("mailbox_main", "mb_quorum")
+# It says what it was asked, and `rt run` leaves a program that says what it is asked, and a copy of a source.
 RT = """#!/bin/sh
-if [ "$1" = lib ]; then
-    trap '' INT
-    echo "rt: chose --jobs 2 for $(basename "$PWD")"
-    echo 'so far: 1 of 3 functions checked; the verdict comes last'
-    [ "${BROKEN-}" != lib ] || exit 1
-    [ -z "${SLOW-}" ] || sleep 60
-elif [ "$1" = run ]; then
+if [ "$1" = run ]; then
     echo 'rt: chose --jobs 4 for mb_quorum'
     echo 'so far: 2 of 9 functions checked; the verdict comes last'
     echo 'fn mb_quorum::table::Table::new: proved'
@@ -37,6 +29,19 @@ else
     exit 2
 fi
 """
+# It says how far two libraries are, one of them in a process of its own, and neither heeds an interrupt.
+PYTHON = """#!/bin/sh
+trap '' INT
+[ "$*" = "$(dirname "$(dirname "$0")")/ci/libraries.py mailbox_main" ] || exit 2
+(
+    echo 'so far: 1 of 3 functions of mb_cells checked; the verdict comes last'
+    [ -z "${SLOW-}" ] || sleep 60
+) &
+echo 'so far: 2 of 3 functions of mb_quorum checked; the verdict comes last'
+[ "${BROKEN-}" != libraries ] || exit 1
+[ -z "${SLOW-}" ] || sleep 60
+wait
+"""
 
 
 class TheScript(unittest.TestCase):
@@ -47,20 +52,16 @@ class TheScript(unittest.TestCase):
         for folder in ("bin", *(f"crates/{it}/src" for it in CRATES)):
             os.makedirs(f"{self.top}/{folder}")
         self.write("crates/mb_quorum/src/lib.rt", "")
-        self.write("memory", ROOM)
-        self.write("bin/rt", RT)
-        os.chmod(f"{self.top}/bin/rt", 0o755)
+        for name, text in (("rt", RT), ("python3", PYTHON)):
+            self.write(f"bin/{name}", text)
+            os.chmod(f"{self.top}/bin/{name}", 0o755)
 
     def write(self, path, text):
         with open(f"{self.top}/{path}", "w", encoding="utf-8") as file:
             file.write(text)
 
-    def have_processors(self, many):
-        self.write("bin/nproc", f"#!/bin/sh\necho {many}\n")
-        os.chmod(f"{self.top}/bin/nproc", 0o755)
-
-    def environment(self, path=None, **more):
-        return {"PATH": path or f"{self.top}/bin:/usr/bin:/bin", "MEMINFO": f"{self.top}/memory", **more}
+    def environment(self, **more):
+        return {"PATH": f"{self.top}/bin:/usr/bin:/bin", **more}
 
     def run_it(self, *words, **more):
         how = {"input": "script\n", "capture_output": True, "text": True, "env": self.environment(**more)}
@@ -99,18 +100,16 @@ class TheScript(unittest.TestCase):
         left = sorted(os.listdir(os.path.dirname(f"{self.top}/{PROGRAM}")))
         self.assertEqual(left, ["building.minutes", "building.txt", "mailbox_main", "rlib"])
 
-    def test_with_room_two_libraries_are_proved_side_by_side(self):
-        self.have_processors(2)
-        for broken in ("", "lib"):
+    def test_libraries_come_first_and_may_fail(self):
+        for broken in ("", "libraries"):
             with self.subTest(broken):
                 status, _, errors = self.run_it("--build", BROKEN=broken)
                 self.assertEqual(status, 0)
-                for name in CRATES[2:]:
-                    self.assertIn(f"mailbox: 1 of 3 functions of {name}\n", errors)
+                for line in ("1 of 3 functions of mb_cells", "2 of 3 functions of mb_quorum"):
+                    self.assertIn(f"mailbox: {line}\n", errors.partition("2 of 9")[0])
                 self.assertIn("mailbox: built in ", errors)
 
     def test_an_interrupt_ends_both(self):
-        self.have_processors(2)
         # Whoever runs this in the background may have it ignore interrupts.
         heeds = functools.partial(signal.signal, signal.SIGINT, signal.SIG_DFL)
         how = {"stderr": subprocess.PIPE, "text": True, "start_new_session": True, "preexec_fn": heeds}
@@ -124,15 +123,6 @@ class TheScript(unittest.TestCase):
             # This waits until nobody is left that could write there.
             script.communicate(timeout=20)
             self.assertNotEqual(script.returncode, 0)
-
-    def test_without_room_one_is_proved_after_the_other(self):
-        for many, memory in ((1, ROOM), (2, "MemAvailable: 11000000 kB\n")):
-            with self.subTest((many, memory)):
-                self.have_processors(many)
-                self.write("memory", memory)
-                status, _, errors = self.run_it("--build")
-                self.assertEqual(status, 0)
-                self.assertNotIn("of 3 functions", errors)
 
     def test_a_build_that_fails_leaves_none(self):
         status, _, errors = self.run_it("--build", BROKEN="run")

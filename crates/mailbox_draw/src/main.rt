@@ -9,7 +9,7 @@ mod program;
 mod svg;
 
 use mb_program::{FAILED, REFUSED};
-use mb_script::CountingIo;
+use mb_script::{CountingIo, write_all};
 use std::io;
 use std::process::ExitCode;
 
@@ -28,7 +28,11 @@ fn main(rt: HostRuntime) -> ExitCode {
             ),
             Err(_) => FAILED,
         },
-        Err(error) if error.kind() == io::ErrorKind::InvalidData => REFUSED,
+        Err(error) if error.kind() == io::ErrorKind::InvalidData => {
+            let text = "error: a word of the command line is not UTF-8\n";
+            let _ = write_all(&mut errors, text.as_bytes());
+            REFUSED
+        }
         Err(_) => FAILED,
     };
     ExitCode::from(status)

@@ -1,7 +1,10 @@
 //! The program: it hands the words of the command line and the standard streams to `mb_program`, and ends with its status.
 #![tactic(auto)]
 
-pub use mb_program::{command_of, fault_text, ratify_text, run_threads, source_of, status_of};
+pub use mb_program::{
+    Choice, Failed, Options, RatifyFault, RunFault, command_of, fault_text, ratify_text,
+    run_threads, source_of, status_of,
+};
 use mb_program::{ProgramExit, explanation, program, status_of_ending};
 use mb_script::{CountingIo, write_all};
 use std::io::{self, IsTerminal};
@@ -19,7 +22,11 @@ fn main(rt: HostRuntime) -> ExitCode {
             }
             Err(_) => ProgramExit::ArgsUnavailable,
         },
-        Err(error) if error.kind() == io::ErrorKind::InvalidData => ProgramExit::NonUtf8Args,
+        Err(error) if error.kind() == io::ErrorKind::InvalidData => {
+            let text = "error: a word of the command line is not UTF-8\n";
+            let _ = write_all(&mut errors, text.as_bytes());
+            ProgramExit::NonUtf8Args
+        }
         Err(_) => ProgramExit::ArgsUnavailable,
     };
     // A person at a terminal gets a second line, in words.

@@ -1,0 +1,105 @@
+#!/usr/bin/env python3
+"""Proves the libraries below a crate, two side by side, and keeps them as `rt lib` does: ci/libraries.py CRATE
+
+`rt run` proves one library after the other, and the end of each keeps one processor alone busy. Here the library with the
+most text above it goes first, with as many jobs as rt chooses. If there is room, another goes beside it with one job, as
+soon as those that it stands on are proved.
+What rt prints is passed on line by line. The lines `so far` name their library.
+The status is 0 if all are proved. `rt run` tries the others again.
+"""
+import importlib.machinery
+import importlib.util
+import os
+import shutil
+import signal
+import sys
+import threading
+from concurrent.futures import FIRST_COMPLETED, ThreadPoolExecutor, wait
+
+import machine
+import mutants
+
+# The most that a check has been seen to take beside another, with some room, in bytes.
+MEMORY = 6_000_000_000
+
+
+def load_kit():
+    """The kit's rtlib.py and the crates by their names. If `rt lib` of this kit takes over what other clones on this
+    machine proved, so do these."""
+    kit, crates = mutants.load_kit()
+    loader = importlib.machinery.SourceFileLoader("rt_of_kit", os.path.realpath(shutil.which("rt")))
+    rt = importlib.util.module_from_spec(importlib.util.spec_from_loader("rt_of_kit", loader))
+    loader.exec_module(rt)
+    share = getattr(rt, "share_work", None)
+    if share:
+        # (it changes the classes of the rtlib.py that rt has loaded)
+        kit = rt.rtlib
+        kit.guarded()
+        share(True)
+        crates = {it.name: it for it in kit.crates_below(mutants.TOP)}
+    return kit, crates
+
+
+class Lines:
+    """Takes what a library's check prints, and passes it on by whole lines."""
+
+    printing = threading.Lock()
+
+    def __init__(self, name):
+        self.name, self.part = name, ""
+
+    def write(self, text):
+        *lines, self.part = (self.part + text).split("\n")
+        with self.printing:
+            for line in lines:
+                named = f" functions of {self.name}" if line.startswith("so far: ") else " functions"
+                print(line.replace(" functions", named, 1), flush=True)
+
+    def flush(self):
+        pass
+
+
+def lines_above(crates):
+    """For each library, its lines and those of the longest chain above it. Each stands after those that it uses."""
+    above = {}
+    for crate in reversed(crates):
+        users = [above[it.name] for it in crates if crate in it.deps]
+        above[crate.name] = crate.count(rb"\n") + max(users, default=0)
+    return above
+
+
+def prove(crates, lanes):
+    """Proves these libraries, so many side by side, and returns whether all are proved."""
+    above, proved, running = lines_above(crates), set(), {}
+    left = sorted(crates, key=lambda it: -above[it.name])
+    with ThreadPoolExecutor(lanes) as pool:
+        while True:
+            is_ready = lambda it: all(below.name in proved for below in it.deps)
+            while len(running) < lanes and (crate := next(filter(is_ready, left), None)):
+                left.remove(crate)
+                is_beside = any(not beside for _, beside in running.values())
+                flags = ["--jobs", "1"] if is_beside else []
+                running[pool.submit(crate.build_rlib, flags, anew=False)] = crate, is_beside
+            if not running:
+                return not left and len(proved) == len(crates)
+            for it in wait(running, return_when=FIRST_COMPLETED).done:
+                crate, _ = running.pop(it)
+                if it.result() == 0:
+                    proved.add(crate.name)
+
+
+def main(words):
+    # (with its own handler Python would wait for the threads' commands)
+    signal.signal(signal.SIGINT, signal.SIG_DFL)
+    kit, crates = load_kit()
+    libraries = crates[words[0]].below()
+    held = kit.lock(libraries)
+    for it in libraries:
+        it.out = Lines(it.name)
+    is_well = prove(libraries, min(2, machine.at_once(MEMORY)))
+    del held
+    return 0 if is_well else 1
+
+
+if __name__ == "__main__":
+    sys.exit(main(sys.argv[1:]))
