@@ -20,6 +20,7 @@ pub mod Winner
 -- One more access
 pub mod HistorySteps
 pub mod PassedObjects
+pub mod UsedObjects
 pub mod Standing
 pub mod ClaimSteps
 mod ManyClaimSteps
@@ -48,6 +49,7 @@ pub mod PlaySteps
 pub mod OnePlay
 -- Examples
 pub mod LawfulExamples
+pub mod UsedExamples
 pub mod ShapedExamples
 pub mod BothExamples
 pub mod Counterexamples

@@ -65,7 +65,7 @@ pub record LawfulObject (t : QuorumTable) (kind : Kind) (hs : ℕ → List Acces
   pub within : inputs c < t.values
 
 -- in a family, too, a consumer has one way past its first object
-step_passes :
+pub step_passes :
     (t : QuorumTable) (k : Kind) (ks : List Kind) (o : ℕ) (hs : ℕ → List Access) (P : ℕ → Type 0)
     (fam : Family t (k ∷ ks) o hs P) (law : OfKind t k) (c : ℕ) → fam.input c < t.values
     → (u : ℕ) (later : List ObjectTurn) (x : Passes t k o (fam.input c) (fam.rest c) u later) → turns_at o later ≡ []

@@ -5,7 +5,7 @@ pub use Rattle.mb_claim.specs.History.{IsMemoryTrue, AreInWords, on_cell}
 pub use Rattle.mb_claim.specs.Paths.{turns_on, stage_for, stage_of, IsClaimPath, IsClaimPrefixFrom, Enters}
 pub use Rattle.mb_claim.specs.Paths.{IsWholeClaim, IsClaimPrefix, GoesOnIn, DecidesIn, Passes}
 pub use Rattle.mb_claim.specs.Claiming.{IsClaimPart, HasStage, held_after, IsClaimLawful, MayFollow, Adds}
-pub use Rattle.mb_claim.specs.Winner.{StageNames, IsClaimAnnounced, IsClaimContested, HasOneWinner}
+pub use Rattle.mb_claim.specs.Winner.{StageNames, IsUsedWith, IsClaimAnnounced, IsClaimContested, HasOneWinner}
 pub use Rattle.mb_claim.specs.Standing.{PassesAll, HasPlace, access_after, StandsAt, IsClaimOf}
 pub use Rattle.mb_claim.specs.Layouts.{pairs_of, fast_row, last_row, row_of, plain, shape_of, fast_steps, last_steps, shaped_steps}
 pub use Rattle.mb_claim.specs.Layouts.{quorums_of, pair_count, kinds_of, width, offset, words_before, row_words, shaped_words, address_of}

@@ -1,11 +1,11 @@
 -- One winner: what holds of the claims on one cell.
 use Rattle.std.specs.Prelude.{ℕ, ◌≡◌, ◌≢◌, List, [], Some, slice_get}
 use Rattle.mb_quorum.specs.Vocabulary.{IsMember}
-use Rattle.mb_deciding.specs.Vocabulary.{part, acts, Has}
+use Rattle.mb_deciding.specs.Vocabulary.{part, acts, Has, object_of, IsObjectLawful}
 use Rattle.mb_claim.specs.AllClaims.{Claims}
-use Rattle.mb_claim.specs.ObjectTypes.{Quorum, Store, Ratifier}
+use Rattle.mb_claim.specs.ObjectTypes.{Quorum, Store, Kind, Ratifier}
 use Rattle.mb_claim.specs.Types.{ClaimAccess, Stage, Going, Won, Lost, Undecided}
-use Rattle.mb_claim.specs.History.{part_on, object_history}
+use Rattle.mb_claim.specs.History.{part_on, part_at, object_history}
 use Rattle.mb_claim.specs.Paths.{Enters}
 use Rattle.mb_claim.specs.Claiming.{HasStage}
 
@@ -15,6 +15,16 @@ StageNames c Going w = ⊥
 StageNames c Won w = w ≡ c
 StageNames c (Lost u) w = w ≡ u
 StageNames c Undecided w = ⊥
+
+-- consumers use object o of cell k, which is of this kind, with these inputs: what they do there is what processes do on
+-- one object alone
+pub record IsUsedWith (cs : Claims) (k o : ℕ) (kind : Kind) (inputs : ℕ → ℕ)
+    (h : List ClaimAccess) : Type 0 where
+  -- the accesses there are a lawful history of the object with these inputs
+  pub lawful : IsObjectLawful (object_of cs.table kind inputs) (object_history k o h)
+  -- each consumer with an access there has come to the object with its input
+  pub enters :
+      (c : ℕ) → part_at c k o h ≢ [] → Enters cs.table cs.kinds 0 c (part_on c k h) o (inputs c)
 
 -- a consumer whose input to object o of cell k is u has stored there in a register of u's write quorum
 abbrev pub IsClaimAnnounced : Claims → ℕ → ℕ → ℕ → List ClaimAccess → Type 0

@@ -4,7 +4,7 @@
 ghost use Rattle.std.specs.Prelude.{ℕ, ◌≡◌, ◌≢◌, ◌+◌, Bool, true, false, [], ◌∷◌};
 ghost use Rattle.mb_claim.specs.{AreClaimSteps, Claim, Layout, claim_stage};
 ghost use Rattle.mb_claim.specs.declared.run.ClaimEntry.TheVariants as entry;
-ghost use Rattle.mb_claim.specs.{Load, Store, Value, Quorum, IsClaimLawful, HasStage, IsClaimContested, Going, Won};
+ghost use Rattle.mb_claim.specs.{Load, Store, Value, Quorum, IsClaimLawful, HasStage, IsClaimContested, IsUsedWith, Ratifier, Going, Won};
 ghost use Rattle.mb_claim.specs.{Lost, Undecided, two_consumers, won_and_lost, both_undecided, begun_again};
 ghost use Rattle.mb_claim.specs.{after_winning, own_number_again, of_a_stranger, IsPlayedByTwo, step, eight_steps};
 ghost use Rattle.mb_claim.specs.{won_and, two_with, lost_at_second, skip_both_ratifiers, skip_one_ratifier};
@@ -48,6 +48,17 @@ pub fn counterexamples_are_unlawful()
 
     // A third consumer comes, which the claims do not have.
     ensures stranger { IsClaimLawful two_consumers of_a_stranger → ⊥ }
+{
+    objects_keep_their_promises();
+}
+
+/// The inputs to the ratifier, after consumer 0 has won and consumer 1 has lost.
+pub fn inputs_come_from_the_object_before()
+    // Both come with 0, as consumer 1 has that value from the conciliator.
+    ensures value { IsUsedWith two_consumers 0 1 Ratifier (λ c. 0) won_and_lost }
+
+    // So they do not come with their own numbers.
+    ensures own { IsUsedWith two_consumers 0 1 Ratifier (λ c. c) won_and_lost → ⊥ }
 {
     objects_keep_their_promises();
 }

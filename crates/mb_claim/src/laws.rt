@@ -7,17 +7,19 @@ ghost use Rattle.std.specs.Prelude.{slice_get, Some, ◌^◌};
 ghost use Rattle.mb_quorum.specs.Vocabulary.{QuorumTable, IsQuorumTable};
 ghost use Rattle.mb_quorum.specs.declared.values.TheConstants.{MAX_VALUES};
 ghost use Rattle.mb_deciding.specs.declared.access.Op.TheVariants as to;
-ghost use Rattle.mb_deciding.specs.Vocabulary.{IsPath, answer, largest_quorum, spread};
+ghost use Rattle.mb_deciding.specs.Vocabulary.{ChecksKeepOut, IsCoherent, IsPath, IsValid, answer, largest_quorum, object_of, spread};
 ghost use Rattle.mb_claim.specs.{Reg, Value, Kind, Conciliator, Ratifier, LastObject, Out, Claims, claims_of, ClaimsAreSound};
 ghost use Rattle.mb_claim.specs.{ClaimAccess, ObjectTurn, Shape, plain, row_of, shaped_steps, shape_of};
 ghost use Rattle.mb_claim.specs.{Stage, Going, Undecided, kinds_of, MAX_CELLS, MAX_LARGE_CELLS, MAX_PAIRS};
-ghost use Rattle.mb_claim.specs.{IsClaimLawful, HasStage, HasOneWinner, IsWholeClaim};
-ghost use Rattle.mb_claim.specs.{IsClaimPrefix, stage_of, part_on, part_at, held_at, on_cell, most_on_objects};
+ghost use Rattle.mb_claim.specs.{IsClaimLawful, HasStage, HasOneWinner, IsWholeClaim, Enters, IsUsedWith};
+ghost use Rattle.mb_claim.specs.{IsClaimPrefix, stage_of, part_on, part_at, held_at, on_cell, object_history, most_on_objects};
 ghost use Rattle.mb_claim.specs.{max_steps, pairs_of, Layout, quorums_of, pair_count, consumer_count, claims_in, Claim};
 ghost use Rattle.mb_claim.specs.{ClaimOp, consumer_of, claim_stage, is_begun, IsClaimIn, IsNextOp, CanClaimFind};
 ghost use Rattle.mb_claim.specs.{FitsLayout, most_accesses, steps_left, ClaimEntry, IsPlayed};
 
-use mb_deciding::laws::{objects_keep_their_promises, ratifiers_decide_unless_contested};
+use mb_deciding::laws::{
+    checks_keep_out, objects_keep_their_promises, ratifiers_decide_unless_contested,
+};
 use mb_deciding::steps::{places_have_turns_left, turns_name_the_next_op};
 
 /// All claims on a cell that are won or lost name one winner, for all orders of accesses and all random words.
@@ -27,6 +29,35 @@ pub fn claims_have_one_winner()
 {
     objects_keep_their_promises();
     ratifiers_decide_unless_contested();
+}
+
+/// The accesses of a lawful history to one object of a cell are a lawful history of that object alone. Its inputs are
+/// those with which the consumers come to it on their claim paths. So the laws of deciding objects hold of it.
+pub fn objects_have_lawful_histories()
+    ensures lawful { (cs : Claims) (h : List ClaimAccess) (k o : ℕ) (kind : Kind)
+        → ClaimsAreSound cs → IsClaimLawful cs h → slice_get cs.kinds o ≡ Some kind
+        → (inputs : ℕ → ℕ) × IsUsedWith cs k o kind inputs h }
+
+    // A consumer with an access to an object comes to it with one input. To object 0 that is its own number.
+    ensures one { (cs : Claims) (h : List ClaimAccess) (k o c u w : ℕ)
+        → ClaimsAreSound cs → IsClaimLawful cs h → part_at c k o h ≢ []
+        → Enters cs.table cs.kinds 0 c (part_on c k h) o u
+        → Enters cs.table cs.kinds 0 c (part_on c k h) o w → u ≡ w }
+    ensures own { (cs : Claims) (h : List ClaimAccess) (k c : ℕ) (kind : Kind) (inputs : ℕ → ℕ)
+        → IsUsedWith cs k 0 kind inputs h → part_at c k 0 h ≢ [] → inputs c ≡ c }
+
+    // Validity and coherence, and of a ratifier what a clear read rules out. They hold at every step, as the history
+    // up to any step is lawful.
+    ensures outputs { (cs : Claims) (h : List ClaimAccess) (k o : ℕ) (kind : Kind) (inputs : ℕ → ℕ)
+        → ClaimsAreSound cs → IsUsedWith cs k o kind inputs h
+        → let object = object_of cs.table kind inputs in
+        IsValid object (object_history k o h) × IsCoherent object (object_history k o h) }
+    ensures checks { (cs : Claims) (h : List ClaimAccess) (k o : ℕ) (inputs : ℕ → ℕ)
+        → ClaimsAreSound cs → IsUsedWith cs k o Ratifier inputs h
+        → ChecksKeepOut (object_of cs.table Ratifier inputs) (object_history k o h) }
+{
+    checks_keep_out();
+    objects_keep_their_promises();
 }
 
 /// A claim makes at most the accesses that its objects allow together.

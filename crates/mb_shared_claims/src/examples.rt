@@ -1,14 +1,12 @@
 //! The definitions by example: what they admit, and what only looks right. The functions compute nothing: their
 //! contracts are the examples. Their proofs are in `proofs/examples/`, one folder for each.
 ghost use Rattle.std.specs.Prelude.{ℕ, ◌≡◌, ◌+◌, ◌<◌, List, None, [], ◌∷◌, replicate, slice_index};
-ghost use Rattle.mb_claim.specs.declared.access.Stage.TheVariants.{Won};
-ghost use Rattle.mb_claim.specs.Vocabulary.{IsClaimLawful, IsClaimPrefix, IsWordIn, address_in, part_on};
+ghost use Rattle.mb_claim.specs.Vocabulary.{IsClaimLawful, IsWordIn, address_in};
 ghost use Rattle.rand_core.specs.Stream.{Stream};
-ghost use Rattle.mb_shared_claims.specs.{AreSeatSteps, Claim, ClaimAccess, Handing, HasPartAt, IsClaimsState, IsSeatStep, Layout};
+ghost use Rattle.mb_shared_claims.specs.{AreSeatSteps, Claim, ClaimAccess, Handing, IsClaimsState, IsSeatStep, Layout};
 ghost use Rattle.mb_shared_claims.specs.{Reg, SeatView, Standing, TableSize, View, claims_of_size, makes, roster};
 
 use crate::laws::{states_have_one_history, steps_keep_states};
-use mb_claim::laws::{claims_have_one_winner, layouts_are_sound};
 use mb_claim::steps::accesses_lengthen_one_part;
 
 /// Words and views of a table, whatever its size.
@@ -43,20 +41,6 @@ pub fn words_and_views_disagree()
         (Handing k (None ∷ []) ∷ Standing k 0 [] ∷ Standing k 0 [] ∷ []) → ⊥ }
 {
     accesses_lengthen_one_part();
-    states_have_one_history();
-}
-
-/// If two seats have both won a cell, they are one consumer's. So no state of a table has two winners.
-pub fn seats_have_one_winner()
-    ensures { (k : TableSize) (words : List ℕ) (views : List View) (i j c d cell : ℕ)
-        (xs ys : List ClaimAccess)
-        → IsClaimsState k words views → HasPartAt views i c xs → HasPartAt views j d ys
-        → IsClaimPrefix (claims_of_size k) c (part_on c cell xs) Won
-        → IsClaimPrefix (claims_of_size k) d (part_on d cell ys) Won → c ≡ d }
-{
-    accesses_lengthen_one_part();
-    claims_have_one_winner();
-    layouts_are_sound();
     states_have_one_history();
 }
 

@@ -1,15 +1,19 @@
-//! What the rule of a table says, and the law that each kind of step keeps it. The functions compute nothing: their
-//! contracts are the laws.
+//! What the rule of a table says, the law that each kind of step keeps it, and that no cell has two winners. The
+//! functions compute nothing: their contracts are the laws.
 //!
 //! Between any two steps of any seats, the words and the views of a table are a state of the claims. The rule of each
 //! table says so: [`ClaimsRule`](crate::rule::ClaimsRule). It is checked at each step.
 ghost use Rattle.std.specs.Prelude.{ℕ, suc, ◌≡◌, ◌≢◌, ◌+◌, ◌<◌, ◌≤◌, Some, None, List, [], ◌∷◌, ◌++◌, length};
-ghost use Rattle.std.specs.Prelude.{replicate, slice_index, slice_set};
-ghost use Rattle.mb_deciding.specs.Vocabulary.{IsInWords, reg_of};
+ghost use Rattle.std.specs.Prelude.{replicate, slice_get, slice_index, slice_set};
+ghost use Rattle.mb_deciding.specs.declared.object.Kind.TheVariants.{Ratifier};
+ghost use Rattle.mb_deciding.specs.Vocabulary.{ChecksKeepOut, IsInWords, object_of, reg_of};
+ghost use Rattle.mb_claim.specs.declared.access.Stage.TheVariants.{Won};
 ghost use Rattle.mb_claim.specs.Vocabulary.{part, consumer_count, IsWordInLayout, IsMemoryOf, access_in, words_after};
-ghost use Rattle.mb_shared_claims.specs.{ClaimAccess, ClaimOp, TableSize, View, Handing, Drawing, Standing, Taking, Spent};
+ghost use Rattle.mb_claim.specs.Vocabulary.{IsClaimPrefix, IsUsedWith, StageNames, kinds_of, object_history, part_on, quorums_of};
+ghost use Rattle.mb_shared_claims.specs.{ClaimAccess, ClaimOp, Stage, TableSize, View, Handing, Drawing, Standing, Taking, Spent};
 ghost use Rattle.mb_shared_claims.specs.{claims_of_size, Roll, IsViewAt, HasPartAt, roster, IsClaimsState, MayComeNext};
 
+use mb_claim::laws::{claims_have_one_winner, layouts_are_sound, objects_have_lawful_histories};
 use mb_claim::steps::{
     accesses_lengthen_one_part, addresses_are_apart, histories_begin_with_zeros,
     other_words_are_free,
@@ -85,4 +89,41 @@ pub fn steps_keep_states()
     addresses_are_apart();
     histories_begin_with_zeros();
     other_words_are_free();
+}
+
+/// In every state of a table all seats that have won or lost a cell name one winner. So no cell has two winners at any
+/// time, whatever the threads do.
+pub fn seats_have_one_winner()
+    // If two seats have both won a cell, they are one consumer's.
+    ensures won { (k : TableSize) (words : List ℕ) (views : List View) (i j c d cell : ℕ)
+        (xs ys : List ClaimAccess)
+        → IsClaimsState k words views → HasPartAt views i c xs → HasPartAt views j d ys
+        → IsClaimPrefix (claims_of_size k) c (part_on c cell xs) Won
+        → IsClaimPrefix (claims_of_size k) d (part_on d cell ys) Won → c ≡ d }
+
+    // Two seats that have each won or lost a cell name one winner. So if one has won, who has lost names its consumer.
+    ensures named { (k : TableSize) (words : List ℕ) (views : List View) (i j c d cell u w : ℕ)
+        (xs ys : List ClaimAccess) (s r : Stage)
+        → IsClaimsState k words views → HasPartAt views i c xs → HasPartAt views j d ys
+        → IsClaimPrefix (claims_of_size k) c (part_on c cell xs) s
+        → IsClaimPrefix (claims_of_size k) d (part_on d cell ys) r
+        → StageNames c s u → StageNames d r w → u ≡ w }
+
+    // The fact on which this rests: what a clear read rules out (`ChecksKeepOut`), in each ratifier of each cell. It
+    // holds of a lawful history that leaves the words, and whose parts are exactly those that the seats have.
+    ensures checks { (k : TableSize) (words : List ℕ) (views : List View)
+        → IsClaimsState k words views
+        → (h : List ClaimAccess) × IsMemoryOf (claims_of_size k) words h
+        × ((seat c : ℕ) (xs : List ClaimAccess) → HasPartAt views seat c xs → xs ≡ part c h)
+        × ((c : ℕ) → part c h ≢ [] → (seat : ℕ) × HasPartAt views seat c (part c h))
+        × ((cell o : ℕ) → slice_get (kinds_of k.layout) o ≡ Some Ratifier → (inputs : ℕ → ℕ)
+        × IsUsedWith (claims_of_size k) cell o Ratifier inputs h
+        × ChecksKeepOut (object_of (quorums_of k.layout) Ratifier inputs)
+        (object_history cell o h)) }
+{
+    accesses_lengthen_one_part();
+    claims_have_one_winner();
+    layouts_are_sound();
+    objects_have_lawful_histories();
+    states_have_one_history();
 }
