@@ -16,7 +16,7 @@ use Rattle.mb_mailbox.specs.Vocabulary.{IsRunOf, IsWorked, ProducerEnd, WereTake
 use Rattle.mb_mailbox.specs.Vocabulary.{WorkerBuffers}
 use Rattle.mb_mailbox.specs.Rooms.{HasRoom}
 use Rattle.mb_mailbox.proofs.Noted.{all_noted}
-use Rattle.mb_mailbox.proofs.RunEnds.{consumer_end, producer_end}
+use Rattle.mb_mailbox.proofs.{Given.{producers_alike}, RunEnds.{consumer_end, producer_end}}
 use Rattle.mb_mailbox.proofs.Runs.{lanes_of, consumer_ends, nums, run_beyond, run_cut, run_ends}
 use Rattle.mb_mailbox.proofs.Runs.{run_met, run_of, run_only, run_passes, run_poll_stops, run_polled, run_stops, run_unread}
 use Rattle.mb_mailbox.proofs.Zips.{zip_length}
@@ -61,21 +61,21 @@ module _ {Z : Type 0} (m : MailboxView) where
 
 module _ {R Z : Type 0} (m : MailboxView) where
   -- the consumers of new jobs are of the mailbox
-  polls_at : (c : ℕ) (js : List (PollJob R Z)) → ArePollJobs m c js
+  polls_at : (h : HubView) (js : List (PollJob R Z)) → ArePollJobs m h js
       → All (λ (j : PollJob R Z). IsConsumerOf m j.consumer) js
-  polls_at c [] a = nothing (λ (j : PollJob R Z). IsConsumerOf m j.consumer)
-  polls_at c (j ∷ js) a =
+  polls_at h [] a = nothing (λ (j : PollJob R Z). IsConsumerOf m j.consumer)
+  polls_at h (j ∷ js) a =
       All-cons (λ (j : PollJob R Z). IsConsumerOf m j.consumer) j js (record {
-        cells = a.0.cells;
-        claims = a.0.claims;
-      }) (polls_at (suc c) js a.1)
+        cells = ap (λ r. r.table) a.0.reader;
+        claims = ap (λ r. r.table) a.0.seat;
+      }) (polls_at _ js a.1)
 
   -- the jobs for which the hub gave numbers are of the mailbox
   pub jobs_at : (vs : List (Vec ℕ Z)) (sources : ℕ) (jobs : WorkerInputs R Z) (h mid : HubView)
       → AreGiven m vs sources jobs h mid → AreOf m jobs
   jobs_at vs sources jobs h mid g = record {
     puts = puts_at m (length h.puts) g.puts.front jobs.puts.items g.puts.are;
-    polls = polls_at (length h.ledgers) jobs.polls.items g.polls;
+    polls = polls_at _ jobs.polls.items g.polls;
   }
 
   -- a consumer is of the mailbox at its job's end, too
@@ -367,18 +367,23 @@ module _ {R Z : Type 0} (m : MailboxView) (may_stop may_pass : Who → ℕ → T
       many : length (map stream rngs) ≡ sources
       many = length-map rngs stream ∙ count
 
+      -- the hub gave as many producers as there are lists
+      gave : length jobs.puts.items ≡ length (lists_in items)
+      gave = sym (put_count m (length h.puts) items jobs.puts.items all.puts)
+          ∙ sym (length-map items (λ (v : Vec ℕ Z). v.items))
+
       -- if the run is not aborted, these are its calls. Its workers are those of `worked`
-      pub called : IsCalled may_stop may_pass budget (lists_in items) (map stream rngs) w h now
+      pub called : IsHubOf m h → IsCalled may_stop may_pass budget (lists_in items) (map stream rngs) w h now
       unfolding sourced worked
-      called = record {
+      called was = record {
         worked = sourced (sym many) worked;
         puts = run_passes m may_stop may_pass stream h from end budget items jobs.puts.items
             ends.puts.items jobs.polls.items ends.polls.items hub all.puts given.polls came.puts
             came.polls puts_on;
-        polls = subst (λ (z : (ℕ × ℕ) × List Stream). WerePolled may_stop may_pass z.0.0 z.0.1
-            budget (length h.ledgers) z.1 (consumer_ends m may_stop may_pass ends.polls.items))
-            (λ i. ((first i, far i), streams i))
+        polls = subst (λ (z : (ℕ × ℕ) × (List Stream × HubView)). WerePolled may_stop may_pass z.1.1 z.0.0 z.0.1
+            budget (length h.ledgers) z.1.0 (consumer_ends m may_stop may_pass ends.polls.items))
+            (λ i. ((first i, far i), (streams i, producers_alike jobs.puts.items (lists_in items) h gave i)))
             (run_polled m may_stop may_pass stream h from end budget items jobs.puts.items
             ends.puts.items jobs.polls.items ends.polls.items hub all.puts given.polls came.puts
-            came.polls polls_on);
+            came.polls was polls_on);
       }

@@ -38,6 +38,7 @@ pub mod HubMoves
 pub mod HubRuns
 -- A run of workers
 pub mod RunEnds
+pub mod Given
 pub mod Runs
 pub mod Loops
 pub mod Called

@@ -7,9 +7,9 @@ use Rattle.std.proofs.lemmas.List.{length-append, map-append}
 use Rattle.std.proofs.lemmas.List.Elements.{All-cons, All-head, All-push, All-tail}
 use Rattle.std.proofs.lemmas.List.Sums.{sum_by-append, sum_by-cons}
 use Rattle.mb_mailbox.specs.Consumers.{ConsumerView}
-use Rattle.mb_mailbox.specs.Given.{ArePollJobs, ArePutJobs, HasNumber}
-use Rattle.mb_mailbox.specs.HubRuns.{with_taken_consumers, with_taken_producers}
-use Rattle.mb_mailbox.specs.Hubs.{HubView, IsNewConsumer, new_producer, with_taken_consumer, with_taken_producer}
+use Rattle.mb_mailbox.specs.Given.{ArePollJobs, ArePutJobs}
+use Rattle.mb_mailbox.specs.HubRuns.{with_consumers, with_taken_consumers, with_taken_producers}
+use Rattle.mb_mailbox.specs.Hubs.{HubView, IsNewConsumer, new_producer, with_consumer, with_taken_consumer, with_taken_producer}
 use Rattle.mb_mailbox.specs.Mailboxes.{MailboxView}
 use Rattle.mb_mailbox.specs.Producers.{ProducerView}
 use Rattle.mb_mailbox.specs.declared.crew.jobs.PollJob.{PollJob}
@@ -30,21 +30,10 @@ module _ {Z : Type 0} (m : MailboxView) where
       (a.0, a.1, put_jobs_more (suc p) n ws js v j a.2 (omega (arith, e)) is list)
 
   -- the next consumer is one more job
-  pub poll_jobs_more : {R : Type 0} (c n : ℕ) (js : List (PollJob R Z)) (j : PollJob R Z) → ArePollJobs m c js
-      → n ≡ c + length js → HasNumber m n j.consumer → ArePollJobs m c (js ++ j ∷ [])
-  poll_jobs_more c n [] j a e has = (subst (λ (k : ℕ). HasNumber m k j.consumer) (omega (arith, e)) has, tt)
-  poll_jobs_more c n (i ∷ js) j a e has = (a.0, poll_jobs_more (suc c) n js j a.1 (omega (arith, e)) has)
-
--- a new consumer has the next number
-pub new_number : (m : MailboxView) (h : HubView) (s : ConsumerView) → IsNewConsumer m h s
-    → HasNumber m (length h.ledgers) s
-new_number m h s i = record {
-  cells = ap (λ r. r.table) i.reader;
-  reader = ap (λ r. r.reader) i.reader;
-  claims = ap (λ r. r.table) i.seat;
-  consumer = ap (λ r. r.consumer) i.seat;
-  none = λ j. length (i.reader j).part + length (i.seat j).part;
-}
+  pub poll_jobs_more : {R : Type 0} (h : HubView) (js : List (PollJob R Z)) (j : PollJob R Z) → ArePollJobs m h js
+      → IsNewConsumer m (with_consumers js h) j.consumer → ArePollJobs m h (js ++ j ∷ [])
+  poll_jobs_more h [] j a new = (new, tt)
+  poll_jobs_more h (i ∷ js) j a new = (a.0, poll_jobs_more (with_consumer h) js j a.1 new)
 
 -- ---- what is taken in
 module _ {X : Type 0} (f : X → ProducerView) (h : HubView) where

@@ -9,14 +9,15 @@ use Rattle.mb_cells.specs.Vocabulary.{HasFoundNone}
 use Rattle.mb_shared_cells.specs.Vocabulary.{CellsName}
 use Rattle.mb_mailbox.specs.Imports.{Stream}
 use Rattle.mb_mailbox.specs.ConsumerWords.{ConsumerView}
+use Rattle.mb_mailbox.specs.HubRuns.{with_producers}
 use Rattle.mb_mailbox.specs.Vocabulary.{WasPassed, WerePassed, WerePolled, ArePassed, ArePollJobs, ArePutJobs, HubView, IsHub, new_producer, put_list_of, HasReadEnds, HasReadToEnd, IsFront, IsOnLanes}
 use Rattle.mb_mailbox.specs.Vocabulary.{IsPollEnd, IsPutEnd, IsStopBefore, IsStoppedPoll, accesses_made, ends_met, MailboxView, FoundNoCell, ProducerView, is_over, AreCutByCells, AreStoppedPolls}
 use Rattle.mb_mailbox.specs.Vocabulary.{AreStoppedPuts, ConsumerEnd, HaveMetEnds, IsRunOf, IsStoppedPut, ProducerEnd, ended_list, items_beyond, lists_in, Who}
-use Rattle.mb_mailbox.specs.Vocabulary.{PollDone, PollJob, PutDone, PutJob}
+use Rattle.mb_mailbox.specs.Vocabulary.{IsHubOf, PollDone, PollJob, PutDone, PutJob}
 use Rattle.mb_mailbox.specs.declared.gate.Who.TheVariants as who
 use Rattle.mb_mailbox.proofs.HubRuns.{CountFrom, after, run_claimed, run_ledgers, run_parts, run_puts, run_readers}
 use Rattle.mb_mailbox.proofs.RunEnds.{behind, consumer_end, met_at, producer_end}
-use Rattle.mb_mailbox.proofs.Zips.{zip_length}
+use Rattle.mb_mailbox.proofs.{Given.{count_by_producers, new_number, of_by_producers, one_more, still_of}, Zips.{zip_length}}
 
 module _ {Z : Type 0} (m : MailboxView) (may_stop may_pass : Who → ℕ → Type 0) where
   -- ---- producers
@@ -186,27 +187,28 @@ module _ {Z : Type 0} (m : MailboxView) (may_stop may_pass : Who → ℕ → Typ
   AreNumbered from end budget c (d ∷ ds) = IsPollEndAt from end budget c d × AreNumbered from end budget (suc c) ds
 
   -- the ends of the jobs of new consumers are such ends
-  numbered : {R : Type 0} (stream : R → Stream) (from end budget c : ℕ) (js : List (PollJob R Z))
-      (ds : List (PollDone Z)) → ArePollJobs m c js
+  numbered : {R : Type 0} (stream : R → Stream) (h : HubView) (from end budget c : ℕ) (js : List (PollJob R Z))
+      (ds : List (PollDone Z)) → length h.ledgers ≡ c → ArePollJobs m h js
       → AllZip (λ j d. IsPollEnd may_stop may_pass from end budget (stream j.rng) j.consumer d) js ds
       → AreNumbered from end budget c ds
-  numbered stream from end budget c [] [] a z = tt
-  numbered stream from end budget c [] (d ∷ ds) a z = absurd z
-  numbered stream from end budget c (j ∷ js) [] a z = absurd z
-  numbered stream from end budget c (j ∷ js) (d ∷ ds) a z = (
-    record {
-      reader = z.0.same.reader ∙ a.0.reader;
-      consumer = z.0.same.consumer ∙ a.0.consumer;
-      read = z.0.read;
-      ends = λ f. z.0.ends f a.0.none;
-      marked = z.0.marked a.0.none;
-      stop = λ t o. subst (λ (c : ℕ). IsStoppedPoll may_stop budget c (accesses_made d.consumer)) a.0.consumer
-          (z.0.stop t o a.0.none);
-      unread = λ t o. z.0.unread t o a.0.none;
-      only = λ o. z.0.only o a.0.none;
-    },
-    numbered stream from end budget (suc c) js ds a.1 z.1,
-  )
+  numbered stream h from end budget c [] [] e a z = tt
+  numbered stream h from end budget c [] (d ∷ ds) e a z = absurd z
+  numbered stream h from end budget c (j ∷ js) [] e a z = absurd z
+  numbered stream h from end budget c (j ∷ js) (d ∷ ds) e a z =
+      let has = new_number m h c j.consumer e a.0 in (
+        record {
+          reader = z.0.same.reader ∙ has.reader;
+          consumer = z.0.same.consumer ∙ has.consumer;
+          read = z.0.read;
+          ends = λ f. z.0.ends f has.none;
+          marked = z.0.marked has.none;
+          stop = λ t o. subst (λ (c : ℕ). IsStoppedPoll may_stop budget c (accesses_made d.consumer)) has.consumer
+              (z.0.stop t o has.none);
+          unread = λ t o. z.0.unread t o has.none;
+          only = λ o. z.0.only o has.none;
+        },
+        numbered stream _ from end budget (suc c) js ds (one_more h c e) a.1 z.1,
+      )
 
   -- the consumers of such ends have the numbers from c on, at the claims and as readers
   count_seats : (from end budget c : ℕ) (ds : List (PollDone Z)) → AreNumbered from end budget c ds
@@ -236,28 +238,33 @@ module _ {Z : Type 0} (m : MailboxView) (may_stop may_pass : Who → ℕ → Typ
   sources_of stream js = map (λ j. stream j.rng) js
 
   -- each consumer polls with the words of its own source
-  polled_of : {R : Type 0} (stream : R → Stream) (from end budget c : ℕ) (js : List (PollJob R Z))
-      (ds : List (PollDone Z)) → ArePollJobs m c js
+  polled_of : {R : Type 0} (stream : R → Stream) (h : HubView) (from end budget c : ℕ) (js : List (PollJob R Z))
+      (ds : List (PollDone Z)) → IsHubOf m h → length h.ledgers ≡ c → ArePollJobs m h js
       → AllZip (λ j d. IsPollEnd may_stop may_pass from end budget (stream j.rng) j.consumer d) js ds
       → All (λ (d : PollDone Z). d.aborted ≡ false) ds
-      → WerePolled may_stop may_pass from end budget c (sources_of stream js) (consumer_ends ds)
-  polled_of stream from end budget c [] [] a z on = tt
-  polled_of stream from end budget c [] (d ∷ ds) a z on = absurd z
-  polled_of stream from end budget c (j ∷ js) [] a z on = absurd z
-  polled_of stream from end budget c (j ∷ js) (d ∷ ds) a z on =
+      → WerePolled may_stop may_pass h from end budget c (sources_of stream js) (consumer_ends ds)
+  polled_of stream h from end budget c [] [] of e a z on = tt
+  polled_of stream h from end budget c [] (d ∷ ds) of e a z on = absurd z
+  polled_of stream h from end budget c (j ∷ js) [] of e a z on = absurd z
+  polled_of stream h from end budget c (j ∷ js) (d ∷ ds) of e a z on =
+      let has = new_number m h c j.consumer e a.0 in
       let F = λ (d : PollDone Z). d.aborted ≡ false in (
         record {
+          mailbox = m;
+          of = of;
           first = j.consumer;
           last = d.consumer;
-          reader = a.0.reader;
-          consumer = a.0.consumer;
-          none = a.0.none;
+          new = a.0;
+          reader = has.reader;
+          consumer = has.consumer;
+          none = has.none;
           polled = z.0.polled (All-head F d ds on);
           reads = refl;
           claimed = refl;
           ledger = refl;
         },
-        polled_of stream from end budget (suc c) js ds a.1 z.1 (All-tail F d ds on),
+        polled_of stream _ from end budget (suc c) js ds (still_of m h of) (one_more h c e) a.1 z.1
+            (All-tail F d ds on),
       )
 
   -- if the run is not aborted, each consumer has looked at the heads of these lanes alone
@@ -302,7 +309,7 @@ module _ {Z : Type 0} (m : MailboxView) (may_stop may_pass : Who → ℕ → Typ
   module _ {R : Type 0} (stream : R → Stream) (h : HubView) (from end budget : ℕ) (vs : List (Vec ℕ Z))
       (js : List (PutJob Z)) (ds : List (PutDone Z)) (ks : List (PollJob R Z)) (es : List (PollDone Z))
       (i : IsHub h) (putting : ArePutJobs m (length h.puts) vs js)
-      (polling : ArePollJobs m (length h.ledgers) ks) (put : AllZip (IsPutEnd may_stop may_pass) js ds)
+      (polling : ArePollJobs m (with_producers js h) ks) (put : AllZip (IsPutEnd may_stop may_pass) js ds)
       (polled : AllZip (λ j d. IsPollEnd may_stop may_pass from end budget (stream j.rng) j.consumer d) ks es) where
     abbrev pub now : HubView
     now = after js ks (producers ds) (consumers es) h
@@ -311,7 +318,7 @@ module _ {Z : Type 0} (m : MailboxView) (may_stop may_pass : Who → ℕ → Typ
     ats = are_at (length h.puts) vs js ds putting put
 
     pub nums : AreNumbered from end budget (length h.ledgers) es
-    nums = numbered stream from end budget (length h.ledgers) ks es polling polled
+    nums = numbered stream _ from end budget (length h.ledgers) ks es (count_by_producers js h) polling polled
 
     puts_count : length js ≡ length (producers ds)
     puts_count = zip_length (IsPutEnd may_stop may_pass) js ds put ∙ sym (length-map ds (λ (d : PutDone Z). d.producer))
@@ -363,9 +370,11 @@ module _ {Z : Type 0} (m : MailboxView) (may_stop may_pass : Who → ℕ → Typ
         → WerePassed may_pass (length h.puts) (lists_in vs) (lanes_of ds)
     run_passes on = passes_of (length h.puts) vs ds ats on
 
-    pub run_polled : All (λ (d : PollDone Z). d.aborted ≡ false) es
-        → WerePolled may_stop may_pass from end budget (length h.ledgers) (sources_of stream ks) (consumer_ends es)
-    run_polled on = polled_of stream from end budget (length h.ledgers) ks es polling polled on
+    pub run_polled : IsHubOf m h → All (λ (d : PollDone Z). d.aborted ≡ false) es
+        → WerePolled may_stop may_pass (with_producers js h) from end budget (length h.ledgers)
+        (sources_of stream ks) (consumer_ends es)
+    run_polled of on = polled_of stream _ from end budget (length h.ledgers) ks es
+        (of_by_producers m js h of) (count_by_producers js h) polling polled on
 
     pub run_poll_stops : All (λ (d : PollDone Z). d.aborted ≡ false) es
         → AreStoppedPolls may_stop budget (length h.ledgers) (consumer_ends es)

@@ -3,8 +3,10 @@ use Rattle.std.specs.Prelude.{ℕ, suc, ◌≡◌, ◌+◌, ◌<◌, List, [], �
 use Rattle.mb_mailbox.specs.Imports.{Stream}
 use Rattle.mb_mailbox.specs.Calls.{ArePassed}
 use Rattle.mb_mailbox.specs.Consumers.{ConsumerView}
-use Rattle.mb_mailbox.specs.Hubs.{HubView}
+use Rattle.mb_mailbox.specs.HubRuns.{with_producers}
+use Rattle.mb_mailbox.specs.Hubs.{HubView, IsHubOf, IsNewConsumer, with_consumer}
 use Rattle.mb_mailbox.specs.Jobs.{HasPolled, accesses_made}
+use Rattle.mb_mailbox.specs.Mailboxes.{MailboxView}
 use Rattle.mb_mailbox.specs.Worked.{ConsumerEnd, IsWorked, ProducerEnd}
 use Rattle.mb_mailbox.specs.declared.gate.Who.{Who}
 use Rattle.mb_mailbox.specs.declared.gate.Who.TheVariants as who
@@ -22,11 +24,14 @@ WerePassed may_pass p [] [] = Unit {0}
 WerePassed may_pass p (list ∷ lists) (l ∷ ls) = WasPassed may_pass p list l × WerePassed may_pass (suc p) lists ls
 WerePassed may_pass p _ _ = ⊥
 
--- consumer c, which had made no access before, made its calls with the words of this source. `l` is what it came to
-pub record WasPolled (may_stop may_pass : Who → ℕ → Type 0) (from end budget c : ℕ) (source : Stream) (l : ConsumerEnd)
-    : Type 0 where
+-- consumer c, which this hub gave as a new one, made its calls with the words of this source. `l` is what it came to
+pub record WasPolled (may_stop may_pass : Who → ℕ → Type 0) (hub : HubView) (from end budget c : ℕ) (source : Stream)
+    (l : ConsumerEnd) : Type 0 where
+  pub mailbox : MailboxView
+  pub of : IsHubOf mailbox hub
   pub first : ConsumerView
   pub last : ConsumerView
+  pub new : IsNewConsumer mailbox hub first
   pub reader : first.reader.reader ≡ c
   pub consumer : first.seat.consumer ≡ c
   pub none : accesses_made first ≡ 0
@@ -35,24 +40,24 @@ pub record WasPolled (may_stop may_pass : Who → ℕ → Type 0) (from end budg
   pub claimed : l.claimed ≡ last.seat.part
   pub ledger : l.ledger ≡ record { places = last.places; notes = last.notes }
 
--- each of these consumers, with the numbers from c on, made its calls with the words of its own source. There is one
--- consumer for each of these sources, in their order
-abbrev pub WerePolled : (Who → ℕ → Type 0) → (Who → ℕ → Type 0) → ℕ → ℕ → ℕ → ℕ → List Stream
+-- this hub gave these consumers one after the other, with the numbers from c on. Each made its calls with the words of
+-- its own source. There is one consumer for each of these sources, in their order
+abbrev pub WerePolled : (Who → ℕ → Type 0) → (Who → ℕ → Type 0) → HubView → ℕ → ℕ → ℕ → ℕ → List Stream
     → List ConsumerEnd → Type 0
-WerePolled may_stop may_pass from end budget c [] [] = Unit {0}
-WerePolled may_stop may_pass from end budget c (source ∷ sources) (l ∷ ls) =
-    WasPolled may_stop may_pass from end budget c source l
-    × WerePolled may_stop may_pass from end budget (suc c) sources ls
-WerePolled may_stop may_pass from end budget c _ _ = ⊥
+WerePolled may_stop may_pass hub from end budget c [] [] = Unit {0}
+WerePolled may_stop may_pass hub from end budget c (source ∷ sources) (l ∷ ls) =
+    WasPolled may_stop may_pass hub from end budget c source l
+    × WerePolled may_stop may_pass (with_consumer hub) from end budget (suc c) sources ls
+WerePolled may_stop may_pass hub from end budget c _ _ = ⊥
 
 -- a run came to its end, and each call of its workers was made at a point at which the gate may let it pass. `puts`
 -- and `polls` speak of the workers that `worked` names. So all three agree on which of them were stopped. Each call
 -- of a consumer is a poll, with this budget, of a lane that was given in this call. It draws from the consumer's own
--- source: the first consumer given in this call has the first source, and so on
+-- source: the first consumer given in this call has the first source, and so on. The consumers were given after a
+-- producer for each list
 pub record IsCalled (may_stop may_pass : Who → ℕ → Type 0) (budget : ℕ) (lists : List (List ℕ)) (sources : List Stream)
     (w : Worked) (old new : HubView) : Type 0 where
   pub worked : IsWorked may_stop budget lists (length sources) w old new
   pub puts : WerePassed may_pass (length old.puts) lists worked.lanes
-  pub polls : WerePolled may_stop may_pass (length old.puts) (length old.puts + length lists) budget
-      (length old.ledgers) sources
-      worked.consumers
+  pub polls : WerePolled may_stop may_pass (with_producers lists old) (length old.puts)
+      (length old.puts + length lists) budget (length old.ledgers) sources worked.consumers

@@ -1,24 +1,13 @@
 -- The jobs of a run's workers: which producer or consumer each is given, and for which a hub has given numbers.
 use Rattle.std.specs.Prelude.{ℕ, suc, ◌≡◌, ◌≤◌, ◌++◌, List, [], ◌∷◌, Vec, length, map, vec_len}
-use Rattle.mb_mailbox.specs.Imports.{name_of}
-use Rattle.mb_mailbox.specs.Consumers.{ConsumerView}
 use Rattle.mb_mailbox.specs.HubRuns.{with_consumers, with_producers}
-use Rattle.mb_mailbox.specs.Hubs.{HubView, new_producer}
-use Rattle.mb_mailbox.specs.Jobs.{accesses_made}
+use Rattle.mb_mailbox.specs.Hubs.{HubView, IsNewConsumer, new_producer, with_consumer}
 use Rattle.mb_mailbox.specs.Mailboxes.{MailboxView}
 use Rattle.mb_mailbox.specs.declared.crew.jobs.PollJob.{PollJob}
 use Rattle.mb_mailbox.specs.declared.crew.jobs.PutJob.{PutJob}
 use Rattle.mb_mailbox.specs.declared.crew.room.WorkerInputs.{WorkerInputs}
 
 -- ---- the jobs of lists and of consumers, with numbers in a row
--- the consumer is one of the mailbox, has this number, and has made no access
-pub record HasNumber (m : MailboxView) (c : ℕ) (s : ConsumerView) : Type 0 where
-  pub cells : s.reader.table ≡ m.cells
-  pub reader : s.reader.reader ≡ c
-  pub claims : s.seat.table ≡ name_of m.claims
-  pub consumer : s.seat.consumer ≡ c
-  pub none : accesses_made s ≡ 0
-
 module _ {Z : Type 0} where
   -- the jobs are those of these lists, and of new producers with the numbers from p on
   abbrev pub ArePutJobs : MailboxView → ℕ → List (Vec ℕ Z) → List (PutJob Z) → Type 0
@@ -34,10 +23,10 @@ module _ {Z : Type 0} where
     pub whole : front ++ rest ≡ lists
     pub are : ArePutJobs m p front jobs
 
-  -- the jobs are those of consumers with the numbers from c on, which have made no access
-  abbrev pub ArePollJobs : {R : Type 0} → MailboxView → ℕ → List (PollJob R Z) → Type 0
-  ArePollJobs m c [] = Unit {0}
-  ArePollJobs m c (j ∷ js) = HasNumber m c j.consumer × ArePollJobs m (suc c) js
+  -- the jobs are those of new consumers, which this hub gives one after the other
+  abbrev pub ArePollJobs : {R : Type 0} → MailboxView → HubView → List (PollJob R Z) → Type 0
+  ArePollJobs m h [] = Unit {0}
+  ArePollJobs m h (j ∷ js) = IsNewConsumer m h j.consumer × ArePollJobs m (with_consumer h) js
 
 -- ---- the jobs for which a hub has given numbers
 module _ {R Z : Type 0} where
@@ -46,7 +35,7 @@ module _ {R Z : Type 0} where
   pub record AreGiven (m : MailboxView) (lists : List (Vec ℕ Z)) (sources : ℕ) (jobs : WorkerInputs R Z)
       (old new : HubView) : Type 0 where
     pub puts : ArePutJobsOfFront m (length old.puts) lists jobs.puts.items
-    pub polls : ArePollJobs m (length old.ledgers) jobs.polls.items
+    pub polls : ArePollJobs m (with_producers jobs.puts.items old) jobs.polls.items
     pub small : vec_len jobs.puts ≤ length lists
     pub few : vec_len jobs.polls ≤ sources
     pub hub : new ≡ with_consumers jobs.polls.items (with_producers jobs.puts.items old)

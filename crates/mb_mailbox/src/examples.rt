@@ -8,7 +8,9 @@ ghost use Rattle.mb_mailbox.specs.Imports.{CellsName, Claims, END, Head, IsClaim
 ghost use Rattle.mb_mailbox.specs.Imports.{Claim, Cursor, IsStanding, Layout, next_u64};
 ghost use Rattle.mb_mailbox.specs.ConsumerWords.{Poll, ConsumerView, ConsumerStep, head_loaded, link_loaded, met_four, AreMarked, all_told, by_lane, noted, IsPollOf, LeadTo};
 ghost use Rattle.mb_mailbox.specs.ConsumerWords.{HasPlace, IsBeforeObject, IsConsumer, IsHolding, holding};
-ghost use Rattle.mb_mailbox.specs.Vocabulary.{WerePolled, PutDone, PutJob, WorkerResults, IsOnLanes, IsPutEnd, IsStoppedPoll, accesses_made, ends_met, HasNoCellFor, IsEndOfLane, IsFirstPastCells};
+ghost use Rattle.mb_mailbox.specs.Hubs.{HubView, IsHubOf, IsNewConsumer};
+ghost use Rattle.mb_mailbox.specs.Mailboxes.{MailboxView};
+ghost use Rattle.mb_mailbox.specs.Vocabulary.{WerePolled, PutDone, PutJob, WorkerResults, IsOnLanes, IsPutEnd, IsStoppedPoll, ends_met, HasNoCellFor, IsEndOfLane, IsFirstPastCells};
 ghost use Rattle.mb_mailbox.specs.Vocabulary.{IsPutInto, IsSameLane, ProducerView, is_over, AreOn, any_call, fetched, has_linked, idle_producer, producer_end, ledger_with, linked_early};
 ghost use Rattle.mb_mailbox.specs.Vocabulary.{producer_of_one, reader_end, seven_put, stopped_as, stopped_lane, AreCutByCells, ConsumerEnd, HasMetEnd, HasMetEnds, HasNoteAtEach, HaveMetEnds};
 ghost use Rattle.mb_mailbox.specs.Vocabulary.{IsStoppedPut, items_beyond};
@@ -237,21 +239,38 @@ pub fn marks_are_notes()
     ensures too_many_lanes { AreMarked 17 [] [] → ⊥ }
 {}
 
-/// Each consumer has a source of its own, and the first word that it draws is the first of that source.
+/// Each consumer begins as the hub gives it. It has a source of its own, and the first word that it draws is the first
+/// of that source.
 pub fn consumers_have_sources_of_their_own()
-    ensures nobody { WerePolled any_call any_call 0 1 5 0 [] [] }
-    ensures idle { (s : ConsumerView) (source : Stream) → s.reader.reader ≡ 3 → s.seat.consumer ≡ 3
-        → accesses_made s ≡ 0 → WerePolled any_call any_call 0 1 5 3 (source ∷ [])
+    ensures nobody { (h : HubView) → WerePolled any_call any_call h 0 1 5 0 [] [] }
+    ensures idle { (m : MailboxView) (h : HubView) (s : ConsumerView) (source : Stream)
+        → IsHubOf m h → IsNewConsumer m h s
+        → WerePolled any_call any_call h 0 1 5 (length h.ledgers) (source ∷ [])
         (stopped_as s ∷ []) }
-    ensures no_source { (l : ConsumerEnd) → WerePolled any_call any_call 0 1 5 0 [] (l ∷ []) → ⊥ }
-    ensures no_consumer { (s : Stream) → WerePolled any_call any_call 0 1 5 0 (s ∷ []) [] → ⊥ }
-    ensures other_word { (s : Stream) (l : ConsumerEnd) (a : ClaimAccess) → l.claimed ≡ a ∷ []
-        → a.step.turn.word ≢ (next_u64 s).0 → WerePolled any_call any_call 0 1 5 0 (s ∷ []) (l ∷ [])
-        → ⊥ }
-    ensures places_changed { (s t : Stream) (k l : ConsumerEnd) (a : ClaimAccess) → l.claimed ≡ a
-        ∷ []
-        → a.step.turn.word ≡ (next_u64 s).0 → (next_u64 s).0 ≢ (next_u64 t).0
-        → WerePolled any_call any_call 0 1 5 0 (s ∷ t ∷ []) (k ∷ l ∷ []) → ⊥ }
+
+    // A consumer has no note before its first access.
+    ensures took_unread { (h : HubView) (c : ℕ) (source : Stream) (l : ConsumerEnd) → l.reads ≡ []
+        → l.claimed ≡ [] → l.ledger ≡ ledger_with (Took 7 ∷ [])
+        → WerePolled any_call any_call h 0 1 5 c (source ∷ []) (l ∷ []) → ⊥ }
+
+    // Its number is the hub's next.
+    ensures other_number { (h : HubView) (c : ℕ) (source : Stream) (l : ConsumerEnd)
+        → c ≢ length h.ledgers
+        → WerePolled any_call any_call h 0 1 5 c (source ∷ []) (l ∷ []) → ⊥ }
+
+    // There is a consumer for each source.
+    ensures no_source { (h : HubView) (l : ConsumerEnd)
+        → WerePolled any_call any_call h 0 1 5 0 [] (l ∷ []) → ⊥ }
+    ensures no_consumer { (h : HubView) (s : Stream)
+        → WerePolled any_call any_call h 0 1 5 0 (s ∷ []) [] → ⊥ }
+
+    // Its words are those of its source.
+    ensures other_word { (h : HubView) (s : Stream) (l : ConsumerEnd) (a : ClaimAccess)
+        → l.claimed ≡ a ∷ [] → a.step.turn.word ≢ (next_u64 s).0
+        → WerePolled any_call any_call h 0 1 5 0 (s ∷ []) (l ∷ []) → ⊥ }
+    ensures places_changed { (h : HubView) (s t : Stream) (k l : ConsumerEnd) (a : ClaimAccess)
+        → l.claimed ≡ a ∷ [] → a.step.turn.word ≡ (next_u64 s).0 → (next_u64 s).0 ≢ (next_u64 t).0
+        → WerePolled any_call any_call h 0 1 5 0 (s ∷ t ∷ []) (k ∷ l ∷ []) → ⊥ }
 {
     calls_draw_the_first_words();
 }

@@ -60,7 +60,7 @@ pub(super) fn give_consumers<R: Rng + Drop, A: Allocator + Clone + Drop, B: Allo
         mailbox.now.claims.layout }
     requires none { jobs.old.items ≡ [] }
     requires room { vec_len rngs ≤ vec_capacity jobs.old }
-    ensures jobs { ArePollJobs mailbox.now (length hub.old.ledgers) jobs.new.items }
+    ensures jobs { ArePollJobs mailbox.now hub.old jobs.new.items }
     ensures few { vec_len jobs.new ≤ vec_len rngs }
     ensures all { result ≡ true → map (λ j. j.rng) jobs.new.items ≡ rngs.items }
     ensures hub { hub.new ≡ with_consumers jobs.new.items hub.old }

@@ -112,7 +112,7 @@ returns-in-Ok-clause-called g c =
     )) c.has_history-in-Ok.ensures.kept
     c.settle.ensures.of c.has_history-in-Ok.ensures.pool.0
     c.has_history-in-Ok.ensures.pool.1 (omega (arith, first, given))
-    (omega (arith, last, given, c.len.ensures, c.args.load.items.ok.0)) c.ends_tell_notes.ensures)
+    (omega (arith, last, given, c.len.ensures, c.args.load.items.ok.0)) c.ends_tell_notes.ensures c.requires.of)
 
 pub returns-clause-no_thread : goal.returns-clause-no_thread
 returns-clause-no_thread g c = λ e.

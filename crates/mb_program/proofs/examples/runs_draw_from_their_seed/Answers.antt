@@ -8,6 +8,7 @@ use Rattle.mb_mailbox.specs.Imports.{ClaimAccess, Stream, consumer_part, next_u6
 use Rattle.mb_mailbox.specs.Called.{WasPolled, WerePolled}
 use Rattle.mb_mailbox.specs.Calls.{AreCalls, Call}
 use Rattle.mb_mailbox.specs.Consumers.{ConsumerView}
+use Rattle.mb_mailbox.specs.Hubs.{HubView, with_consumer}
 use Rattle.mb_mailbox.specs.Steps.{AreDrawn}
 use Rattle.mb_mailbox.specs.Worked.{ConsumerEnd}
 use Rattle.mb_mailbox.specs.declared.gate.Who.{Who}
@@ -30,9 +31,9 @@ record HasDrawn (source : Stream) (done : List ClaimAccess) : Type 0 where
 
 module _ (law : Law) (may_stop may_pass : Who → ℕ → Type 0) where
   -- the accesses of a consumer that polled with a source have the first words of that source
-  drawn_by : (from end budget c : ℕ) (source : Stream) (l : ConsumerEnd)
-      → WasPolled may_stop may_pass from end budget c source l → HasDrawn source l.claimed
-  drawn_by from end budget c source l was =
+  drawn_by : (hub : HubView) (from end budget c : ℕ) (source : Stream) (l : ConsumerEnd)
+      → WasPolled may_stop may_pass hub from end budget c source l → HasDrawn source l.claimed
+  drawn_by hub from end budget c source l was =
       let none = was.none in
       let part = nil_from_length was.first.seat.part (omega (arith, none)) in
       record {
@@ -44,17 +45,17 @@ module _ (law : Law) (may_stop may_pass : Who → ℕ → Type 0) where
       }
 
   -- the accesses taken in of consumer c have the first words of source c, if all consumers polled with their sources
-  drawn_at : (from end budget n : ℕ) (ss : List Stream) (ls : List ConsumerEnd) (c : ℕ)
-      (source : Stream) → WerePolled may_stop may_pass from end budget n ss ls
+  drawn_at : (hub : HubView) (from end budget n : ℕ) (ss : List Stream) (ls : List ConsumerEnd) (c : ℕ)
+      (source : Stream) → WerePolled may_stop may_pass hub from end budget n ss ls
       → slice_get ss c ≡ Some source → HasDrawn source (taken_part (map (λ l. Some l.claimed) ls) c)
-  drawn_at from end budget n [] [] c source were at = absurd (cc)
-  drawn_at from end budget n [] (l ∷ ls) c source were at = absurd were
-  drawn_at from end budget n (s ∷ ss) [] c source were at = absurd were
-  drawn_at from end budget n (s ∷ ss) (l ∷ ls) zero source were at =
+  drawn_at hub from end budget n [] [] c source were at = absurd (cc)
+  drawn_at hub from end budget n [] (l ∷ ls) c source were at = absurd were
+  drawn_at hub from end budget n (s ∷ ss) [] c source were at = absurd were
+  drawn_at hub from end budget n (s ∷ ss) (l ∷ ls) zero source were at =
       let same : s ≡ source = cc in
-      subst (λ (z : Stream). HasDrawn z l.claimed) same (drawn_by from end budget n s l were.0)
-  drawn_at from end budget n (s ∷ ss) (l ∷ ls) (suc c) source were at = drawn_at from end budget
-      (suc n) ss ls c source were.1 at
+      subst (λ (z : Stream). HasDrawn z l.claimed) same (drawn_by hub from end budget n s l were.0)
+  drawn_at hub from end budget n (s ∷ ss) (l ∷ ls) (suc c) source were at =
+      drawn_at (with_consumer hub) from end budget (suc n) ss ls c source were.1 at
 
 -- in the histories of a run's report the accesses of consumer c have the first words of the source of its seed
 has_drawn : Law → (o : Options) (r : ReportView) (x : IsRunReport o r) (c : ℕ) → c < o.consumers
@@ -65,7 +66,7 @@ has_drawn law o r x c low =
     let source : 0 + c ≡ c = omega arith in
     let words : slice_get _ c ≡ Some (words_from (source_from o.seed c)) = at
     ∙ ap (λ n. Some (words_from (source_from o.seed n))) source in
-    let drawn = drawn_at law (λ _ _. ⊥) (λ _ _. Unit {0}) _ _ _ _ _ run.called.worked.consumers c _
+    let drawn = drawn_at law (λ _ _. ⊥) (λ _ _. Unit {0}) _ _ _ _ _ _ run.called.worked.consumers c _
     run.called.polls words in
     let taken = sym (ap (λ hs. consumer_part c hs.claims) run.histories) ∙ run.gathered.claims c
     ∙ ap (λ roll. taken_part roll c) run.called.worked.run.claimed in

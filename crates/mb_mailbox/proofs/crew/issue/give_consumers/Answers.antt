@@ -1,8 +1,8 @@
-use Rattle.std.proofs.Common.{arith, ap, sym, ◌∙◌, ◌++◌, length, None, [], ◌∷◌}
+use Rattle.std.proofs.Common.{arith, ap, subst, sym, ◌∙◌, ◌++◌, length, None, [], ◌∷◌}
 use Rattle.std.proofs.lemmas.List.{length-append, map-append, nil_from_length}
-use Rattle.mb_mailbox.specs.Hubs.{HubView, with_consumer}
+use Rattle.mb_mailbox.specs.Hubs.{HubView, IsNewConsumer, with_consumer}
 use Rattle.mb_mailbox.proofs.HubRuns.{consumers_snoc}
-use Rattle.mb_mailbox.proofs.Loops.{left_more, new_number, poll_jobs_more, room_still}
+use Rattle.mb_mailbox.proofs.Loops.{left_more, poll_jobs_more, room_still}
 use Rattle.mb_mailbox.proofs.Zips.{all_seen, next_seen}
 use Rattle.mb_mailbox.proofs.crew.issue.give_consumers.Goals as goal
 
@@ -10,7 +10,6 @@ pub loop-rng-preserved : goal.loop-rng-preserved
 loop-rng-preserved g c =
     let i = c.loop-rng.invariant in
     let count = i.ledgers in
-    let jobs = c.loop-rng.jobs.ok.0 in
     let hub = c.in-Ok-consumer.ensures.hub in
     let len = c.push_reserved.ensures.len in
     let longer = ap (λ (h : HubView). length h.ledgers) hub ∙ length-append c.loop-rng.hub.ledgers (None ∷ []) in
@@ -21,10 +20,8 @@ loop-rng-preserved g c =
       left = left_more _ _ _ _ _ i.left c.push_reserved.ensures.len c.in-Some.ensures.steps.1;
       room = room_still _ _ _ i.room c.push_reserved.ensures.capacity;
       jobs = rw c.push_reserved.ensures.items
-          (poll_jobs_more c.args.mailbox.now (length c.args.hub.now.ledgers)
-          (length c.loop-rng.hub.ledgers) c.loop-rng.jobs.items _
-          i.jobs (omega (arith, count, jobs))
-          (new_number c.args.mailbox.now c.loop-rng.hub c.in-Ok-consumer.consumer
+          (poll_jobs_more c.args.mailbox.now c.args.hub.now c.loop-rng.jobs.items _ i.jobs
+          (subst (λ (h : HubView). IsNewConsumer c.args.mailbox.now h c.in-Ok-consumer.consumer) i.hub
           c.in-Ok-consumer.ensures.consumer));
       hub = rw c.push_reserved.ensures.items
           (hub ∙ ap with_consumer i.hub ∙

@@ -12,7 +12,7 @@ invariant-loop-rng g l = record {
   sources : map (λ j. j.rng) l.jobs.items ≡ l.yielded;
   left : vec_len l.jobs + into_iter_len l.rng-iterator ≡ vec_len l.fn.rngs;
   room : vec_len l.fn.rngs ≤ vec_capacity l.jobs;
-  jobs : ArePollJobs l.mailbox (length l.fn.hub.ledgers) l.jobs.items;
+  jobs : ArePollJobs l.mailbox l.fn.hub l.jobs.items;
   hub : l.hub ≡ with_consumers l.jobs.items l.fn.hub;
   all_of : IsHubOf l.mailbox l.hub;
   ledgers : length l.hub.ledgers ≡ length l.fn.hub.ledgers + vec_len l.jobs;
