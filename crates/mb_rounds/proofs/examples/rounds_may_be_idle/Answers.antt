@@ -4,21 +4,16 @@ use Rattle.std.proofs.Common.{◌≡◌, ◌∙◌, ◌*◌, [], ap, arith, refl
 use Rattle.mb_mailbox.specs.Imports.{consumer_count}
 use Rattle.mb_mailbox.specs.Hubs.{hub_empty}
 use Rattle.mb_mailbox.specs.Worked.{IsWorked}
-use Rattle.mb_mailbox.specs.declared.crew.Worked.{Worked}
-use Rattle.mb_rounds.specs.RoundExamples.{at_each_call, at_no_call, idle_terms, no_lanes}
+use Rattle.mb_rounds.specs.RoundExamples.{at_each_call, at_no_call, idle_terms, no_lanes, none_stopped}
 use Rattle.mb_rounds.proofs.Played.{played}
 use Rattle.mb_rounds.proofs.examples.rounds_may_be_idle.Goals as goal
-
--- nothing was counted
-abbrev no_counts : Worked
-no_counts = record { full = 0; stopped = 0 }
 
 -- no list is dealt, and the run has no workers
 pub returns : goal.returns
 returns c = λ m size lanes cells gathered.
     let n = consumer_count m.claims.layout in
     let none : n * m.cells.size.lanes ≡ 0 = ap (λ k. n * k) lanes ∙ (omega arith) in
-    let worked : IsWorked at_no_call (idle_terms m).budget [] 0 no_counts (hub_empty m) (hub_empty m) = record {
+    let worked : IsWorked at_no_call (idle_terms m).budget [] 0 none_stopped (hub_empty m) (hub_empty m) = record {
       lanes = [];
       consumers = [];
       run = record {
@@ -46,9 +41,9 @@ returns c = λ m size lanes cells gathered.
       behind = _;
       dealt = refl;
       amount = omega (arith, cells);
-      played = played m (hub_empty m) (hub_empty m) no_lanes (idle_terms m) [] at_no_call at_each_call 0
-          no_counts refl size lanes refl refl (record { cells = refl; claims = refl })
-          worked (record { worked = worked; puts = tt; polls = tt })
+      played = played m (hub_empty m) (hub_empty m) no_lanes (idle_terms m) []
+          at_no_call at_each_call none_stopped refl size lanes refl (record { cells = refl; claims = refl })
+          (record { worked = worked; puts = tt; polls = tt })
           (record {
             lanes_count = sym lanes;
             diaries_count = sym none;
