@@ -69,7 +69,7 @@ returns-clause-not_put c = λ terms counts cell played.
 
 pub returns-clause-not_noted : goal.returns-clause-not_noted
 returns-clause-not_noted c = λ terms one source round.
-    let noted = all_noted terms round.lists none_stopped without_note round.played refl
+    let noted = all_noted terms round.lists none_stopped (without_note (7 ∷ [])) round.played refl
     (omega (arith, one, source)) 0 0 (omega (arith, source)) in
     absurd (omega (arith, noted))
 
