@@ -1,11 +1,10 @@
 -- The run of workers that a report tells of: its terms, the workers, and what they came to.
-use Rattle.std.specs.Prelude.{ℕ, ◌≡◌, List, length}
+use Rattle.std.specs.Prelude.{ℕ, ◌≡◌, List}
 use Rattle.mb_mailbox.specs.Imports.{Stream, consumer_count}
 use Rattle.mb_mailbox.specs.Called.{IsCalled}
 use Rattle.mb_mailbox.specs.Gathering.{FullTakesAll, IsGathered, IsReportIn}
 use Rattle.mb_mailbox.specs.Hubs.{HubView, IsHubOf, hub_empty}
 use Rattle.mb_mailbox.specs.Mailboxes.{MailboxView, plan_at}
-use Rattle.mb_mailbox.specs.Worked.{IsWorked}
 use Rattle.mb_mailbox.specs.declared.gate.Who.{Who}
 use Rattle.mb_mailbox.specs.declared.crew.Worked.{Worked}
 use Rattle.mb_world.specs.Plan.{Histories, Plan, size_of}
@@ -24,19 +23,18 @@ abbrev pub terms_of : Setup → ℕ → List Stream → Terms
 terms_of setup budget sources = record { plan = plan_in setup; budget = budget; sources = sources }
 
 -- the run of workers that led to a report: in a mailbox of its plan, from a hub that had issued nothing to this hub,
--- with a producer for each list, and a consumer for each source
+-- with a producer for each list, and a consumer for each source. It came to these counts
 pub record IsReportedRun (may_stop may_pass : Who → ℕ → Type 0) (terms : Terms) (lists : List (List ℕ))
-    (hs : Histories) (r : ReportView) : Type 0 where
+    (counts : Worked) (hs : Histories) (r : ReportView) : Type 0 where
   pub mailbox : MailboxView
   pub plan : plan_at mailbox ≡ terms.plan
   pub size : mailbox.cells.size ≡ size_of terms.plan
   pub hub : HubView
   pub of : IsHubOf mailbox hub
-  pub counts : Worked
-  -- a worker was stopped only before a call at which the gate may stop it, or before call 2^64 - 1. Each other
-  -- producer has put its list, or a fetch-add of its own found no cell. Each other consumer has a note at each item
-  pub worked : IsWorked may_stop terms.budget lists (length terms.sources) counts (hub_empty mailbox) hub
-  -- each call of a consumer is a poll with this budget, and draws from the consumer's own source
+  -- each call of a consumer is a poll with this budget, and draws from the consumer's own source. By its field
+  -- `worked`, a worker was stopped only before a call at which the gate may stop it, or before call 2^64 - 1. Each
+  -- other producer has put its list, or a fetch-add of its own found no cell. Each other consumer has a note at each
+  -- item. The counts are of these workers
   pub called : IsCalled may_stop may_pass terms.budget lists terms.sources counts (hub_empty mailbox) hub
   -- the report is gathered from this hub, and these histories are all accesses that the hub has taken in
   pub told : IsReportIn mailbox.cells.size.lanes (consumer_count mailbox.claims.layout) hub r

@@ -140,7 +140,8 @@ pub run_report : {budget : ℕ} (may_stop : Who → ℕ → Type 0) → ((w : Wh
     → IsWorked may_stop budget lists n w old h → IsHubOf m h
     → IsReportIn m.cells.size.lanes (consumer_count m.claims.layout) h r
     → (gathered : IsGathered m h r) → FullTakesAll m h r
-    → IsReportedRun (λ _ _. ⊥) (λ _ _. Unit {0}) (terms_asked o) (item_lists o.producers o.items) gathered.histories r
+    → IsReportedRun (λ _ _. ⊥) (λ _ _. Unit {0}) (terms_asked o)
+    (item_lists o.producers o.items) w gathered.histories r
     → IsRunReport o r
 run_report {budget} may_stop never o m old h r lists n w few asked plan size empty are sources
     worked of told gathered full run = record {
@@ -149,6 +150,7 @@ run_report {budget} may_stop never o m old h r lists n w few asked plan size emp
       sound = subst (λ p. AreSound p gathered.histories) plan gathered.sound;
       report = subst (λ p. IsReportOf p gathered.histories r) plan gathered.report;
       honest = subst (λ p. IsHonest p gathered.histories r) plan gathered.honest;
+      counts = w;
       run = run;
       lanes = lanes_told o.producers o.items m.cells.size.lanes (consumer_count m.claims.layout) h
           worked.lanes r same told puts

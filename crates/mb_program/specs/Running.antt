@@ -14,6 +14,7 @@ use Rattle.mb_world.specs.Sound.{AreSound}
 use Rattle.mb_script.specs.Vocabulary.{AppendsFront, IoModel, one_more, report_text}
 use Rattle.mb_mailbox.specs.Imports.{Reader, Stream, consumer_part, part}
 use Rattle.mb_mailbox.specs.ReportedRuns.{IsReportedRun, Terms}
+use Rattle.mb_mailbox.specs.declared.crew.Worked.{Worked}
 use Rattle.mb_program.specs.Source.{source_from, words_from}
 use Rattle.mb_program.specs.declared.fault.RunFault.{RunFault}
 use Rattle.mb_program.specs.declared.fault.RunFault.TheVariants.{BadSetup, WriteFault}
@@ -85,8 +86,11 @@ pub record IsRunReport (o : Options) (r : ReportView) : Type 0 where
   -- the report is that of the histories, and one assignment agrees with it
   pub report : IsReportOf (plan_asked o) histories r
   pub honest : IsHonest (plan_asked o) histories r
-  -- report and histories are those of a run with the budget and the seed that are asked for, which no gate stops
-  pub run : IsReportedRun (λ _ _. ⊥) (λ _ _. Unit {0}) (terms_asked o) (item_lists o.producers o.items) histories r
+  -- report and histories are those of a run with the budget and the seed that are asked for, which no gate stops. It
+  -- came to some counts
+  pub counts : Worked
+  pub run : IsReportedRun (λ _ _. ⊥) (λ _ _. Unit {0}) (terms_asked o)
+      (item_lists o.producers o.items) counts histories r
   -- each producer has put its items, and nothing else
   pub lanes : (p : ℕ) → p < o.producers
       → (l : LaneView) × (slice_get r.lanes p ≡ Some l) × IsLaneOf p o.items l

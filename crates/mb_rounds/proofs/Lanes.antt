@@ -5,7 +5,7 @@ use Rattle.std.proofs.lemmas.Nat.{mul-le}
 use Rattle.std.proofs.lemmas.Option.{slice_get_past}
 use Rattle.std.specs.Prelude.{if◌then◌else◌, nat_lt, slice_get}
 use Rattle.std.specs.Option.{option_map_or}
-use Rattle.mb_mailbox.specs.declared.gate.Who.{Who}
+use Rattle.mb_mailbox.specs.declared.{gate.Who.Who, crew.Worked.Worked}
 use Rattle.mb_world.specs.Agreement.{HasCompeted, ledger}
 use Rattle.mb_world.specs.Assignment.{is_consumer, items_where}
 use Rattle.mb_world.specs.Plan.{Plan, consumers_of}
@@ -20,8 +20,8 @@ chosen_none : {X : Type 0} (b : Bool) (o : Option X) → o ≡ None → (if b th
 chosen_none true o e = e
 chosen_none false o e = refl
 
-module _ {may_stop may_pass : Who → ℕ → Type 0} (terms : Terms) (lists : List (List ℕ)) (r : ReportView)
-    (played : IsPlayed may_stop may_pass terms lists r) where
+module _ {may_stop may_pass : Who → ℕ → Type 0} (terms : Terms) (lists : List (List ℕ)) (w : Worked)
+    (r : ReportView) (played : IsPlayed may_stop may_pass terms lists w r) where
   -- the plan of the round's mailbox
   abbrev plan : Plan
   plan = terms.plan

@@ -6,3 +6,4 @@ pub mod Turning
 pub mod Cutting
 pub mod Reading
 pub mod Played
+pub mod Noted

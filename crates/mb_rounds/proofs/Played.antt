@@ -6,7 +6,7 @@ use Rattle.mb_mailbox.specs.Called.{IsCalled}
 use Rattle.mb_mailbox.specs.Gathering.{FullTakesAll, IsGathered, IsReportIn}
 use Rattle.mb_mailbox.specs.Hubs.{HubView, IsHubOf, hub_empty}
 use Rattle.mb_mailbox.specs.Mailboxes.{MailboxView, plan_at}
-use Rattle.mb_mailbox.specs.Worked.{IsWorked, ended_list}
+use Rattle.mb_mailbox.specs.Worked.{ended_list}
 use Rattle.mb_mailbox.specs.declared.gate.Who.{Who}
 use Rattle.mb_mailbox.specs.declared.crew.Worked.{Worked}
 use Rattle.mb_world.specs.Headline.{IsHonest}
@@ -24,15 +24,15 @@ count_sources stream rngs = sym (length-map rngs stream)
 
 -- workers that led from a new hub to the hub of a report have played the round
 pub played : (m : MailboxView) (old h : HubView) (r : ReportView) (terms : Terms) (lists : List (List ℕ))
-    (may_stop may_pass : Who → ℕ → Type 0) (sources : ℕ) (w : Worked)
+    (may_stop may_pass : Who → ℕ → Type 0) (w : Worked)
     → plan_at m ≡ terms.plan → m.cells.size ≡ size_of terms.plan → terms.plan.lanes ≡ length lists
-    → sources ≡ length terms.sources → old ≡ hub_empty m → IsHubOf m h
-    → IsWorked may_stop terms.budget lists sources w old h
+    → old ≡ hub_empty m → IsHubOf m h
     → IsCalled may_stop may_pass terms.budget lists terms.sources w old h
     → IsReportIn m.cells.size.lanes (consumer_count m.claims.layout) h r
-    → IsGathered m h r → FullTakesAll m h r → IsPlayed may_stop may_pass terms lists r
-played m old h r terms lists may_stop may_pass sources w same size all many empty of worked called
-    told gathered full = record {
+    → IsGathered m h r → FullTakesAll m h r → IsPlayed may_stop may_pass terms lists w r
+played m old h r terms lists may_stop may_pass w same size all empty of called told gathered full =
+    let worked = called.worked in
+    record {
       fronts = fronts_told m.cells.size.lanes (consumer_count m.claims.layout) lists worked.lanes h r
           (ap (λ (q : Plan). q.lanes) same ∙ all) told
           (worked.run.puts ∙ ap (λ (o : HubView). o.puts ++ map (λ l. Some (ended_list l)) worked.lanes) empty)
@@ -47,9 +47,6 @@ played m old h r terms lists may_stop may_pass sources w same size all many empt
         size = size;
         hub = h;
         of = of;
-        counts = w;
-        worked = subst (λ (z : ℕ × HubView). IsWorked may_stop terms.budget lists z.0 w z.1 h)
-            (λ i. (many i, empty i)) worked;
         called = subst (λ (o : HubView). IsCalled may_stop may_pass terms.budget lists terms.sources
             w o h) empty called;
         told = told;

@@ -3,7 +3,7 @@ use Rattle.std.proofs.Common.{◌≡◌, ℕ, zero, suc, ◌+◌, List, [], ◌�
 use Rattle.std.proofs.lemmas.List.{drop_at}
 use Rattle.std.specs.Prelude.{drop, slice_get}
 use Rattle.std.specs.List.{AllZip, concat}
-use Rattle.mb_mailbox.specs.declared.gate.Who.{Who}
+use Rattle.mb_mailbox.specs.declared.{gate.Who.Who, crew.Worked.Worked}
 use Rattle.mb_world.specs.Agreement.{ledger}
 use Rattle.mb_world.specs.Plan.{consumers_of}
 use Rattle.mb_world.specs.Report.{LaneView, ReportView}
@@ -59,9 +59,9 @@ lanes_add_up x given (list ∷ lists) (l ∷ ls) z each =
 
 -- a round gives out, and lets stay, what was carried before it
 pub round_adds_up : {may_stop may_pass : Who → ℕ → Type 0} (terms : Terms) (was : List ℕ)
-    (taken : List (List ℕ)) (r : ReportView)
-    (now : List ℕ) → IsRound may_stop may_pass terms was taken r now → AreSameItems was (concat taken ++ now)
-round_adds_up terms was taken r now round x =
+    (taken : List (List ℕ)) (w : Worked) (r : ReportView)
+    (now : List ℕ) → IsRound may_stop may_pass terms was taken w r now → AreSameItems was (concat taken ++ now)
+round_adds_up terms was taken w r now round x =
     let n = consumers_of terms.plan in
     let before = ap (times x) (sym round.dealt) ∙ times_both x (concat round.lists) round.behind in
     let after = ap (times x) round.carried ∙ times_both x (staying round.lists r.lanes) round.behind in
@@ -71,6 +71,6 @@ round_adds_up terms was taken r now round x =
     (λ c low. taken_adds_up x (length r.lanes) c r)
     ∙ sum_swap n (length r.lanes) (λ c p. times x (ledger c p r)) in
     let lanes = lanes_add_up x (λ p. sum_below n (λ c. times x (ledger c p r))) round.lists r.lanes round.played.fronts
-    (lane_adds_up terms round.lists r round.played x) in
+    (lane_adds_up terms round.lists w r round.played x) in
     let both = times_both x (concat taken) now in
     omega (arith, before, after, given, lanes, both)

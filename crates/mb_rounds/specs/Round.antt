@@ -1,12 +1,13 @@
 -- One round: which items went in, what its report says of them, what was given out, and what stays.
-use Rattle.std.specs.Prelude.{ℕ, zero, suc, ◌≡◌, ◌++◌, List, [], ◌∷◌, drop, length, min}
+use Rattle.std.specs.Prelude.{ℕ, zero, suc, ◌≡◌, ◌<◌, ◌++◌, List, [], ◌∷◌, drop, length, min}
 use Rattle.std.specs.List.{AllZip, concat, filter_map}
 use Rattle.mb_mailbox.specs.Jobs.{IsFront}
+use Rattle.mb_mailbox.specs.declared.crew.Worked.{Worked}
 use Rattle.mb_mailbox.specs.declared.gate.Who.{Who}
 use Rattle.mb_world.specs.Agreement.{item_taken, ledger}
 use Rattle.mb_world.specs.Headline.{IsHonest}
 use Rattle.mb_world.specs.Plan.{Histories, consumers_of}
-use Rattle.mb_world.specs.Report.{LaneView, ReportView}
+use Rattle.mb_world.specs.Report.{LaneView, ReportView, items_put, notes}
 use Rattle.mb_world.specs.Reporting.{IsReportOf}
 use Rattle.mb_world.specs.Sound.{AreSound}
 use Rattle.mb_world.specs.declared.report.Note.{Note}
@@ -18,7 +19,7 @@ IsPutOf list lane = IsFront lane.put list
 
 -- these lists were put into a mailbox of these terms, each up to some item, and the report is that of the mailbox
 pub record IsPlayed (may_stop may_pass : Who → ℕ → Type 0) (terms : Terms) (lists : List (List ℕ))
-    (r : ReportView) : Type 0 where
+    (counts : Worked) (r : ReportView) : Type 0 where
   pub fronts : AllZip IsPutOf lists r.lanes
   -- what was done to the words of the claims and to those of the cells is lawful, and the report is of that
   pub histories : Histories
@@ -26,8 +27,9 @@ pub record IsPlayed (may_stop may_pass : Who → ℕ → Type 0) (terms : Terms)
   pub report : IsReportOf terms.plan histories r
   -- one assignment of items to consumers agrees with the whole report
   pub honest : IsHonest terms.plan histories r
-  -- a producer for each list and a consumer for each source did this, and went on until they were done or stopped
-  pub run : IsReportedRun may_stop may_pass terms lists histories r
+  -- a producer for each list and a consumer for each source did this, and went on until they were done or stopped. The
+  -- counts are of these workers
+  pub run : IsReportedRun may_stop may_pass terms lists counts histories r
 
 -- the items that notes say were taken
 abbrev pub taken_in : List Note → List ℕ
@@ -53,13 +55,17 @@ staying (list ∷ lists) (lane ∷ lanes) = (lane.left ++ drop (length lane.put)
 -- producers. They went into a mailbox of these terms. What each consumer took there is given out. What nobody took or
 -- nobody put is carried, before what was not dealt
 pub record IsRound (may_stop may_pass : Who → ℕ → Type 0) (terms : Terms) (was : List ℕ)
-    (taken : List (List ℕ)) (r : ReportView)
+    (taken : List (List ℕ)) (counts : Worked) (r : ReportView)
     (now : List ℕ) : Type 0 where
   -- the lists dealt to the producers, and the items that were not dealt
   pub lists : List (List ℕ)
   pub behind : List ℕ
   pub dealt : concat lists ++ behind ≡ was
   pub amount : length (concat lists) ≡ min terms.plan.claims.cells (length was)
-  pub played : IsPlayed may_stop may_pass terms lists r
+  pub played : IsPlayed may_stop may_pass terms lists counts r
   pub given : taken ≡ ledgers_of (consumers_of terms.plan) r
   pub carried : now ≡ staying lists r.lanes ++ behind
+
+-- each of the first n consumers has as many notes on each lane as items were put there: one at each
+abbrev pub HaveNotedAll : ℕ → ReportView → Type 0
+HaveNotedAll n r = (c p : ℕ) → c < n → length (notes c p r) ≡ length (items_put p r)

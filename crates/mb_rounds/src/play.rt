@@ -8,7 +8,7 @@ ghost use Rattle.mb_rounds.specs.Round.{IsPlayed};
 ghost use Rattle.mb_rounds.specs.declared.rounds.RoundFault.TheVariants.{BadBudget, TooManySources};
 
 use crate::rounds::RoundFault;
-use mb_mailbox::{Gate, Mailbox, WorkFault, work};
+use mb_mailbox::{Gate, Mailbox, WorkFault, Worked, work};
 use mb_world::{Report, Setup};
 use rand_core::Rng;
 use std::alloc::{AllocError, Allocator};
@@ -27,7 +27,8 @@ fn three_of<A: Allocator + Clone>(alloc: &A) -> Result<(A, A, A), AllocError> {
     Ok((alloc.clone()?, alloc.clone()?, alloc.clone()?))
 }
 
-/// The report of a mailbox of this setup whose producers are to put these lists.
+/// Lets workers put these lists into a mailbox of this setup and take from it. Returns what they came to, and the
+/// mailbox's report.
 pub(crate) fn play<
     A: Allocator + Clone + Drop + Send + Sync,
     W: Threads + Wait + Sync,
@@ -40,11 +41,11 @@ pub(crate) fn play<
     lists: Vec<Vec<u64, A>, A>,
     means: Means<R, A>,
     gate: &G,
-) -> Result<Report<A>, RoundFault>
+) -> Result<(Worked, Report<A>), RoundFault>
     requires lists { vec_len lists ≡ (plan_in setup.now).lanes }
-    ensures played { IfOk result (IsPlayed (G.may_stop gate.now) (G.may_pass gate.now)
+    ensures played { IfOk result (λ o. IsPlayed (G.may_stop gate.now) (G.may_pass gate.now)
         (terms_of setup.now means.budget (map R.stream means.sources.items))
-        (lists_in lists.items)) }
+        (lists_in lists.items) o.0 o.1) }
     ensures sources { result ≢ Err TooManySources }
     ensures budget { result ≢ Err BadBudget }
 {
@@ -55,16 +56,16 @@ pub(crate) fn play<
         return Err(RoundFault::NoMemory);
     };
     let Means { sources, budget } = means;
-    match work(
+    let worked = match work(
         for_work, rt, &mailbox, &mut hub, lists, budget, sources, gate,
     ) {
-        Ok(_) => {}
+        Ok(worked) => worked,
         Err(WorkFault::NoThread) => return Err(RoundFault::NoThread),
         // `round` has checked the sources and the budget, so memory ran out.
         Err(_) => return Err(RoundFault::NoMemory),
-    }
+    };
     let Ok(report) = mailbox.gather(for_report, hub) else {
         return Err(RoundFault::NoMemory);
     };
-    Ok(report)
+    Ok((worked, report))
 }

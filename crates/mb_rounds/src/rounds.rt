@@ -1,6 +1,7 @@
 //! Items that are handed in and go out in rounds.
 mod one_round;
 
+use mb_mailbox::Worked;
 use mb_world::{Report, Setup};
 use std::alloc::{AllocError, Allocator};
 use std::error::Error;
@@ -13,6 +14,8 @@ pub struct Round<A: Allocator + Drop> {
     /// For each consumer of the setup, in the order of their numbers, the items that it took: those of lane 0 first,
     /// and those of each lane in the order put.
     pub taken: Vec<Vec<u64, A>, A>,
+    /// How many items were not put for want of a cell, and how many workers were stopped.
+    pub worked: Worked,
     /// The report of the round's mailbox. Each item that it says is left is carried.
     pub report: Report<A>,
 }

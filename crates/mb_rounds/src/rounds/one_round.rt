@@ -18,7 +18,7 @@ impl<A: Allocator + Clone + Drop + Send + Sync> Rounds<A> {
     ghost use Rattle.mb_world.specs.Setups.{plan_in};
     ghost use Rattle.mb_mailbox.specs.ReportedRuns.{terms_of};
     ghost use Rattle.mb_rounds.specs.Carried.{AreSameItems};
-    ghost use Rattle.mb_rounds.specs.Round.{IsRound};
+    ghost use Rattle.mb_rounds.specs.Round.{HaveNotedAll, IsRound};
     ghost use Rattle.mb_rounds.specs.declared.rounds.RoundFault.TheVariants.{BadBudget, TooManySources};
 
     /// Runs one round over a mailbox of its own, with a thread for each producer of the setup and for each source of
@@ -51,10 +51,14 @@ impl<A: Allocator + Clone + Drop + Send + Sync> Rounds<A> {
 
         // The oldest items went into a mailbox, and one assignment agrees with its report. What its ledgers have is
         // given out, and the rest stays. Each worker, with this budget and these sources, put or polled until it was
-        // done or stopped.
+        // done or stopped. `worked` counts those that were stopped.
         ensures round { IfOk result (λ o. IsRound (G.may_stop gate.now) (G.may_pass gate.now)
             (terms_of self.old.setup budget (map R.stream sources.items)) self.old.carried
-            (lists_in o.taken.items) o.report self.new.carried) }
+            (lists_in o.taken.items) o.worked o.report self.new.carried) }
+
+        // If no worker was stopped, each consumer that has a source has a note at each item put on each lane.
+        ensures noted { IfOk result (λ o. o.worked.stopped ≡ 0
+            → HaveNotedAll (vec_len sources) o.report) }
 
         // Each item that was carried is given out once or carried on, and there are no others.
         ensures same_items { IfOk result (λ o. AreSameItems self.old.carried
@@ -82,7 +86,7 @@ impl<A: Allocator + Clone + Drop + Send + Sync> Rounds<A> {
         ensures budget { result ≢ Err BadBudget }
         ensures round { IfOk result (λ o. IsRound (G.may_stop gate.now) (G.may_pass gate.now)
             (terms_of self.now.setup means.budget (map R.stream means.sources.items))
-            self.now.carried (lists_in o.0.taken.items) o.0.report o.1.items) }
+            self.now.carried (lists_in o.0.taken.items) o.0.worked o.0.report o.1.items) }
     {
         let cells = self.setup.cells() as usize;
         let dealt = cells.min(self.carried.len());
@@ -93,7 +97,7 @@ impl<A: Allocator + Clone + Drop + Send + Sync> Rounds<A> {
         let Ok(copies) = copies_of(&self.alloc, lists.as_slice()) else {
             return Err(RoundFault::NoMemory);
         };
-        let report = play(&self.alloc, rt, &self.setup, copies, means, gate)?;
+        let (worked, report) = play(&self.alloc, rt, &self.setup, copies, means, gate)?;
         let consumers = self.setup.consumers() as usize;
         let Ok(taken) = ledgers(&self.alloc, &report, consumers) else {
             return Err(RoundFault::NoMemory);
@@ -101,6 +105,13 @@ impl<A: Allocator + Clone + Drop + Send + Sync> Rounds<A> {
         let Ok(carried) = stay(&self.alloc, lists.as_slice(), &report, behind) else {
             return Err(RoundFault::NoMemory);
         };
-        Ok((Round { taken, report }, carried))
+        Ok((
+            Round {
+                taken,
+                worked,
+                report,
+            },
+            carried,
+        ))
     }
 }

@@ -43,8 +43,8 @@ returns-in-Ok-clause-report g c =
     c.in_ok-lists.ensures.budget (c.in_ok-mailbox.ensures.plan ∙ c.in_ok-setup.ensures.made)
     (c.in_ok-mailbox.ensures.size ∙ ap size_of c.in_ok-setup.ensures.made)
     c.in_ok-mailbox.ensures.empty c.in_ok-lists.ensures.lists
-    (words_given c.args.options _ c.in_ok-lists.ensures.words) c.in_ok-lists.ensures.consumers
-    c.in_default.ensures.worked c.work-worked.ensures.of c.in_default.ensures.called
+    (words_given c.args.options _ c.in_ok-lists.ensures.words)
+    c.work-worked.ensures.of c.in_default.ensures.called
     c.in-Ok.ensures.lists c.in-Ok.ensures.headline c.in-Ok.ensures.full)
 
 pub unreachable-requires : goal.unreachable-requires

@@ -9,12 +9,13 @@ use Rattle.mb_mailbox.specs.Jobs.{IsFront}
 use Rattle.mb_mailbox.specs.Mailboxes.{MailboxView}
 use Rattle.mb_mailbox.specs.Worked.{AreCutByCells, AreStoppedPuts, ProducerEnd, ended_list}
 use Rattle.mb_world.specs.Report.{LaneView}
-use Rattle.mb_rounds.specs.RoundExamples.{at_no_call, one_lane}
+use Rattle.mb_rounds.specs.RoundExamples.{at_no_call, none_stopped, one_lane, without_note}
+use Rattle.mb_rounds.proofs.Noted.{all_noted}
 use Rattle.mb_rounds.proofs.Whole.{round_adds_up}
 use Rattle.mb_rounds.proofs.examples.rounds_play_what_was_dealt.Goals as goal
 
 pub returns-clause-other_item : goal.returns-clause-other_item
-returns-clause-other_item c = λ terms played.
+returns-clause-other_item c = λ terms counts played.
     let first : 8 ≡ 7 = ap (λ items. get_or items 0 0) played.fronts.0.1 in
     omega (arith, first)
 
@@ -51,24 +52,31 @@ puts_it m h n (l ∷ []) one puts parts fronts told stopped cut full = at l.stop
         omega (arith, all, one)
 
 pub returns-clause-not_put : goal.returns-clause-not_put
-returns-clause-not_put c = λ terms cell played.
+returns-clause-not_put c = λ terms counts cell played.
     let run = played.run in
     let m = run.mailbox in
     let h = run.hub in
-    let lanes = run.worked.lanes in
+    let worked = run.called.worked in
+    let lanes = worked.lanes in
     let cells : h.cells.table.size.cells ≡ m.cells.size.cells = ap (λ (t : CellsName). t.size.cells) run.of.cells in
     let one = ap (λ (s : PoolSize). s.cells) run.size ∙ cell in
     let many : 1 ≡ m.cells.size.lanes = run.told.lanes_count in
-    puts_it m h (consumer_count m.claims.layout) lanes one run.worked.run.puts run.worked.run.parts
-    run.worked.run.fronts
+    puts_it m h (consumer_count m.claims.layout) lanes one worked.run.puts worked.run.parts
+    worked.run.fronts
     (run.told.lane 0 (omega (arith, many)))
-    (subst (λ k. AreStoppedPuts at_no_call k 0 dealt lanes) cells run.worked.stopped_puts)
-    (subst (λ k. AreCutByCells k 0 dealt lanes) cells run.worked.cut) run.full
+    (subst (λ k. AreStoppedPuts at_no_call k 0 dealt lanes) cells worked.stopped_puts)
+    (subst (λ k. AreCutByCells k 0 dealt lanes) cells worked.cut) run.full
+
+pub returns-clause-not_noted : goal.returns-clause-not_noted
+returns-clause-not_noted c = λ terms one source round.
+    let noted = all_noted terms round.lists none_stopped (without_note (7 ∷ [])) round.played refl
+    (omega (arith, one, source)) 0 0 (omega (arith, source)) in
+    absurd (omega (arith, noted))
 
 pub returns-clause-lost : goal.returns-clause-lost
-returns-clause-lost c = λ terms r round.
-    let t = round_adds_up terms (7 ∷ []) ([] ∷ []) r [] round 7 in omega (arith, t)
+returns-clause-lost c = λ terms counts r round.
+    let t = round_adds_up terms (7 ∷ []) ([] ∷ []) counts r [] round 7 in omega (arith, t)
 
 pub returns-clause-twice : goal.returns-clause-twice
-returns-clause-twice c = λ terms r round.
-    let t = round_adds_up terms (7 ∷ []) ((7 ∷ []) ∷ []) r (7 ∷ []) round 7 in omega (arith, t)
+returns-clause-twice c = λ terms counts r round.
+    let t = round_adds_up terms (7 ∷ []) ((7 ∷ []) ∷ []) counts r (7 ∷ []) round 7 in omega (arith, t)
