@@ -106,7 +106,7 @@ module _ (cs : Claims) (law : AreDeciding cs.table) (h : List ClaimAccess) (lawf
 
   -- consumers use the object with some inputs
   pub some_inputs : (inputs : ℕ → ℕ) × IsUsedWith cs k o kind inputs h
-  some_inputs = (object_used.inputs, record { lawful = object_used.lawful; enters = object_used.enters })
+  some_inputs = (object_used.inputs, record { is = is; lawful = object_used.lawful; enters = object_used.enters })
 
   -- consumers use the object with any inputs with which those come who have an access there
   pub with_inputs :
@@ -115,6 +115,7 @@ module _ (cs : Claims) (law : AreDeciding cs.table) (h : List ClaimAccess) (lawf
       → IsUsedWith cs k o kind inputs h
   with_inputs inputs enters =
       record {
+        is = is;
         lawful = record {
           memory = object_used.lawful.memory;
           words = object_used.lawful.words;

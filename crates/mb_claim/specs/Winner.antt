@@ -16,10 +16,11 @@ StageNames c Won w = w ≡ c
 StageNames c (Lost u) w = w ≡ u
 StageNames c Undecided w = ⊥
 
--- consumers use object o of cell k, which is of this kind, with these inputs: what they do there is what processes do on
--- one object alone
+-- object o of a cell is of this kind, and consumers use it with these inputs on cell k. What they do there is what
+-- processes do on one object alone
 pub record IsUsedWith (cs : Claims) (k o : ℕ) (kind : Kind) (inputs : ℕ → ℕ)
     (h : List ClaimAccess) : Type 0 where
+  pub is : slice_get cs.kinds o ≡ Some kind
   -- the accesses there are a lawful history of the object with these inputs
   pub lawful : IsObjectLawful (object_of cs.table kind inputs) (object_history k o h)
   -- each consumer with an access there has come to the object with its input

@@ -10,7 +10,7 @@ ghost use Rattle.mb_claim.specs.{after_winning, own_number_again, of_a_stranger,
 ghost use Rattle.mb_claim.specs.{won_and, two_with, lost_at_second, skip_both_ratifiers, skip_one_ratifier};
 ghost use Rattle.mb_claim.specs.{last_decides, last_found_empty_twice, last_comes_first, through_all, skip_the_pair};
 ghost use Rattle.mb_deciding.specs.declared.access.Op.TheVariants as to;
-ghost use Rattle.mb_claim.specs.{IsMadeFirst, access_at};
+ghost use Rattle.mb_claim.specs.{Conciliator, IsMadeFirst, access_at};
 ghost use Rattle.mb_claim.specs.{IsStanding, HasEnd, HasStopped, site_of, CellClaim, IsOnCell, IsAtFirst, claim_of};
 ghost use Rattle.mb_claim.specs.StraightExamples.{IsOfTwo, on_ratifier, kept_on, told};
 
@@ -59,6 +59,11 @@ pub fn inputs_come_from_the_object_before()
 
     // So they do not come with their own numbers.
     ensures own { IsUsedWith two_consumers 0 1 Ratifier (λ c. c) won_and_lost → ⊥ }
+
+    // To the first object a consumer comes with its own number, and with no other. That object is no ratifier.
+    ensures other { IsUsedWith two_consumers 0 0 (Conciliator 2) (λ c. 1)
+        (access_at 0 0 (Load Value 0) ∷ []) → ⊥ }
+    ensures kind { IsUsedWith two_consumers 0 0 Ratifier (λ c. c) [] → ⊥ }
 {
     objects_keep_their_promises();
 }

@@ -47,7 +47,7 @@ pub fn objects_have_lawful_histories()
         → IsUsedWith cs k 0 kind inputs h → part_at c k 0 h ≢ [] → inputs c ≡ c }
 
     // Validity and coherence, and of a ratifier what a clear read rules out. They hold at every step, as the history
-    // up to any step is lawful.
+    // up to any step is lawful ([`older_histories_are_lawful`]).
     ensures outputs { (cs : Claims) (h : List ClaimAccess) (k o : ℕ) (kind : Kind) (inputs : ℕ → ℕ)
         → ClaimsAreSound cs → IsUsedWith cs k o kind inputs h
         → let object = object_of cs.table kind inputs in

@@ -24,7 +24,8 @@ WerePassed may_pass p [] [] = Unit {0}
 WerePassed may_pass p (list ∷ lists) (l ∷ ls) = WasPassed may_pass p list l × WerePassed may_pass (suc p) lists ls
 WerePassed may_pass p _ _ = ⊥
 
--- consumer c, which this hub gave as a new one, made its calls with the words of this source. `l` is what it came to
+-- consumer c, which this hub gave as a new one, made its calls with the words of this source. `l` is what it came to.
+-- Its places, and how many lists of notes it has, are said by `IsHub` of the hub that took it in
 pub record WasPolled (may_stop may_pass : Who → ℕ → Type 0) (hub : HubView) (from end budget c : ℕ) (source : Stream)
     (l : ConsumerEnd) : Type 0 where
   pub mailbox : MailboxView
@@ -53,8 +54,8 @@ WerePolled may_stop may_pass hub from end budget c _ _ = ⊥
 -- a run came to its end, and each call of its workers was made at a point at which the gate may let it pass. `puts`
 -- and `polls` speak of the workers that `worked` names. So all three agree on which of them were stopped. Each call
 -- of a consumer is a poll, with this budget, of a lane that was given in this call. It draws from the consumer's own
--- source: the first consumer given in this call has the first source, and so on. The consumers were given after a
--- producer for each list
+-- source: the first consumer given in this call has the first source, and so on. The hub gave a producer for each
+-- list before it gave these consumers
 pub record IsCalled (may_stop may_pass : Who → ℕ → Type 0) (budget : ℕ) (lists : List (List ℕ)) (sources : List Stream)
     (w : Worked) (old new : HubView) : Type 0 where
   pub worked : IsWorked may_stop budget lists (length sources) w old new

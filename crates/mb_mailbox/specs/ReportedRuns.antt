@@ -23,7 +23,8 @@ abbrev pub terms_of : Setup → ℕ → List Stream → Terms
 terms_of setup budget sources = record { plan = plan_in setup; budget = budget; sources = sources }
 
 -- the run of workers that led to a report: in a mailbox of its plan, from a hub that had issued nothing to this hub,
--- with a producer for each list, and a consumer for each source. It came to these counts
+-- with a producer for each list, and a consumer for each source. It came to these counts.
+-- That the mailbox has so many numbers is not said here: `work` refuses more
 pub record IsReportedRun (may_stop may_pass : Who → ℕ → Type 0) (terms : Terms) (lists : List (List ℕ))
     (counts : Worked) (hs : Histories) (r : ReportView) : Type 0 where
   pub mailbox : MailboxView
@@ -31,8 +32,8 @@ pub record IsReportedRun (may_stop may_pass : Who → ℕ → Type 0) (terms : T
   pub size : mailbox.cells.size ≡ size_of terms.plan
   pub hub : HubView
   pub of : IsHubOf mailbox hub
-  -- each call of a consumer is a poll with this budget, and draws from the consumer's own source. By its field
-  -- `worked`, a worker was stopped only before a call at which the gate may stop it, or before call 2^64 - 1. Each
+  -- each call of a consumer is a poll with this budget, and draws from the consumer's own source. Its field
+  -- `worked` says: a worker was stopped only before a call at which the gate may stop it, or before call 2^64 - 1. Each
   -- other producer has put its list, or a fetch-add of its own found no cell. Each other consumer has a note at each
   -- item. The counts are of these workers
   pub called : IsCalled may_stop may_pass terms.budget lists terms.sources counts (hub_empty mailbox) hub

@@ -7,7 +7,7 @@ ghost use Rattle.mb_world.specs.Plan.{consumers_of, size_of};
 ghost use Rattle.mb_world.specs.Report.{ReportView};
 ghost use Rattle.mb_mailbox.specs.ReportedRuns.{Terms};
 ghost use Rattle.mb_mailbox.specs.declared.crew.Worked.{Worked};
-ghost use Rattle.mb_rounds.specs.Round.{IsPlayed, IsRound};
+ghost use Rattle.mb_rounds.specs.Round.{HaveNotedAll, IsPlayed, IsRound};
 ghost use Rattle.mb_rounds.specs.RoundExamples.{at_each_call, at_no_call, idle_hub, idle_terms, none_stopped, one_lane, one_stopped, without_note};
 
 /// A round over a mailbox with one lane, one cell and one consumer. The producer is stopped before its first put, and
@@ -32,8 +32,12 @@ pub fn rounds_play_what_was_dealt()
 
     // The item 7 was put, and the one consumer has a source, but no note at the item. Yet no worker was stopped.
     ensures not_noted { (terms : Terms) → consumers_of terms.plan ≡ 1 → length terms.sources ≡ 1
-        → IsRound at_no_call at_each_call terms (7 ∷ []) ([] ∷ []) none_stopped
+        → IsRound at_each_call at_each_call terms (7 ∷ []) ([] ∷ []) none_stopped
         (without_note (7 ∷ [])) (7 ∷ []) → ⊥ }
+
+    // The consumer has not noted all. If it had no source, it would owe no note.
+    ensures no_note { HaveNotedAll 1 (without_note (7 ∷ [])) → ⊥ }
+    ensures no_source { HaveNotedAll 0 (without_note (7 ∷ [])) }
 
     // The item 7 is neither given out nor carried, or it is both.
     ensures lost { (terms : Terms) (counts : Worked) (r : ReportView)

@@ -109,8 +109,8 @@ pub fn seats_have_one_winner()
         → IsClaimPrefix (claims_of_size k) d (part_on d cell ys) r
         → StageNames c s u → StageNames d r w → u ≡ w }
 
-    // The fact on which this rests: what a clear read rules out (`ChecksKeepOut`), in each ratifier of each cell. It
-    // holds of a lawful history that leaves the words, and whose parts are exactly those that the seats have.
+    // This rests on what a clear read rules out (`ChecksKeepOut`), in each ratifier of each cell. It holds of a lawful
+    // history that leaves the words, and whose parts are exactly those that the seats have.
     ensures checks { (k : TableSize) (words : List ℕ) (views : List View)
         → IsClaimsState k words views
         → (h : List ClaimAccess) × IsMemoryOf (claims_of_size k) words h

@@ -73,6 +73,13 @@ returns-clause-not_noted c = λ terms one source round.
     (omega (arith, one, source)) 0 0 (omega (arith, source)) in
     absurd (omega (arith, noted))
 
+pub returns-clause-no_note : goal.returns-clause-no_note
+returns-clause-no_note c = λ noted.
+    let same = noted 0 0 (omega arith) in absurd (omega (arith, same))
+
+pub returns-clause-no_source : goal.returns-clause-no_source
+returns-clause-no_source c = λ d p low. absurd (omega (arith, low))
+
 pub returns-clause-lost : goal.returns-clause-lost
 returns-clause-lost c = λ terms counts r round.
     let t = round_adds_up terms (7 ∷ []) ([] ∷ []) counts r [] round 7 in omega (arith, t)
