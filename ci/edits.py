@@ -6,7 +6,7 @@ from collections import Counter
 
 # The most mutants of one check. Reading a large crate takes as long as two of them, and with many more a single check
 # would go on for long after all others.
-MOST = 12
+MOST = 14
 FUNCTION = re.compile(r'^ *(?:pub(?:\([\w ]+\))? )?(?:const |final |ghost |unsafe |extern "C" )*fn (\w+)', re.M)
 IMPORT = re.compile(r"use ([\w:]+)::(?:(\w+)|\{([\w:, ]+)\});")
 # Whose the methods below are: of `impl TRAIT for TYPE` or `impl TYPE` these names, and of a trait its own.
