@@ -29,15 +29,15 @@ else
     exit 2
 fi
 """
-# It says how far two libraries are, one of them in a process of its own, and neither heeds an interrupt.
+# It says how far two libraries are, one of them in a process of its own.
 PYTHON = """#!/bin/sh
-trap '' INT
 [ "$*" = "$(dirname "$(dirname "$0")")/ci/libraries.py mailbox_main" ] || exit 2
 (
     echo 'so far: 1 of 3 functions of mb_cells checked; the verdict comes last'
     [ -z "${SLOW-}" ] || sleep 60
 ) &
 echo 'so far: 2 of 3 functions of mb_quorum checked; the verdict comes last'
+[ -z "${LINES-}" ] || { wait; echo "$LINES"; }
 [ "${BROKEN-}" != libraries ] || exit 1
 [ -z "${SLOW-}" ] || sleep 60
 wait
@@ -107,7 +107,14 @@ class TheScript(unittest.TestCase):
                 self.assertEqual(status, 0)
                 for line in ("1 of 3 functions of mb_cells", "2 of 3 functions of mb_quorum"):
                     self.assertIn(f"mailbox: {line}\n", errors.partition("2 of 9")[0])
+                self.assertEqual("not all libraries stand" in errors, bool(broken))
                 self.assertIn("mailbox: built in ", errors)
+
+    def test_a_library_is_told_once_and_so_is_waiting(self):
+        lines = ["fn one::f: proved", "fn two::f: proved", "fn one::g: proved", "rt: waiting for another rt to finish in HERE"]
+        errors = self.run_it("--build", LINES="\n".join(lines))[2]
+        told = ["one is proved", "two is proved", "waiting for another rt to finish in HERE"]
+        self.assertIn("".join(f"mailbox: {it}\n" for it in told), errors)
 
     def test_an_interrupt_ends_both(self):
         # Whoever runs this in the background may have it ignore interrupts.
