@@ -6,6 +6,7 @@ use Rattle.mb_mailbox.specs.Mailboxes.{MailboxView, plan_at}
 use Rattle.mb_mailbox.specs.declared.crew.Worked.{Worked}
 use Rattle.mb_mailbox.specs.declared.gate.Who.{Who}
 use Rattle.mb_world.specs.Report.{ReportView}
+use Rattle.mb_world.specs.declared.report.Note.TheVariants.{Undecided}
 use Rattle.mb_mailbox.specs.ReportedRuns.{Terms}
 
 -- what a gate may stop, or let pass: no call of any worker
@@ -48,4 +49,11 @@ abbrev pub without_note : List ℕ → ReportView
 without_note items = record {
   lanes = (one_lane items).lanes;
   diaries = record { consumer = 0; lane = 0; notes = []; begun = false } ∷ [];
+}
+
+-- the report of a mailbox with one lane, on which the item 7 was put, and one consumer, which ended undecided there
+abbrev pub with_note : ReportView
+with_note = record {
+  lanes = (one_lane (7 ∷ [])).lanes;
+  diaries = record { consumer = 0; lane = 0; notes = Undecided ∷ []; begun = false } ∷ [];
 }

@@ -8,7 +8,7 @@ ghost use Rattle.mb_world.specs.Report.{ReportView};
 ghost use Rattle.mb_mailbox.specs.ReportedRuns.{Terms};
 ghost use Rattle.mb_mailbox.specs.declared.crew.Worked.{Worked};
 ghost use Rattle.mb_rounds.specs.Round.{HaveNotedAll, IsPlayed, IsRound};
-ghost use Rattle.mb_rounds.specs.RoundExamples.{at_each_call, at_no_call, idle_hub, idle_terms, none_stopped, one_lane, one_stopped, without_note};
+ghost use Rattle.mb_rounds.specs.RoundExamples.{at_each_call, at_no_call, idle_hub, idle_terms, none_stopped, one_lane, one_stopped, with_note, without_note};
 
 /// A round over a mailbox with one lane, one cell and one consumer. The producer is stopped before its first put, and
 /// the consumer has no source: nothing is given out, and both items stay.
@@ -35,9 +35,9 @@ pub fn rounds_play_what_was_dealt()
         → IsRound at_each_call at_each_call terms (7 ∷ []) ([] ∷ []) none_stopped
         (without_note (7 ∷ [])) (7 ∷ []) → ⊥ }
 
-    // The consumer has not noted all. If it had no source, it would owe no note.
+    // That consumer has not noted all. With one note it has.
     ensures no_note { HaveNotedAll 1 (without_note (7 ∷ [])) → ⊥ }
-    ensures no_source { HaveNotedAll 0 (without_note (7 ∷ [])) }
+    ensures noted { HaveNotedAll 1 with_note }
 
     // The item 7 is neither given out nor carried, or it is both.
     ensures lost { (terms : Terms) (counts : Worked) (r : ReportView)

@@ -1,5 +1,5 @@
 -- Proof of `examples::rounds_play_what_was_dealt`: what is not a round.
-use Rattle.std.proofs.Common.{◌≡◌, ◌∙◌, ℕ, Bool, true, false, List, [], ◌∷◌, Option, None, Some, ap, arith, get_or, inl, inr, length, map, refl, slice_get, subst, sym}
+use Rattle.std.proofs.Common.{◌≡◌, ◌<◌, ◌∙◌, ℕ, zero, suc, Bool, true, false, List, [], ◌∷◌, Option, None, Some, ap, arith, get_or, inl, inr, length, map, refl, slice_get, subst, sym}
 use Rattle.std.specs.Option.{option_map_or}
 use Rattle.std.specs.List.{AllZip}
 use Rattle.mb_mailbox.specs.Imports.{CellsName, History, PoolSize, consumer_count}
@@ -8,8 +8,9 @@ use Rattle.mb_mailbox.specs.Hubs.{HubView, PutListView}
 use Rattle.mb_mailbox.specs.Jobs.{IsFront}
 use Rattle.mb_mailbox.specs.Mailboxes.{MailboxView}
 use Rattle.mb_mailbox.specs.Worked.{AreCutByCells, AreStoppedPuts, ProducerEnd, ended_list}
-use Rattle.mb_world.specs.Report.{LaneView}
-use Rattle.mb_rounds.specs.RoundExamples.{at_no_call, none_stopped, one_lane, without_note}
+use Rattle.std.proofs.lemmas.Bool.{le-ltb}
+use Rattle.mb_world.specs.Report.{LaneView, items_put, notes}
+use Rattle.mb_rounds.specs.RoundExamples.{at_no_call, none_stopped, one_lane, with_note, without_note}
 use Rattle.mb_rounds.proofs.Noted.{all_noted}
 use Rattle.mb_rounds.proofs.Whole.{round_adds_up}
 use Rattle.mb_rounds.proofs.examples.rounds_play_what_was_dealt.Goals as goal
@@ -77,8 +78,14 @@ pub returns-clause-no_note : goal.returns-clause-no_note
 returns-clause-no_note c = λ noted.
     let same = noted 0 0 (omega arith) in absurd (omega (arith, same))
 
-pub returns-clause-no_source : goal.returns-clause-no_source
-returns-clause-no_source c = λ d p low. absurd (omega (arith, low))
+-- the one consumer has as many notes on each lane as items were put there
+as_many : (c p : ℕ) → c < 1 → length (notes c p with_note) ≡ length (items_put p with_note)
+as_many zero zero low = refl
+as_many zero (suc p) low = rw (le-ltb (suc p) 1 (omega arith)) refl
+as_many (suc c) p low = absurd (omega (arith, low))
+
+pub returns-clause-noted : goal.returns-clause-noted
+returns-clause-noted c = as_many
 
 pub returns-clause-lost : goal.returns-clause-lost
 returns-clause-lost c = λ terms counts r round.
