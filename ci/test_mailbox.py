@@ -39,7 +39,8 @@ PYTHON = """#!/bin/sh
 echo 'so far: 2 of 3 functions of mb_quorum checked; the verdict comes last'
 [ -z "${LINES-}" ] || { wait; echo "$LINES"; }
 [ "${BROKEN-}" != libraries ] || exit 1
-[ -z "${SLOW-}" ] || sleep 60
+# (an interrupt while a shell starts a command may be lost to that command)
+[ -z "${SLOW-}" ] || exec sleep 60
 wait
 """
 
