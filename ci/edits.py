@@ -2,11 +2,7 @@
 import dataclasses
 import os
 import re
-from collections import Counter
 
-# The most mutants of one check. Reading a large crate takes as long as two of them, and with many more a single check
-# would go on for long after all others.
-MOST = 14
 FUNCTION = re.compile(r'^ *(?:pub(?:\([\w ]+\))? )?(?:const |final |ghost |unsafe |extern "C" )*fn (\w+)', re.M)
 IMPORT = re.compile(r"use ([\w:]+)::(?:(\w+)|\{([\w:, ]+)\});")
 # Whose the methods below are: of `impl TRAIT for TYPE` or `impl TYPE` these names, and of a trait its own.
@@ -31,27 +27,16 @@ class Edit:
         """The texts of the changed files by their names, on top of `texts`, which other edits have changed."""
         texts = dict(texts)
         for path, old, new in self.changes:
-            if path not in texts:
-                try:
-                    with open(f"{folder}/{path}", encoding="utf-8") as file:
-                        texts[path] = file.read()
-                except OSError:
-                    raise Fault(f"there is no file {path}") from None
-            if texts[path].count(old) != 1:
-                raise Fault(f"the text `{old}` is in {path} {texts[path].count(old)} times, and not once")
-            if self.function and not self.alone:
-                self.stay_inside(texts[path], old, new)
-            texts[path] = texts[path].replace(old, new)
+            text = texts[path] if path in texts else source(folder, path)
+            changed = replaced(text, path, old, new)
+            if self.function and not self.alone and not only_imports_more(text, old, new):
+                self.stay_inside(text, old)
+            texts[path] = changed
         return texts
 
-    def stay_inside(self, text, old, new):
-        """Stops at an old text of another function or of none, unless its edit only adds names to an import.
-
-        Any other edit of an import may change what a name means to other functions of the module."""
+    def stay_inside(self, text, old):
+        """Stops at an old text of another function or of none."""
         start = text.index(old)
-        line = text[text.rfind("\n", 0, start) + 1 :].partition("\n")[0]
-        if imported(line) and imported(line) <= imported(line.replace(old, new)):
-            return
         above = list(FUNCTION.finditer(text[: start + len(old)]))
         *_, owner, name = self.function.split("::")
         if not above or above[-1][1] != name:
@@ -59,10 +44,38 @@ class Edit:
             raise Fault(f"`{old}` is {near}, and not in {self.function}: correct the name, or say `alone: WHY`")
         if has_ended(above[-1], text, start):
             raise Fault(f"`{old}` is below `fn {name}`, which ends above it: correct the text, or say `alone: WHY`")
-        owners = OWNER.findall(text[: above[-1].start()]) if above[-1][0].startswith(" ") else []
-        for it in owners[-1:] and owners[-1]:
+        its = owner_of(above[-1], text)
+        for it in its.groups("") if its else ():
             if it.split("::")[-1] not in owner:
                 raise Fault(f"`fn {name}` is a method of {it}, and not of {owner}: correct the name")
+
+
+def source(folder, path):
+    """The text of a file of the crate."""
+    try:
+        with open(f"{folder}/{path}", encoding="utf-8") as file:
+            return file.read()
+    except OSError:
+        raise Fault(f"there is no file {path}") from None
+
+
+def replaced(text, path, old, new):
+    """The text with the new text in place of the old, which has to stand in it once."""
+    if text.count(old) != 1:
+        raise Fault(f"the text `{old}` is in {path} {text.count(old)} times, and not once")
+    return text.replace(old, new)
+
+
+def only_imports_more(text, old, new):
+    """Whether the edit only adds names to an import. Any other edit of one may change what a name means to all functions."""
+    line = text[text.rfind("\n", 0, text.index(old)) + 1 :].partition("\n")[0]
+    return bool(imported(line)) and imported(line) <= imported(line.replace(old, new))
+
+
+def owner_of(head, text):
+    """The `impl` or the trait, if any, that the function of this head stands in."""
+    found = list(OWNER.finditer(text[: head.start()])) if head[0].startswith(" ") else []
+    return found[-1] if found else None
 
 
 def imported(line):
@@ -181,33 +194,3 @@ def strays(top, crates):
                 why = "it stands in no folder must-fail/ or mutants/ of a crate that crates.txt names"
                 faults[os.path.relpath(f"{at}/{name}", top)] = why
     return faults
-
-
-def grouped(control, mutants, folder, most=MOST):
-    """The control and the mutants of each check, the largest first: no function twice, and each applies on top of the others.
-
-    No check has more than `most` mutants, or only if they do not fit otherwise, and all have about as many. Those of
-    functions without proof files stand together: the prover runs once more to print what files such a function wants."""
-    together = [it for it in mutants if not it.alone]
-    times = Counter(it.function for it in together)
-    count = max([-(-len(together) // most), *times.values()])
-    share, more = divmod(len(together), max(count, 1))
-    is_bare = lambda it: not os.path.isdir(f"{folder}/proofs/{it.function.partition('::')[2].replace('::', '/')}")
-    groups = [([], control.applied(folder, {})) for _ in range(count)]  # of (mutants, texts)
-    # (the functions with the most mutants first, as each of these wants a group of its own)
-    for edit in sorted(together, key=lambda it: (-times[it.function], not is_bare(it))):
-        near = lambda group: sum(map(is_bare, group)) if is_bare(edit) else 0
-        room = lambda at: (len(groups[at][0]) >= share + (at < more), -near(groups[at][0]), len(groups[at][0]))
-        for at in sorted(range(len(groups)), key=room):
-            group, texts = groups[at]
-            if any(it.function == edit.function for it in group):
-                continue
-            try:
-                groups[at] = ([*group, edit], edit.applied(folder, texts))
-                break
-            except Fault:
-                continue
-        else:
-            groups.append(([edit], edit.applied(folder, control.applied(folder, {}))))
-    found = sorted((group for group, _ in groups if group), key=lambda it: -len(it))
-    return [(control, group) for group in found] + [(None, [it]) for it in mutants if it.alone]

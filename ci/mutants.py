@@ -11,9 +11,9 @@ A control is a file NAME.control with `proves:` in place of `refuses:`. It chang
 function has to come out proved. Each crate with mutants has one, and it stands in the first check of the crate. It shows
 that a check does not refuse everything. The other checks show it by the functions that the mutants call.
 
-The mutants of different functions share one check, since a proof reads the contracts of what is called and no bodies.
-The first check of a crate begins with what stands in its out/incremental. It keeps what it proved, and the others of the
-crate begin with that.
+The mutants of a crate share checks: each stands in a copy of its function (ci/copies.py), and a proof reads the
+contracts of what is called and no bodies. The first check of a crate begins with what stands in its out/incremental. It
+keeps what it proved, and the others of the crate begin with that.
 A check reads the libraries below its crate from their out/rlib. They are built if they are missing or old. With
 --beside rt ci makes them meanwhile: a crate's mutants are tried as soon as its libraries stand there.
 docs/CI.md says how a mutant is judged. The last line is `N passed, N failed`, and the status is 0 if none failed.
@@ -34,6 +34,7 @@ from collections import Counter
 from concurrent.futures import FIRST_COMPLETED, ThreadPoolExecutor, wait
 
 import edits
+import grouping
 import machine
 from judging import judged, spoiled, unended
 
@@ -116,6 +117,7 @@ def check(kit, crate, group, kept):
             if os.path.isdir(f"{crate.folder}/{part}"):
                 shutil.copytree(f"{crate.folder}/{part}", f"{room}/{part}")
         for path, text in texts.items():
+            os.makedirs(os.path.dirname(f"{room}/{path}"), exist_ok=True)
             with open(f"{room}/{path}", "w", encoding="utf-8") as file:
                 file.write(text)
         # (a function's name without that of its crate)
@@ -323,7 +325,7 @@ class Trials:
         folders = os.walk(f"{crate.folder}/src")
         size = sum(os.path.getsize(f"{at}/{it}") for at, _, names in folders for it in names)
         tasks = []
-        for beside, group in edits.grouped(control, mutants, crate.folder):
+        for beside, group in grouping.grouped(control, mutants, crate.folder):
             # (the first check of the crate is that of its first group)
             has_control = bool(beside) and not tasks
             tasks.append((len(group) * size, Task(crate, beside, group, has_control)))

@@ -1,4 +1,4 @@
-"""Tests of ci/edits.py: how the files of mutants are read, applied and grouped. They run no prover."""
+"""Tests of ci/edits.py: how the files of mutants are read and applied. They run no prover."""
 import os
 import tempfile
 import types
@@ -70,11 +70,6 @@ class WithCrate(unittest.TestCase):
     def stops(self, wrong):
         with self.assertRaises(edits.Fault):
             wrong.applied(self.folder, {})
-
-    def groups(self, *mutants, most=edits.MOST):
-        control = edit("h", "x.control", old="5", new="6")
-        found = edits.grouped(control, mutants, self.folder, most)
-        return [(beside is control, [it.label.split("/")[1] for it in group]) for beside, group in found]
 
 
 class Applying(WithCrate):
@@ -181,49 +176,6 @@ class Folders(WithCrate):
             self.write(path, TEXT)
         found = [it.split("/")[-1] for it in edits.strays(self.top, [self.crate])]
         self.assertEqual(sorted(found), ["a.edit", "b.edit", "c.control", "d.edit"])
-
-
-class Grouping(WithCrate):
-    def test_two_functions_share_a_group(self):
-        groups = self.groups(edit("f", "a.edit"), edit("g", "b.edit", old="3"))
-        self.assertEqual(groups, [(True, ["a.edit", "b.edit"])])
-
-    def test_no_function_twice(self):
-        groups = self.groups(edit("f", "a.edit"), edit("f", "b.edit"))
-        self.assertEqual(groups, [(True, ["a.edit"]), (True, ["b.edit"])])
-
-    def test_each_applies_on_top_of_the_others(self):
-        groups = self.groups(edit("f", "a.edit", new="3"), edit("g", "b.edit", old="3"))
-        self.assertEqual(groups, [(True, ["a.edit"]), (True, ["b.edit"])])
-
-    def test_alone(self):
-        alone = edit("f", "a.edit", alone="a constant")
-        groups = self.groups(alone, edit("g", "b.edit", old="3"), edit("f", "c.edit"))
-        self.assertEqual(groups, [(True, ["b.edit", "c.edit"]), (False, ["a.edit"])])
-
-    def many(self, functions):
-        """Mutants of these functions, each of a line of its own."""
-        names = [f"{at}.edit" for at in range(len(functions))]
-        self.write("src/values.rt", "fn h() { 5 }\n" + "".join(f"fn {it}() {{ '{it}{it}' }}\n" for it in functions))
-        return [edit(it, name, old=f"'{it}{it}'") for it, name in zip(functions, names)]
-
-    def test_no_group_is_too_large(self):
-        sizes = [len(it) for _, it in self.groups(*self.many("abcdefg"), most=3)]
-        self.assertEqual(sizes, [3, 2, 2])
-        self.assertEqual([len(it) for _, it in self.groups(*self.many("abcdefg"))], [7])
-
-    def test_functions_without_proof_files_stand_together(self):
-        for name in "bdf":
-            self.write(f"proofs/values/{name}/Answers.antt", "")
-        groups = self.groups(*self.many("abcdef"), most=3)
-        self.assertEqual(groups, [(True, ["0.edit", "2.edit", "4.edit"]), (True, ["1.edit", "3.edit", "5.edit"])])
-
-    def test_a_function_of_many_mutants_makes_no_small_groups(self):
-        self.write("src/values.rt", "fn h() { 5 }\nfn f() { 1, 2, 3 }\nfn g() { 4 }\nfn k() { 7 }\nfn m() { 8 }\n")
-        many = [("g", "4"), ("k", "7"), ("m", "8"), ("f", "1"), ("f", "2"), ("f", "3")]
-        groups = self.groups(*[edit(it, f"{it}{old}.edit", old=old, new="0") for it, old in many])
-        names = [["f1.edit", "g4.edit"], ["f2.edit", "k7.edit"], ["f3.edit", "m8.edit"]]
-        self.assertEqual(groups, [(True, it) for it in names])
 
 
 if __name__ == "__main__":

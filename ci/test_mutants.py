@@ -10,13 +10,14 @@ import types
 import unittest
 from unittest import mock
 
+import grouping
 import mutants
 
 # As far as ci/mutants.py asks for it.
 KIT = '''
 import os
 RATTLE = os.path.dirname(os.path.abspath(__file__)) + "/rattle"
-PARTS = ("src", "specs")
+PARTS = ("src", "specs", "proofs")
 class Crate:
     def __init__(self, top, line, known):
         self.name, _, self.uses = line.partition(":")
@@ -52,6 +53,7 @@ with open("src/values.rt") as file:
 room = os.path.dirname(os.path.abspath(__file__))
 with open(f"{room}/log", "a") as log:
     log.write(" ".join(sys.argv[1:]) + chr(10) + text)
+    log.write(" ".join(sorted(f"{at}/{it}" for at, _, names in os.walk("proofs") for it in names)))
 is_first = not os.path.exists(f"{room}/was_here")
 if "--incremental" in sys.argv:
     kept = sys.argv[sys.argv.index("--incremental") + 1]
@@ -121,6 +123,11 @@ class WithKit(unittest.TestCase):
     def mutant(self, name, text):
         self.write(f"{self.crate}/mutants/{name}", text)
 
+    def second_check(self, new, most=2):
+        """Makes a mutant of f that the crate's second check tries alone."""
+        self.mutant("z.edit", text_of("values::f", "1", new))
+        self.patch(mock.patch.object(grouping, "MOST", most))
+
     def log(self):
         with open(f"{self.kit}/log", encoding="utf-8") as file:
             return file.read()
@@ -140,14 +147,23 @@ class WithKit(unittest.TestCase):
 
 class Trying(WithKit):
     def test_all_is_well(self):
-        self.ends(0, "3 passed, 0 failed", "mb_a/f.edit: refused: fn mb_a::values::f: no proof", "mb_a: 1 checks",
+        self.ends(0, "3 passed, 0 failed", "mb_a/f.edit: refused: fn mb_a::values::f_mutant1: no proof", "mb_a: 1 checks",
                   "mb_a/harmless.control: proved: in 1 of the 1 checks that it stood in")
 
     def test_what_the_prover_is_given(self):
+        self.mutant("z.edit", text_of("values::f", "1", "also wrong"))
         self.run_main()
         asked, text = self.log().split("\n", 1)
-        self.assertEqual(asked, "check mb_a --jobs 1 --only values::h --only values::f --only values::g")
-        self.assertEqual(text, SOURCE.replace("1", "wrong").replace("2", "wrong").replace("3", "3 + 0"))
+        only = [f"--only values::{it}" for it in ("h", "f_mutant1", "g_mutant1", "f_mutant2")]
+        self.assertEqual(asked, " ".join(["check mb_a --jobs 1", *only]))
+        f, g, *others = SOURCE.replace("3", "3 + 0").splitlines(keepends=True)
+        copies = ["fn f_mutant2() { also wrong, k() }\n", "fn f_mutant1() { wrong, k() }\n"]
+        self.assertEqual(text, "".join([f, *copies, g, "fn g_mutant1() { wrong }\n", *others]))
+
+    def test_a_copy_has_proof_files(self):
+        self.write(f"{self.crate}/proofs/values/f/Answers.antt", "")
+        self.run_main()
+        self.assertIn("\nproofs/values/f/Answers.antt proofs/values/f_mutant1/Answers.antt", self.log())
 
     def test_a_static_library_is_checked_as_a_library(self):
         kit = types.SimpleNamespace(guarded=list, RATTLE="rattle")
@@ -157,7 +173,7 @@ class Trying(WithKit):
 
     def test_a_mutant_that_survives(self):
         self.mutant("g.edit", text_of("values::g", "2", "5"))
-        self.ends(1, "2 passed, 1 failed", "mb_a/g.edit: NOT REFUSED: fn mb_a::values::g: proved", "mb_a: 2 checks")
+        self.ends(1, "2 passed, 1 failed", "mb_a/g.edit: NOT REFUSED: fn mb_a::values::g_mutant1: proved", "mb_a: 2 checks")
 
     def test_a_function_that_is_no_longer_there(self):
         self.mutant("g.edit", text_of("old_values::g", "2", "wrong"))
@@ -174,15 +190,16 @@ class Trying(WithKit):
         self.ends(1, "0 passed, 3 failed", "mb_a/harmless.control: NOT PROVED: in 0 of the 3 checks")
 
     def test_the_second_check_of_a_crate_begins_with_the_first_and_has_no_control(self):
-        self.mutant("f2.edit", text_of("values::f", "1", "also wrong"))
+        self.second_check("also wrong")
         self.ends(0, "4 passed, 0 failed", "mb_a: 2 checks",
                   "mb_a/harmless.control: proved: in 1 of the 1 checks")
         with open(f"{self.kit}/kept", encoding="utf-8") as file:
             first, second = file.read().splitlines()
-        parts = [f"X-proofs.values.{it}.{part}" for it in "fgh" for part in ("Code.oantt", "judged")]
+        names = ("f_mutant1", "g_mutant1", "h")
+        parts = [f"X-proofs.values.{it}.{part}" for it in names for part in ("Code.oantt", "judged")]
         self.assertEqual((first, second), ("", " ".join(parts)))
         last = [it for it in self.log().splitlines() if it.startswith("check")][-1]
-        self.assertRegex(last, r"--jobs 1 --only values::f --incremental \S+$")
+        self.assertRegex(last, r"--jobs 1 --only values::f_mutant1 --incremental \S+$")
 
     def test_the_first_check_of_a_crate_begins_with_what_was_proved_before(self):
         self.write(f"{self.crate}/out/incremental/X-proofs.values.k.oantt", "proved")
@@ -192,28 +209,29 @@ class Trying(WithKit):
         self.assertEqual(os.listdir(f"{self.crate}/out/incremental"), ["X-proofs.values.k.oantt"])
 
     def test_a_check_that_proves_nothing_is_made_again_beside_the_control(self):
-        self.mutant("g2.edit", text_of("values::g", "2", "also wrong"))
+        self.second_check("wrong")
+        self.mutant("z.edit", text_of("values::g", "2", "also wrong"))
         again = "mb_a: a check is made once more, beside the control: no function beside its mutants is proved"
         self.ends(0, "4 passed, 0 failed", again, "mb_a: 3 checks", "mb_a/harmless.control: proved: in 2 of the 2")
 
     def test_a_check_in_which_another_function_fails_is_made_again_beside_the_control(self):
-        self.mutant("f2.edit", text_of("values::f", "1", "wrong upsets"))
+        self.second_check("wrong upsets")
         again = "mb_a: a check is made once more, beside the control: mb_a::values::k fails too"
         self.ends(0, "4 passed, 0 failed", again, "mb_a: 3 checks", "mb_a/harmless.control: proved: in 2 of the 2")
 
     def test_a_later_check_that_refuses_everything_judges_nothing(self):
-        self.mutant("f2.edit", text_of("values::f", "1", "wrong spoils upsets"))
-        self.ends(1, "3 passed, 1 failed", "mb_a/f2.edit: NOT TRIED: the control beside it is not proved",
+        self.second_check("wrong spoils upsets")
+        self.ends(1, "3 passed, 1 failed", "mb_a/z.edit: NOT TRIED: the control beside it is not proved",
                   "mb_a/harmless.control: proved: in 1 of the 2")
 
     def test_a_mutant_that_survives_is_tried_again_over_nothing(self):
-        self.mutant("f2.edit", text_of("values::f", "1", "5"))
-        self.ends(1, "3 passed, 1 failed", "mb_a/f2.edit: NOT REFUSED", "mb_a: 3 checks")
+        self.second_check("5")
+        self.ends(1, "3 passed, 1 failed", "mb_a/z.edit: NOT REFUSED", "mb_a: 3 checks")
         last = [it for it in self.log().splitlines() if it.startswith("check")][-1]
         self.assertNotIn("--incremental", last)
 
     def test_a_first_check_that_is_killed(self):
-        self.mutant("f2.edit", text_of("values::f", "1", "also wrong"))
+        self.second_check("also wrong")
         self.mutant("f.edit", text_of("values::f", "1", "wrong once"))
         self.ends(0, "4 passed, 0 failed", "mb_a: a check was killed", "mb_a/f.edit: refused: ", "mb_a: 3 checks")
 
