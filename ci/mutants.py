@@ -11,9 +11,9 @@ A control is a file NAME.control with `proves:` in place of `refuses:`. It chang
 function has to come out proved. Each crate with mutants has one, and it stands in the first check of the crate. It shows
 that a check does not refuse everything. The other checks show it by the functions that the mutants call.
 
-The mutants of a crate share checks: each stands in a copy of its function (ci/copies.py), and a proof reads the
-contracts of what is called and no bodies. The first check of a crate begins with what stands in its out/incremental. It
-keeps what it proved, and the others of the crate begin with that.
+Many mutants of a crate share a check. Each stands in a copy of its function, if that can be copied (ci/copies.py). A
+proof reads the contracts of what is called, and no bodies. The first check of a crate begins with what stands in its
+out/incremental. It keeps what it proved, and the others of the crate begin with that.
 A check reads the libraries below its crate from their out/rlib. They are built if they are missing or old. With
 --beside rt ci makes them meanwhile: a crate's mutants are tried as soon as its libraries stand there.
 docs/CI.md says how a mutant is judged. The last line is `N passed, N failed`, and the status is 0 if none failed.

@@ -1,6 +1,7 @@
 """Tests of ci/grouping.py: which mutants share a check. They run no prover."""
 import unittest
 
+import edits
 import grouping
 from test_edits import WithCrate, edit
 
@@ -14,7 +15,8 @@ class Grouping(WithCrate):
     def groups(self, *mutants, most=grouping.MOST):
         control = edit("h", "x.control", old="5", new="6")
         found = grouping.grouped(control, mutants, self.folder, most)
-        return [(beside is control, [it.label.split("/")[1] for it in group]) for beside, group in found]
+        beside = (None, grouping.copies.copied(control))
+        return [(bool(beside.index(it)), [mutant.label.split("/")[1] for mutant in group]) for it, group in found]
 
     def method(self, function, name, **more):
         return edit(f"TableRead::{function}", name, path="src/tables.rt", **more)
@@ -23,12 +25,12 @@ class Grouping(WithCrate):
         groups = self.groups(edit("f", "a.edit"), edit("g", "b.edit", old="3"))
         self.assertEqual(groups, [(True, ["a.edit", "b.edit"])])
 
-    def test_the_mutants_of_a_function_share_a_group_in_copies(self):
+    def test_the_copys_of_a_function_share_a_group_in_copies(self):
         control = edit("h", "x.control", old="5", new="6")
         many = [edit("f", "a.edit"), edit("g", "b.edit", old="3"), edit("f", "c.edit", new="7")]
         ((_, group),) = grouping.grouped(control, many, self.folder)
         names = {it.label: it.function for it in group}
-        copies = {"a": "f_mutant1", "b": "g_mutant1", "c": "f_mutant2"}
+        copies = {"a": "f_copy1", "b": "g_copy1", "c": "f_copy2"}
         self.assertEqual(names, {f"mb_quorum/{it}.edit": f"mb_quorum::values::{name}" for it, name in copies.items()})
 
     def test_no_method_of_a_trait_twice(self):
@@ -57,7 +59,7 @@ class Grouping(WithCrate):
 
     def test_functions_without_proof_files_stand_together(self):
         for name in "bdf":
-            self.write(f"proofs/values/{name}/Answers.antt", "")
+            self.write(f"proofs/values/{name}/Answers.antt", f"use Rattle.mb_quorum.proofs.values.{name}.Goals\n")
         groups = self.groups(*self.many("abcdef"), most=3)
         self.assertEqual(groups, [(True, ["0.edit", "2.edit", "4.edit"]), (True, ["1.edit", "3.edit", "5.edit"])])
 

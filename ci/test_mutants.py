@@ -147,23 +147,24 @@ class WithKit(unittest.TestCase):
 
 class Trying(WithKit):
     def test_all_is_well(self):
-        self.ends(0, "3 passed, 0 failed", "mb_a/f.edit: refused: fn mb_a::values::f_mutant1: no proof", "mb_a: 1 checks",
+        self.ends(0, "3 passed, 0 failed", "mb_a/f.edit: refused: fn mb_a::values::f_copy1: no proof", "mb_a: 1 checks",
                   "mb_a/harmless.control: proved: in 1 of the 1 checks that it stood in")
 
     def test_what_the_prover_is_given(self):
         self.mutant("z.edit", text_of("values::f", "1", "also wrong"))
         self.run_main()
         asked, text = self.log().split("\n", 1)
-        only = [f"--only values::{it}" for it in ("h", "f_mutant1", "g_mutant1", "f_mutant2")]
+        only = [f"--only values::{it}" for it in ("h_copy1", "f_copy1", "g_copy1", "f_copy2")]
         self.assertEqual(asked, " ".join(["check mb_a --jobs 1", *only]))
-        f, g, *others = SOURCE.replace("3", "3 + 0").splitlines(keepends=True)
-        copies = ["fn f_mutant2() { also wrong, k() }\n", "fn f_mutant1() { wrong, k() }\n"]
-        self.assertEqual(text, "".join([f, *copies, g, "fn g_mutant1() { wrong }\n", *others]))
+        f, g, h, *others = SOURCE.splitlines(keepends=True)
+        copies = ["fn f_copy2() { also wrong, k() }\n", "fn f_copy1() { wrong, k() }\n"]
+        copies += [g, "fn g_copy1() { wrong }\n", h, "fn h_copy1() { 3 + 0 }\n"]
+        self.assertEqual(text, "".join([f, *copies, *others]))
 
     def test_a_copy_has_proof_files(self):
-        self.write(f"{self.crate}/proofs/values/f/Answers.antt", "")
+        self.write(f"{self.crate}/proofs/values/f/Answers.antt", "use Rattle.mb_a.proofs.values.f.Goals as goal")
         self.run_main()
-        self.assertIn("\nproofs/values/f/Answers.antt proofs/values/f_mutant1/Answers.antt", self.log())
+        self.assertIn("\nproofs/values/f/Answers.antt proofs/values/f_copy1/Answers.antt", self.log())
 
     def test_a_static_library_is_checked_as_a_library(self):
         kit = types.SimpleNamespace(guarded=list, RATTLE="rattle")
@@ -171,9 +172,9 @@ class Trying(WithKit):
         crate = types.SimpleNamespace(words=words)
         self.assertEqual(mutants.command(kit, crate), ["rattle", "check", "mb_a", "--jobs", "1"])
 
-    def test_a_mutant_that_survives(self):
+    def test_a_copy_that_survives(self):
         self.mutant("g.edit", text_of("values::g", "2", "5"))
-        self.ends(1, "2 passed, 1 failed", "mb_a/g.edit: NOT REFUSED: fn mb_a::values::g_mutant1: proved", "mb_a: 2 checks")
+        self.ends(1, "2 passed, 1 failed", "mb_a/g.edit: NOT REFUSED: fn mb_a::values::g_copy1: proved", "mb_a: 2 checks")
 
     def test_a_function_that_is_no_longer_there(self):
         self.mutant("g.edit", text_of("old_values::g", "2", "wrong"))
@@ -195,11 +196,11 @@ class Trying(WithKit):
                   "mb_a/harmless.control: proved: in 1 of the 1 checks")
         with open(f"{self.kit}/kept", encoding="utf-8") as file:
             first, second = file.read().splitlines()
-        names = ("f_mutant1", "g_mutant1", "h")
+        names = ("f_copy1", "g_copy1", "h_copy1")
         parts = [f"X-proofs.values.{it}.{part}" for it in names for part in ("Code.oantt", "judged")]
         self.assertEqual((first, second), ("", " ".join(parts)))
         last = [it for it in self.log().splitlines() if it.startswith("check")][-1]
-        self.assertRegex(last, r"--jobs 1 --only values::f_mutant1 --incremental \S+$")
+        self.assertRegex(last, r"--jobs 1 --only values::f_copy2 --incremental \S+$")
 
     def test_the_first_check_of_a_crate_begins_with_what_was_proved_before(self):
         self.write(f"{self.crate}/out/incremental/X-proofs.values.k.oantt", "proved")
@@ -224,7 +225,7 @@ class Trying(WithKit):
         self.ends(1, "3 passed, 1 failed", "mb_a/z.edit: NOT TRIED: the control beside it is not proved",
                   "mb_a/harmless.control: proved: in 1 of the 2")
 
-    def test_a_mutant_that_survives_is_tried_again_over_nothing(self):
+    def test_a_copy_that_survives_is_tried_again_over_nothing(self):
         self.second_check("5")
         self.ends(1, "3 passed, 1 failed", "mb_a/z.edit: NOT REFUSED", "mb_a: 3 checks")
         last = [it for it in self.log().splitlines() if it.startswith("check")][-1]
@@ -367,7 +368,7 @@ class Finding(WithKit):
         os.makedirs(f"{self.top}/crates/mb_low/out/rlib")
         self.ends(0, "3 passed, 0 failed", words=["--proved"])
 
-    def test_no_mutants_at_all(self):
+    def test_no_copys_at_all(self):
         for name in os.listdir(f"{self.crate}/mutants"):
             os.remove(f"{self.crate}/mutants/{name}")
         os.rmdir(f"{self.crate}/mutants")
