@@ -40,7 +40,7 @@ from judging import judged, spoiled, unended
 
 TOP = os.path.dirname(os.path.dirname(os.path.abspath(__file__)))
 # The most that one check has been seen to take, with some room, in bytes.
-MEMORY = 3_000_000_000
+MEMORY = 3_500_000_000
 # How often the libraries that rt ci makes are looked for, and how long one has to stand there, in seconds.
 PAUSE = 5
 
