@@ -15,7 +15,7 @@ LARGE = TOP / "crates" / "bench_large" / "out" / "bench_large"
 BESIDE = ROOM / "release" / "beside_queues"
 COST = ROOM / "release" / "examples" / "cost"
 C = TOP / "bindings" / "c"
-ARCHIVE = TOP / "bindings" / "prebuilt" / "x86_64-linux" / "libhazbultra.a"
+ARCHIVE = TOP / "bindings" / "rust" / "prebuilt" / "libhazbultra.a"
 NANOSECONDS = {"s": 1e9, "ms": 1e6, "µs": 1e3, "ns": 1}
 
 

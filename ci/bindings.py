@@ -4,7 +4,7 @@
     ci/bindings.py                     # what CI runs, after the proofs
     ci/bindings.py --archive PATH      # the same over another archive, which is not compared with a build
     ci/bindings.py --proved            # the same right after rt ci, whose libraries it takes as they are
-    ci/bindings.py --place             # builds the archive, and puts it into bindings/prebuilt with its text file
+    ci/bindings.py --place             # builds the archive, and puts it into bindings/rust/prebuilt with its text file
 
 A step that cannot run here says that it was skipped, and why. It counts as neither passed nor failed. Nothing is fetched by network.
 The last line is `N passed, N failed`, and the status is 0 if none failed.
@@ -28,7 +28,7 @@ TOP = os.path.dirname(os.path.dirname(os.path.abspath(__file__)))
 CRATE = f"{TOP}/crates/hazbultra"
 C = f"{TOP}/bindings/c"
 RUST = f"{TOP}/bindings/rust"
-PREBUILT = f"{TOP}/bindings/prebuilt/x86_64-linux/libhazbultra.a"
+PREBUILT = f"{TOP}/bindings/rust/prebuilt/libhazbultra.a"
 HEAP = {"rattle_alloc", "rattle_realloc", "rattle_dealloc"}
 # What the archive may leave to others: the heap, and what compilers call by themselves.
 OUTSIDE = HEAP | {"memcpy", "memset", "memmove", "memcmp", "bcmp"}

@@ -13,7 +13,7 @@ fn main() {
         "the proved archive is for x86_64 Linux alone, and not for {arch} {os}"
     );
     println!("cargo:rerun-if-env-changed=HAZBULTRA_LIB");
-    let beside = PathBuf::from(env!("CARGO_MANIFEST_DIR")).join("../prebuilt/x86_64-linux");
+    let beside = PathBuf::from(env!("CARGO_MANIFEST_DIR")).join("prebuilt");
     let folder = env::var_os("HAZBULTRA_LIB").map_or(beside, PathBuf::from);
     // A relative folder is looked up from that of the package, where this runs. rustc runs elsewhere, so it gets the
     // whole path.
