@@ -5,7 +5,7 @@ set -u
 crate=$(cd "$(dirname "$0")/.." && pwd) && room=$(mktemp -d) || exit 2
 trap 'rm -rf "$room"' EXIT
 trap 'exit 2' HUP INT TERM
-unset CARGO_TARGET_DIR CARGO_BUILD_TARGET HAZBULTRA_LIB
+unset CARGO_TARGET_DIR CARGO_BUILD_TARGET_DIR CARGO_BUILD_TARGET HAZBULTRA_LIB
 export CARGO_HOME="$room/home" GIT_CONFIG_GLOBAL=/dev/null
 letter=target/debug/examples/one_letter failed=0
 
