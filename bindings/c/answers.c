@@ -12,11 +12,6 @@ static void fail(int line, const char *what) {
     exit(1);
 }
 
-/* The sizes that the library was built with. */
-_Static_assert(sizeof(hz_handle) == 16 && sizeof(hz_setup) == 40, "hazbultra.h is of another machine");
-_Static_assert(sizeof(hz_lane) == 24 && sizeof(hz_diary) == 16, "hazbultra.h is of another machine");
-_Static_assert(sizeof(hz_note) == 16 && sizeof(hz_missing) == 8, "hazbultra.h is of another machine");
-
 struct tried {
     bool there;
     void *at;
