@@ -125,9 +125,9 @@ static void kinds(hz_handle *part, bool is_hub, bool is_producer, bool is_consum
 }
 
 static void report_of_one(hz_handle *report) {
-    uint64_t lanes = 0, consumers = 0, copied = 0, items[4] = {9, 9, 9, 9};
-    hz_lane lane = {0};
-    hz_diary diary = {0};
+    uint64_t lanes, consumers, copied, items[4] = {9, 9, 9, 9};
+    hz_lane lane;
+    hz_diary diary;
     hz_note notes[4] = {{9, 9}, {9, 9}, {9, 9}, {9, 9}};
     kinds(report, false, false, false, true);
     EXPECT(hz_report_size(report, &lanes, &consumers) == HZ_DONE && lanes == 2 && consumers == 2);

@@ -20,7 +20,7 @@ static uint64_t through_c(uint64_t number) {
 }
 
 int main(void) {
-    if (through_c(7) != 7 || through_rust(8) != 8)
+    if (through_c(7) != 7 || through_rust(8) != 8 || hz_next_id() == hz_next_id())
         return 1;
     puts("a mailbox in C and one in Rust, in one program");
     return 0;
