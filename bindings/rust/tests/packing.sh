@@ -37,9 +37,10 @@ has_mark() { grep -q 'marked logic=' "$1"; }
 
 built() { place here && prints_letter here; }
 moved() { built && mv here there && prints_letter there; }
-copied() {
-    built && cp -a here there && mark there && prints_letter there && prints_letter here &&
-        has_mark "there/$letter" && ! has_mark "here/$letter"
+copied() { # and the archive of one is not linked into the other
+    built && cp -a here there && mark here && touch there/src/lib.rs && prints_letter there && prints_letter here &&
+        ! has_mark "there/$letter" && has_mark "here/$letter" && mark there && prints_letter there &&
+        has_mark "there/$letter"
 }
 packed() { # also by cargo, to verify it. After that the crate still has its own archive
     place here && (cd here && cargo package --quiet --offline) && tar -xzf here/target/package/hazbultra-*.crate &&
