@@ -26,6 +26,7 @@ fn a_report_waits_for_all_parts() {
         producers: 2,
         consumers: 1,
         mailbox,
+        ..
     }) = mailbox.gather()
     else {
         panic!("three parts are out")
@@ -35,6 +36,7 @@ fn a_report_waits_for_all_parts() {
         producers: 1,
         consumers: 1,
         mailbox,
+        ..
     }) = mailbox.gather()
     else {
         panic!("two parts are out")
@@ -176,14 +178,14 @@ fn lanes_that_nobody_asked_for_can_be_ended() {
 
 #[test]
 fn a_sweep_takes_the_lanes_in_turn() {
+    use Sweep::{Nothing, Took};
     let mailbox = Mailbox::numbers().producers(3).build().unwrap();
     let mut producers = [(); 3].map(|()| mailbox.producer().unwrap());
-    for item in [0, 10, 1, 11] {
-        producers[item as usize / 10].put(item).unwrap();
+    for (lane, item) in [(0, 0), (1, 10), (0, 1), (1, 11)] {
+        producers[lane].put(item).unwrap();
     }
     let mut consumer = mailbox.consumer().unwrap();
     let taken: Vec<_> = (0..5).map(|_| consumer.sweep()).collect();
-    use Sweep::{Nothing, Took};
     assert_eq!(taken, [Took(0), Took(10), Took(1), Took(11), Nothing]);
     producers[2].put(20).unwrap();
     assert_eq!(consumer.sweep().taken(), Some(20));
