@@ -45,13 +45,13 @@
 #define HZ_VERSION_MINOR 1
 #define HZ_VERSION_PATCH 0
 
-/* HZ_CHECKED: the caller has to look at the code. HZ_POINTERS: no pointer is null, as rule 2 says. */
+/* HZ_CHECKED: the caller has to look at the code. HZ_NONNULL: no pointer is null, as rule 2 says. */
 #if defined(__GNUC__)
 #define HZ_CHECKED __attribute__((warn_unused_result))
-#define HZ_POINTERS __attribute__((nonnull))
+#define HZ_NONNULL __attribute__((nonnull))
 #else
 #define HZ_CHECKED
-#define HZ_POINTERS
+#define HZ_NONNULL
 #endif
 
 #if defined(__SANITIZE_THREAD__)
@@ -165,31 +165,31 @@ extern uint64_t hz_next_id(void);
 
 /* A mailbox of this setup, and its hub. It takes up to 13 kB of stack: a thread of the least size, 16 kB, is too small.
  * HZ_DONE: hub leads to the hub. HZ_BAD_HANDLE: hub is not HZ_NONE. HZ_NO_MEMORY. HZ_BAD_TABLE .. HZ_BAD_PAIRS. */
-HZ_CHECKED HZ_POINTERS
+HZ_CHECKED HZ_NONNULL
 uint32_t hz_mailbox_new(uint64_t id, const hz_setup *setup, hz_handle *hub);
 
 /* The producer of the next lane. Lanes are given in order, from 0 on.
  * HZ_DONE: producer leads to it. HZ_BAD_HANDLE. HZ_ALL_GIVEN: every lane was given. HZ_NO_MEMORY. */
-HZ_CHECKED HZ_POINTERS
+HZ_CHECKED HZ_NONNULL
 uint32_t hz_producer_new(hz_handle *hub, hz_handle *producer);
 
 /* The consumer of the next number. Numbers are given in order, from 0 on. Its random words are those of ChaCha8 from this
  * seed and stream: give each consumer of a mailbox another seed or another stream. Equal words make polls longer, and
  * never wrong.
  * HZ_DONE: consumer leads to it. HZ_BAD_HANDLE. HZ_ALL_GIVEN: every number was given. HZ_NO_MEMORY. */
-HZ_CHECKED HZ_POINTERS
+HZ_CHECKED HZ_NONNULL
 uint32_t hz_consumer_new(hz_handle *hub, const uint8_t seed[32], uint64_t stream, hz_handle *consumer);
 
 /* Puts an item, any number, at the end of the producer's lane. It makes three accesses at most and takes no memory.
  * HZ_LINKED: it is there. HZ_FULL: no cell is left, the item is still the caller's, and each further put
  * up to hz_finish is HZ_FULL too.
  * HZ_CLOSED: the lane has ended. HZ_BAD_HANDLE. */
-HZ_CHECKED HZ_POINTERS
+HZ_CHECKED HZ_NONNULL
 uint32_t hz_put(hz_handle *producer, uint64_t item);
 
-/* Ends the lane: no item comes after those that it has. Its code may be left aside: the lane has ended after the first two.
+/* Ends the lane: no item comes after those that it has. Its code may be ignored: the lane has ended after the first two.
  * HZ_DONE. HZ_CLOSED: it had ended before. HZ_BAD_HANDLE. */
-HZ_POINTERS
+HZ_NONNULL
 uint32_t hz_finish(hz_handle *producer);
 
 /* Makes accesses on a lane until one has a result, or budget of them were made. It takes no memory.
@@ -198,54 +198,54 @@ uint32_t hz_finish(hz_handle *producer);
  * true. HZ_NOTHING: no further item is linked yet. HZ_ENDED: no further item comes. HZ_SPENT: the budget is used up,
  * and the next poll of the lane goes on from there. It never comes of the budget UINT64_MAX. HZ_NO_LANE: there is no
  * such lane. HZ_BAD_HANDLE. value is written at HZ_TOOK and HZ_LOST only. */
-HZ_CHECKED HZ_POINTERS
+HZ_CHECKED HZ_NONNULL
 uint32_t hz_poll(hz_handle *consumer, uint64_t lane, uint64_t budget, uint64_t *value);
 
 /* Takes a producer or a consumer back, also before its lane has ended or while it holds a claim. What it did is kept for
  * the report, and its number is not given again.
  * HZ_DONE: part is HZ_NONE then. HZ_BAD_HANDLE: hub is no hub, or part is no producer or consumer. HZ_OTHER_MAILBOX:
  * part's mailbox has another id than the hub. */
-HZ_CHECKED HZ_POINTERS
+HZ_CHECKED HZ_NONNULL
 uint32_t hz_take_back(hz_handle *hub, hz_handle *part);
 
 /* Ends the mailbox, and makes the report of all that was taken back.
  * HZ_DONE: hub is HZ_NONE then, and report leads to the report. HZ_BAD_HANDLE. HZ_MISSING: so many producers and consumers
  * were given and not taken back; missing is written at this code only. HZ_NO_MEMORY: it may be called again. */
-HZ_CHECKED HZ_POINTERS
+HZ_CHECKED HZ_NONNULL
 uint32_t hz_gather(hz_handle *hub, hz_handle *report, hz_missing *missing);
 
 /* How many lanes and how many consumers a report has: those of the setup.
  * HZ_DONE. HZ_BAD_HANDLE. */
-HZ_CHECKED HZ_POINTERS
+HZ_CHECKED HZ_NONNULL
 uint32_t hz_report_size(hz_handle *report, uint64_t *lanes, uint64_t *consumers);
 
 /* The numbers of one lane.
  * HZ_DONE. HZ_BAD_HANDLE. HZ_NOT_THERE: there is no such lane. */
-HZ_CHECKED HZ_POINTERS
+HZ_CHECKED HZ_NONNULL
 uint32_t hz_report_lane(hz_handle *report, uint64_t lane, hz_lane *out);
 
 /* The numbers of one diary, that of this consumer on this lane.
  * HZ_DONE. HZ_BAD_HANDLE. HZ_NOT_THERE: there is no such consumer or lane. */
-HZ_CHECKED HZ_POINTERS
+HZ_CHECKED HZ_NONNULL
 uint32_t hz_report_diary(hz_handle *report, uint64_t consumer, uint64_t lane, hz_diary *out);
 
 /* Copies items of a lane in their order, from position from on: if left is true those that nobody took, else those put.
  * copied is how many were copied, at most room. The rest of items is as it was.
  * HZ_DONE. HZ_BAD_HANDLE. HZ_NOT_THERE: there is no such lane. */
-HZ_CHECKED HZ_POINTERS
+HZ_CHECKED HZ_NONNULL
 uint32_t hz_report_items(hz_handle *report, uint64_t lane, bool left, uint64_t from, uint64_t *items, size_t room,
                          uint64_t *copied);
 
 /* Copies notes of a diary in their order, from position from on.
  * copied is how many were copied, at most room. The rest of notes is as it was.
  * HZ_DONE. HZ_BAD_HANDLE. HZ_NOT_THERE: there is no such consumer or lane. */
-HZ_CHECKED HZ_POINTERS
+HZ_CHECKED HZ_NONNULL
 uint32_t hz_report_notes(hz_handle *report, uint64_t consumer, uint64_t lane, uint64_t from, hz_note *notes, size_t room,
                          uint64_t *copied);
 
 /* Frees what the handle leads to, which is HZ_NONE then. HZ_NONE itself is left as it is. A producer or a consumer that is
  * freed, and not taken back, is missing at each gather of its mailbox. */
-HZ_POINTERS
+HZ_NONNULL
 void hz_free(hz_handle *handle);
 
 /* Told to ThreadSanitizer, if there is one: see AN ITEM MAY BE A POINTER. */
