@@ -39,7 +39,6 @@ pub mod StepsLeft
 pub mod MostSteps
 -- A claim that goes straight
 pub mod Straight
-pub mod WordSteps
 -- The fast path and the last object
 pub mod FastPath
 pub mod PassedRatifiers

@@ -6,7 +6,6 @@ use Rattle.mb_quorum.specs.Vocabulary.{QuorumTable}
 use Rattle.mb_deciding.specs.Vocabulary.{first_place}
 use Rattle.mb_claim.specs.{Conciliator, Ratifier, LastObject, Pc, InRatifier, Announce, Site, Claim, Going, Won, Lost, Layout}
 use Rattle.mb_claim.specs.{quorums_of, kinds_of, consumer_count, standing, IsStanding, HasEnd, HasStopped, site_of, words_before}
-use Rattle.mb_claim.specs.{CellClaim, IsOnCell, cell_words, row_words}
 use Rattle.mb_claim.specs.StraightExamples.{IsOfTwo, on_ratifier, told}
 use Rattle.mb_claim.proofs.Straight.{is_standing, standing_is, standing_end}
 
@@ -93,18 +92,3 @@ module _ (layout : Layout) (two : IsOfTwo layout) where
           same_Some (Conciliator 2) LastObject (sym first_kind ∙ last) in
           absurd (cc)
       by_reason (inr few) = absurd (omega (arith, registers, few))
-
-  -- a claim that is kept on cell 1, on the ratifier, has its words from the second of that cell's four on
-  one_cell : cell_words layout ≡ 4
-  one_cell = λ i. row_words (registers i) (two.1 i)
-
-  pub kept_here : (kept : CellClaim) → kept.object ≡ 1 → kept.begin ≡ 5 → IsOnCell layout 1 kept
-  kept_here kept on begins =
-      begins ∙ sym (ap (λ (n : ℕ). (site_of layout (1 * n) kept.object).begin) one_cell
-      ∙ ap (λ (o : ℕ). (site_of layout 4 o).begin) on ∙ ap (λ (site : Site). site.begin) ratifier_site)
-
-  pub kept_elsewhere : (kept : CellClaim) → kept.object ≡ 1 → kept.begin ≡ 4 → IsOnCell layout 1 kept → ⊥
-  kept_elsewhere kept on begins here =
-      let same : kept.begin ≡ 5 = here ∙ (ap (λ (n : ℕ). (site_of layout (1 * n) kept.object).begin) one_cell
-      ∙ ap (λ (o : ℕ). (site_of layout 4 o).begin) on ∙ ap (λ (site : Site). site.begin) ratifier_site) in
-      absurd (omega (arith, begins, same))

@@ -1,6 +1,6 @@
 -- Histories of claims on one cell, for two consumers and one pair over the unary table. Some are lawful, and some are
 -- not. Below them stand the steps and entries of a play of such claims, and accesses in words.
-use Rattle.std.specs.Prelude.{ℕ, ◌≡◌, ◌+◌, List, [], ◌∷◌}
+use Rattle.std.specs.Prelude.{ℕ, ◌≡◌, List, [], ◌∷◌}
 use Rattle.mb_quorum.specs.Unary.{unary_table}
 use Rattle.mb_claim.specs.declared.run.ClaimEntry.TheVariants as entry
 use Rattle.mb_claim.specs.AllClaims.{Claims, claims_of}
@@ -8,7 +8,7 @@ use Rattle.mb_claim.specs.ObjectTypes.{Value, Proposal, Quorum, Act, Load, Store
 use Rattle.mb_claim.specs.Types.{ClaimAccess, Stage, ClaimEntry}
 use Rattle.mb_claim.specs.Rows.{pairs_of}
 use Rattle.mb_claim.specs.Plays.{IsPlayed}
-use Rattle.mb_claim.specs.WordSteps.{MakesInWords}
+use Rattle.mb_claim.specs.States.{found_in, access_in, words_after}
 
 -- the claims of two consumers on one cell with one pair over the unary table
 abbrev pub two_consumers : Claims
@@ -87,13 +87,13 @@ won_and e =
     ∷ entry.Access 0 1 (Load (Quorum 1) 0) ∷ e ∷ []
 
 -- ---- accesses in words
--- a source whose words count on from the number that it is at
-abbrev pub counts_on : ℕ → ℕ → ℕ → Type 0
-counts_on source word after = (word ≡ source) × (after ≡ source + 1)
+-- four words of the cell that were 0
+abbrev pub four_zeros : List ℕ
+four_zeros = 0 ∷ 0 ∷ 0 ∷ 0 ∷ []
 
--- in four words that were 0, with the random word 0 of such a source, consumer 0 made this op on object 0 of cell 0, and
--- it found this value. It left these words, and is this access
+-- in those words, with the random word 0, consumer 0 made this op on object 0 of cell 0, and it found this value. It
+-- left these words, and is this access
 abbrev pub IsMadeFirst : Op → ℕ → List ℕ → ClaimAccess → Type 0
 IsMadeFirst op seen after access =
-    MakesInWords two_consumers 0 0 counts_on (0 ∷ 0 ∷ 0 ∷ 0 ∷ [], [], 0) 0 (record { object = 0; op = op }) seen
-    (after, access ∷ [], 1)
+    (seen ≡ found_in two_consumers 0 0 op four_zeros) × (after ≡ words_after two_consumers 0 0 op four_zeros)
+    × (access ≡ access_in two_consumers 0 0 0 op 0 four_zeros)

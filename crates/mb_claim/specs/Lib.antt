@@ -12,8 +12,6 @@ pub mod States
 pub mod OneClaim
 pub mod ManyClaimSteps
 pub mod Straight
-pub mod WordSteps
-pub mod CellClaims
 pub mod Refusals
 pub mod Plays
 pub mod Boards
@@ -35,8 +33,6 @@ pub use States.*
 pub use OneClaim.*
 pub use ManyClaimSteps.*
 pub use Straight.*
-pub use WordSteps.*
-pub use CellClaims.*
 pub use Refusals.*
 pub use Plays.*
 pub use Boards.*

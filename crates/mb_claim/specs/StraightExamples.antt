@@ -4,8 +4,7 @@ use Rattle.std.specs.Prelude.{ℕ, ◌≡◌, Bool}
 use Rattle.mb_quorum.specs.Bits.{bits_table}
 use Rattle.mb_deciding.specs.declared.place.pc.Pc.TheVariants.{InRatifier}
 use Rattle.mb_deciding.specs.declared.place.ratifier.RatifierPlace.TheVariants.{Announce}
-use Rattle.mb_deciding.specs.declared.place.flat.Spot.TheVariants.{AtAnnounce}
-use Rattle.mb_claim.specs.Types.{CellClaim, Claim, Going, Layout, Stage, Stretch}
+use Rattle.mb_claim.specs.Types.{Claim, Layout, Stage, Stretch}
 use Rattle.mb_claim.specs.Rows.{pairs_of}
 use Rattle.mb_claim.specs.Layouts.{quorums_of, kinds_of}
 
@@ -28,14 +27,3 @@ on_ratifier begun stage =
 -- straight accesses told that they ended there
 abbrev pub told : Stage → ℕ → ℕ → ℕ → Stretch
 told stage object value left = record { stage = stage; object = object; value = value; left = left }
-
--- that claim as it is kept on this object, whose words begin there
-abbrev pub kept_on : ℕ → ℕ → CellClaim
-kept_on object begin =
-    record {
-      consumer = 1;
-      object = object;
-      place = record { spot = AtAnnounce; value = 0; mask = 1; top = 0 };
-      begin = begin;
-      stage = Going;
-    }

@@ -11,8 +11,8 @@ ghost use Rattle.mb_claim.specs.{won_and, two_with, lost_at_second, skip_both_ra
 ghost use Rattle.mb_claim.specs.{last_decides, last_found_empty_twice, last_comes_first, through_all, skip_the_pair};
 ghost use Rattle.mb_deciding.specs.declared.access.Op.TheVariants as to;
 ghost use Rattle.mb_claim.specs.{Conciliator, IsMadeFirst, access_at};
-ghost use Rattle.mb_claim.specs.{IsStanding, HasEnd, HasStopped, site_of, CellClaim, IsOnCell, IsAtFirst, claim_of};
-ghost use Rattle.mb_claim.specs.StraightExamples.{IsOfTwo, on_ratifier, kept_on, told};
+ghost use Rattle.mb_claim.specs.{IsStanding, HasEnd, HasStopped, site_of};
+ghost use Rattle.mb_claim.specs.StraightExamples.{IsOfTwo, on_ratifier, told};
 
 use crate::laws::last_objects_decide_claims;
 use mb_deciding::examples::small_histories;
@@ -191,30 +191,6 @@ pub fn straight_claims_go_on()
     ensures few { (layout : Layout) → IsOfTwo layout → HasStopped layout (told Going 0 1 13) }
     ensures many { (layout : Layout) → IsOfTwo layout
         → HasStopped layout (told Going 0 1 14) → ⊥ }
-{}
-
-/// Where the ratifier's words begin for a claim that is kept on cell 1.
-pub fn kept_claims_tell_where_they_are()
-    // A cell has four words, and the ratifier's begin at its second.
-    ensures here { (layout : Layout) (kept : CellClaim) → IsOfTwo layout
-        → kept.object ≡ 1 → kept.begin ≡ 5 → IsOnCell layout 1 kept }
-    ensures elsewhere { (layout : Layout) (kept : CellClaim) → IsOfTwo layout
-        → kept.object ≡ 1 → kept.begin ≡ 4 → IsOnCell layout 1 kept → ⊥ }
-{}
-
-/// The claim of consumer 1 on that ratifier, as it is kept.
-pub fn kept_claims_stand_for_claims()
-    // Where its words begin does not count.
-    ensures claim { (begun : Bool) (begin : ℕ)
-        → claim_of begun (kept_on 1 begin) ≡ on_ratifier begun Going }
-
-    // One that has made no access is another, and so is one on another object.
-    ensures fresh { claim_of false (kept_on 1 5) ≡ on_ratifier true Going → ⊥ }
-    ensures object { (begun : Bool) → claim_of begun (kept_on 0 5) ≡ on_ratifier begun Going → ⊥ }
-
-    // Object 0 is the first one.
-    ensures first { (begin : ℕ) → IsAtFirst (kept_on 0 begin) }
-    ensures second { (begin : ℕ) → IsAtFirst (kept_on 1 begin) → ⊥ }
 {}
 
 /// The first access in words of one cell, which were 0.

@@ -15,8 +15,6 @@ ghost use Rattle.mb_deciding.specs.{invented_turns, patient_turns, impatient_tur
 ghost use Rattle.mb_deciding.specs.{clear_entries, hidden_entries, patient_entries, impatient_entries};
 ghost use Rattle.mb_deciding.specs.declared.trace.Entry.TheVariants as entry;
 ghost use Rattle.mb_deciding.specs.{InConciliator, InRatifier, InLast, Draw, Announce, Check, first_place, checks_of};
-ghost use Rattle.mb_deciding.specs.{FlatPlace, AtDraw, AtPut, AtLook, AtCheck, NotYet, Undecided, Decided};
-ghost use Rattle.mb_deciding.specs.FlatPlaces.{pc_at, pc_of, out_in, flat_next, stood_on};
 
 /// Small histories of one process with the input 0. Those with `→ ⊥` are not lawful.
 pub fn small_histories()
@@ -125,35 +123,6 @@ pub fn rows_of_accesses()
     ensures one { (t : QuorumTable) (pc : Pc) (out : Out) (m now : ℕ)
         → AreSteps t (λ before word op seen now. now ≡ before + 1) pc m 1 (leads.Out out) now
         → now ≡ m + 1 }
-{}
-
-/// Flat places by their fields, and what follows an access from one.
-pub fn flat_places()
-    ensures check { pc_at AtCheck 1 4 8 ≡ InRatifier (Check 1 4) }
-
-    // Numbers that the place does not have do not count.
-    ensures put { pc_at AtPut 1 4 8 ≡ pc_at AtPut 1 0 0 }
-
-    // Two spots are two places, and a decided output is not an undecided one.
-    ensures apart { pc_at AtPut 1 4 8 ≡ pc_at AtLook 1 4 8 → ⊥ }
-    ensures decided { out_in Decided 1 ≡ out_in Undecided 1 → ⊥ }
-
-    // Without an output the process goes on from the place, and the value does not count. An output has its value.
-    ensures next { (flat : FlatPlace) → flat_next NotYet 1 flat ≡ leads.Go (pc_of flat) }
-    ensures out { (flat : FlatPlace) → flat_next Decided 1 flat ≡ leads.Out (answer true 1) }
-    ensures value { (flat : FlatPlace)
-        → flat_next Decided 1 flat ≡ leads.Out (answer true 2) → ⊥ }
-
-    // A draw with the modulus 8 keeps 7.
-    ensures draw { pc_at AtDraw 1 2 7 ≡ InConciliator (Draw 1 2 8) }
-    ensures modulus { pc_at AtDraw 1 2 8 ≡ InConciliator (Draw 1 2 8) → ⊥ }
-
-    // On another spot, with another value, the mask stays.
-    ensures stood { stood_on AtCheck 1 (record { spot = AtPut; value = 0; mask = 4; top = 7 })
-        ≡ record { spot = AtCheck; value = 1; mask = 4; top = 7 } }
-    ensures mask { stood_on AtCheck 1 (record { spot = AtPut; value = 0; mask = 4; top = 7 })
-        ≡ record { spot = AtCheck; value = 1; mask = 0; top = 7 } → ⊥ }
-    ensures spot { (flat : FlatPlace) → flat.spot ≡ AtPut → stood_on AtLook 1 flat ≡ flat → ⊥ }
 {}
 
 /// Where a process with the input 1 begins, over the unary table of two values.

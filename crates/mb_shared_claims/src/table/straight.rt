@@ -1,4 +1,4 @@
-//! Many steps of a claim on the words of a table, each with a random word of its own.
+//! A new claim goes straight on the words of a table, each access with a random word of its own.
 ghost use Rattle.std.specs.Prelude.{◌<◌, ◌^◌};
 
 use crate::rule::MakeAccess;
@@ -8,7 +8,7 @@ use mb_claim::laws::{claims_are_bounded, last_objects_decide_claims, layouts_are
 use mb_claim::steps::{
     accesses_lengthen_one_part, addresses_are_apart, claims_make_steps, places_show_prefixes,
 };
-use mb_claim::{Claim, ClaimOp, Layout, Stage, Stretch};
+use mb_claim::{Claim, ClaimOp, Layout, Stretch};
 use mb_deciding::{Drawing, Memory, Op, Site};
 use rand_core::Rng;
 use std::alloc::Allocator;
@@ -16,61 +16,15 @@ use std::marker::Brand;
 
 impl<A: Allocator + Drop> SharedClaims<A> {
     ghost use Rattle.std.specs.Prelude.{◌≡◌, ◌≢◌, ◌<◌, ◌≤◌, ◌+◌, ℕ, [], true, length};
-    ghost use Rattle.mb_claim.specs.Vocabulary.{IsClaimIn, IsStanding, HasEnd, HasStopped, claim_stage, consumer_count, consumer_of, kinds_of};
+    ghost use Rattle.mb_claim.specs.Vocabulary.{IsClaimIn, IsStanding, HasEnd, HasStopped, consumer_count, kinds_of};
     ghost use Rattle.mb_claim.specs.Vocabulary.{most_accesses, part_on, shape_of};
     ghost use Rattle.mb_claim.specs.declared.access.Stage.TheVariants.{Undecided};
-    ghost use Rattle.mb_shared_claims.specs.{Claim, Going, name_of, AreSeatSteps, IsSeatStep};
-
-    /// Makes accesses of a claim of the seat's consumer on a cell, each with the next word of `rng`. It stops if the
-    /// claim has ended or `most` were made. Returns how many it made. As many calls of [`SharedClaims::step`] make the
-    /// same accesses. It goes by single steps, out of line. A new claim goes faster by [`SharedClaims::straight`].
-    #[inline(always)]
-    pub fn run<R: Rng>(
-        &self,
-        seat: &mut ClaimSeat,
-        claim: &mut Claim,
-        cell: u32,
-        rng: &mut R,
-        most: u64,
-    ) -> u64
-        requires table { seat.old.table ≡ name_of self.now }
-        requires cell { cell < self.now.cells }
-        requires consumer { consumer_of claim.old ≡ seat.old.consumer }
-        requires standing { IsClaimIn self.now.layout claim.old
-            (part_on seat.old.consumer cell seat.old.part) }
-
-        // Each access is the next one of the claim, with the next word of `rng`.
-        ensures steps { AreSeatSteps self.now.layout cell claim.old seat.old (R.stream rng.old)
-            result
-            claim.new seat.new (R.stream rng.new) }
-        ensures within { result ≤ most }
-        ensures all { claim_stage claim.new ≡ Going → result ≡ most }
-
-        // So the claim has made all that its consumer has done on the cell, and at most what its layout allows.
-        ensures standing { IsClaimIn self.now.layout claim.new
-            (part_on seat.new.consumer cell seat.new.part) }
-        ensures consumer { consumer_of claim.new ≡ consumer_of claim.old }
-        ensures few { result ≤ most_accesses self.now.layout }
-
-        // With a last object no claim is undecided.
-        ensures decided { (shape_of self.now.layout).last ≡ true
-            → claim_stage claim.new ≢ Undecided }
-    {
-        claims_are_bounded();
-        accesses_lengthen_one_part();
-        last_objects_decide_claims();
-        let mut left = most;
-        'steps: while left != 0 && claim.stage() == Stage::Going {
-            left -= 1;
-            self.single(seat, claim, cell, rng.next_u64());
-        }
-        most - left
-    }
+    ghost use Rattle.mb_shared_claims.specs.{Claim, Going, name_of, AreSeatSteps};
 
     /// Makes the accesses of a new claim of the seat's consumer on a cell, each with the next word of `rng`. It goes
     /// object by object, as long as 10 of `most` accesses and 2 for each quorum register are left. It stops before a
     /// last object. As many calls of [`SharedClaims::step`] make the same accesses. The rest is for
-    /// [`SharedClaims::run`], with the claim of [`Claim::standing`].
+    /// that call, with the claim of [`Claim::standing`].
     #[inline(always)]
     pub fn straight<R: Rng>(
         &self,
@@ -120,24 +74,6 @@ impl<A: Allocator + Drop> SharedClaims<A> {
             rng: &mut *rng,
         };
         Claim::straight(layout, &mut memory, layout.begin(cell), consumer, most)
-    }
-
-    /// Makes one step of a claim, out of line.
-    #[cold]
-    #[inline(never)]
-    fn single(&self, seat: &mut ClaimSeat, claim: &mut Claim, cell: u32, word: u64)
-        requires table { seat.old.table ≡ name_of self.now }
-        requires cell { cell < self.now.cells }
-        requires consumer { consumer_of claim.old ≡ seat.old.consumer }
-        requires standing { IsClaimIn self.now.layout claim.old
-            (part_on seat.old.consumer cell seat.old.part) }
-        requires going { claim_stage claim.old ≡ Going }
-        ensures step { IsSeatStep self.now.layout cell word claim.old seat.old claim.new seat.new }
-        ensures standing { IsClaimIn self.now.layout claim.new
-            (part_on seat.new.consumer cell seat.new.part) }
-        ensures consumer { consumer_of claim.new ≡ consumer_of claim.old }
-    {
-        self.step(seat, claim, cell, word);
     }
 }
 

@@ -1,6 +1,6 @@
 -- Choices for the calls of `DrawingWords::perform`: makes an access from the seat.
 use Rattle.mb_shared_claims.specs.SeatSteps.{access_of}
-use Rattle.mb_shared_claims.proofs.table.run.DrawingWordsMemory.perform.Given as goal
+use Rattle.mb_shared_claims.proofs.table.straight.DrawingWordsMemory.perform.Given as goal
 
 -- the access that the call of `make` makes, by the value that it finds
 abbrev pub ghosts-make : goal.ghosts-make

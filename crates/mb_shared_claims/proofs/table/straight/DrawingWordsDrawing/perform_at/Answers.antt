@@ -3,7 +3,7 @@ use Rattle.std.proofs.Common.{ap, arith}
 use Rattle.mb_deciding.specs.Vocabulary.{reg_of}
 use Rattle.mb_claim.specs.Vocabulary.{quorums_of, kinds_of, offset}
 use Rattle.mb_shared_claims.proofs.Sites.{word_addressed}
-use Rattle.mb_shared_claims.proofs.table.run.DrawingWordsDrawing.perform_at.Goals as goal
+use Rattle.mb_shared_claims.proofs.table.straight.DrawingWordsDrawing.perform_at.Goals as goal
 
 -- the word lies among the words of the cell, which can be addressed
 pub overflow_add-address : goal.overflow_add-address
