@@ -29,7 +29,8 @@ pub returns-clause-unclaimed : goal.returns-clause-unclaimed
 returns-clause-unclaimed c fit =
     let table = c.named_tables_are_lawful.ensures.lawful Unary 2 (omega arith) in
     let goes =
-    fresh (λ x xs s. c.claims_have_one_next_op.ensures.going two_consumers 0 x xs s) c.examples_are_lawful.ensures.won.1 in
+    fresh (λ x xs s. c.claims_have_one_next_op.ensures.going two_consumers 0 x xs s)
+    c.examples_are_lawful.ensures.won.1 in
     let won = fit.won 0 5 (load 0 (Item 0) 5, inl refl, refl, refl) in
     let e = c.prefixes_have_one_stage.ensures two_consumers 0 [] stage.Going stage.Won table goes won in
     cc
@@ -39,7 +40,8 @@ pub returns-clause-passed : goal.returns-clause-passed
 returns-clause-passed c fit =
     let table = c.named_tables_are_lawful.ensures.lawful Unary 2 (omega arith) in
     let goes =
-    fresh (λ x xs s. c.claims_have_one_next_op.ensures.going two_consumers 0 x xs s) c.examples_are_lawful.ensures.won.1 in
+    fresh (λ x xs s. c.claims_have_one_next_op.ensures.going two_consumers 0 x xs s)
+    c.examples_are_lawful.ensures.won.1 in
     let end = fit.ended 0 0 (load 0 (Link 0) 0, inl refl, refl, refl) in
     end.2 (c.prefixes_have_one_stage.ensures two_consumers 0 [] end.0 stage.Going table end.1 goes)
 
