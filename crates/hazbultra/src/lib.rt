@@ -11,7 +11,6 @@ mod calls;
 mod codes;
 mod copies;
 mod create;
-pub mod examples;
 mod gathering_end;
 mod handle;
 mod reports;

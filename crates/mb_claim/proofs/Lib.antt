@@ -48,9 +48,5 @@ pub mod PlaySteps
 pub mod OnePlay
 -- Examples
 pub mod LawfulExamples
-pub mod UsedExamples
 pub mod ShapedExamples
-pub mod BothExamples
 pub mod Counterexamples
-pub mod PlayedExamples
-mod StraightExamples

@@ -17,7 +17,6 @@ pub mod Plays
 pub mod Boards
 pub mod Examples
 pub mod ShapedExamples
-pub mod StraightExamples
 pub mod Vocabulary
 -- clauses name these definitions after `Rattle.mb_claim.specs`
 pub use ObjectTypes.*

@@ -25,7 +25,7 @@
 //! - [`play`] runs the claims of all consumers on one cell, step by step.
 //! - [`laws`] has what holds of every lawful history of claims, for all orders of accesses and all random words, and of
 //!   every layout and run. [`steps`] has what one access more changes, for callers that keep words and histories of
-//!   their own. [`examples`] has small histories and runs. All are contracts of functions that compute nothing.
+//!   their own. [`examples`] has small histories. All are contracts of functions that compute nothing.
 #![tactic(auto)]
 
 mod access;

@@ -38,8 +38,7 @@
 //! - [`ratify`] and [`conciliate`] run one object for a whole schedule of turns.
 //! - [`laws`] has what holds of every lawful history of one object, for all orders of accesses and all random words:
 //!   validity, coherence, acceptance and more. These are contracts of functions that compute nothing. [`steps`] is for
-//!   proofs that build histories step by step. [`examples`] has small histories and traces that the definitions admit
-//!   or refuse.
+//!   proofs that build histories step by step. [`examples`] has small histories that the definitions admit or refuse.
 #![tactic(auto)]
 
 mod access;

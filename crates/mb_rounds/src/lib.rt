@@ -19,7 +19,6 @@
 //! any more.
 #![tactic(auto)]
 
-pub mod examples;
 mod hands;
 pub mod laws;
 mod ledgers;
