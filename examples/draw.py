@@ -302,35 +302,20 @@ def chart(heads, marks, places, routes, width):
     return told + "".join(drawn(it, *places[it.column], middle(row)) for row, it in enumerate(marks))
 
 
-def picture(script, said):
-    """The picture of a script, by what the program said of it."""
-    first, *rest = [it.split(" ") for it in script.splitlines()]
-    is_replay, lines = first[0] == "setup", said.splitlines()
-    inputs, count = ([], len(rest)) if is_replay else (rest[0][1:], len(rest[1]) - 1)
-    counts = [(count, "turn"), (len(inputs), "process"), (first[2], "value")]
-    if is_replay:
-        counts = [(count, "event"), *zip(first[1:], ("producer", "consumer", "cell"))]
-    told = [f"{n} {one}{'' if int(n) == 1 else 'es' if one == 'process' else 's'}" for n, one in counts]
-    title = ("Replay: " if is_replay else "Ratifier: ") + ", ".join(told)
-    report = shown_report(lines[count:], "lines" if is_replay else "processes")
-
-    marks = list(map(Replay().mark if is_replay else turn, lines[:count][:MOST]))
-    columns = sorted({it.column for it in marks}, key=lambda it: (it[0] != "producer", it[1:]))
-    heads = {it: (f"{it[0]} {it[1]}", f"lane {it[-1]}" if is_replay else f"input {inputs[it[1]]}") for it in columns}
+def svg(title, heads, marks, hidden, report, its_legend):
+    """The text of a picture, in which so many events are not drawn."""
     places, routes, end = layout(heads, marks, lines_of(marks))
     width = max(end, letters(len(title)) * 7 // 6 + 24, 444)  # (the title has larger letters)
-
     body, y = text("t", 12, 24, title) + chart(heads, marks, places, routes, width), middle(len(marks)) + 10
-    if count > MOST:
-        body += text("b", 12, y, f"{count - MOST} events more are not drawn. The report is of all.")
+    if hidden:
+        body += text("b", 12, y, f"{hidden} events more are not drawn. The report is of all.")
         y += TEXT + 8
     body += text("b", 12, y, "Report")
     wrapper = textwrap.TextWrapper((width - 24) * 4 // 29, subsequent_indent="  ", break_long_words=False)
     for line in itertools.chain.from_iterable(map(wrapper.wrap, report)):
         y += TEXT
         body += f"<text x='{28 if line[0] == ' ' else 12}' y='{y}'>{html.escape(line.strip())}</text>\n"
-    more, height = legend(*(REPLAY_LEGEND if is_replay else RATIFIER_LEGEND), y + TEXT + 10)
-
+    more, height = legend(*its_legend, y + TEXT + 10)
     # Title and desc are for screen readers. The rules, a line each, hold for pictures of this class alone.
     light, dark = (re.sub(r"(?m)^|(?<=,)(?=\.)", ".hz ", it.strip().replace("} ", "}\n")) for it in (LIGHT, DARK))
     return f"""<svg xmlns='http://www.w3.org/2000/svg' class='hz' width='{width}' height='{height}' \
@@ -347,6 +332,23 @@ viewBox='0 0 {width} {height}' role='img' aria-labelledby='title desc'>
 <rect class='bg' width='{width}' height='{height}'/>
 {body}{more}</svg>
 """
+
+
+def picture(script, said):
+    """The picture of a script, by what the program said of it."""
+    first, *rest = [it.split(" ") for it in script.splitlines()]
+    is_replay, lines = first[0] == "setup", said.splitlines()
+    inputs, count = ([], len(rest)) if is_replay else (rest[0][1:], len(rest[1]) - 1)
+    counts = [(count, "turn"), (len(inputs), "process"), (first[2], "value")]
+    if is_replay:
+        counts = [(count, "event"), *zip(first[1:], ("producer", "consumer", "cell"))]
+    told = [f"{n} {one}{'' if int(n) == 1 else 'es' if one == 'process' else 's'}" for n, one in counts]
+    title = ("Replay: " if is_replay else "Ratifier: ") + ", ".join(told)
+    marks = list(map(Replay().mark if is_replay else turn, lines[:count][:MOST]))
+    columns = sorted({it.column for it in marks}, key=lambda it: (it[0] != "producer", it[1:]))
+    heads = {it: (f"{it[0]} {it[1]}", f"lane {it[-1]}" if is_replay else f"input {inputs[it[1]]}") for it in columns}
+    report = shown_report(lines[count:], "lines" if is_replay else "processes")
+    return svg(title, heads, marks, count - len(marks), report, REPLAY_LEGEND if is_replay else RATIFIER_LEGEND)
 
 
 def main(words):
