@@ -16,7 +16,7 @@ use std::time::Duration;
 use work::{mailbox, queue, Plan, Way};
 
 const USAGE: &str = "usage: beside_queues \
-    plain|fast|last|fastlast|boxes|seg|seg_boxes|array|channel|deque \
+    plain|fast|last|fastlast|plain_boxes|boxes|seg|seg_boxes|array|channel|deque \
     threads|lanes|apart|turns|relay PRODUCERS CONSUMERS ITEMS CELLS";
 
 fn shaped(shape: Shape) -> Builder<u64> {
@@ -30,6 +30,7 @@ fn run(what: &str, plan: Plan) -> Option<Duration> {
         "fast" => mailbox(|| shaped(Shape::Fast), plan, |item| item),
         "last" => mailbox(|| shaped(Shape::Last), plan, |item| item),
         "fastlast" => mailbox(|| shaped(Shape::FastLast), plan, |item| item),
+        "plain_boxes" => mailbox(|| Mailbox::builder().shape(Shape::Plain), plan, |item| item),
         "boxes" => mailbox(Mailbox::builder, plan, |item| item),
         "seg" => queue(|_| SegQueue::new(), plan, |item| item),
         "seg_boxes" => queue(|_| SegQueue::new(), plan, Box::new),

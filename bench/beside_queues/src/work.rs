@@ -148,7 +148,7 @@ fn relay<T: Send>(mut parts: Vec<Crew<T>>, plan: Plan, value: fn(u64) -> T) -> D
     let began = Instant::now();
     for item in 0..plan.items {
         assert!(producer.put(value(item)).is_ok(), "a cell for each item");
-        drop(black_box(consumer.poll(0)));
+        drop(black_box(consumer.poll(0).taken()));
     }
     began.elapsed()
 }
