@@ -45,7 +45,7 @@ fn asked(words: &[String]) -> Option<(&str, Plan)> {
     let [what, way, numbers @ ..] = words else {
         return None;
     };
-    let numbers: Option<Vec<u64>> = numbers.iter().map(|it| it.parse().ok()).collect();
+    let numbers: Option<Vec<usize>> = numbers.iter().map(|it| it.parse().ok()).collect();
     let &[producers, consumers, items, cells] = numbers?.as_slice() else {
         return None;
     };
@@ -61,7 +61,7 @@ fn asked(words: &[String]) -> Option<(&str, Plan)> {
         way,
         producers,
         consumers,
-        items,
+        items: items as u64,
         cells,
     };
     (producers > 0).then_some((what.as_str(), plan))
