@@ -1,11 +1,16 @@
-"""Reads the C interface out of each place that declares it, in one form, so that they can be compared.
+#!/usr/bin/env python3
+"""Compares the C interface in each place that declares it: the header, the Rust crate's `extern` block, the proved crate's exports.
 
-A type is `u64`, `u32`, `usize`, `bool`, `const NAME`, `mut NAME` for a pointer to one, or the name of a struct, in small letters.
-The places are the C header, the `extern` block of the Rust crate, and the exports of the proved crate, which is Rattle. A slice of
-Rattle's is a pointer and a length in C. A `Global` has no bytes, and is passed as nothing.
+No compiler sees two of the three, so one would pass a `u32` for a `u64`. Calls, structs and codes are read into one form: a type is
+`u64`, `u32`, `usize`, `bool`, `const NAME`, `mut NAME` for a pointer to one, or the name of a struct, in small letters. A slice of
+Rattle's is a pointer and a length in C. A `Global` has no bytes, and is passed as nothing. The status is 0 if nothing differs.
 """
+import glob
+import os
 import re
+import sys
 
+TOP = os.path.dirname(os.path.dirname(os.path.abspath(__file__)))
 # (what a pointer leads to that nobody else looks at are bytes)
 NUMBERS = {"uint64_t": "u64", "uint32_t": "u32", "uint8_t": "u8", "size_t": "usize", "void": "u8", "c_void": "u8"}
 HEADER_CALL = re.compile(r"^(\w+) (hz_\w+)\(([^;]*)\);", re.M)
@@ -91,11 +96,35 @@ def of_rust(text):
 
 def differences(what, wanted, found, is_part=False):
     """What one place has otherwise than the header, in words. If it is a part, it may lack some."""
-    for name in sorted(wanted.keys() | found.keys()):
-        if name not in wanted:
-            yield f"{what} has {name}, and the header does not"
-        elif name not in found:
-            if not is_part:
-                yield f"the header has {name}, and {what} does not"
-        elif wanted[name] != found[name]:
-            yield f"{name} is {found[name]} in {what}, and {wanted[name]} in the header"
+    for name in sorted({*wanted, *found}):
+        if found.get(name) != wanted.get(name) and not (is_part and name not in found):
+            yield f"{name} is {found.get(name)} in {what}, and {wanted.get(name)} in the header"
+
+
+def told_of(header, what, text):
+    """What a text of Rust declares otherwise than the header. It may have structs of its own, and lack codes."""
+    calls, structs, codes = of_rust(text)
+    yield from differences(what, header[0], calls)
+    yield from differences(what, header[1], {name: it for name, it in structs.items() if name in header[1]})
+    yield from differences(what, header[2], codes, is_part=True)
+
+
+def read(pattern):
+    """The texts of all files of a pattern."""
+    texts = []
+    for path in sorted(glob.glob(f"{TOP}/{pattern}", recursive=True)):
+        with open(path, encoding="utf-8") as file:
+            texts.append(file.read())
+    return "\n".join(texts)
+
+
+def main():
+    header = of_header(read("bindings/c/hazbultra.h"))
+    told = [*told_of(header, "the Rust crate", read("bindings/rust/src/ffi/*.rs"))]
+    told += told_of(header, "the proved crate", read("crates/hazbultra/src/**/*.rt"))
+    print("\n".join([*told, f"{len(header[0])} calls, {len(told)} differences"]))
+    return bool(told) or not header[0]
+
+
+if __name__ == "__main__":
+    sys.exit(main())

@@ -1,0 +1,50 @@
+"""The kit's own library, for what the command rt cannot do: it knows rattle's command line, and where libraries stand.
+
+Run as a program, it prints what RT_JOBS is to be for `rt ci`, or nothing if rt has to guess.
+"""
+import importlib.machinery
+import importlib.util
+import os
+import shutil
+import sys
+
+TOP = os.path.dirname(os.path.dirname(os.path.abspath(__file__)))
+MEMORY = 4_600_000_000  # bytes for each check that rt starts: the largest four were seen to take 4.8, 4.7, 3.3 and 2.7 GB
+KITS = "rattle-kit-13b and rattle-kit-13f, for which this script was written"
+
+
+def load():
+    """The kit's rtlib.py, which stands beside rt, and the crates by their names."""
+    path = os.path.join(os.path.dirname(os.path.realpath(shutil.which("rt") or "")), "rtlib.py")
+    if not os.path.isfile(path):
+        sys.exit("there is no rt on the PATH with an rtlib.py beside it")
+    loader = importlib.machinery.SourceFileLoader("rtlib", path)
+    kit = importlib.util.module_from_spec(importlib.util.spec_from_loader("rtlib", loader))
+    sys.dont_write_bytecode, sys.modules["rtlib"] = True, kit
+    loader.exec_module(kit)
+    try:
+        # (its first call sets the handler of a signal, which only the main thread may)
+        kit.guarded()
+        crates = {it.name: it for it in kit.crates_below(TOP)}
+        for crate in crates.values():
+            assert crate.words(["--jobs", "1"], keeps=False) and crate.rlib and callable(crate.is_built) and callable(crate.build_rlib)
+        assert callable(kit.lock) and callable(kit.fits) and kit.PARTS and kit.RATTLE
+    except (AttributeError, TypeError, AssertionError) as error:
+        sys.exit(f"{path} is not as in {KITS}: {error}")
+    return kit, crates
+
+
+def lacking(crate, is_proved):
+    """The libraries below the crate that have to be built. Right after rt ci none has: it leaves them without their stamps."""
+    return [it for it in crate.below() if not (os.path.isdir(it.rlib) if is_proved else it.is_built())]
+
+
+def lanes(kit, memory):
+    """How many checks of this memory run side by side: one for each processor, if memory holds them."""
+    return next(it for it in range(len(os.sched_getaffinity(0)), 0, -1) if it == 1 or kit.fits(*[memory] * it))
+
+
+if __name__ == "__main__":
+    most = lanes(load()[0], MEMORY)
+    # With RT_JOBS rt starts so many checks, whatever it guesses of their memory. On two processors it does well without.
+    print(most if most > 2 and most == len(os.sched_getaffinity(0)) else "")

@@ -1,0 +1,69 @@
+"""Tests of ci/names.py, over a small repository: what is there and short passes, and each fault is told."""
+import os
+import tempfile
+import unittest
+from unittest import mock
+
+import names
+
+FILES = {
+    "crates/mb_a/src/lib.rt": "// only_said\npub fn one(a: u32) -> u32\n    ensures made { result ≡ a }\n{\n    a\n}\nfn other() {\n}\n",
+    "crates/mb_b/src/lib.rt": "fn two() {\n}\n",
+    "crates/mb_a/mutants/wrong.edit": "",
+    "docs/PROMISES.md": "# Promises\n\n## mb_a\n\n`one`: `made`. `wrong`\n",
+    "README.md": "# Top\n",
+}
+
+
+class Names(unittest.TestCase):
+    def told(self, text="", page="README.md", **files):
+        with tempfile.TemporaryDirectory() as room, mock.patch.object(names, "TOP", room):
+            for path, content in {**FILES, page: FILES.get(page, "") + text}.items():
+                os.makedirs(os.path.dirname(f"{room}/{path}"), exist_ok=True)
+                with open(f"{room}/{path}", "w", encoding="utf-8") as file:
+                    file.write(content)
+            sources = names.Sources()
+            long = names.too_long(page, names.read(page))
+            return [*long, *names.not_found(page, sources), *names.not_named(names.read("docs/PROMISES.md"), sources)]
+
+    def test_what_is_there_is_found(self):
+        self.assertEqual(self.told("`one` of `src/lib.rt`, `mb_a::lib::one`, `NAME`, [it](docs/PROMISES.md#mb_a), [top](#top)\n"), [])
+        self.assertEqual(self.told("`other`: `made`\n")[0], "the clause made of `other`")
+
+    def test_what_is_not_there_is_told(self):
+        for text, told in {
+            "`gone`": "gone",
+            "`only_said`": "only_said",
+            "`src/gone.rt`": "the path src/gone.rt",
+            "`mb_b::one`": "one in mb_b",
+            "[it](docs/GONE.md)": "the link docs/GONE.md#",
+            "[it](docs/PROMISES.md#gone)": "the link docs/PROMISES.md#gone",
+            "`one`: `two`": "the clause two of `one`",
+        }.items():
+            self.assertEqual(self.told(f"{text}\n"), [told])
+
+    def test_a_mutant_is_named_in_the_section_of_its_crate(self):
+        with mock.patch.dict(FILES, {"docs/PROMISES.md": "`wrong`\n\n## mb_a\n"}):
+            self.assertEqual(self.told(), ["crates/mb_a/mutants/wrong.edit"])
+
+    def test_lengths(self):
+        words = lambda count: "one " * (count - 1) + "end."
+        fold = lambda text: text.replace("one one one one", "one one one\none")
+        for text in (words(30), f"{words(20)} {words(20)}", f"- {words(20)}\n- {words(20)}", "| a | b |\n" * 20, f"`{words(40)}`", "a" * 120):
+            self.assertEqual([it for it in self.told(fold(text) + "\n") if "columns" not in it], [], text)
+        self.assertEqual(len(self.told(fold(words(31)) + "\n")), 1)
+        self.assertEqual(len(self.told(f"| {words(31)} | b |\n")), 1)
+        self.assertEqual(len(self.told(f"See [{words(31)}](docs/PROMISES.md).\n")), 2)
+        self.assertEqual(len(self.told("a" * 121 + "\n")), 1)
+        self.assertEqual(self.told("\n```\n" + "a" * 121 + "\n```\n\n    " + "a" * 121 + "\n\n# " + "a" * 121 + "\n"), [])
+
+    def test_the_readme_has_so_many_lines_and_words(self):
+        self.assertEqual(self.told("\n" * 169), [])
+        self.assertEqual(self.told("\n" * 170), ["171 lines, and at most 170 are allowed"])
+        self.assertEqual(self.told("one.\n\n" * 171, "docs/OTHER.md"), [])
+        self.assertEqual(self.told("one one one one one one one one one.\n" * 149), [])
+        self.assertEqual(self.told("one one one one one one one one one.\n" * 150), ["1351 words, and at most 1350 are allowed"])
+
+
+if __name__ == "__main__":
+    unittest.main()

@@ -1,0 +1,99 @@
+"""Tests of the script `test` at the top, with stand-ins for all tools: what it counts, what it skips, and when it fails."""
+import os
+import re
+import shutil
+import subprocess
+import tempfile
+import unittest
+
+TOP = os.path.dirname(os.path.dirname(os.path.abspath(__file__)))
+OWN = "sh sed grep tee mktemp date basename dirname rm cat tail nproc cmp".split()
+TOOLS = "python3 cargo rustfmt cargo-clippy make cc c++ gcc clang valgrind pkg-config git rt".split()
+
+
+class Test(unittest.TestCase):
+    def setUp(self):
+        self.top = os.path.realpath(tempfile.mkdtemp(prefix="test-"))
+        self.addCleanup(shutil.rmtree, self.top)
+        for path in ("bin", "ci", "crates", "bindings/rust/tests", "bindings/c", "docs/pictures", "examples"):
+            os.makedirs(f"{self.top}/{path}")
+        shutil.copy(f"{TOP}/test", self.top)
+        for name in OWN:
+            os.symlink(shutil.which(name), f"{self.top}/bin/{name}")
+        for name in TOOLS:
+            self.tool(name, "exit 0")
+        for name in ("gcc", "clang"):
+            self.tool(name, 'while [ "$1" != -o ]; do shift; done; echo exit >"$2"; chmod +x "$2"'.replace("chmod", shutil.which("chmod")))
+        for path in ("mailbox", "examples/script", "bindings/rust/tests/packing.sh"):
+            shutil.copy(f"{self.top}/bin/rt", f"{self.top}/{path}")
+        open(f"{self.top}/docs/pictures/one.svg", "w", encoding="utf-8").close()
+
+    def tool(self, name, text):
+        with open(f"{self.top}/bin/{name}", "w", encoding="utf-8") as file:
+            file.write(f"#!/bin/sh\n{text}\n")
+        os.chmod(f"{self.top}/bin/{name}", 0o755)
+
+    def run_it(self, *words):
+        """The exit status, how many passed, failed and were skipped, and all lines."""
+        how = {"stdout": subprocess.PIPE, "stderr": subprocess.STDOUT, "text": True, "env": {"PATH": f"{self.top}/bin"}}
+        ran = subprocess.run([f"{self.top}/test", *words], check=False, **how)
+        counts = re.fullmatch(r"(\d+) passed, (\d+) failed, (\d+) skipped", ran.stdout.splitlines()[-1])
+        return ran.returncode, tuple(map(int, counts.groups())) if counts else None, ran.stdout
+
+    def test_all_parts_pass(self):
+        status, (few, *others), _ = self.run_it()
+        self.assertEqual((status, others), (0, [0, 0]))
+        status, (many, *others), said = self.run_it("--all", "--may-skip", "none")
+        self.assertEqual((status, others), (0, [0, 0]))
+        self.assertEqual(many, len(re.findall("^-- .*: ", said, re.M)))
+        self.assertGreater(many, few)
+        self.assertEqual(self.run_it("--some")[0], 2)
+
+    def test_a_part_that_fails(self):
+        passed = self.run_it()[1][0]
+        for text in ("exit 1", "echo 0 passed, 1 failed; exit 1", "echo 0 passed, 0 failed; exit 1", "kill -9 $$", "echo x: NOT TRIED"):
+            self.tool("make", text)
+            self.assertEqual(self.run_it()[:2], (1, (passed - 1, 1, 0)), text)
+        self.tool("make", "echo 3 passed, 2 failed; exit 1")
+        self.assertEqual(self.run_it()[:2], (1, (passed + 2, 2, 0)))
+
+    def test_the_first_that_fails_is_the_last_of_all(self):
+        self.tool("valgrind", "exit 1")
+        self.assertNotIn("rt ci", self.run_it("--all")[2])
+
+    def test_what_rt_ci_does_not_count_fails(self):
+        for line in ("x: BAD EDIT: y", "rt: note: Rattle's own compiler did not compile this program, so"):
+            self.tool("rt", f'echo "{line}"; echo 9 passed, 0 failed')
+            status, counts, said = self.run_it("--all")
+            self.assertEqual((status, counts[1:]), (1, (1, 0)), line)
+            self.assertNotIn("mutants.py --proved", said)
+
+    def test_a_tool_that_is_not_there_is_named_and_skipped(self):
+        passed = self.run_it("--all")[1][0]
+        os.remove(f"{self.top}/bin/valgrind")
+        status, counts, said = self.run_it("--all")
+        self.assertEqual((status, counts), (0, (passed - 2, 0, 2)))
+        self.assertIn("C, memory: SKIPPED: there is no valgrind\n", said)
+        self.assertEqual(self.run_it("--all", "--may-skip", "Miri")[0], 1)
+        self.tool("valgrind", "exit 0")
+        self.tool("cargo", '[ "$2" != miri ]')
+        self.assertEqual(self.run_it("--all", "--may-skip", "Miri")[:2], (0, (passed - 1, 0, 1)))
+        self.assertEqual(self.run_it("--all", "--may-skip", "C")[0], 1)
+        self.tool("clang", "exit 1")
+        self.assertIn("C, sanitized: SKIPPED: there is no clang:address,undefined\n", self.run_it("--all")[2])
+
+    def test_a_skip_within_a_part_counts(self):
+        self.tool("make", "echo 'x, no memory: SKIPPED: a limit'; echo 1 passed, 0 failed")
+        status, counts, _ = self.run_it()
+        self.assertEqual((status, counts[1:]), (0, (0, 1)))
+        self.assertEqual(self.run_it("--may-skip", "Miri")[0], 1)
+
+    def test_nothing_that_ran_is_no_success(self):
+        for name in ("python3", "cargo", "make"):
+            os.remove(f"{self.top}/bin/{name}")
+        status, counts, _ = self.run_it()
+        self.assertEqual((status, counts[:2]), (1, (0, 0)))
+
+
+if __name__ == "__main__":
+    unittest.main()
