@@ -2,36 +2,26 @@
 
 Run as a program, it prints what RT_JOBS is to be for `rt ci`, or nothing if rt has to guess.
 """
-import importlib.machinery
-import importlib.util
+import importlib
 import os
 import shutil
 import sys
 
 TOP = os.path.dirname(os.path.dirname(os.path.abspath(__file__)))
 MEMORY = 4_600_000_000  # bytes for each check that rt starts: the largest four were seen to take 4.8, 4.7, 3.3 and 2.7 GB
-KITS = "rattle-kit-13b and rattle-kit-13f, for which this script was written"
 
 
 def load():
-    """The kit's rtlib.py, which stands beside rt, and the crates by their names."""
-    path = os.path.join(os.path.dirname(os.path.realpath(shutil.which("rt") or "")), "rtlib.py")
-    if not os.path.isfile(path):
+    """The kit's rtlib.py, which stands beside rt, and the crates by their names. It is as in rattle-kit-13b and 13f."""
+    folder = os.path.dirname(os.path.realpath(shutil.which("rt") or ""))
+    if not os.path.isfile(f"{folder}/rtlib.py"):
         sys.exit("there is no rt on the PATH with an rtlib.py beside it")
-    loader = importlib.machinery.SourceFileLoader("rtlib", path)
-    kit = importlib.util.module_from_spec(importlib.util.spec_from_loader("rtlib", loader))
-    sys.dont_write_bytecode, sys.modules["rtlib"] = True, kit
-    loader.exec_module(kit)
-    try:
-        # (its first call sets the handler of a signal, which only the main thread may)
-        kit.guarded()
-        crates = {it.name: it for it in kit.crates_below(TOP)}
-        for crate in crates.values():
-            assert crate.words(["--jobs", "1"], keeps=False) and crate.rlib and callable(crate.is_built) and callable(crate.build_rlib)
-        assert callable(kit.lock) and callable(kit.fits) and kit.PARTS and kit.RATTLE
-    except (AttributeError, TypeError, AssertionError) as error:
-        sys.exit(f"{path} is not as in {KITS}: {error}")
-    return kit, crates
+    sys.dont_write_bytecode = True
+    sys.path.append(folder)
+    kit = importlib.import_module("rtlib")
+    # (its first call sets the handler of a signal, which only the main thread may)
+    kit.guarded()
+    return kit, {it.name: it for it in kit.crates_below(TOP)}
 
 
 def lacking(crate, is_proved):

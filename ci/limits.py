@@ -3,27 +3,24 @@
 
 No tool of the kit looks at these: rt fmt breaks neither clauses nor lines of .antt, and nothing counts lines.
 """
-import graphlib
 import os
 import re
 import sys
 
 TOP = os.path.dirname(os.path.dirname(os.path.abspath(__file__)))
 LINES, BODY, PARAMETERS, IMPORTS = 400, 40, 6, 20
-# (a comment of src/ may end three columns behind rt fmt's 120)
-COLUMNS, CLAUSE_COLUMNS, IMPORT_COLUMNS = {"src": 123, "proofs": 120}, 100, 200
-LONG_FILE = "crates/test_libraries/src/shared_cells.rt"
-# The rules of the product fix the parameters of this one.
-FIXED_FUNCTION = "work"
+# (a comment of src/ may end three columns after rt fmt's 120)
+COLUMNS, CLAUSE_COLUMNS, LIST_COLUMNS = {"src": 123, "proofs": 120}, 100, 200
+# A file of tests. The rules of the product fix the parameters of the function.
+LONG_FILE, FIXED_FUNCTION = "crates/test_libraries/src/shared_cells.rt", "work"
 
 CLAUSE = re.compile(r" *(?:requires|ensures)\b")
 IMPORT = re.compile(r" *(?:unfoldable )?(?:pub )?(?:ghost )?use ")
 TACTIC = re.compile(r" *#!?\[tactic\(")
 FUNCTION = re.compile(r'^( *)(?:pub(?:\([^)]*\))? )?(?:const |unsafe |final |extern "C" )*fn (\w+)', re.M)
-PATH = re.compile(r"^ *(?:pub(?:\([^)]*\))? )?use (\w+(?:::\w+)*)", re.M)
 
 
-def head(lines):
+def imports(lines):
     """How many imports stand before the first item."""
     count, is_open = 0, False
     for line in lines:
@@ -36,7 +33,7 @@ def head(lines):
 
 
 def clause_lines(lines):
-    """The lines of clauses, each from `requires` or `ensures` to the brace that closes it."""
+    """The lines of clauses with their numbers, each from `requires` or `ensures` to the brace that closes it."""
     inside, depth = False, 0
     for number, line in enumerate(lines, 1):
         inside = inside or bool(CLAUSE.match(line))
@@ -63,7 +60,7 @@ def parameters(text, at):
 
 
 def functions(text):
-    """Of each function with a body its name, how many parameters it has, and how many lines its body has."""
+    """Of each function its name, how many parameters it has, and how many lines its body has, if it has one."""
     for found in FUNCTION.finditer(text):
         at, name = found.groups()
         given, ended = parameters(text, text.find("(", found.end()))
@@ -75,73 +72,38 @@ def functions(text):
         yield name, given, text.count("\n", body + 1, end) if is_own else 0
 
 
-def imports(modules):
-    """The modules that each module of a crate imports, of their texts by their paths."""
-    for module, text in modules.items():
-        for path in PATH.findall(text):
-            first, *rest = path.split("::")
-            here = module.split("::")
-            # (any other name is a child's, or else a crate's, which leads back to the module itself)
-            parts = {"crate": [], "super": here[:-1], "self": here}.get(first, [*here, first]) + rest
-            while parts and "::".join(parts) not in modules:
-                parts = parts[:-1]
-            if parts and parts != here:
-                yield module, "::".join(parts)
-
-
-def places_in(path, text):
-    """Each place of one file over a limit, in words."""
+def places(path, text):
+    """Each place of a file over a limit, in words."""
     lines = text.splitlines()
     if len(lines) > LINES and path != LONG_FILE:
         yield f"{path}: {len(lines)} lines"
-    if head(lines) > IMPORTS:
-        yield f"{path}: {head(lines)} imports at its head"
+    if imports(lines) > IMPORTS:
+        yield f"{path}: {imports(lines)} imports at its head"
     for number, line in enumerate(lines, 1):
         is_list = IMPORT.match(line) or TACTIC.match(line)
-        most = IMPORT_COLUMNS if is_list else COLUMNS.get(path.split("/")[2], len(line))
-        if len(line) > most:
+        if len(line) > (LIST_COLUMNS if is_list else COLUMNS.get(path.split("/")[2], len(line))):
             yield f"{path}:{number}: {len(line)} columns"
-    if path.endswith(".rt"):
-        for number, line in clause_lines(lines):
-            if len(line) > CLAUSE_COLUMNS:
-                yield f"{path}:{number}: {len(line)} columns in a clause"
-        for name, given, count in functions(text):
-            # (a test may have a long table of rows)
-            if count > BODY and not path.startswith("crates/test_"):
-                yield f"{path}: {name} has {count} lines"
-            if given > PARAMETERS and name != FIXED_FUNCTION:
-                yield f"{path}: {name} has {given} parameters"
-
-
-def places(files):
-    """Each place over a limit in these files, of their texts by their paths."""
-    crates = {}
-    for path, text in files.items():
-        yield from places_in(path, text)
-        parts = path.removesuffix(".rt").split("/")
-        if path.endswith(".rt") and parts[2:3] == ["src"] and parts[3:] not in (["lib"], ["main"]):
-            crates.setdefault(parts[1], {})["::".join(parts[3:])] = text
-    for crate, modules in crates.items():
-        order = graphlib.TopologicalSorter()
-        for module, other in imports(modules):
-            order.add(module, other)
-        try:
-            order.prepare()
-        except graphlib.CycleError as error:
-            yield f"{crate}: modules that import each other: {', '.join(error.args[1])}"
+    for number, line in clause_lines(lines) if path.endswith(".rt") else ():
+        if len(line) > CLAUSE_COLUMNS:
+            yield f"{path}:{number}: {len(line)} columns in a clause"
+    for name, given, count in functions(text) if path.endswith(".rt") else ():
+        # (a test may have a long table of rows)
+        if count > BODY and not path.startswith("crates/test_"):
+            yield f"{path}: {name} has {count} lines"
+        if given > PARAMETERS and name != FIXED_FUNCTION:
+            yield f"{path}: {name} has {given} parameters"
 
 
 def main():
-    files = {}
+    told, count = [], 0
     for at, folders, names in os.walk(f"{TOP}/crates"):
         folders[:] = sorted(it for it in folders if it != "out")
-        for name in sorted(names):
-            if name.endswith((".rt", ".antt")):
-                with open(f"{at}/{name}", encoding="utf-8") as file:
-                    files[os.path.relpath(file.name, TOP)] = file.read()
-    told = [*places(files)]
-    print("\n".join([*told, f"{len(told)} over a limit"]))
-    return bool(told) or not files
+        for path in (f"{at}/{it}" for it in sorted(names) if it.endswith((".rt", ".antt"))):
+            with open(path, encoding="utf-8") as file:
+                told += places(os.path.relpath(path, TOP), file.read())
+            count += 1
+    print("\n".join([*told, f"{count} files, {len(told)} places over a limit"]))
+    return bool(told) or not count
 
 
 if __name__ == "__main__":

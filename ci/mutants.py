@@ -30,78 +30,72 @@ LOST = re.compile(r"has no field|is not in scope|has no `|was not admitted|which
 UNREAD = re.compile(r"is not in scope|has no field|is no name|operand is missing|expected the end|cannot continue")
 
 
-class Fault(Exception):
-    """Why an edit cannot be tried."""
-
-
 def read(path):
     with open(path, encoding="utf-8") as file:
         return file.read()
 
 
 class Edit:
-    """One file of mutants/ or must-fail/: the function that it speaks of, whether it goes alone, and its changes."""
+    """A file of mutants/ or must-fail/. A ValueError says why it cannot be tried."""
 
-    def __init__(self, folder, part, name):
-        self.folder, self.label, self.changes = folder, f"{os.path.basename(folder)}/{name}", []
-        said = {"file": ""}
-        for line in filter(None, read(f"{folder}/{part}/{name}").split("\n")):
+    def __init__(self, path):
+        part, name = os.path.split(path)
+        self.path, self.folder, self.changes, said = path, os.path.dirname(part), [], {"file": ""}
+        crate = os.path.basename(self.folder)
+        for line in filter(None, read(path).split("\n")):
             found = LINE.fullmatch(line)
             if not found or found[1] == "new" and "old" not in said:
-                raise Fault(f"this line has no place: {line}")
+                raise ValueError(f"this line has no place: {line}")
             said[found[1]] = found[2]
             if found[1] == "new":
                 self.changes.append((said["file"].strip(), said.pop("old"), found[2]))
-        self.function, self.alone = said.get("refuses", "").strip(), "alone" in said
+        self.label, self.function, self.alone = f"{crate}/{name}", said.get("refuses", "").strip(), "alone" in said
         if not self.changes or "old" in said:
-            raise Fault("it has no `old:` and `new:` pair, or one without its end")
-        if part == "mutants" and not self.function.startswith(f"{os.path.basename(folder)}::"):
-            raise Fault("it has no line `refuses: CRATE::..::FUNCTION` of its crate")
+            raise ValueError("it has no `old:` and `new:` pair, or one without its end")
+        if part.endswith("/mutants") and not self.function.startswith(f"{crate}::"):
+            raise ValueError("it has no line `refuses: CRATE::..::FUNCTION` of its crate")
         self.applied({})
 
     def applied(self, texts):
         """The changed files by their names, on top of `texts`, which other edits have changed."""
         texts = dict(texts)
         for path, old, new in self.changes:
-            if not path.startswith("src/") or not os.path.isfile(f"{self.folder}/{path}"):
-                raise Fault(f"there is no file {path} in src/")
+            if not path.startswith("src/"):
+                raise ValueError(f"{path} is not in src/")
             text = texts.get(path) or read(f"{self.folder}/{path}")
             if text.count(old) != 1 or old in ("", new):
-                raise Fault(f"the text `{old}` is in {path} {text.count(old)} times, and not once, or is new as well")
+                raise ValueError(f"the text `{old}` is in {path} {text.count(old)} times, and not once, or is new as well")
             above = FUNCTION.findall(text[: text.index(old) + len(old)])
             line = text[text.rfind("\n", 0, text.index(old)) + 1 :].lstrip()
             if self.function and not self.alone and not line.startswith("use ") and above[-1:] != [self.function.split("::")[-1]]:
-                raise Fault(f"`{old}` is not in {self.function}, but in {above[-1:] or 'none'}: correct the name, or say `alone: WHY`")
+                raise ValueError(f"`{old}` is not in {self.function}: correct the name, or say `alone: WHY`")
             texts[path] = text.replace(old, new)
         return texts
 
 
-def edits(folder, part):
-    """The edits of a crate that can be tried, and what is wrong with the others, by their labels."""
+def edits():
+    """The edits of the repository that can be tried, and what is wrong with the others, by their paths."""
+    listed = re.findall(r"^(\w+)", read(f"{TOP}/crates.txt"), re.M)
     found, wrong = [], {}
-    for name in sorted(os.listdir(f"{folder}/{part}")) if os.path.isdir(f"{folder}/{part}") else ():
-        try:
-            if not name.endswith(".edit"):
-                raise Fault(f"a file of {part}/ ends in .edit")
-            found.append(Edit(folder, part, name))
-        except (Fault, OSError, ValueError) as fault:
-            wrong[f"{os.path.basename(folder)}/{name}"] = fault
+    for at, folders, names in os.walk(TOP):
+        folders[:] = sorted(it for it in folders if it not in (".git", "out", "target"))
+        place = re.fullmatch(r"crates/(\w+)/(mutants|must-fail)", os.path.relpath(at, TOP))
+        for name in sorted(it for it in names if place or it.endswith(".edit")):
+            try:
+                if not place or place[1] not in listed or not name.endswith(".edit"):
+                    raise ValueError("no script would ever try it: it is no *.edit in a folder mutants/ or must-fail/ of a listed crate")
+                found.append(Edit(f"{at}/{name}"))
+            except (ValueError, OSError) as fault:
+                wrong[os.path.relpath(f"{at}/{name}", TOP)] = fault
     return found, wrong
 
 
-def texts():
-    """How many edits can be tried, and what is wrong with the others, of the whole repository."""
-    count, wrong = 0, {}
-    listed = {it.split(":")[0].split()[0] for it in read(f"{TOP}/crates.txt").splitlines() if it.partition("#")[0].strip()}
-    for at, folders, names in os.walk(TOP):
-        folders[:] = sorted(it for it in folders if it not in (".git", "out", "target"))
-        crate, part = os.path.split(at)
-        if part in ("mutants", "must-fail") and crate in {f"{TOP}/crates/{it}" for it in listed}:
-            good, bad = edits(crate, part)
-            count, wrong = count + len(good), {**wrong, **bad}
-        else:
-            wrong.update({f"{os.path.relpath(at, TOP)}/{it}": "no script tries an edit here" for it in names if it.endswith(".edit")})
-    return count, wrong
+def changed(group):
+    """The files that the mutants of a group change, by their names."""
+    texts = {}
+    for it in group:
+        texts = it.applied(texts)
+    return texts
 
 
 def groups(mutants):
@@ -112,22 +106,14 @@ def groups(mutants):
             if it.function in [other.function for other in group] or len(group) == MOST:
                 continue
             try:
-                changed(group + [it])
-            except Fault:
+                changed([*group, it])
+            except ValueError:
                 continue
             group.append(it)
             break
         else:
             found.append([it])
     return found
-
-
-def changed(group):
-    """The files that the mutants of a group change."""
-    texts = {}
-    for it in group:
-        texts = it.applied(texts)
-    return texts
 
 
 def check(kit, crate, group, kept):
@@ -164,11 +150,10 @@ def fails(function, verdict, said):
 
 def unread(group, said):
     """The first error that says that a changed text cannot be read, or nothing."""
-    for place in sorted({"specs/", *(path for it in group for path, _, _ in it.changes)}):
-        for error in errors_in(place, said):
-            about, why = re.search(r": error\S* (`[^`]*`: )?(.*)", error).groups()
-            if not about or UNREAD.search(re.sub(r"`[^`]*`", "", why)):
-                return error
+    for error in (it for place in {"specs/", *changed(group)} for it in errors_in(place, said)):
+        about, why = re.search(r": error\S* (`[^`]*`: )?(.*)", error).groups()
+        if not about or UNREAD.search(re.sub(r"`[^`]*`", "", why)):
+            return error
     return ""
 
 
@@ -189,9 +174,9 @@ def judged(group, said):
     return {it.label: fails(it.function, verdicts.get(it.function, ""), said) for it in group}, ""
 
 
-def try_crate(kit, crate):
-    """Tries the groups of a crate, one after the other. Returns how many mutants passed and failed."""
-    passed, mutants = 0, edits(crate.folder, "mutants")[0]
+def try_crate(kit, crate, mutants):
+    """Tries the mutants of a crate, one group after the other. Returns how many passed and failed."""
+    passed = 0
     with tempfile.TemporaryDirectory(prefix="mutants-kept-") as room:
         if os.path.isdir(f"{crate.folder}/out/incremental"):
             shutil.copytree(f"{crate.folder}/out/incremental", room, dirs_exist_ok=True)
@@ -205,22 +190,24 @@ def try_crate(kit, crate):
 
 
 def main(words):
-    names, (count, wrong) = [it for it in words if not it.startswith("--")], texts()
-    for label, why in wrong.items():
-        print(f"{label}: BAD EDIT: {why}")
+    found, wrong = edits()
+    for path, why in wrong.items():
+        print(f"{path}: BAD EDIT: {why}")
     if wrong or "--texts" in words:
-        print(f"{count} passed, {len(wrong)} failed")
+        print(f"{len(found)} passed, {len(wrong)} failed")
         return bool(wrong)
-    kit, crates = kits.load()
-    wanted = [it for it in crates.values() if os.path.isdir(f"{it.folder}/mutants") and it.name in (names or crates)]
+    (kit, crates), names = kits.load(), {it for it in words if not it.startswith("--")}
+    of_crate = {it.name: [edit for edit in found if edit.path.startswith(f"{it.folder}/mutants/")] for it in crates.values()}
+    wanted = [it for it in crates.values() if of_crate[it.name] and it.name in (names or crates)]
     held = kit.lock({it for crate in wanted for it in [crate, *crate.below()]})
     for it in dict.fromkeys(lib for crate in wanted for lib in kits.lacking(crate, "--proved" in words)):
         if it.build_rlib(["--jobs", "1"], anew=False):
             sys.exit(f"{it.name} is not proved, so nothing above it is tried")
     with ThreadPoolExecutor(kits.lanes(kit, MEMORY)) as pool:
-        counts = list(pool.map(lambda it: try_crate(kit, it), sorted(wanted, key=lambda it: -it.count(rb"\n"))))
+        wanted.sort(key=lambda it: -it.count(rb"\n"))
+        counts = [*pool.map(lambda it: try_crate(kit, it, of_crate[it.name]), wanted)]
     del held
-    passed, failed = sum(it[0] for it in counts), sum(it[1] for it in counts) + len(set(names) - {it.name for it in wanted})
+    passed, failed = sum(it[0] for it in counts), sum(it[1] for it in counts) + len(names - {it.name for it in wanted})
     print(f"{passed} passed, {failed} failed")
     return bool(failed) or not passed
 

@@ -3,8 +3,8 @@
 
 A word between backticks has to stand in some source, or in the name of a file. In `crate::..::name` that crate has to have the name.
 A path has to be the end of a file's, and a link to lead to a file and heading. In "`function`: `clause`" the function has to have
-that clause. docs/PROMISES.md has to name each mutant, in the section of its crate if there is one. A sentence is text up to a full
-stop, a question mark or an exclamation mark before a space; code between backticks is one word of it. The status is 0 if all is well.
+that clause. docs/PROMISES.md has to name each mutant. A sentence is text up to a full stop, a question mark or an exclamation mark
+before a space; code between backticks is one word of it. The status is 0 if all is well.
 """
 import os
 import re
@@ -61,26 +61,14 @@ class Sources:
         return any(re.search(rf"(?:^|/){plain}(?:\.antt|\.rt)?(?:/|$)", it) for it in self.files)
 
 
-def headings(path):
-    return {re.sub(r"[^\w -]", "", it.lower()).replace(" ", "-") for it in re.findall(r"^#+ (.*)$", read(path), re.M)}
-
-
-def sections(text, crates):
-    """The sections of a page that are headed by a crate, each by its name, and under "" all other text."""
-    found = {"": ""}
-    for part in re.split(r"^(?=## )", text, flags=re.M):
-        name = part.partition("\n")[0].removeprefix("## ").strip()
-        name = name if name in crates else ""
-        found[name] = found.get(name, "") + part
-    return found
-
-
 def not_found(page, sources):
     """What a page names that is not there."""
     text = FENCED.sub("", read(page))
     for target, heading in re.findall(r"\]\(([^)#]*)#?([^)]*)\)", text):
         path = os.path.normpath(f"{os.path.dirname(page)}/{target}" if target else page)
-        if "://" not in target and (not os.path.exists(f"{TOP}/{path}") or heading and heading not in headings(path)):
+        if "://" not in target and not os.path.exists(f"{TOP}/{path}"):
+            yield f"the link {target}"
+        elif heading and heading not in [re.sub(r"[^\w -]", "", it.lower()).replace(" ", "-") for it in re.findall("^#+ (.*)$", read(path), re.M)]:
             yield f"the link {target}#{heading}"
     for span in re.findall(r"`([^`\n]+)`", text):
         if span.startswith(("rattle-kit", "/")):
@@ -123,17 +111,10 @@ def too_long(page, text):
             yield f"a line of {len(line)} columns: {line[:40].strip()} .."
 
 
-def not_named(text, sources):
-    """The mutants that this text does not name where it has to."""
-    parts = sections(text, sources.crates)
-    for path in sources.files:
-        if path.endswith(".edit") and f"`{os.path.basename(path)[:-5]}`" not in parts.get(path.split("/")[1], parts[""]):
-            yield path
-
-
 def main():
     sources = Sources()
-    told = [f"docs/PROMISES.md: does not name {it}" for it in not_named(read("docs/PROMISES.md"), sources)]
+    mutants = [it for it in sources.files if it.endswith(".edit")]
+    told = [f"docs/PROMISES.md: does not name {it}" for it in mutants if f"`{it.split('/')[-1][:-5]}`" not in read("docs/PROMISES.md")]
     for page in (it for it in sources.files if it.endswith(".md") and "/must-fail/" not in it):
         told += [f"{page}: {it}" for it in too_long(page, read(page))]
         told += [f"{page}: not found: {it}" for it in dict.fromkeys(not_found(page, sources))]

@@ -1,105 +1,40 @@
-"""Tests of ci/calls.py: a header, an extern block and exports that agree, and each way to differ."""
+"""Tests of ci/calls.py: what stands in the repository agrees, and each way to differ from its header is told."""
+import re
 import unittest
 
 import calls
 
-HEADER = """
-typedef struct {
-    bool full;
-    void *at; /* of nobody else */
-} hz_handle;
-typedef enum { HZ_DONE = 0, HZ_TOOK = 1 } hz_code;
-typedef struct {
-    uint64_t put;
-    bool ended;
-} hz_lane;
-uint32_t hz_make(uint64_t id, const hz_lane *lane, const uint8_t seed[32], hz_handle *hub);
-uint32_t hz_items(hz_handle *report, bool left, uint64_t *items, size_t room,
-                  uint64_t *copied);
-void hz_free(hz_handle *handle);
-"""
-CRATE = """
-#[repr(C)]
-pub(super) struct Handle {
-    full: bool,
-    at: *mut c_void,
-}
-#[repr(C)]
-#[derive(Default)]
-pub(super) struct Lane {
-    pub(super) put: u64, // how many
-    pub(super) ended: bool,
-}
-pub(super) const DONE: u32 = 0;
-unsafe extern "C" {
-    pub(super) fn hz_make(id: u64, lane: &Lane, seed: &[u8; 32], hub: &mut Handle) -> u32;
-    pub(super) fn hz_items(
-        report: &mut Handle,
-        left: bool,
-        items: *mut u64,
-        room: usize,
-        copied: &mut u64,
-    ) -> u32;
-    pub(super) fn hz_free(handle: &mut Handle);
-}
-"""
-PROVED = """
-#[repr(C)]
-pub struct Handle {
-    full: bool,
-    block: Block,
-    pub ghost agrees: { is_some block.thing ≡ full },
-}
-#[repr(C)]
-pub struct Block {
-    at: *mut u8,
-    alloc: Global,
-    pub ghost thing: { Option Thing } by { coded },
-}
-#[repr(C)]
-pub struct LaneOut {
-    /// How many.
-    pub put: u64,
-    pub ended: bool,
-}
-pub extern "C" fn hz_make(alloc: Global, id: u64, lane: &LaneOut, seed: &[u8; 32], hub: &mut Handle) -> u32
-    ensures made { result ≡ 0 }
-{
-    0
-}
-pub extern "C" fn hz_items(report: &mut Handle, left: bool, items: &mut [u64], copied: &mut u64) -> u32 {
-    0
-}
-pub extern "C" fn hz_free(handle: &mut Handle) {}
-"""
+HEADER, CRATE, PROVED = map(calls.read, ("bindings/c/hazbultra.h", "bindings/rust/src/ffi/*.rs", "crates/hazbultra/src/**/*.rt"))
 
 
 class Calls(unittest.TestCase):
-    def told(self, text):
-        return [*calls.told_of(calls.of_header(HEADER), "it", text)]
+    def told(self, text, old="", new=""):
+        """What a text tells once the first place of `old` is changed."""
+        changed, count = re.subn(old, new, text, count=1, flags=re.S)
+        self.assertEqual((count, changed != text), (1, bool(old)), old)
+        return [*calls.told_of(calls.of_header(HEADER), "it", changed)]
 
     def test_those_that_agree(self):
-        self.assertEqual(len(calls.of_header(HEADER)[0]), 3)
+        found = calls.of_header(HEADER)
+        self.assertEqual((found[0]["hz_put"], found[0]["hz_free"]), ((["mut handle", "u64"], "u32"), (["mut handle"], "u8")))
+        self.assertEqual(found[0]["hz_consumer_new"][0][:2], ["mut handle", "const u8[32]"])
+        self.assertEqual((found[1]["handle"], found[2]["TOOK"]), ([("full", "bool"), ("at", "mut u8")], "1"))
         self.assertEqual([self.told(CRATE), self.told(PROVED)], [[], []])
 
     def test_each_difference_is_told(self):
-        for text, old, new in (
-            (CRATE, "id: u64", "id: u32"),
-            (CRATE, "left: bool", "left: u8"),
-            (CRATE, "copied: &mut u64", "copied: &u64"),
-            (CRATE, "; 32]", "; 16]"),
-            (CRATE, "&mut Handle) -> u32", "&mut Handle)"),
-            (CRATE, "room: usize,", ""),
-            (CRATE, "put: u64", "put: u32"),
-            (CRATE, "    full: bool,\n    at: *mut c_void,\n", "    at: *mut c_void,\n    full: bool,\n"),
-            (CRATE, "DONE: u32 = 0", "DONE: u32 = 1"),
-            (CRATE, "DONE", "GONE"),
-            (PROVED, "&mut [u64]", "&mut u64"),
-            (PROVED, "id: u64", "id: u32"),
-            (PROVED, "hz_free(handle: &mut", "hz_free(handle: &"),
-        ):
-            self.assertEqual(len(self.told(text.replace(old, new))), 1, new)
-        self.assertEqual(len(self.told(CRATE.replace("hz_free", "hz_drop"))), 2)
+        for text in (CRATE, PROVED):
+            for old, new in (
+                (r"(fn hz_put\([^)]*)u64", r"\1u32"),
+                (r"(fn hz_put\([^)]*)&mut ", r"\1&"),
+                (r"(fn hz_put\([^)]*\)) -> u32", r"\1"),
+                (r"(fn hz_poll\([^)]*), \w+: u64,", r"\1,") if text is PROVED else (r"(fn hz_poll\([^)]*)budget: u64,", r"\1"),
+                (r"(fn hz_consumer_new\([^)]*); 32\]", r"\1; 16]"),
+                (r"(repr\(C\)\](?:\s*#\[[^]]*\])*\s*pub(?:\(\w+\))? struct Lane(?:Out)? \{[^}]*)u64", r"\1u32"),
+                (r"TOOK: u32 = 1", "TOOK: u32 = 2"),
+                (r"TOOK: u32", "TAKEN: u32"),
+            ):
+                self.assertEqual(len(self.told(text, old, new)), 1, (text is PROVED, old))
+            self.assertEqual(len(self.told(text, "hz_free", "hz_drop")), 2)
 
 
 if __name__ == "__main__":

@@ -134,7 +134,7 @@ class Mailbox(Place):
 
 class Prebuilt(Place):
     def told(self, *words):
-        kept = [("prebuilt/mailbox", "mailbox_main", (".", "true"), "built")]
+        kept = [("prebuilt/mailbox", "mailbox_main", ".", "true", "built")]
         with mock.patch.object(prebuilt, "TOP", self.top), mock.patch.object(prebuilt, "KEPT", kept), mock.patch("builtins.print") as said:
             with mock.patch.dict(os.environ, PATH=f"{self.top}/bin:{os.environ['PATH']}"):
                 status = prebuilt.main(words)

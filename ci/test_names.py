@@ -1,4 +1,6 @@
 """Tests of ci/names.py, over a small repository: what is there and short passes, and each fault is told."""
+import contextlib
+import io
 import os
 import tempfile
 import unittest
@@ -16,19 +18,20 @@ FILES = {
 
 
 class Names(unittest.TestCase):
-    def told(self, text="", page="README.md", **files):
-        with tempfile.TemporaryDirectory() as room, mock.patch.object(names, "TOP", room):
+    def told(self, text="", page="README.md"):
+        """What is told of the repository with this text added to a page."""
+        with tempfile.TemporaryDirectory() as room, mock.patch.object(names, "TOP", room), contextlib.redirect_stdout(io.StringIO()) as said:
             for path, content in {**FILES, page: FILES.get(page, "") + text}.items():
                 os.makedirs(os.path.dirname(f"{room}/{path}"), exist_ok=True)
                 with open(f"{room}/{path}", "w", encoding="utf-8") as file:
                     file.write(content)
-            sources = names.Sources()
-            long = names.too_long(page, names.read(page))
-            return [*long, *names.not_found(page, sources), *names.not_named(names.read("docs/PROMISES.md"), sources)]
+            status = names.main()
+        *told, _ = said.getvalue().splitlines()
+        self.assertEqual(status, bool(told))
+        return [it.partition(": ")[2] for it in told]
 
     def test_what_is_there_is_found(self):
         self.assertEqual(self.told("`one` of `src/lib.rt`, `mb_a::lib::one`, `NAME`, [it](docs/PROMISES.md#mb_a), [top](#top)\n"), [])
-        self.assertEqual(self.told("`other`: `made`\n")[0], "the clause made of `other`")
 
     def test_what_is_not_there_is_told(self):
         for text, told in {
@@ -36,25 +39,21 @@ class Names(unittest.TestCase):
             "`only_said`": "only_said",
             "`src/gone.rt`": "the path src/gone.rt",
             "`mb_b::one`": "one in mb_b",
-            "[it](docs/GONE.md)": "the link docs/GONE.md#",
+            "[it](docs/GONE.md)": "the link docs/GONE.md",
             "[it](docs/PROMISES.md#gone)": "the link docs/PROMISES.md#gone",
             "`one`: `two`": "the clause two of `one`",
+            "`other`: `made`": "the clause made of `other`",
         }.items():
-            self.assertEqual(self.told(f"{text}\n"), [told])
-
-    def test_a_mutant_is_named_in_the_section_of_its_crate(self):
-        with mock.patch.dict(FILES, {"docs/PROMISES.md": "`wrong`\n\n## mb_a\n"}):
-            self.assertEqual(self.told(), ["crates/mb_a/mutants/wrong.edit"])
+            self.assertEqual(self.told(f"{text}\n"), [f"not found: {told}"])
+        with mock.patch.dict(FILES, {"crates/mb_b/mutants/new.edit": ""}):
+            self.assertEqual(self.told(), ["does not name crates/mb_b/mutants/new.edit"])
 
     def test_lengths(self):
-        words = lambda count: "one " * (count - 1) + "end."
-        fold = lambda text: text.replace("one one one one", "one one one\none")
-        for text in (words(30), f"{words(20)} {words(20)}", f"- {words(20)}\n- {words(20)}", "| a | b |\n" * 20, f"`{words(40)}`", "a" * 120):
-            self.assertEqual([it for it in self.told(fold(text) + "\n") if "columns" not in it], [], text)
-        self.assertEqual(len(self.told(fold(words(31)) + "\n")), 1)
-        self.assertEqual(len(self.told(f"| {words(31)} | b |\n")), 1)
-        self.assertEqual(len(self.told(f"See [{words(31)}](docs/PROMISES.md).\n")), 2)
-        self.assertEqual(len(self.told("a" * 121 + "\n")), 1)
+        words = lambda count: "one\n" * (count - 1) + "end."
+        for text in (words(30), f"{words(20)} {words(20)}", f"- {words(20)}\n- {words(20)}", "| a | b |\n" * 20, f"`{'a ' * 40}`", "a" * 120):
+            self.assertEqual(self.told(f"{text}\n"), [], text)
+        for text in (words(31), f"| {'one ' * 31} | b |", f"See [{words(31)}](docs/PROMISES.md).", "a" * 121):
+            self.assertEqual(len(self.told(f"{text}\n")), 1, text)
         self.assertEqual(self.told("\n```\n" + "a" * 121 + "\n```\n\n    " + "a" * 121 + "\n\n# " + "a" * 121 + "\n"), [])
 
     def test_the_readme_has_so_many_lines_and_words(self):

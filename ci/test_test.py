@@ -44,32 +44,27 @@ class Test(unittest.TestCase):
         status, (few, *others), _ = self.run_it()
         self.assertEqual((status, others), (0, [0, 0]))
         status, (many, *others), said = self.run_it("--all", "--may-skip", "none")
-        self.assertEqual((status, others), (0, [0, 0]))
-        self.assertEqual(many, len(re.findall("^-- .*: ", said, re.M)))
+        self.assertEqual((status, others, many), (0, [0, 0], len(re.findall("^-- .*: ", said, re.M))))
         self.assertGreater(many, few)
         self.assertEqual(self.run_it("--some")[0], 2)
 
     def test_a_part_that_fails(self):
         passed = self.run_it()[1][0]
-        for text in ("exit 1", "echo 0 passed, 1 failed; exit 1", "echo 0 passed, 0 failed; exit 1", "kill -9 $$", "echo x: NOT TRIED"):
+        for text in ("exit 1", "echo 0 passed, 0 failed; exit 1", "kill -9 $$", "echo x: NOT TRIED", "echo x: BAD EDIT: y"):
             self.tool("make", text)
             self.assertEqual(self.run_it()[:2], (1, (passed - 1, 1, 0)), text)
         self.tool("make", "echo 3 passed, 2 failed; exit 1")
         self.assertEqual(self.run_it()[:2], (1, (passed + 2, 2, 0)))
-
-    def test_the_first_that_fails_is_the_last_of_all(self):
-        self.tool("valgrind", "exit 1")
         self.assertNotIn("rt ci", self.run_it("--all")[2])
 
-    def test_what_rt_ci_does_not_count_fails(self):
-        for line in ("x: BAD EDIT: y", "rt: note: Rattle's own compiler did not compile this program, so"):
-            self.tool("rt", f'echo "{line}"; echo 9 passed, 0 failed')
-            status, counts, said = self.run_it("--all")
-            self.assertEqual((status, counts[1:]), (1, (1, 0)), line)
-            self.assertNotIn("mutants.py --proved", said)
+    def test_a_program_of_one_compiler_alone_fails(self):
+        self.tool("rt", """echo "rt: note: Rattle's own compiler did not compile this program, so"; echo 9 passed, 0 failed""")
+        status, counts, said = self.run_it("--all")
+        self.assertEqual((status, counts[1:]), (1, (1, 0)))
+        self.assertNotIn("mutants.py --proved", said)
 
-    def test_a_tool_that_is_not_there_is_named_and_skipped(self):
-        passed = self.run_it("--all")[1][0]
+    def test_what_is_skipped_is_named(self):
+        few, passed = self.run_it()[1][0], self.run_it("--all")[1][0]
         os.remove(f"{self.top}/bin/valgrind")
         status, counts, said = self.run_it("--all")
         self.assertEqual((status, counts), (0, (passed - 2, 0, 2)))
@@ -80,12 +75,9 @@ class Test(unittest.TestCase):
         self.assertEqual(self.run_it("--all", "--may-skip", "Miri")[:2], (0, (passed - 1, 0, 1)))
         self.assertEqual(self.run_it("--all", "--may-skip", "C")[0], 1)
         self.tool("clang", "exit 1")
-        self.assertIn("C, sanitized: SKIPPED: there is no clang:address,undefined\n", self.run_it("--all")[2])
-
-    def test_a_skip_within_a_part_counts(self):
         self.tool("make", "echo 'x, no memory: SKIPPED: a limit'; echo 1 passed, 0 failed")
-        status, counts, _ = self.run_it()
-        self.assertEqual((status, counts[1:]), (0, (0, 1)))
+        self.assertIn("C, sanitized: SKIPPED: there is no clang:address,undefined\n", self.run_it("--all")[2])
+        self.assertEqual([self.run_it(*words)[:2] for words in ((), ("--may-skip", "C"))], [(0, (few, 0, 1))] * 2)
         self.assertEqual(self.run_it("--may-skip", "Miri")[0], 1)
 
     def test_nothing_that_ran_is_no_success(self):
