@@ -1,6 +1,7 @@
 """The kit's own library, for what the command rt cannot do: it knows rattle's command line, and where libraries stand.
 
-Run as a program, it prints what RT_JOBS is to be for `rt ci`, or nothing if rt has to guess.
+    ci/kit.py --jobs       prints what RT_JOBS is to be for `rt ci`, or nothing if rt has to guess
+    ci/kit.py --archive    builds the archive over the libraries that `rt ci` left, and proves none of them once more
 """
 import importlib
 import os
@@ -34,7 +35,18 @@ def lanes(kit, memory):
     return next(it for it in range(len(os.sched_getaffinity(0)), 0, -1) if it == 1 or kit.fits(*[memory] * it))
 
 
+def archive(kit, crate):
+    """Builds the archive of this crate. Returns whether that failed."""
+    held = kit.lock([*crate.below(), crate])
+    os.makedirs(f"{crate.folder}/out", exist_ok=True)
+    assert held and not lacking(crate, True), "rt ci left no library"
+    return crate.build_static(["--jobs", os.environ.get("RT_JOBS", "1")])
+
+
 if __name__ == "__main__":
-    most = lanes(load()[0], MEMORY)
+    kit, crates = load()
+    if "--archive" in sys.argv:
+        sys.exit(archive(kit, crates["hazbultra"]))
+    most = lanes(kit, MEMORY)
     # With RT_JOBS rt starts so many checks, whatever it guesses of their memory. On two processors it does well without.
     print(most if most > 2 and most == len(os.sched_getaffinity(0)) else "")

@@ -5,6 +5,7 @@ An example is an entry of crates/test_program/src/examples: words, input, output
 each is run here once more, from `main` on. Then each sample of a page is looked up: after a line `$ COMMAND` stands what that command
 prints, and a block that begins as scripts or outputs do has the first or last lines of one. The last line is `N passed, N failed`.
 """
+import contextlib
 import glob
 import os
 import pty
@@ -60,17 +61,6 @@ def examples():
             yield name, tuple(re.findall(r'"([^"]*)"', words)[1:]), *map(text_of, texts), int(status), None
 
 
-def all_said(terminal):
-    """All that was written to a terminal. One read may give a part of it."""
-    said = b""
-    try:
-        while part := os.read(terminal, 4096):
-            said += part
-    except OSError:  # (Linux ends a terminal so once nobody has its other side open)
-        pass
-    return said
-
-
 def differences(program, words, given, output, error, status, limit):
     """What the program does otherwise than the run says, in words."""
     ours, its = pty.openpty() if limit == "terminal" else (None, None)
@@ -88,8 +78,10 @@ def differences(program, words, given, output, error, status, limit):
         if isinstance(it, int) and it >= 0:
             os.close(it)
     if its:
-        wrote = (wrote[0], all_said(ours).replace(b"\r\n", b"\n"))
-        os.close(ours)
+        # (Linux ends a terminal by an error once nobody has its other side open)
+        with open(ours, "rb", buffering=0) as terminal, contextlib.suppress(OSError):
+            while part := terminal.read(4096):
+                wrote = (wrote[0], (wrote[1] or b"") + part.replace(b"\r\n", b"\n"))
     pairs = (("status", status, ran.returncode), ("output", output, wrote[0]), ("standard error", error, wrote[1]))
     told = [f"{what} {found!r:.80}, and not {wanted!r:.80}" for what, wanted, found in pairs if not isinstance(wanted, str) and wanted != found]
     return "; ".join(told)

@@ -35,7 +35,3 @@ class Calls(unittest.TestCase):
             ):
                 self.assertEqual(len(self.told(text, old, new)), 1, (text is PROVED, old))
             self.assertEqual(len(self.told(text, "hz_free", "hz_drop")), 2)
-
-
-if __name__ == "__main__":
-    unittest.main()

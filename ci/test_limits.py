@@ -33,7 +33,3 @@ class Limits(unittest.TestCase):
         head = "fn f<A: B<C>>(&self, a: u8, b: (u8, u8), c: Vec<u8, A>, d: fn(u8, u8) -> u8, e: u8"
         self.pair("crates/a/src/a.rt", 0, ", g: u8", head, ") {\n}\n")
         self.assertEqual(self.count("crates/a/src/a.rt", head.replace("fn f", "fn work") + ", g: u8) {\n}\n"), 0)
-
-
-if __name__ == "__main__":
-    unittest.main()

@@ -1,74 +1,72 @@
-"""Tests of the script `mailbox`, of ci/sources.sh and ci/prebuilt.py, with stand-ins for the program and for the kit's `rt`."""
+"""Tests of the script `mailbox`, of ci/sources.sh and ci/prebuilt.sh, with stand-ins for the program and for the kit's `rt`."""
 import hashlib
 import os
 import shutil
 import subprocess
-import tempfile
-import unittest
-from unittest import mock
 
-import prebuilt
+from rooms import Room
 
-TOP = prebuilt.TOP
+TOP = os.path.dirname(os.path.dirname(os.path.abspath(__file__)))
 PROGRAM = '#!/bin/sh\n[ "$1" = --version ] || { echo "SHIPPED $*"; cat; }\n'
 # It says what it was asked, and `rt run` leaves a program that says what it is asked.
 RT = """#!/bin/sh
 [ "$1" != version ] || exec echo the kit
-if [ "$1" = run ]; then
-    echo 'so far: 2 of 9 functions checked; the verdict comes last'
-    [ -z "${BROKEN-}" ] || exit 1
-    [ -z "${EDITED-}" ] || echo // >>"$EDITED"
-    mkdir -p out
-    printf '#!/bin/sh\\necho "own $*"\\ncat\\n' >out/mailbox_main
-    chmod +x out/mailbox_main
-else
-    echo "rt $*"
-    cat
-    exit 2
-fi
+[ "$1" != lib ] || { mkdir -p out && echo ARCHIVE >out/libhazbultra.a; exit; }
+[ "$1" = run ] || { echo "rt $*"; cat; exit 2; }
+echo 'so far: 2 of 9 functions checked; the verdict comes last'
+[ -z "${BROKEN-}" ] || exit 1
+[ -z "${EDITED-}" ] || echo // >>"$EDITED"
+mkdir -p out
+printf '#!/bin/sh\\necho "own $*"\\ncat\\n' >out/mailbox_main
+chmod +x out/mailbox_main
 """
+FILES = {
+    "crates.txt": "# Each crate.\nlow:\nmailbox_main: low clap\nhazbultra staticlib: low\n",
+    "crates/mailbox_main/src/main.rt": "",
+    "crates/low/src/lib.rt": "",
+    "crates/hazbultra/src/lib.rt": "",
+    "bindings/rust/prebuilt/libhazbultra.a": "ARCHIVE\n",
+    "prebuilt/mailbox": PROGRAM,
+    "bin/rt": RT,
+}
+SOURCE = "crates/low/src/lib.rt"
 
 
-class Place(unittest.TestCase):
+class Place(Room):
     """A repository with the program, a library below it, and one that is not."""
 
     def setUp(self):
-        self.top = os.path.realpath(tempfile.mkdtemp(prefix="mailbox-"))
-        self.addCleanup(shutil.rmtree, self.top)
-        self.source = f"{self.top}/crates/low/src/lib.rt"
-        for path, text in {
-            "crates.txt": "# Each crate.\nlow:\nmailbox_main: low clap\nother: low\n",
-            "crates/mailbox_main/src/main.rt": "",
-            "crates/low/src/lib.rt": "",
-            "crates/other/src/lib.rt": "",
-            "prebuilt/mailbox": PROGRAM,
-            "bin/rt": RT,
-        }.items():
+        super().setUp()
+        for path, text in FILES.items():
             self.write(path, text)
         os.mkdir(f"{self.top}/ci")
-        shutil.copy(f"{TOP}/mailbox", self.top)
-        shutil.copy(f"{TOP}/ci/sources.sh", f"{self.top}/ci")
+        for path in ("mailbox", "ci/sources.sh", "ci/prebuilt.sh"):
+            shutil.copy(f"{TOP}/{path}", f"{self.top}/{path}")
         self.record()
+        self.record("bindings/rust/prebuilt/libhazbultra.a", "hazbultra")
 
-    def write(self, path, text):
-        os.makedirs(os.path.dirname(f"{self.top}/{path}"), exist_ok=True)
-        with open(f"{self.top}/{path}", "w", encoding="utf-8") as file:
-            file.write(text)
-        os.chmod(f"{self.top}/{path}", 0o755)
+    def sources(self, crate="mailbox_main"):
+        return subprocess.run(["sh", f"{self.top}/ci/sources.sh", crate], stdout=subprocess.PIPE, text=True, check=True).stdout.strip()
 
-    def sources(self):
-        return subprocess.run(["sh", f"{self.top}/ci/sources.sh", "mailbox_main"], stdout=subprocess.PIPE, text=True, check=True).stdout.strip()
-
-    def record(self, **more):
-        with open(f"{self.top}/prebuilt/mailbox", "rb") as file:
-            sum_ = hashlib.sha256(file.read()).hexdigest()
-        lines = {"commit": "0" * 40, "kit": "kit", "sha256": sum_, "sources": self.sources(), "needs": "x86_64 Linux, x86-64-v2", **more}
-        self.write("prebuilt/mailbox.txt", "".join(f"{name}: {value}\n" for name, value in lines.items()))
+    def record(self, path="prebuilt/mailbox", crate="mailbox_main", **more):
+        with open(f"{self.top}/{path}", "rb") as file:
+            lines = {"commit": "0" * 40, "kit": "kit", "sha256": hashlib.sha256(file.read()).hexdigest(), "sources": self.sources(crate)}
+        lines = {**lines, "needs": "x86_64 Linux, x86-64-v2", **more}
+        self.write(f"{path.removesuffix('.a')}.txt", "".join(f"{name}: {value}\n" for name, value in lines.items()))
 
     def run_it(self, *words, kit=True, **more):
         env = {"PATH": f"{f'{self.top}/bin:' * kit}/usr/bin:/bin", **more}
         ran = subprocess.run([f"{self.top}/mailbox", *words], input="x\n", capture_output=True, text=True, env=env, check=False)
         return ran.returncode, ran.stdout, ran.stderr
+
+    def expect_unproved(self, why):
+        """The program is run without a proof if there is a kit, and one line says why; without one it is not run."""
+        status, said, errors = self.run_it("replay")
+        self.assertEqual((status, said, errors.count("\n")), (2, "rt try -- replay\nx\n", 1))
+        self.assertIn(f"{why}. So this run is unproved", errors)
+        status, said, errors = self.run_it("replay", kit=False)
+        self.assertEqual((status, said, errors.count("\n")), (1, "", 1))
+        self.assertIn(f"{why}. Without a proved program this needs the command rt", errors)
 
 
 class Mailbox(Place):
@@ -78,30 +76,22 @@ class Mailbox(Place):
 
     def test_only_the_content_of_its_own_sources_counts(self):
         before = self.sources()
-        for path in ("crates/other/src/lib.rt", "crates/low/specs/A.antt"):
+        for path in ("crates/hazbultra/src/lib.rt", "crates/low/specs/A.antt"):
             self.write(path, "changed")
-        os.utime(self.source, (1, 1))
+        os.utime(f"{self.top}/{SOURCE}", (1, 1))
         self.assertEqual(self.sources(), before)
-        for path, text in (("crates/low/src/lib.rt", "//"), ("crates/low/src/new.rt", ""), ("crates.txt", "low:\nmailbox_main: low\n")):
+        for path, text in ((SOURCE, "//"), ("crates/low/src/new.rt", ""), ("crates.txt", "low:\nmailbox_main: low\n")):
             self.write(path, text)
             self.assertNotEqual(self.sources(), before)
             before = self.sources()
 
-    def test_stale_it_is_not_run(self):
-        self.write("crates/low/src/lib.rt", "//")
-        status, said, errors = self.run_it("replay")
-        self.assertEqual((status, said), (2, "rt try -- replay\nx\n"))
-        self.assertIn("prebuilt/mailbox is stale", errors)
-        self.assertIn("unproved", errors)
-        status, said, errors = self.run_it("replay", kit=False)
-        self.assertEqual((status, said, errors.count("\n")), (1, "", 1))
-        self.assertIn("prebuilt/mailbox is stale", errors)
+    def test_stale_or_with_another_byte_it_is_not_run(self):
+        self.write(SOURCE, "//")
+        self.expect_unproved("prebuilt/mailbox is stale: the sources were changed")
         self.assertEqual(self.run_it("--which")[:2], (1, ""))
-
-    def test_with_another_byte_it_is_not_run(self):
         self.write("prebuilt/mailbox", PROGRAM.replace("SHIPPED", "shipped"))
-        self.assertIn("its SHA-256 is another", self.run_it("replay", kit=False)[2])
-        self.assertEqual(self.run_it("replay")[1], "rt try -- replay\nx\n")
+        self.write(SOURCE, "")
+        self.expect_unproved("prebuilt/mailbox is not the program that mailbox.txt tells of: its SHA-256 is another")
 
     def test_on_another_machine_one_line_says_what_it_needs(self):
         self.write("bin/uname", "#!/bin/sh\necho Linux wrong\n")
@@ -117,7 +107,7 @@ class Mailbox(Place):
         self.assertEqual((status, said), (0, ""))
         self.assertIn("mailbox: so far: 2 of 9 functions", errors)
         self.assertEqual(self.run_it("replay", kit=False), (0, "own replay\nx\n", ""))
-        self.write("crates/low/src/lib.rt", "//")
+        self.write(SOURCE, "//")
         self.record()
         self.assertEqual(self.run_it("replay"), (0, "SHIPPED replay\nx\n", ""))
         self.record(sources="other")
@@ -125,7 +115,7 @@ class Mailbox(Place):
 
     def test_a_build_that_fails_or_is_of_two_texts_is_not_kept(self):
         self.assertIn("could not be built", self.run_it("--build", BROKEN="yes")[2])
-        self.assertIn("changed during the build", self.run_it("--build", EDITED=self.source)[2])
+        self.assertIn("changed during the build", self.run_it("--build", EDITED=f"{self.top}/{SOURCE}")[2])
         self.record()
         self.assertEqual(self.run_it("replay")[1], "SHIPPED replay\nx\n")
         self.assertIn("Rattle kit", self.run_it("--build", kit=False)[2])
@@ -134,43 +124,33 @@ class Mailbox(Place):
 
 class Prebuilt(Place):
     def told(self, *words):
-        kept = [("prebuilt/mailbox", "mailbox_main", ".", "true", "built")]
-        with mock.patch.object(prebuilt, "TOP", self.top), mock.patch.object(prebuilt, "KEPT", kept), mock.patch("builtins.print") as said:
-            with mock.patch.dict(os.environ, PATH=f"{self.top}/bin:{os.environ['PATH']}"):
-                status = prebuilt.main(words)
-        told = said.call_args[0][0].split("\n")[:-1]
-        self.assertEqual(status, bool(told))
-        return told
+        """All lines but the last, which counts faults. The status says whether there is one."""
+        env = {**os.environ, "PATH": f"{self.top}/bin:{os.environ['PATH']}"}
+        how = {"stdout": subprocess.PIPE, "stderr": subprocess.STDOUT, "text": True, "env": env}
+        ran = subprocess.run(["sh", f"{self.top}/ci/prebuilt.sh", *words], check=False, **how)
+        self.assertEqual((ran.returncode == 0), ran.stdout.endswith("2 files, 0 faults\n"))
+        return ran.stdout
 
-    def test_what_its_text_says_has_to_hold(self):
-        self.assertEqual(self.told(), [])
+    def test_what_a_text_says_has_to_hold(self):
+        self.assertEqual(self.told(), "2 files, 0 faults\n")
         for name in ("commit", "kit", "sha256", "sources", "needs"):
             self.record(**{name: ""})
-            self.assertEqual(len(self.told()), 1, name)
-        os.remove(f"{self.top}/prebuilt/mailbox.txt")
-        self.assertEqual(self.told(), ["prebuilt/mailbox or its text is not there"])
-
-    def test_what_it_needs_of_the_c_library(self):
+            self.assertIn("2 files, 1 faults", self.told(), name)
         self.write("prebuilt/mailbox", "GLIBC_2.4 GLIBC_2.34 GLIBC_2.14")
         self.record(needs="x86_64 Linux, glibc 2.34, x86-64-v2")
-        self.assertEqual(self.told(), [])
+        self.assertEqual(self.told(), "2 files, 0 faults\n")
+        os.remove(f"{self.top}/prebuilt/mailbox.txt")
+        self.assertIn("there is no prebuilt/mailbox or no prebuilt/mailbox.txt", self.told())
 
-    def test_a_byte_that_differs_from_the_build_is_told(self):
-        self.write("built", PROGRAM)
-        self.assertEqual(self.told("--compare"), [])
-        self.write("built", PROGRAM.replace("SHIPPED", "SHIPPEd"))
-        self.assertIn("byte 48 is the first that differs, of 62 and 62", self.told("--compare")[0])
-
-    def test_a_new_one_is_put_in_its_place(self):
+    def test_what_is_built_is_compared_and_put_in_place(self):
+        self.assertIn("prebuilt/mailbox is not what the sources build. It was built by kit, and now by the kit", self.told("--compare"))
         for words in (["init", "-q"], ["add", "crates", "crates.txt"], ["-c", "user.name=a", "-c", "user.email=a", "commit", "-qm", "a"]):
             subprocess.run(["git", *words], cwd=self.top, check=True)
-        self.write("built", PROGRAM.replace("SHIPPED", "new"))
-        self.assertEqual(self.told("--place"), [])
-        self.assertEqual(self.run_it("replay", kit=False), (0, "new replay\nx\n", ""))
-        self.write("crates/low/src/lib.rt", "//")
-        with self.assertRaises(SystemExit):
-            self.told("--place")
-
-
-if __name__ == "__main__":
-    unittest.main()
+        self.write(".gitignore", "out/\n")
+        self.assertIn("2 files, 0 faults", self.told("--place"))
+        self.assertIn("2 files, 0 faults", self.told("--compare"))
+        self.assertEqual(self.run_it("replay", kit=False), (0, "own replay\nx\n", ""))
+        self.write("bindings/rust/prebuilt/libhazbultra.a", "ARchive\n")
+        self.assertIn("2 files, 2 faults", self.told("--compare"))
+        self.write(SOURCE, "//")
+        self.assertIn("commit the crates first", self.told("--place"))

@@ -1,10 +1,6 @@
 """Tests of ci/mutants.py, over lines that the prover once printed. They run no prover."""
-import os
-import tempfile
-import unittest
-from unittest import mock
-
 import mutants
+from rooms import Room
 
 # The first function fails by its own contract, the second by its proof file, beside what it calls. The third calls one that is not
 # proved. The proof file of the fourth names what the edit took away. The fifth is well.
@@ -25,20 +21,12 @@ FUNCTIONS = ("values::checked_values", "unary::UnaryQuorums::read_quorum", "bits
 SOURCE = "use a::{b};\n\nfn one() -> u32 {\n    1 + 1\n}\n\nfn two() -> u32 {\n    2\n}\n"
 
 
-class Edits(unittest.TestCase):
+class Mutants(Room):
     def setUp(self):
-        room = tempfile.TemporaryDirectory()
-        self.addCleanup(room.cleanup)
-        top = mock.patch.object(mutants, "TOP", room.name)
-        top.start()
-        self.addCleanup(top.stop)
+        super().setUp()
+        self.patch(mutants, TOP=self.top)
         self.write("crates.txt", "# Each\nq: low\n")
         self.write("crates/q/src/a.rt", SOURCE)
-
-    def write(self, path, text):
-        os.makedirs(os.path.dirname(f"{mutants.TOP}/{path}"), exist_ok=True)
-        with open(f"{mutants.TOP}/{path}", "w", encoding="utf-8") as file:
-            file.write(text)
 
     def edit(self, name, old="1 + 1", new="1 + 2", function="q::a::one", more=""):
         self.write(f"crates/q/mutants/{name}.edit", f"refuses: {function}\n{more}file: src/a.rt\nold: {old}\nnew: {new}\n")
@@ -87,7 +75,3 @@ class Edits(unittest.TestCase):
             self.assertEqual(self.judged(said)[0], {}, said[:60])
         self.assertIn("checked_values fails too", self.judged(SAID, FUNCTIONS[1:])[1])
         self.assertEqual(self.judged(SAID, FUNCTIONS[1:2], "alone: it reaches others\n")[0], {0: True})
-
-
-if __name__ == "__main__":
-    unittest.main()

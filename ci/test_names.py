@@ -1,12 +1,10 @@
 """Tests of ci/names.py, over a small repository: what is there and short passes, and each fault is told."""
 import contextlib
 import io
-import os
-import tempfile
-import unittest
 from unittest import mock
 
 import names
+from rooms import Room
 
 FILES = {
     "crates/mb_a/src/lib.rt": "// only_said\npub fn one(a: u32) -> u32\n    ensures made { result ≡ a }\n{\n    a\n}\nfn other() {\n}\n",
@@ -17,14 +15,12 @@ FILES = {
 }
 
 
-class Names(unittest.TestCase):
+class Names(Room):
     def told(self, text="", page="README.md"):
         """What is told of the repository with this text added to a page."""
-        with tempfile.TemporaryDirectory() as room, mock.patch.object(names, "TOP", room), contextlib.redirect_stdout(io.StringIO()) as said:
-            for path, content in {**FILES, page: FILES.get(page, "") + text}.items():
-                os.makedirs(os.path.dirname(f"{room}/{path}"), exist_ok=True)
-                with open(f"{room}/{path}", "w", encoding="utf-8") as file:
-                    file.write(content)
+        for path, content in {**FILES, page: FILES.get(page, "") + text}.items():
+            self.write(path, content)
+        with mock.patch.object(names, "TOP", self.top), contextlib.redirect_stdout(io.StringIO()) as said:
             status = names.main()
         *told, _ = said.getvalue().splitlines()
         self.assertEqual(status, bool(told))
@@ -62,7 +58,3 @@ class Names(unittest.TestCase):
         self.assertEqual(self.told("one.\n\n" * 171, "docs/OTHER.md"), [])
         self.assertEqual(self.told("one one one one one one one one one.\n" * 149), [])
         self.assertEqual(self.told("one one one one one one one one one.\n" * 150), ["1351 words, and at most 1350 are allowed"])
-
-
-if __name__ == "__main__":
-    unittest.main()
