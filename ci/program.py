@@ -119,7 +119,8 @@ def false_samples(program):
     for page in sorted(glob.glob("**/*.md", root_dir=TOP, recursive=True)) + ["crates/mb_program/src/help.rt"]:
         text = read(page).replace('";', "\n")
         fenced = re.findall(r"^```(?!rust|c$)\w*\n(.*?)^```$", text, re.M | re.S)
-        for block in [*fenced, *re.findall(r"(?<=\n\n)(?:^ {4}.+\n)+|(?<=\n)(?:^  \S.*\n)+", re.sub(r"^```.*?^```$", "", text, flags=re.M | re.S), re.M)]:
+        set_in = r"(?<=\n\n)(?:^ {4}.+\n)+" if page.endswith(".md") else r"(?:^  \S.*\n)+"
+        for block in [*fenced, *re.findall(set_in, re.sub(r"^```.*?^```$", "", text, flags=re.M | re.S), re.M)]:
             shown, *samples = re.split(r"^\$ ", block, flags=re.M)
             for command, _, told in (it.partition("\n") for it in samples):
                 if told != printed(command, program):
