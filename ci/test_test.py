@@ -21,7 +21,7 @@ class Test(Room):
             self.tool(name, "exit 0")
         for name in ("gcc", "clang"):
             self.tool(name, f'while [ "$1" != -o ]; do shift; done; echo exit >"$2"; {shutil.which("chmod")} +x "$2"')
-        for path in ("mailbox", "examples/script", "bindings/rust/tests/packing.sh", "bindings/c/Makefile", "docs/pictures/one.svg", "ci/any"):
+        for path in ("mailbox", "examples/script", "bindings/rust/tests/packing.sh", "bindings/c/Makefile", "docs/pictures/one.svg", "ci/prebuilt.sh"):
             self.write(path)
         shutil.copy(f"{TOP}/test", self.top)
 
