@@ -8,7 +8,7 @@ from rooms import Room
 
 TOP = os.path.dirname(os.path.dirname(os.path.abspath(__file__)))
 OWN = "sh sed grep tee mktemp date basename dirname rm cat tail nproc cmp".split()
-TOOLS = "python3 cargo rustfmt cargo-clippy make cc c++ gcc clang valgrind pkg-config git rt".split()
+TOOLS = "python3 cargo rustfmt cargo-clippy make cc c++ gcc clang valgrind pkg-config git rt sha256sum".split()
 
 
 class Test(Room):
@@ -76,7 +76,7 @@ class Test(Room):
         self.assertEqual(self.run_it("--may-skip", "Miri")[0], 1)
 
     def test_nothing_that_ran_is_no_success(self):
-        for name in ("python3", "cargo", "make"):
+        for name in ("python3", "cargo", "make", "sha256sum"):
             os.remove(f"{self.top}/bin/{name}")
         status, counts, _ = self.run_it()
         self.assertEqual((status, counts[:2]), (1, (0, 0)))
