@@ -87,11 +87,11 @@ class Mailbox(Place):
 
     def test_stale_or_with_another_byte_it_is_not_run(self):
         self.write(SOURCE, "//")
-        self.expect_unproved("prebuilt/mailbox is stale: the sources were changed")
+        self.expect_unproved("there is no build of your own; the program prebuilt/mailbox is stale: sources were changed")
         self.assertEqual(self.run_it("--which")[:2], (1, ""))
         self.write("prebuilt/mailbox", PROGRAM.replace("SHIPPED", "shipped"))
         self.write(SOURCE, "")
-        self.expect_unproved("prebuilt/mailbox is not the program that mailbox.txt tells of: its SHA-256 is another")
+        self.expect_unproved("program prebuilt/mailbox is not the one that its text tells of: it has another SHA-256")
 
     def test_on_another_machine_one_line_says_what_it_needs(self):
         self.write("bin/uname", "#!/bin/sh\necho Linux wrong\n")
@@ -111,7 +111,7 @@ class Mailbox(Place):
         self.record()
         self.assertEqual(self.run_it("replay"), (0, "SHIPPED replay\nx\n", ""))
         self.record(sources="other")
-        self.assertIn("your own build is stale", self.run_it("replay")[2])
+        self.assertIn("the build of your own is stale", self.run_it("replay")[2])
 
     def test_a_build_that_fails_or_is_of_two_texts_is_not_kept(self):
         self.assertIn("could not be built", self.run_it("--build", BROKEN="yes")[2])
