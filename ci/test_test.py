@@ -7,7 +7,7 @@ import subprocess
 from rooms import Room
 
 TOP = os.path.dirname(os.path.dirname(os.path.abspath(__file__)))
-OWN = "sh sed grep tee mktemp date basename dirname rm cat tail nproc cmp".split()
+OWN = "sh env sed grep tee mktemp date basename dirname rm cat tail nproc cmp".split()
 TOOLS = "python3 cargo rustfmt cargo-clippy make cc c++ gcc clang valgrind pkg-config git rt sha256sum".split()
 
 
