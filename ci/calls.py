@@ -56,7 +56,8 @@ def of_header(text):
 def of_rust(text):
     """The calls, structs and codes of Rust, or of Rattle, which writes them alike."""
     text = re.sub(r"//[^\n]*|\bpub(\(\w+\))? (?!fn|struct|const|extern)", "", text)
-    typed = lambda fields: [(it[0], kind) for it in (it.split(": ", 1) for it in fields) if "ghost" not in it[0] for kind in in_rust(it[1])]
+    pairs = lambda fields: (it.split(": ", 1) for it in fields)
+    typed = lambda fields: [(name, it) for name, kind in pairs(fields) if "ghost" not in name for it in in_rust(kind)]
     calls = {name: ([it[1] for it in typed(parts(given))], back or plain("void")) for name, given, back in RUST_CALL.findall(text)}
     structs = {plain(name): typed(parts(body)) for name, body in RUST_STRUCT.findall(text)}
     # A struct in a struct is its fields.
@@ -68,7 +69,8 @@ def told_of(header, what, text):
     """What a text of Rust declares otherwise than the header. It may have structs of its own, and lack codes."""
     for number, (wanted, found) in enumerate(zip(header, of_rust(text))):
         for name in sorted({*wanted, *found}):
-            if found.get(name) != wanted.get(name) and not (number == 1 and name not in wanted or number == 2 and name not in found):
+            is_own, is_lacking = number == 1 and name not in wanted, number == 2 and name not in found
+            if found.get(name) != wanted.get(name) and not is_own and not is_lacking:
                 yield f"{name} is {found.get(name)} in {what}, and {wanted.get(name)} in the header"
 
 

@@ -5,8 +5,8 @@
     ci/mutants.py --proved      the same right after `rt ci`, over the libraries that it left
     ci/mutants.py --texts       only whether each edit applies, those of must-fail/ too: no prover runs
 
-A mutant is a file NAME.edit of these lines: `refuses: CRATE::..::FUNCTION`, `file: src/FILE.rt`, and pairs `old: TEXT`, `new: TEXT`.
-The old text stands once in that file, and in that function or in an import. With `alone: WHY` it may stand anywhere.
+A mutant is a file NAME.edit of these lines: `refuses: CRATE::..::FUNCTION`, `file: src/FILE.rt`, and pairs of `old: TEXT` and
+`new: TEXT`. The old text stands once in that file, and in that function or in an import. With `alone: WHY` it may stand anywhere.
 Mutants of different functions of a crate share a check, and its checks run one after the other, each over what those before
 it proved. docs/CI.md says how they are judged. The last line is `N passed, N failed`, and the status is 0 if none failed.
 """
@@ -83,7 +83,7 @@ def edits():
         for name in sorted(it for it in names if place or it.endswith(".edit")):
             try:
                 if not place or place[1] not in listed or not name.endswith(".edit"):
-                    raise ValueError("no script would ever try it: it is no *.edit in a folder mutants/ or must-fail/ of a listed crate")
+                    raise ValueError("nothing would try it: it is no *.edit in mutants/ or must-fail/ of a crate of crates.txt")
                 found.append(Edit(f"{at}/{name}"))
             except (ValueError, OSError) as fault:
                 wrong[os.path.relpath(f"{at}/{name}", TOP)] = fault
@@ -145,7 +145,8 @@ def fails(function, verdict, said):
     told = [it for it in errors if not LOST.search(it)]
     if errors and not told:
         return False
-    return verdict.startswith("no proof: ") and "`search` did not prove" in verdict or bool(told and re.match(r"not proved(;|$)", verdict))
+    by_search = verdict.startswith("no proof: ") and "`search` did not prove" in verdict
+    return by_search or bool(told and re.match(r"not proved(;|$)", verdict))
 
 
 def unread(group, said):

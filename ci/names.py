@@ -1,10 +1,10 @@
 #!/usr/bin/env python3
 """Looks up what the pages name, counts what a reader has to read, and lists what is not there or too long.
 
-A word between backticks has to stand in some source, or in the name of a file. In `crate::..::name` that crate has to have the name.
-A path has to be the end of a file's, and a link to lead to a file and heading. In "`function`: `clause`" the function has to have
-that clause. docs/PROMISES.md has to name each mutant. A sentence is text up to a full stop, a question mark or an exclamation mark
-before a space; code between backticks is one word of it. The status is 0 if all is well.
+A word between backticks has to stand in some source, or in the name of a file. In `crate::..::name` that crate has to have the
+name. A path has to be the end of a file's, and a link to lead to a file and heading. In "`function`: `clause`" the function has
+to have that clause. docs/PROMISES.md has to name each mutant. A sentence is text up to a full stop, a question mark or an
+exclamation mark before a space; code between backticks is one word of it. The status is 0 if all is well.
 """
 import os
 import re
@@ -17,12 +17,13 @@ PATH = re.compile(r"[\w.<>*-]+(?:/[\w.<>*-]+)+/?|[\w*-]+\.(?:rt|antt|md|py|sh|tx
 FENCED = re.compile(r"^( *)```.*?^\1```$", re.M | re.S)
 SET_IN = re.compile(r"(?<=\n\n)(?: {4}.*\n|\n(?= {4}))+")
 LINK = re.compile(r"\[([^]]*)\]\([^)]*\)")
-FUNCTION = re.compile(r"^ *(?:pub(?:\(\w+\))? )?(?:const )?(?:final )?fn (\w+)(.*?)(?=^ *\}?\{|^ *(?:pub |#\[|fn )|\Z)", re.M | re.S)
+FUNCTION = re.compile(r"^ *(?:pub(?:\(\w+\))? |const |final )*fn (\w+)(.*?)(?=^ *\}?\{|^ *(?:pub |#\[|fn )|\Z)", re.M | re.S)
 NAMES = r"(?:`[\w:]+`(?:, | and ))*`[\w:]+`"
-SOURCES = (".rt", ".antt", ".rs", ".c", ".h", ".py", ".sh", ".toml", ".txt", ".in", "HANDLES", "mailbox", "script", "run", "test", "Makefile")
+SOURCES = tuple(".rt .antt .rs .c .h .py .sh .toml .txt .in HANDLES mailbox script run test Makefile".split())
 # Words of the world outside: commands, the libraries below, placeholders of formats.
-OUTSIDE = set("""a b i k l m n o p q s u v w x y rt ci cd cp rm try start holes plant fmt doc version grep rnE rn usr bin time sh git clone
-main fn use mod forever earlier widths stdin stdout stderr SeedableRng seed_from_u64 crossbeam_queue SegQueue mpsc mb_NAME""".split())
+OUTSIDE = set("""a b i k l m n o p q s u v w x y rt ci cd cp rm try start holes plant fmt doc version grep rnE rn usr bin time sh
+git clone main fn use mod forever earlier widths stdin stdout stderr SeedableRng seed_from_u64 crossbeam_queue SegQueue mpsc
+mb_NAME""".split())
 
 
 def read(path):
@@ -61,6 +62,11 @@ class Sources:
         return any(re.search(rf"(?:^|/){plain}(?:\.antt|\.rt)?(?:/|$)", it) for it in self.files)
 
 
+def headings(path):
+    """The headings of a page, as a link spells them."""
+    return [re.sub(r"[^\w -]", "", it.lower()).replace(" ", "-") for it in re.findall("^#+ (.*)$", read(path), re.M)]
+
+
 def not_found(page, sources):
     """What a page names that is not there."""
     text = FENCED.sub("", read(page))
@@ -68,7 +74,7 @@ def not_found(page, sources):
         path = os.path.normpath(f"{os.path.dirname(page)}/{target}" if target else page)
         if "://" not in target and not os.path.exists(f"{TOP}/{path}"):
             yield f"the link {target}"
-        elif heading and heading not in [re.sub(r"[^\w -]", "", it.lower()).replace(" ", "-") for it in re.findall("^#+ (.*)$", read(path), re.M)]:
+        elif heading and heading not in headings(path):
             yield f"the link {target}#{heading}"
     for span in re.findall(r"`([^`\n]+)`", text):
         if span.startswith(("rattle-kit", "/")):
@@ -98,7 +104,8 @@ def texts(prose):
 def too_long(page, text):
     """What is too long on a page."""
     count = lambda it: len(re.findall(r"\S*\w\S*", it))
-    for what, many, most in (("lines", len(text.splitlines()), MOST_LINES), ("words", count(LINK.sub(r"\1", text)), MOST_PAGE_WORDS)):
+    counts = ("lines", len(text.splitlines()), MOST_LINES), ("words", count(LINK.sub(r"\1", text)), MOST_PAGE_WORDS)
+    for what, many, most in counts:
         if page == "README.md" and many > most:
             yield f"{many} {what}, and at most {most} are allowed"
     prose = SET_IN.sub("\n", FENCED.sub("", text))
@@ -113,8 +120,8 @@ def too_long(page, text):
 
 def main():
     sources = Sources()
-    mutants = [it for it in sources.files if it.endswith(".edit")]
-    told = [f"docs/PROMISES.md: does not name {it}" for it in mutants if f"`{it.split('/')[-1][:-5]}`" not in read("docs/PROMISES.md")]
+    promises, mutants = read("docs/PROMISES.md"), [it for it in sources.files if it.endswith(".edit")]
+    told = [f"docs/PROMISES.md: does not name {it}" for it in mutants if f"`{os.path.basename(it)[:-5]}`" not in promises]
     for page in (it for it in sources.files if it.endswith(".md") and "/must-fail/" not in it):
         told += [f"{page}: {it}" for it in too_long(page, read(page))]
         told += [f"{page}: not found: {it}" for it in dict.fromkeys(not_found(page, sources))]

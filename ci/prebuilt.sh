@@ -37,7 +37,8 @@ look() {
         { echo "commit: $(git rev-parse HEAD)" && echo "kit: $(rt version)" && facts "$file" "$crate"; } >"$text"
     fi
     [ -f "$file" ] && [ -f "$text" ] || { tell "there is no $file or no $text" && return; }
-    false=$(facts "$file" "$crate" | grep -vxFf "$text") && tell "$text does not hold of $file. It would have to say (ci/prebuilt.sh --place): $false"
+    false=$(facts "$file" "$crate" | grep -vxFf "$text") &&
+        tell "$text does not hold of $file. It would have to say (ci/prebuilt.sh --place): $false"
     grep -Eqx 'commit: [0-9a-f]{40}' "$text" && grep -q '^kit: .' "$text" || tell "$text names no commit or no kit"
     [ "$mode" != --compare ] || cmp "$built" "$file" ||
         tell "$file is not what the sources build. It was built by $(sed -n 's/^kit: //p' "$text"), and now by $(rt version)"

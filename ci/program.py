@@ -2,7 +2,7 @@
 """Runs built programs as processes, over each example and over what only a process meets: ci/program.py PROGRAM..
 
 An example is an entry of crates/test_program/src/examples: words, input, output, standard error, status. `main` has no contract, so
-each is run here once more, from `main` on. Then each sample of a page is looked up: after a line `$ COMMAND` stands what that command
+each is run here once more, from `main` on. Then each sample of a page is looked up: after a line `$ COMMAND` stands what that
 prints, and a block that begins as scripts or outputs do has the first or last lines of one. The last line is `N passed, N failed`.
 """
 import contextlib
@@ -83,8 +83,8 @@ def differences(program, words, given, output, error, status, limit):
             while part := terminal.read(4096):
                 wrote = (wrote[0], (wrote[1] or b"") + part.replace(b"\r\n", b"\n"))
     pairs = (("status", status, ran.returncode), ("output", output, wrote[0]), ("standard error", error, wrote[1]))
-    told = [f"{what} {found!r:.80}, and not {wanted!r:.80}" for what, wanted, found in pairs if not isinstance(wanted, str) and wanted != found]
-    return "; ".join(told)
+    wrong = [it for it in pairs if not isinstance(it[1], str) and it[1] != it[2]]
+    return "; ".join(f"{what} {found!r:.80}, and not {wanted!r:.80}" for what, wanted, found in wrong)
 
 
 def results(program):
@@ -106,7 +106,8 @@ def printed(command, program):
     if not all(re.match(r" *(examples/script|\./mailbox|head|tail) ", f"{part} ") for part in command.split("|")):
         return ""
     ran = f"{{ {command.replace('./mailbox', program)}; }} 2>&1"
-    return subprocess.run(["sh", "-c", ran], cwd=TOP, stdout=subprocess.PIPE, text=True, timeout=LIMIT, stdin=subprocess.DEVNULL).stdout
+    how = {"stdin": subprocess.DEVNULL, "stdout": subprocess.PIPE, "text": True, "timeout": LIMIT}
+    return subprocess.run(["sh", "-c", ran], cwd=TOP, **how).stdout
 
 
 def false_samples(program):

@@ -46,12 +46,12 @@ class Place(Room):
         self.record("bindings/rust/prebuilt/libhazbultra.a", "hazbultra")
 
     def sources(self, crate="mailbox_main"):
-        return subprocess.run(["sh", f"{self.top}/ci/sources.sh", crate], stdout=subprocess.PIPE, text=True, check=True).stdout.strip()
+        return subprocess.check_output(["sh", f"{self.top}/ci/sources.sh", crate], text=True).strip()
 
     def record(self, path="prebuilt/mailbox", crate="mailbox_main", **more):
         with open(f"{self.top}/{path}", "rb") as file:
-            lines = {"commit": "0" * 40, "kit": "kit", "sha256": hashlib.sha256(file.read()).hexdigest(), "sources": self.sources(crate)}
-        lines = {**lines, "needs": "x86_64 Linux, x86-64-v2", **more}
+            lines = {"sha256": hashlib.sha256(file.read()).hexdigest(), "sources": self.sources(crate)}
+        lines = {**lines, "commit": "0" * 40, "kit": "kit", "needs": "x86_64 Linux, x86-64-v2", **more}
         self.write(f"{path.removesuffix('.a')}.txt", "".join(f"{name}: {value}\n" for name, value in lines.items()))
 
     def run_it(self, *words, kit=True, **more):
@@ -143,9 +143,9 @@ class Prebuilt(Place):
         self.assertIn("there is no prebuilt/mailbox or no prebuilt/mailbox.txt", self.told())
 
     def test_what_is_built_is_compared_and_put_in_place(self):
-        self.assertIn("prebuilt/mailbox is not what the sources build. It was built by kit, and now by the kit", self.told("--compare"))
-        for words in (["init", "-q"], ["add", "crates", "crates.txt"], ["-c", "user.name=a", "-c", "user.email=a", "commit", "-qm", "a"]):
-            subprocess.run(["git", *words], cwd=self.top, check=True)
+        self.assertIn("is not what the sources build. It was built by kit, and now by the kit", self.told("--compare"))
+        for words in ("init -q", "add crates crates.txt", "-c user.name=a -c user.email=a commit -qm a"):
+            subprocess.run(["git", *words.split()], cwd=self.top, check=True)
         self.write(".gitignore", "out/\n")
         self.assertIn("2 files, 0 faults", self.told("--place"))
         self.assertIn("2 files, 0 faults", self.told("--compare"))

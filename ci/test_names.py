@@ -7,7 +7,7 @@ import names
 from rooms import Room
 
 FILES = {
-    "crates/mb_a/src/lib.rt": "// only_said\npub fn one(a: u32) -> u32\n    ensures made { result ≡ a }\n{\n    a\n}\nfn other() {\n}\n",
+    "crates/mb_a/src/lib.rt": "// only_said\npub fn one(a: u32)\n    ensures made { a }\n{\n    a\n}\nfn other() {\n}\n",
     "crates/mb_b/src/lib.rt": "fn two() {\n}\n",
     "crates/mb_a/mutants/wrong.edit": "",
     "docs/PROMISES.md": "# Promises\n\n## mb_a\n\n`one`: `made`. `wrong`\n",
@@ -27,7 +27,8 @@ class Names(Room):
         return [it.partition(": ")[2] for it in told]
 
     def test_what_is_there_is_found(self):
-        self.assertEqual(self.told("`one` of `src/lib.rt`, `mb_a::lib::one`, `NAME`, [it](docs/PROMISES.md#mb_a), [top](#top)\n"), [])
+        text = "`one` of `src/lib.rt`, `mb_a::lib::one`, `NAME`, [it](docs/PROMISES.md#mb_a), [top](#top)\n"
+        self.assertEqual(self.told(text), [])
 
     def test_what_is_not_there_is_told(self):
         for text, told in {
@@ -46,7 +47,8 @@ class Names(Room):
 
     def test_lengths(self):
         words = lambda count: "one\n" * (count - 1) + "end."
-        for text in (words(30), f"{words(20)} {words(20)}", f"- {words(20)}\n- {words(20)}", "| a | b |\n" * 20, f"`{'a ' * 40}`", "a" * 120):
+        twice = f"{words(20)} {words(20)}", f"- {words(20)}\n- {words(20)}"
+        for text in (words(30), *twice, "| a | b |\n" * 20, f"`{'a ' * 40}`", "a" * 120):
             self.assertEqual(self.told(f"{text}\n"), [], text)
         for text in (words(31), f"| {'one ' * 31} | b |", f"See [{words(31)}](docs/PROMISES.md).", "a" * 121):
             self.assertEqual(len(self.told(f"{text}\n")), 1, text)

@@ -44,10 +44,12 @@ class Program(Room):
         known = {it[0]: it[2].decode() for it in program.examples()}
         self.assertGreater(len(known), 20)
         script = known["one_loses"]
-        self.assertEqual(program.printed("examples/script one_loses | ./mailbox replay | head -1", path), script.partition("\n")[0] + "\n")
+        first = program.printed("examples/script one_loses | ./mailbox replay | head -1", path)
+        self.assertEqual(first, script.partition("\n")[0] + "\n")
         self.assertEqual(program.printed("rm -r x", path), "")
         block = f"$ examples/script one_loses | ./mailbox replay\n{script}"
-        pages = {"a.md": f"```\n{block}```\n", "b.md": f"```\n{block}more\n```\n", "c.md": "Of a lane:\n\n    left 77 8 8\n", "d.md": f"```\n{script}```\n"}
+        pages = {name: f"```\n{text}```\n" for name, text in (("a.md", block), ("b.md", f"{block}more\n"), ("d.md", script))}
+        pages["c.md"] = "Of a lane:\n\n    left 77 8 8\n"
         read = mock.patch.object(program, "read", lambda it: pages[it] if it in pages else READ(it))
         with read, mock.patch.object(program.glob, "glob", lambda it, **how: [*pages] if how.get("root_dir") else GLOB(it)):
             self.assertEqual([it[0] for it in program.false_samples(path)], ["b.md", "c.md"])

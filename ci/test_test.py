@@ -7,7 +7,8 @@ import subprocess
 from rooms import Room
 
 TOP = os.path.dirname(os.path.dirname(os.path.abspath(__file__)))
-OWN = "sh sed grep tee mktemp date basename dirname rm cat tail nproc cmp".split()
+OWN = "sh env sed grep tee mktemp date basename dirname rm cat tail nproc cmp".split()
+FILES = "mailbox examples/script bindings/rust/tests/packing.sh bindings/c/Makefile docs/pictures/one.svg ci/prebuilt.sh".split()
 TOOLS = "python3 cargo rustfmt cargo-clippy make cc c++ gcc clang valgrind pkg-config git rt sha256sum".split()
 
 
@@ -21,7 +22,7 @@ class Test(Room):
             self.tool(name, "exit 0")
         for name in ("gcc", "clang"):
             self.tool(name, f'while [ "$1" != -o ]; do shift; done; echo exit >"$2"; {shutil.which("chmod")} +x "$2"')
-        for path in ("mailbox", "examples/script", "bindings/rust/tests/packing.sh", "bindings/c/Makefile", "docs/pictures/one.svg", "ci/prebuilt.sh"):
+        for path in FILES:
             self.write(path)
         shutil.copy(f"{TOP}/test", self.top)
 
