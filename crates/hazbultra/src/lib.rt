@@ -14,6 +14,7 @@ mod create;
 pub mod examples;
 mod gathering_end;
 mod handle;
+pub mod laws;
 mod reports;
 mod thing;
 
