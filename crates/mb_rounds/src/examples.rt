@@ -7,7 +7,7 @@ ghost use Rattle.mb_world.specs.Plan.{consumers_of, size_of};
 ghost use Rattle.mb_world.specs.Report.{ReportView};
 ghost use Rattle.mb_mailbox.specs.ReportedRuns.{Terms};
 ghost use Rattle.mb_mailbox.specs.declared.crew.Worked.{Worked};
-ghost use Rattle.mb_rounds.specs.Round.{HaveNotedAll, IsPlayed, IsRound};
+ghost use Rattle.mb_rounds.specs.Round.{AreEven, HaveNotedAll, IsPlayed, IsRound};
 ghost use Rattle.mb_rounds.specs.RoundExamples.{at_each_call, at_no_call, idle_hub, idle_terms, none_stopped, one_lane, one_stopped, with_note, without_note};
 
 /// A round over a mailbox with one lane, one cell and one consumer. The producer is stopped before its first put, and
@@ -38,6 +38,10 @@ pub fn rounds_play_what_was_dealt()
     // That consumer has not noted all. With one note it has.
     ensures no_note { HaveNotedAll 1 (without_note (7 ∷ [])) → ⊥ }
     ensures noted { HaveNotedAll 1 with_note }
+
+    // One list has two items more than the other. Of three items one list has two.
+    ensures uneven { AreEven ((7 ∷ 8 ∷ []) ∷ [] ∷ []) → ⊥ }
+    ensures even { AreEven ((7 ∷ []) ∷ (8 ∷ 9 ∷ []) ∷ []) }
 
     // The item 7 is neither given out nor carried, or it is both.
     ensures lost { (terms : Terms) (counts : Worked) (r : ReportView)

@@ -1,5 +1,5 @@
 -- Proof of `examples::rounds_may_be_idle`: a round over a mailbox with one lane, one cell and one consumer.
-use Rattle.std.proofs.Common.{◌≡◌, ◌+◌, ◌*◌, ◌<◌, ℕ, zero, suc, List, [], ◌∷◌, Some, ap, arith, inl, inr, refl, slice_get, subst, sym, true}
+use Rattle.std.proofs.Common.{◌≡◌, ◌+◌, ◌*◌, ◌<◌, ℕ, zero, suc, List, [], ◌∷◌, Some, ap, arith, inl, inr, refl, slice_get, slice_index_or, subst, sym, true}
 use Rattle.mb_mailbox.specs.Called.{IsCalled}
 use Rattle.mb_mailbox.specs.Gathering.{IsReportIn, diary_in, lane_in}
 use Rattle.mb_mailbox.specs.Hubs.{hub_empty}
@@ -9,12 +9,18 @@ use Rattle.mb_mailbox.specs.Worked.{IsWorked}
 use Rattle.mb_mailbox.proofs.Lists.{some_same}
 use Rattle.mb_rounds.specs.Round.{ledgers_of}
 use Rattle.mb_rounds.specs.RoundExamples.{at_each_call, idle_hub, idle_terms, one_stopped, only_ended, without_note}
+use Rattle.mb_rounds.proofs.Dealing.{IsShare, shares_are_even}
 use Rattle.mb_rounds.proofs.Played.{played}
 use Rattle.mb_rounds.proofs.examples.rounds_may_be_idle.Goals as goal
 
 -- the one list that is dealt
 abbrev dealt : List (List ℕ)
 dealt = (7 ∷ []) ∷ []
+
+-- it has one item
+one_share : (k : ℕ) (d : List ℕ) → k < 1 → IsShare 1 (slice_index_or dealt k d)
+one_share zero d low = (omega arith, omega arith)
+one_share (suc k) d low = absurd (omega (arith, low))
 
 -- a producer that only ended its lane made no fetch-add
 no_fetch : (cells p : ℕ) → HasFoundNone cells p only_ended → ⊥
@@ -100,6 +106,7 @@ returns c = λ m size lanes cells one gathered. record {
   behind = 8 ∷ [];
   dealt = refl;
   amount = omega (arith, cells);
+  even = shares_are_even 1 dealt one_share;
   played = played m (hub_empty m) (idle_hub m) (without_note []) (idle_terms m) dealt
       at_each_call at_each_call one_stopped refl size lanes refl (record { cells = refl; claims = refl })
       (called m) (told m lanes one) gathered

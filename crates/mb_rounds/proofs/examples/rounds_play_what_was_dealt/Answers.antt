@@ -1,5 +1,5 @@
 -- Proof of `examples::rounds_play_what_was_dealt`: what is not a round.
-use Rattle.std.proofs.Common.{◌≡◌, ◌<◌, ◌∙◌, ℕ, zero, suc, Bool, true, false, List, [], ◌∷◌, Option, None, Some, ap, arith, get_or, inl, inr, length, map, refl, slice_get, subst, sym}
+use Rattle.std.proofs.Common.{◌≡◌, ◌<◌, ◌∙◌, ℕ, zero, suc, Bool, true, false, List, [], ◌∷◌, Option, None, Some, ap, arith, get_or, inl, inr, length, map, refl, slice_get, slice_index_or, subst, sym}
 use Rattle.std.specs.Option.{option_map_or}
 use Rattle.std.specs.List.{AllZip}
 use Rattle.mb_mailbox.specs.Imports.{CellsName, History, PoolSize, consumer_count}
@@ -11,6 +11,7 @@ use Rattle.mb_mailbox.specs.Worked.{AreCutByCells, AreStoppedPuts, ProducerEnd, 
 use Rattle.std.proofs.lemmas.Bool.{le-ltb}
 use Rattle.mb_world.specs.Report.{LaneView, items_put, notes}
 use Rattle.mb_rounds.specs.RoundExamples.{at_no_call, none_stopped, one_lane, with_note, without_note}
+use Rattle.mb_rounds.proofs.Dealing.{IsShare, shares_are_even}
 use Rattle.mb_rounds.proofs.Noted.{all_noted}
 use Rattle.mb_rounds.proofs.Whole.{round_adds_up}
 use Rattle.mb_rounds.proofs.examples.rounds_play_what_was_dealt.Goals as goal
@@ -94,3 +95,16 @@ returns-clause-lost c = λ terms counts r round.
 pub returns-clause-twice : goal.returns-clause-twice
 returns-clause-twice c = λ terms counts r round.
     let t = round_adds_up terms (7 ∷ []) ((7 ∷ []) ∷ []) counts r (7 ∷ []) round 7 in omega (arith, t)
+
+pub returns-clause-uneven : goal.returns-clause-uneven
+returns-clause-uneven c = λ even.
+    let most = even 0 [] (omega arith) 1 [] (omega arith) in absurd (omega (arith, most))
+
+-- one list has one item, and the other has two
+two_shares : (k : ℕ) (d : List ℕ) → k < 2 → IsShare 1 (slice_index_or ((7 ∷ []) ∷ (8 ∷ 9 ∷ []) ∷ []) k d)
+two_shares zero d low = (omega arith, omega arith)
+two_shares (suc zero) d low = (omega arith, omega arith)
+two_shares (suc (suc k)) d low = absurd (omega (arith, low))
+
+pub returns-clause-even : goal.returns-clause-even
+returns-clause-even c = shares_are_even 1 ((7 ∷ []) ∷ (8 ∷ 9 ∷ []) ∷ []) two_shares
