@@ -200,11 +200,29 @@ static void life(void) {
     hz_free(&other);
 }
 
+/* All numbers of the largest setup: 16 producers and 64 consumers are given, and no more. */
+static void numbers(void) {
+    hz_setup setup = setup_of(16, 64, 1, 1, HZ_BITS);
+    hz_handle hub = HZ_NONE, report = HZ_NONE, more = HZ_NONE, parts[80] = {HZ_NONE};
+    hz_missing missing = {7, 7};
+    EXPECT(hz_mailbox_new(1, &setup, &hub) == HZ_DONE);
+    for (uint64_t i = 0; i < 80; i++)
+        EXPECT((i < 16 ? hz_producer_new(&hub, &parts[i]) : hz_consumer_new(&hub, SEED, i, &parts[i])) == HZ_DONE);
+    EXPECT(hz_producer_new(&hub, &more) == HZ_ALL_GIVEN && hz_consumer_new(&hub, SEED, 80, &more) == HZ_ALL_GIVEN);
+    EXPECT(hz_gather(&hub, &report, &missing) == HZ_MISSING && missing.producers == 16 && missing.consumers == 64);
+    for (int i = 0; i < 80; i++)
+        EXPECT(hz_take_back(&hub, &parts[i]) == HZ_DONE);
+    EXPECT(hz_gather(&hub, &report, &missing) == HZ_DONE);
+    hz_free(&report);
+    EXPECT(blocks == 0);
+}
+
 int main(void) {
     hz_handle none = HZ_NONE;
     kinds(&none, false, false, false, false);
     hz_free(&none);
     setups();
+    numbers();
     long refused = 0;
     do {
         told = 0;

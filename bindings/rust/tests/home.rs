@@ -143,26 +143,28 @@ fn parts_go_on_after_their_mailbox_was_dropped() {
 #[test]
 fn each_number_is_given_once() {
     let mailbox = Mailbox::<u8>::builder()
-        .producers(2)
-        .consumers(2)
+        .producers(16)
+        .consumers(64)
         .build()
         .unwrap();
-    assert_eq!(mailbox.producer().unwrap().lane(), 0);
-    assert_eq!(mailbox.producer().unwrap().lane(), 1);
+    let producers: Vec<_> = (0..16).map(|_| mailbox.producer().unwrap()).collect();
+    assert!(producers.iter().map(|one| one.lane()).eq(0..16));
     let error = mailbox.producer().unwrap_err();
-    assert_eq!(error, IssueError::AllProducersGiven(2));
+    assert_eq!(error, IssueError::AllProducersGiven(16));
     assert_eq!(
         error.to_string(),
-        "the mailbox was built for 2 producers, and all were given"
+        "the mailbox was built for 16 producers, and all were given"
     );
-    assert_eq!(mailbox.consumer().unwrap().number(), 0);
-    assert_eq!(mailbox.consumer().unwrap().number(), 1);
+    let consumers: Vec<_> = (0..64).map(|_| mailbox.consumer().unwrap()).collect();
+    assert!(consumers.iter().map(|one| one.number()).eq(0..64));
     let error = mailbox.consumer().unwrap_err();
-    assert_eq!(error, IssueError::AllConsumersGiven(2));
+    assert_eq!(error, IssueError::AllConsumersGiven(64));
     assert_eq!(
         error.to_string(),
-        "the mailbox was built for 2 consumers, and all were given"
+        "the mailbox was built for 64 consumers, and all were given"
     );
+    drop((producers, consumers));
+    assert!(mailbox.gather().is_ok());
 }
 
 #[test]

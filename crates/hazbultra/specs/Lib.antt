@@ -4,3 +4,4 @@ pub mod Calls
 pub mod Refusals
 pub mod Reports
 pub mod Handles
+pub mod Defaults

@@ -13,6 +13,7 @@ mod copies;
 mod create;
 mod gathering_end;
 mod handle;
+pub mod laws;
 mod reports;
 mod thing;
 
