@@ -68,7 +68,7 @@ class Test(Room):
         self.assertEqual(self.run_it("--all", "--may-skip", "Miri")[0], 1)
         self.tool("valgrind", "exit 0")
         self.tool("cargo", '[ "$2" != miri ]')
-        self.assertEqual(self.run_it("--all", "--may-skip", "Miri")[:2], (0, (passed - 1, 0, 1)))
+        self.assertEqual(self.run_it("--all", "--may-skip", "C", "--may-skip", "Miri")[:2], (0, (passed - 1, 0, 1)))
         self.assertEqual(self.run_it("--all", "--may-skip", "C")[0], 1)
         self.tool("clang", "exit 1")
         self.tool("make", "echo 'x, no memory: SKIPPED: a limit'; echo 1 passed, 0 failed")
