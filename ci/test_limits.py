@@ -19,7 +19,8 @@ class Limits(unittest.TestCase):
         self.assertEqual(self.count("crates/test_a/src/a.rt", "fn f() {\n" + "    a;\n" * 41 + "}\n"), 0)
 
     def test_columns(self):
-        self.pair("crates/a/src/a.rt", 123, "a")
+        self.pair("crates/a/src/a.rt", 120, "a")
+        self.pair("crates/a/src/a.rt", 121, "a", "//")
         self.pair("crates/a/proofs/A.antt", 120, "a")
         self.pair("crates/a/specs/A.antt", 192, "b", "use A.{", "}\n")
         self.pair("crates/a/src/a.rt", 92, "x", "fn f()\n    ensures { a\n        ", "\n }\n{\n}\n")
