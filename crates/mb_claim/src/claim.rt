@@ -89,7 +89,7 @@ impl Claim {
     }
 
     /// Makes the next access in this memory, and returns how far the claim has come. The call is [`Claim::next`],
-    /// [`Memory::perform`] and [`Claim::after`] in one match.
+    /// [`Memory::perform`] and [`Claim::after`].
     #[inline(always)]
     pub fn step<M: Memory>(&mut self, layout: &Layout, memory: &mut M, word: u64) -> Stage
         requires going { claim_stage self.old ≡ Going }

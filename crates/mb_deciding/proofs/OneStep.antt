@@ -1,10 +1,9 @@
 -- An access that was made at a place of one kind, and what it leads to, is one step.
-use Rattle.std.proofs.Common.{◌≡◌, ℕ, List, ◌∷◌, subst, sym}
+use Rattle.std.proofs.Common.{ℕ, List, ◌∷◌}
 use Rattle.mb_quorum.specs.Quorum.{QuorumTable}
-use Rattle.mb_deciding.specs.{Op, Turn, Kind, Conciliator, Ratifier, LastObject, InConciliator, InRatifier, InLast, Next, ConciliatorPlace, LastPlace}
-use Rattle.mb_deciding.specs.{RatifierPlace, Begin, Announce, PcIsAt, IsConciliatorOp, IsRatifierOp, IsReached, IsInRatifier, acts, CanFind, act_of}
-use Rattle.mb_deciding.specs.{ConciliatorReaches, RatifierReaches, LastReaches, IsLastOp, IsStep}
-use Rattle.mb_deciding.proofs.Advances.{find_anywhere, begin_op, begin_announces}
+use Rattle.mb_deciding.specs.{Op, Turn, Kind, Conciliator, Ratifier, LastObject, InConciliator, InRatifier, Next, ConciliatorPlace}
+use Rattle.mb_deciding.specs.{RatifierPlace, PcIsAt, IsConciliatorOp, IsRatifierOp, IsReached, CanFind, act_of}
+use Rattle.mb_deciding.specs.{ConciliatorReaches, RatifierReaches, IsStep}
 
 -- an access made at a place in a conciliator is one step to what it leads to
 pub conciliator_step :
@@ -39,45 +38,3 @@ ratifier_step t place makes op seen word follows is made reaches =
     reached (Conciliator s) v turns at can = absurd at
     reached LastObject v turns at can = absurd at
     reached Ratifier v turns at can = reaches v turns op word at is can
-
--- an access made at a place in a last object is one step to what it leads to
-pub last_step :
-    (t : QuorumTable) (place : LastPlace) (makes : Op → ℕ → Type 0) (op : Op) (seen word : ℕ) (follows : Next)
-    → IsLastOp place op → makes op seen → LastReaches t place seen follows
-    → IsStep t (InLast place) makes word follows
-last_step t place makes op seen word follows is made reaches =
-    record { op = op; seen = seen; is = is; made = made; reached = reached }
-  where
-    -- what follows is reached, as only a last object has this place
-    reached :
-        (kind : Kind) (v : ℕ) (turns : List Turn) → PcIsAt t kind v (InLast place) turns
-        → CanFind t (InLast place) op seen
-        → IsReached t kind v follows (record { act = act_of op seen; word = word } ∷ turns)
-    reached (Conciliator s) v turns at can = absurd at
-    reached Ratifier v turns at can = absurd at
-    reached LastObject v turns at can = reaches v turns op word at is can
-
--- a step of a process that has its whole write quorum left to announce is one of a process before its first access
-pub begin_step :
-    (t : QuorumTable) (input left : ℕ) (makes : Op → ℕ → Type 0) (word : ℕ) (follows : Next) → left ≡ t.write input
-    → IsStep t (InRatifier (Announce input left)) makes word follows
-    → IsStep t (InRatifier (Begin input)) makes word follows
-begin_step t input left makes word follows is step =
-    record { op = step.op; seen = step.seen; is = (begin_op t input step.op).1 op; made = step.made; reached = reached }
-  where
-    -- the op of the step is that of the whole write quorum
-    op : IsRatifierOp t (Announce input (t.write input)) step.op
-    op = subst (λ mask. IsRatifierOp t (Announce input mask) step.op) is step.is
-
-    -- what follows is reached from the place before the first access, too
-    reached :
-        (kind : Kind) (v : ℕ) (turns : List Turn) → PcIsAt t kind v (InRatifier (Begin input)) turns
-        → CanFind t (InRatifier (Begin input)) step.op step.seen
-        → IsReached t kind v follows (record { act = act_of step.op step.seen; word = word } ∷ turns)
-    reached (Conciliator s) v turns at can = absurd at
-    reached LastObject v turns at can = absurd at
-    reached Ratifier v turns at can =
-        let begins = subst (λ mask. IsInRatifier t v (Announce input mask) (acts turns)) (sym is)
-        (begin_announces t v input (acts turns) at.1) in
-        step.reached Ratifier v turns (at.0, begins)
-        (find_anywhere t (Begin input) (Announce input left) step.op step.seen can)

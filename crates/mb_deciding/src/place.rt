@@ -124,8 +124,8 @@ impl Pc {
     }
 
     /// Makes the next access, to the object with this number in this memory. Goes on to the place that it leads to, or
-    /// returns the output. The call is [`Pc::next`], [`Memory::perform`] and [`Pc::after`] in one match. After an
-    /// output the place does not count any more.
+    /// returns the output. The call is [`Pc::next`], [`Memory::perform`] and [`Pc::after`]. After an output the place
+    /// does not count any more.
     #[inline(always)]
     pub fn step<Q: Quorums, M: Memory>(
         &mut self,
@@ -147,10 +147,14 @@ impl Pc {
             (λ op seen. M.makes memory.old object op seen memory.new) word
             (next_from result self.new) }
     {
-        match self {
-            Pc::InConciliator(place) => place.step(q.values(), memory, object, word),
-            Pc::InRatifier(place) => place.step(q, memory, object),
-            Pc::InLast(place) => Some(place.step(q.values(), memory, object)),
+        let op = self.next(q);
+        let seen = memory.perform(object, op);
+        match self.after(q, seen, word) {
+            Next::Go(place) => {
+                *self = place;
+                None
+            }
+            Next::Out(out) => Some(out),
         }
     }
 }

@@ -1,7 +1,6 @@
 //! What one process does in a conciliator.
 use super::conciliator::ConciliatorPlace;
 use crate::access::{Op, Reg};
-use crate::memory::Memory;
 use crate::object::Out;
 
 /// The odds that a process stores, after a load of 0: `limit` in `modulus`.
@@ -14,8 +13,8 @@ struct Odds {
 impl ConciliatorPlace {
     ghost use Rattle.std.specs.Prelude.{◌≡◌, ◌<◌, ◌≤◌, ◌+◌, false, ℕ};
     ghost use Rattle.mb_quorum.specs.Vocabulary.{QuorumTable};
-    ghost use Rattle.mb_deciding.specs.{Op, Pc, InConciliator, Draw, Put, Look, next_from, turns_left, turns_after};
-    ghost use Rattle.mb_deciding.specs.{IsConciliatorPlace, IsConciliatorOp, IsNext, ConciliatorReaches, IsStep};
+    ghost use Rattle.mb_deciding.specs.{Pc, InConciliator, Draw, Put, Look, next_from, turns_left, turns_after};
+    ghost use Rattle.mb_deciding.specs.{IsConciliatorPlace, IsConciliatorOp, IsNext, ConciliatorReaches};
 
     /// The access that the process makes next.
     #[inline(always)]
@@ -50,47 +49,6 @@ impl ConciliatorPlace {
             } => self.drawn(values, input, Odds { limit, modulus }, seen, word),
             Self::Put { input } => self.put(input),
             Self::Look { input } => Self::looked(values, input, seen),
-        }
-    }
-
-    /// Makes the next access in a conciliator for `values` values. Goes on to the place that it leads to, or returns
-    /// the output.
-    #[inline(always)]
-    pub(crate) fn step<M: Memory>(
-        &mut self,
-        values: u32,
-        memory: &mut M,
-        object: u32,
-        word: u64,
-    ) -> Option<Out>
-        requires place { IsConciliatorPlace values self.old }
-        requires may { (op : Op) → IsConciliatorOp self.old op → M.can_make memory.old object op }
-        ensures fits { (t : QuorumTable) → t.values ≡ values
-            → IsNext t (next_from result (InConciliator self.new)) }
-        ensures fewer { (t : QuorumTable)
-            → turns_after t (next_from result (InConciliator self.new))
-            < turns_left t (InConciliator self.old) }
-        ensures step { (t : QuorumTable) → t.values ≡ values → IsStep t (InConciliator self.old)
-            (λ op seen. M.makes memory.old object op seen memory.new) word
-            (next_from result (InConciliator self.new)) }
-    {
-        match *self {
-            Self::Draw {
-                input,
-                limit,
-                modulus,
-            } => {
-                let seen = memory.perform(object, Op::Load(Reg::Value));
-                self.drawn(values, input, Odds { limit, modulus }, seen, word)
-            }
-            Self::Put { input } => {
-                memory.perform(object, Op::Store(Reg::Value, u64::from(input) + 1));
-                self.put(input)
-            }
-            Self::Look { input } => {
-                let seen = memory.perform(object, Op::Load(Reg::Value));
-                Self::looked(values, input, seen)
-            }
         }
     }
 

@@ -1,6 +1,5 @@
 //! What one process does in a last object.
 use crate::access::{Op, Reg};
-use crate::memory::Memory;
 use crate::object::Out;
 
 /// The place of one process in a last object, before its only access.
@@ -11,9 +10,9 @@ pub struct LastPlace {
 }
 
 impl LastPlace {
-    ghost use Rattle.std.specs.Prelude.{◌≡◌, ◌<◌, ℕ, true};
+    ghost use Rattle.std.specs.Prelude.{◌≡◌, ◌<◌};
     ghost use Rattle.mb_quorum.specs.Vocabulary.{QuorumTable};
-    ghost use Rattle.mb_deciding.specs.{Op, InLast, IsLastOp, LastReaches, IsStep};
+    ghost use Rattle.mb_deciding.specs.{IsLastOp, LastReaches};
     ghost use Rattle.mb_deciding.specs.declared.place.pc.Next.TheVariants as leads;
 
     /// The access that the process makes next.
@@ -38,18 +37,5 @@ impl LastPlace {
         } else {
             self.input
         })
-    }
-
-    /// Makes the process's only access, and returns the output.
-    #[inline(always)]
-    pub(crate) fn step<M: Memory>(self, values: u32, memory: &mut M, object: u32) -> Out
-        requires place { self.input < values }
-        requires may { (op : Op) → IsLastOp self op → M.can_make memory.old object op }
-        ensures fits { result.value < values }
-        ensures step { (t : QuorumTable) (word : ℕ) → t.values ≡ values → IsStep t (InLast self)
-            (λ op seen. M.makes memory.old object op seen memory.new) word (leads.Out result) }
-    {
-        let seen = memory.perform(object, self.next());
-        self.after(values, seen)
     }
 }

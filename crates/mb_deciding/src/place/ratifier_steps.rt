@@ -2,16 +2,15 @@
 use super::mask::{least, without};
 use super::ratifier::RatifierPlace;
 use crate::access::{Op, Reg};
-use crate::memory::Memory;
 use crate::object::Out;
 use mb_quorum::Quorums;
 
 impl RatifierPlace {
     ghost use Rattle.std.specs.Prelude.{◌≡◌, ◌≢◌, ◌<◌, ◌≤◌, ℕ, count_ones, List, ◌∷◌};
     ghost use Rattle.mb_quorum.specs.Quorum.{QuorumTable};
-    ghost use Rattle.mb_deciding.specs.{Op, Turn, Ratifier, Announce, Propose, Check, InRatifier};
+    ghost use Rattle.mb_deciding.specs.{Turn, Ratifier, Announce, Propose, Check, InRatifier};
     ghost use Rattle.mb_deciding.specs.{acts, ReadsClear, PcIsAt, IsRatifierPlace, IsRatifierOp, IsRest, IsNext};
-    ghost use Rattle.mb_deciding.specs.{IsReached, CanFind, act_of, RatifierReaches, IsStep, next_from};
+    ghost use Rattle.mb_deciding.specs.{IsReached, RatifierReaches, next_from};
     ghost use Rattle.mb_deciding.specs.{turns_left, turns_after};
 
     /// The access that the process makes next.
@@ -46,40 +45,6 @@ impl RatifierPlace {
         }
     }
 
-    /// Makes the next access. Goes on to the place that it leads to, or returns the output.
-    #[inline(always)]
-    pub(crate) fn step<Q: Quorums, M: Memory>(
-        &mut self,
-        q: &Q,
-        memory: &mut M,
-        object: u32,
-    ) -> Option<Out>
-        requires place { IsRatifierPlace (Q.table q.now) self.old }
-        requires may { (op : Op) → IsRatifierOp (Q.table q.now) self.old op
-            → M.can_make memory.old object op }
-        ensures fits { IsNext (Q.table q.now) (next_from result (InRatifier self.new)) }
-        ensures fewer { turns_after (Q.table q.now) (next_from result (InRatifier self.new))
-            < turns_left (Q.table q.now) (InRatifier self.old) }
-        ensures step { (word : ℕ) → IsStep (Q.table q.now) (InRatifier self.old)
-            (λ op seen. M.makes memory.old object op seen memory.new) word
-            (next_from result (InRatifier self.new)) }
-    {
-        match *self {
-            Self::Begin { input } => {
-                self.announce(q, memory, object, input, q.write_quorum(input))
-            }
-            Self::Announce { input, left } => self.announce(q, memory, object, input, left),
-            Self::Propose { input } => {
-                memory.perform(object, Op::Store(Reg::Proposal, u64::from(input) + 1));
-                self.proposed(q, input)
-            }
-            Self::Check { preference, left } => {
-                let seen = memory.perform(object, Op::Load(Reg::Quorum(least(left))));
-                self.checked(q, preference, left, seen)
-            }
-        }
-    }
-
     /// The next access of a process that still has to set these registers.
     #[inline(always)]
     fn announcing(left: u64) -> Op
@@ -105,36 +70,6 @@ impl RatifierPlace {
         if left == 0 {
             self.found(q, input, left, seen)
         } else {
-            self.stored(q, input, left)
-        }
-    }
-
-    /// Makes the next access of a process that still has to set these registers. Goes on to the place that it leads to,
-    /// or returns the output.
-    #[inline(always)]
-    fn announce<Q: Quorums, M: Memory>(
-        &mut self,
-        q: &Q,
-        memory: &mut M,
-        object: u32,
-        input: u32,
-        left: u64,
-    ) -> Option<Out>
-        requires input { input < (Q.table q.now).values }
-        requires may { (op : Op) → IsRatifierOp (Q.table q.now) (Announce input left) op
-            → M.can_make memory.old object op }
-        ensures fits { IsNext (Q.table q.now) (next_from result (InRatifier self.new)) }
-        ensures fewer { turns_after (Q.table q.now) (next_from result (InRatifier self.new))
-            < turns_left (Q.table q.now) (InRatifier (Announce input left)) }
-        ensures step { (word : ℕ) → IsStep (Q.table q.now) (InRatifier (Announce input left))
-            (λ op seen. M.makes memory.old object op seen memory.new) word
-            (next_from result (InRatifier self.new)) }
-    {
-        if left == 0 {
-            let seen = memory.perform(object, Op::Load(Reg::Proposal));
-            self.found(q, input, left, seen)
-        } else {
-            memory.perform(object, Op::Store(Reg::Quorum(least(left)), 1));
             self.stored(q, input, left)
         }
     }

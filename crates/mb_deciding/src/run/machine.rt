@@ -103,7 +103,11 @@ impl Machine for ConciliatorMachine {
     #[inline(always)]
     fn step<W: Memory>(&self, pc: &mut Pc, memory: &mut W, word: u64) -> Option<Out> {
         match pc {
-            Pc::InConciliator(place) => place.step(self.values, memory, 0, word),
+            Pc::InConciliator(place) => {
+                let op = place.next();
+                let seen = memory.perform(0, op);
+                place.after(self.values, seen, word)
+            }
             Pc::InRatifier(_) | Pc::InLast(_) => unreachable!(),
         }
     }

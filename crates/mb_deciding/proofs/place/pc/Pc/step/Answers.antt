@@ -1,15 +1,30 @@
 -- Proof of `Pc::step`: makes the next access, to the object with this number in this memory.
-use Rattle.std.proofs.Common.{sym}
+use Rattle.std.proofs.Common.{◌∷◌, subst}
+use Rattle.mb_deciding.specs.{IsReached, act_of}
 use Rattle.mb_deciding.proofs.place.pc.Pc.step.Goals as goal
 
-pub returns-in-InConciliator-clause-step : goal.returns-in-InConciliator-clause-step
-returns-in-InConciliator-clause-step g c =
-    rw (c.in-InConciliator.is) (c.step.ensures.step (g.Q.Quorums.table c.args.q.now) (sym c.values.ensures))
+pub returns-in-Go-clause-step : goal.returns-in-Go-clause-step
+returns-in-Go-clause-step g c =
+    record {
+      op = c.next-op.result;
+      seen = c.perform-seen.result;
+      is = c.next-op.ensures;
+      made = c.perform-seen.ensures;
+      reached = λ kind v turns here can.
+          subst (λ to. IsReached (g.Q.Quorums.table c.args.q.now) kind v to
+          (record { act = act_of c.next-op.result c.perform-seen.result; word = c.args.word } ∷ turns))
+          c.in-Go.is (c.after.ensures.reached kind v turns c.next-op.result here c.next-op.ensures can);
+    }
 
-pub returns-in-InRatifier-clause-step : goal.returns-in-InRatifier-clause-step
-returns-in-InRatifier-clause-step g c = rw (c.in-InRatifier.is) (c.step-in-InRatifier.ensures.step c.args.word)
-
-pub returns-in-InLast-clause-step : goal.returns-in-InLast-clause-step
-returns-in-InLast-clause-step g c =
-    rw (c.in-InLast.is) (c.step-in-InLast.ensures.step (g.Q.Quorums.table c.args.q.now) c.args.word
-    (sym c.values-in-InLast.ensures))
+pub returns-in-Out-clause-step : goal.returns-in-Out-clause-step
+returns-in-Out-clause-step g c =
+    record {
+      op = c.next-op.result;
+      seen = c.perform-seen.result;
+      is = c.next-op.ensures;
+      made = c.perform-seen.ensures;
+      reached = λ kind v turns here can.
+          subst (λ to. IsReached (g.Q.Quorums.table c.args.q.now) kind v to
+          (record { act = act_of c.next-op.result c.perform-seen.result; word = c.args.word } ∷ turns))
+          c.in-Out.is (c.after.ensures.reached kind v turns c.next-op.result here c.next-op.ensures can);
+    }
