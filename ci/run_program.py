@@ -7,8 +7,7 @@
 `main` has no contract: it hands the words of the command line and the standard streams to a function that has one, and ends with
 the status of its answer. So each example of crates/test_program/src/examples is run here once more, from `main` on. Then comes
 what only a process can meet: a full device, a directory to read from, a word that is no UTF-8, a thread that is refused, memory
-that is refused, and a terminal. A build that is missing counts as failed. A run whose limit cannot be set here says that
-it was skipped, and counts as neither passed nor failed.
+that is refused, and a terminal. A build that is missing counts as failed.
 The last line is `N passed, N failed`, and the status is 0 if none failed.
 """
 import argparse
@@ -29,8 +28,11 @@ LIMIT = 60  # seconds for one run
 EXAMPLE = re.compile(
     r'name: "(\w+)",\s*words: &\[(.*?)\],\s*input: "(.*?)",$\s*output: "(.*?)",$\s*error: "(.*?)",$\s*status: (\d+),', re.M | re.S
 )
-# The stack that each thread asks for then. No process has so many addresses free, and all else goes on as ever.
-TOO_LARGE = 1 << 46
+# The stack of a thread if some are refused. The process has addresses for so many stacks, half a stack and this room.
+STACK = 64 << 20
+ROOM = 4 << 20
+# The C library reserves no addresses for the memory of single threads then.
+ONE_ARENA = {**os.environ, "MALLOC_ARENA_MAX": "1"}
 # The most bytes of data that a process may have then. It starts within them, but has no room for a large mailbox or script.
 LITTLE = 384 << 10
 
@@ -41,6 +43,7 @@ NO_WORD = b"error: a word of the command line is not UTF-8\n"
 GOOD_SCRIPT = b"setup 1 1 0 1 bits\n"
 RATIFIER = b"ratify unary 1\ninputs 0\nturns 0\n"
 RUN = ("run", "--producers", "1", "--consumers", "1", "--items", "2", "--pairs", "1")
+FOUR_WORKERS = ("run", "--producers", "2", "--consumers", "2", "--items", "2")
 LARGE_RUN = ("run", "--producers", "16", "--consumers", "64", "--items", "16")
 LONGEST = GOOD_SCRIPT.ljust(1 << 20, b"#")
 
@@ -55,7 +58,7 @@ class Run:
     input: object = b""  # bytes, or the path of what stands for standard input
     output: object = b""  # bytes that must be written, or the path of a device that stands for standard output
     error: object = b""
-    stack: int = 0  # how large the stacks of its threads are to be, if not as ever
+    threads: int = None  # how many threads it may start at most, if not as ever
     data: int = 0  # how many bytes of data it may have, if not as ever
 
 
@@ -88,21 +91,27 @@ def ends():
         Run("a replay of a directory", ("replay",), 3, "/", b"", b"fault 11 ReadFault\n"),
         Run("a ratifier of a directory", ("ratify",), 3, "/", b"", b"fault 9 ReadFault\n"),
         Run("a word that is no UTF-8", (b"replay", b"\xff"), 2, GOOD_SCRIPT, b"", NO_WORD),
-        Run("no thread", RUN, 3, error=b"fault 3 NoThread\n", stack=TOO_LARGE),
+        Run("no thread", RUN, 3, error=b"fault 3 NoThread\n", threads=0),
+        Run("no third thread", FOUR_WORKERS, 3, error=b"fault 3 NoThread\n", threads=2),
         Run("no memory for a mailbox", LARGE_RUN, 3, error=b"fault 2 NoMemory\n", data=LITTLE),
         Run("no memory for a script", ("replay",), 3, LONGEST, error=b"fault 10 NoMemory\n", data=LITTLE),
+        Run("no memory for a ratifier", ("ratify",), 3, LONGEST, error=b"fault 8 NoMemory\n", data=LITTLE),
+        Run("a script that is too long", ("replay",), 2, LONGEST + b"#", error=b"fault 1 TooLong\n"),
+        Run("a ratifier that is too long", ("ratify",), 2, LONGEST + b"#", error=b"fault 1 TooLong\n"),
+        Run("an input that is no number", ("ratify",), 2, b"ratify unary 1\ninputs x\n", error=b"fault 4 BadNumber 2\n"),
+        Run("one event too many", ("replay",), 2, GOOD_SCRIPT + 20001 * b"push 0\n", error=b"fault 9 TooManyEvents\n"),
     ]
 
 
 def limits_of(run):
-    """The limits that a run sets, each with its size."""
-    return [it for it in ((resource.RLIMIT_STACK, run.stack), (resource.RLIMIT_DATA, run.data)) if it[1]]
-
-
-def can_be_made(run):
-    """Whether a run's limits can be set here. A container may have a lower hard limit, and no process goes above it."""
-    hard = [(size, resource.getrlimit(kind)[1]) for kind, size in limits_of(run)]
-    return all(most == resource.RLIM_INFINITY or size <= most for size, most in hard)
+    """The limits that a run sets, each with its size. A stack is smaller if a container has a lower hard limit."""
+    if run.threads is not None:
+        most = resource.getrlimit(resource.RLIMIT_STACK)[1]
+        stack = STACK if most == resource.RLIM_INFINITY else min(STACK, most)
+        yield resource.RLIMIT_STACK, stack
+        yield resource.RLIMIT_AS, run.threads * stack + stack // 2 + ROOM
+    if run.data:
+        yield resource.RLIMIT_DATA, run.data
 
 
 def opened(stream, how):
@@ -118,7 +127,9 @@ def differences(program, run):
 
     streams = [opened(run.input, os.O_RDONLY), opened(run.output, os.O_WRONLY), opened(run.error, os.O_WRONLY)]
     try:
-        started = subprocess.Popen([program, *run.words], stdin=streams[0], stdout=streams[1], stderr=streams[2], preexec_fn=limit)
+        started = subprocess.Popen(
+            [program, *run.words], stdin=streams[0], stdout=streams[1], stderr=streams[2], preexec_fn=limit, env=ONE_ARENA
+        )
         try:
             wrote = started.communicate(run.input if isinstance(run.input, bytes) else None, timeout=LIMIT)
         except subprocess.TimeoutExpired:
@@ -169,12 +180,9 @@ def standing(programs, who):
 
 
 def results(program):
-    """Each run by its name, and what the program does otherwise than it must. A run that cannot be made here says so."""
+    """Each run by its name, and what the program does otherwise than it must."""
     for run in [*examples(), *ends()]:
-        if can_be_made(run):
-            yield run.name, differences(program, run)
-        else:
-            print(f"{os.path.basename(program)}: {run.name}: SKIPPED: a hard limit here is lower than the limit that it sets")
+        yield run.name, differences(program, run)
     yield "a fault at a terminal", at_a_terminal(program)
 
 

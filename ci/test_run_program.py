@@ -61,6 +61,13 @@ class Differences(unittest.TestCase):
         self.assertEqual(self.told(right.replace("exit 3", "exit 2"), run), ["status 2, and not 3"])
         self.assertEqual(self.told(right.replace("echo", "echo x; echo"), run), ["standard output b'x\\n', and not b''"])
 
+    def test_threads_that_are_refused(self):
+        run = Run("two threads", (), 3, error=b"fault 3 NoThread\n", threads=2)
+        right = 'test "$(ulimit -s) $(ulimit -v)" = "65536 167936" && echo "fault 3 NoThread" >&2; exit 3'
+        self.assertEqual(self.told(right, run), [])
+        with mock.patch.object(resource, "getrlimit", lambda kind: (1 << 23, 1 << 23)):
+            self.assertEqual([size for _, size in run_program.limits_of(run)], [1 << 23, 24 << 20])
+
 
 class Whole(unittest.TestCase):
     def test_each_example_is_read(self):
@@ -93,14 +100,6 @@ class Whole(unittest.TestCase):
                 said = self.run_main("--program", "/bin/true", "--program", f"{folder}/none")
         self.assertEqual((len(said), said[-1]), (2, "1 passed, 1 failed"))
 
-    def test_a_run_whose_limit_cannot_be_set_is_skipped(self):
-        with mock.patch.object(resource, "getrlimit", lambda kind: (1 << 23, 1 << 45)):
-            with mock.patch.object(run_program, "differences", lambda program, run: []):
-                with mock.patch.object(run_program, "at_a_terminal", lambda program: ["wrong"]):
-                    said = self.run_main("--program", "/bin/true")
-        self.assertEqual([it.partition(": a hard")[0] for it in said[:-2]], ["true: no thread: SKIPPED"])
-        self.assertEqual(said[-1], f"{len(run_program.examples()) + len(run_program.ends()) - 1} passed, 1 failed")
-
     def test_all_that_a_terminal_was_given(self):
         ours, its = pty.openpty()
         # (one read gives what was there when it began, and no more than it asks for)
@@ -122,7 +121,7 @@ class Whole(unittest.TestCase):
 
     def test_what_failed_is_counted(self):
         said = self.run_main("--program", "/bin/false")
-        runs = [*run_program.examples(), *filter(run_program.can_be_made, run_program.ends()), "at a terminal"]
+        runs = [*run_program.examples(), *run_program.ends(), "at a terminal"]
         self.assertEqual(said[-1], f"0 passed, {len(runs)} failed")
 
 
