@@ -1,6 +1,4 @@
 """Tests of ci/program.py, over programs of a line or two of sh: the right one passes, and each wrong one is told."""
-import contextlib
-import io
 import resource
 from unittest import mock
 
@@ -32,12 +30,11 @@ class Program(Room):
             self.assertEqual(self.told(right, **how), "", right)
             self.assertNotEqual(self.told(right), "", right)
 
-    def test_a_limit_that_cannot_be_set_is_skipped(self):
-        run = ("none", (), b"", b"", b"", 0, (resource.RLIMIT_DATA, 1 << 40))
-        lower = mock.patch.object(program.resource, "getrlimit", lambda _: (1 << 20, 1 << 20))
-        with lower, mock.patch.multiple(program, ENDS=[run], examples=list), contextlib.redirect_stdout(io.StringIO()) as said:
-            self.assertEqual([*program.results("p")], [])
-        self.assertIn("p, none: SKIPPED: ", said.getvalue())
+    def test_threads_that_are_refused(self):
+        with mock.patch.object(program.resource, "getrlimit", lambda _: (1 << 23, 1 << 23)):
+            self.assertEqual([size for _, size in program.threads(2)], [1 << 23, 24 << 20])
+        right = 'test "$(ulimit -s) $(ulimit -v)" = "65536 167936" && echo fault >&2; exit 2'
+        self.assertEqual(self.told(right, limit=((resource.RLIMIT_STACK, 64 << 20), (resource.RLIMIT_AS, 164 << 20))), "")
 
     def test_examples_and_false_samples_are_told(self):
         path = self.write("program", '#!/bin/sh\n[ "$*" = replay ] && cat\n')
