@@ -21,7 +21,7 @@ from concurrent.futures import ThreadPoolExecutor
 import kit as kits
 from kit import TOP
 
-MOST = 28  # mutants of one check
+MOST = 40  # mutants of one check
 MEMORY = 3_500_000_000  # bytes: the most that one check has been seen to take, with some room
 LINE = re.compile(r"(refuses|alone|file|old|new): ?(.*)")
 FUNCTION = re.compile(r'^ *(?:pub(?:\([\w ]+\))? )?(?:const |final |ghost |unsafe |extern "C" )*fn (\w+)', re.M)
