@@ -1,5 +1,5 @@
 //! Parts go home by themselves, and the report waits for them.
-use hazbultra::{BuildError, GatherError, IssueError, Mailbox, Poll, Sweep};
+use hazbultra::{BuildError, Consumer, GatherError, IssueError, Mailbox, Poll, Producer, Sweep};
 use std::cell::Cell;
 use std::mem;
 use std::panic::{self, AssertUnwindSafe};
@@ -148,7 +148,7 @@ fn each_number_is_given_once() {
         .build()
         .unwrap();
     let producers: Vec<_> = (0..16).map(|_| mailbox.producer().unwrap()).collect();
-    assert!(producers.iter().map(|one| one.lane()).eq(0..16));
+    assert!(producers.iter().map(Producer::lane).eq(0..16));
     let error = mailbox.producer().unwrap_err();
     assert_eq!(error, IssueError::AllProducersGiven(16));
     assert_eq!(
@@ -156,7 +156,7 @@ fn each_number_is_given_once() {
         "the mailbox was built for 16 producers, and all were given"
     );
     let consumers: Vec<_> = (0..64).map(|_| mailbox.consumer().unwrap()).collect();
-    assert!(consumers.iter().map(|one| one.number()).eq(0..64));
+    assert!(consumers.iter().map(Consumer::number).eq(0..64));
     let error = mailbox.consumer().unwrap_err();
     assert_eq!(error, IssueError::AllConsumersGiven(64));
     assert_eq!(
