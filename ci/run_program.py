@@ -1,13 +1,14 @@
 #!/usr/bin/env python3
 """Runs the built program as a process, and compares both streams and the status of each run with what they must be.
 
-    ci/run_program.py                     # the programs that `rt ci` leaves in crates/mailbox_main/out
-    ci/run_program.py --program PATH      # another build
+    ci/run_program.py                     # the programs that `rt ci` leaves in the `out` of their crates
+    ci/run_program.py --program PATH      # another build of mailbox_main alone
 
 `main` has no contract: it hands the words of the command line and the standard streams to a function that has one, and ends with
 the status of its answer. So each example of crates/test_program/src/examples is run here once more, from `main` on. Then comes
 what only a process can meet: a full device, a directory to read from, a word that is no UTF-8, a thread that is refused, memory
-that is refused, and a terminal. A build that is missing counts as failed.
+that is refused, and a terminal. Threads are refused also to a program that makes rounds, and to one that audits what workers
+leave. A build that is missing counts as failed.
 The last line is `N passed, N failed`, and the status is 0 if none failed.
 """
 import argparse
@@ -21,9 +22,9 @@ import subprocess
 import sys
 
 TOP = os.path.dirname(os.path.dirname(os.path.abspath(__file__)))
-OUT = f"{TOP}/crates/mailbox_main/out"
-# As LLVM builds it, and as Rattle's own compiler does.
-BUILDS = ("mailbox_main", "mailbox_main.by-rattle")
+MAIN = "mailbox_main"
+# As LLVM builds a program, and as Rattle's own compiler does.
+BUILDS = ("", ".by-rattle")
 LIMIT = 60  # seconds for one run
 EXAMPLE = re.compile(
     r'name: "(\w+)",\s*words: &\[(.*?)\],\s*input: "(.*?)",$\s*output: "(.*?)",$\s*error: "(.*?)",$\s*status: (\d+),', re.M | re.S
@@ -33,6 +34,9 @@ STACK = 64 << 20
 ROOM = 4 << 20
 # The C library reserves no addresses for the memory of single threads then.
 ONE_ARENA = {**os.environ, "MALLOC_ARENA_MAX": "1"}
+# The seeds of a stress run of four producers, and of one of two. At most two workers have done something then.
+PUTS_ARE_REFUSED, POLLS_ARE_REFUSED = "7", "14"
+TWO_BUSY = re.compile(rb"run 0 of seed [0-9]+: Work\(NoThread, [0-2]\), Plan .*\n")
 # The most bytes of data that a process may have then. It starts within them, but has no room for a large mailbox or script.
 LITTLE = 384 << 10
 
@@ -56,7 +60,7 @@ class Run:
     words: tuple
     status: int
     input: object = b""  # bytes, or the path of what stands for standard input
-    output: object = b""  # bytes that must be written, or the path of a device that stands for standard output
+    output: object = b""  # bytes or a pattern of what must be written, or the path of a device that stands for standard output
     error: object = b""
     threads: int = None  # how many threads it may start at most, if not as ever
     data: int = 0  # how many bytes of data it may have, if not as ever
@@ -119,6 +123,11 @@ def opened(stream, how):
     return os.open(stream, how) if isinstance(stream, str) else subprocess.PIPE
 
 
+def is_as(want, found):
+    """Whether a stream got what it must. What a device got is not seen."""
+    return want.fullmatch(found) if isinstance(want, re.Pattern) else isinstance(want, str) or found == want
+
+
 def differences(program, run):
     """What the program does otherwise than the run says, in words."""
     def limit():
@@ -142,8 +151,8 @@ def differences(program, run):
                 os.close(it)
     told = [] if started.returncode == run.status else [f"status {started.returncode}, and not {run.status}"]
     for stream, want, found in (("output", run.output, wrote[0]), ("error", run.error, wrote[1])):
-        if isinstance(want, bytes) and found != want:
-            told.append(f"standard {stream} {found[:80]!r}, and not {want[:80]!r}")
+        if not is_as(want, found):
+            told.append(f"standard {stream} {found[:80]!r}, and not {getattr(want, 'pattern', want)[:80]!r}")
     return told
 
 
@@ -179,21 +188,41 @@ def standing(programs, who):
     return found
 
 
-def results(program):
-    """Each run by its name, and what the program does otherwise than it must."""
-    for run in [*examples(), *ends()]:
+def refused_elsewhere():
+    """Threads are refused to workers of a round, and to workers of a mailbox, whose report tells how many did something."""
+    return {
+        "example_scheduler": [Run("a round without a thread", (), 1, error=b"Error: a thread could not be started\n", threads=0)],
+        "test_stress": [
+            Run(f"no third thread, by seed {seed}", (seed, "1", "60"), 1, output=TWO_BUSY, threads=2)
+            for seed in (PUTS_ARE_REFUSED, POLLS_ARE_REFUSED)
+        ],
+    }
+
+
+def runs_of(name):
+    """The runs of the program with this name."""
+    return [*examples(), *ends()] if name == MAIN else refused_elsewhere()[name]
+
+
+def results(program, name):
+    """Each run of this build of a program, and what it does otherwise than it must."""
+    for run in runs_of(name):
         yield run.name, differences(program, run)
-    yield "a fault at a terminal", at_a_terminal(program)
+    if name == MAIN:
+        yield "a fault at a terminal", at_a_terminal(program)
 
 
 def main(words):
     asked = argparse.ArgumentParser(description=__doc__, formatter_class=argparse.RawDescriptionHelpFormatter)
-    asked.add_argument("--program", action="append", help="a build of the program")
-    programs = asked.parse_args(words).program or [f"{OUT}/{name}" for name in BUILDS]
-    found = standing(programs, "`rt ci` leaves both builds there, and `./mailbox --build` the first")
+    asked.add_argument("--program", action="append", help="a build of mailbox_main")
+    named = asked.parse_args(words).program
+    programs = {it: MAIN for it in named} if named else {
+        f"{TOP}/crates/{name}/out/{name}{build}": name for name in (MAIN, *refused_elsewhere()) for build in BUILDS
+    }
+    found = standing(programs, "`rt ci` leaves both builds there, and `./mailbox --build` the first of mailbox_main")
     passed, failed = 0, len(programs) - len(found)
     for program in found:
-        for name, told in results(program):
+        for name, told in results(program, programs[program]):
             if told:
                 print(f"{os.path.basename(program)}: {name}: {'; '.join(told)}")
             passed, failed = passed + (not told), failed + bool(told)

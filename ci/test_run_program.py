@@ -3,6 +3,7 @@ import contextlib
 import io
 import os
 import pty
+import re
 import resource
 import tempfile
 import unittest
@@ -62,9 +63,10 @@ class Differences(unittest.TestCase):
         self.assertEqual(self.told(right.replace("echo", "echo x; echo"), run), ["standard output b'x\\n', and not b''"])
 
     def test_threads_that_are_refused(self):
-        run = Run("two threads", (), 3, error=b"fault 3 NoThread\n", threads=2)
-        right = 'test "$(ulimit -s) $(ulimit -v)" = "65536 167936" && echo "fault 3 NoThread" >&2; exit 3'
+        run = Run("two threads", (), 1, output=re.compile(rb"[0-2]\n"), threads=2)
+        right = 'test "$(ulimit -s) $(ulimit -v)" = "65536 167936" && echo 2; exit 1'
         self.assertEqual(self.told(right, run), [])
+        self.assertEqual(self.told(right.replace("echo 2", "echo 3"), run)[0].partition(",")[0], "standard output b'3\\n'")
         with mock.patch.object(resource, "getrlimit", lambda kind: (1 << 23, 1 << 23)):
             self.assertEqual([size for _, size in run_program.limits_of(run)], [1 << 23, 24 << 20])
 
@@ -92,11 +94,11 @@ class Whole(unittest.TestCase):
             self.assertEqual(self.run_main(), ["0 passed, 1 failed"])
 
     def test_each_build_that_is_missing_has_failed(self):
-        with tempfile.TemporaryDirectory() as folder, mock.patch.object(run_program, "OUT", folder):
+        with tempfile.TemporaryDirectory() as folder, mock.patch.object(run_program, "TOP", folder):
             said = self.run_main()
-            self.assertEqual([it.partition(":")[0] for it in said[:-1]], [f"{folder}/{it} is missing" for it in run_program.BUILDS])
-            self.assertEqual(said[-1], "0 passed, 2 failed")
-            with mock.patch.object(run_program, "results", lambda program: [("a run", [])]):
+            self.assertEqual(said[1].partition(":")[0], f"{folder}/crates/mailbox_main/out/mailbox_main.by-rattle is missing")
+            self.assertEqual((len(said), said[-1]), (7, "0 passed, 6 failed"))
+            with mock.patch.object(run_program, "results", lambda program, name: [("a run", [])]):
                 said = self.run_main("--program", "/bin/true", "--program", f"{folder}/none")
         self.assertEqual((len(said), said[-1]), (2, "1 passed, 1 failed"))
 
@@ -121,7 +123,7 @@ class Whole(unittest.TestCase):
 
     def test_what_failed_is_counted(self):
         said = self.run_main("--program", "/bin/false")
-        runs = [*run_program.examples(), *run_program.ends(), "at a terminal"]
+        runs = [*run_program.runs_of(run_program.MAIN), "at a terminal"]
         self.assertEqual(said[-1], f"0 passed, {len(runs)} failed")
 
 
