@@ -6,6 +6,7 @@ use crate::rationed::{four_are_served, second_call_is_done, two_are_served};
 use crate::refused_mailboxes::{
     Alloc, consumer_is_served, gather_is_served, new_is_served, producer_is_served,
 };
+use crate::rounds::round_is_served;
 use std::process::Abort;
 use std::sync::Wait;
 use std::test::Fail;
@@ -25,6 +26,8 @@ enum Call {
     /// Two workers, whose refused call is made again.
     SecondCall,
     FourWorkers,
+    /// A round after items were handed in.
+    Round,
 }
 
 /// Makes the call over the first allocator, and all that it needs besides over the second one. Returns whether the
@@ -43,6 +46,7 @@ fn is_served<'r, R: Abort + Threads + Wait + Sync>(
         Call::TwoWorkers => two_are_served(rt, alloc, ample),
         Call::SecondCall => second_call_is_done(rt, alloc, ample),
         Call::FourWorkers => four_are_served(rt, alloc, ample),
+        Call::Round => round_is_served(rt, alloc, ample),
     }
 }
 
@@ -141,6 +145,8 @@ const CALLS: &[(&str, Call, u64)] = &[
     ("second call", Call::SecondCall, 9),
     // Three lists for each kind of worker, each producer's items, each consumer's marks and words.
     ("four workers", Call::FourWorkers, 12),
+    // The items, two lists of lists with two lists each, the mailbox and its workers, and what is given out and carried.
+    ("round", Call::Round, 20),
 ];
 
 /// Checks that the call is refused if any of its allocations is, keeps no memory, and is then served. It makes so many

@@ -26,6 +26,8 @@ mod rationed;
 #[cfg(test)]
 mod refused_mailboxes;
 #[cfg(test)]
+mod rounds;
+#[cfg(test)]
 mod scenes;
 #[cfg(test)]
 mod texts;

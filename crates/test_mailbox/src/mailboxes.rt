@@ -221,3 +221,12 @@ fn a_large_mailbox_takes_more_items_than_a_script_has(rt: HostRuntime) {
     let setup = Setup::large(1, 1, 300, 1, TableName::Bits).expect(&rt, "no setup");
     plays_in(&rt, setup, lines.as_str(), report.as_str());
 }
+
+// The report needs memory for its items, however many cells there are.
+#[test]
+fn a_mailbox_of_a_million_cells_is_gathered(rt: HostRuntime) {
+    let setup = Setup::large(1, 1, 1 << 20, 1, TableName::Bits).expect(&rt, "no setup");
+    let lines = "producer: given\nconsumer: given\nput 0 7: linked\npoll 0 0 100: took 7\n";
+    let report = "lane 0 open put 7\nleft 0\ndiary 0 0 took 7\n";
+    plays_in(&rt, setup, lines, report);
+}

@@ -114,16 +114,17 @@ fn there_is_what_was_asked_for(rt: HostRuntime) -> Result<(), Fail> {
     comes_to(&rt, &plan, &[lane; 16], &[], (0, 1), diaries)
 }
 
-/// What the check after a refusal finds. The only producer was given. It ended its lane if `ends`, and was taken in if
-/// `comes_in`.
+/// What the check after a refusal finds. The only producer was given, and put an item. It ended its lane if `ends`, and
+/// was taken in if `comes_in`.
 fn after_refusal<R: AllocGlobal>(
     rt: &R,
     ends: bool,
     comes_in: bool,
-) -> Result<Result<(), Fault>, Fail> {
+) -> Result<Result<u64, Fault>, Fail> {
     let setup = Setup::new(1, 1, 4, 1, TableName::Bits)?;
     let (mailbox, mut hub) = Mailbox::new(rt.alloc(), setup)?;
     let mut producer = hub.producer(rt.alloc(), &mailbox)?;
+    producer.put(&mailbox, 7);
     if ends {
         producer.finish(&mailbox);
     }
@@ -141,7 +142,7 @@ fn each_fault_after_a_refusal_is_found(rt: HostRuntime) -> Result<(), Fail> {
         after_refusal(&rt, false, true)?,
         after_refusal(&rt, true, false)?,
     );
-    assert_eq!(rt; found, (Ok(()), Err(Fault::NotEnded), Err(Fault::NoReport)));
+    assert_eq!(rt; found, (Ok(1), Err(Fault::NotEnded), Err(Fault::NoReport)));
     Ok(())
 }
 

@@ -9,8 +9,9 @@ use test_audit::Flaw;
 pub enum Fault {
     /// The plan's setup was refused.
     Setup,
-    /// `work` was refused with this fault. All that it had given was taken in, with its lanes ended.
-    Work(WorkFault),
+    /// `work` was refused with this fault. All that it had given was taken in, with its lanes ended. So many workers
+    /// have done something before that.
+    Work(WorkFault, u64),
     /// Memory ran out.
     NoMemory,
     /// The mailbox gave no report.

@@ -4,6 +4,7 @@ ghost use Rattle.mb_mailbox.specs.Hubs.{IsHubOf};
 use crate::fault::Fault;
 use crate::plan::Plan;
 use mb_mailbox::{Hub, HubFault, Mailbox};
+use mb_world::Report;
 use std::alloc::Global;
 
 /// Has the hub give all producers that are left, and takes them in again. Returns how many there were.
@@ -26,13 +27,30 @@ fn count_left(
     Ok(most)
 }
 
-/// Checks that all that was given was taken in, and that exactly the lanes that were given have ended.
+/// How many workers have done something: put an item, begun a claim or noted one.
+fn count_busy(report: &Report<Global>) -> u64 {
+    let mut busy = 0u64;
+    for lane in &report.lanes {
+        busy = busy.wrapping_add(u64::from(!lane.put.is_empty()));
+    }
+    let mut last = None;
+    for diary in &report.diaries {
+        if (diary.begun || !diary.notes.is_empty()) && last != Some(diary.consumer) {
+            busy = busy.wrapping_add(1);
+            last = Some(diary.consumer);
+        }
+    }
+    busy
+}
+
+/// Checks that all that was given was taken in, and that exactly the lanes that were given have ended. Returns how many
+/// workers have done something.
 pub fn check_refused(
     alloc: Global,
     plan: &Plan,
     mailbox: Mailbox<Global>,
     mut hub: Hub<Global>,
-) -> Result<(), Fault>
+) -> Result<u64, Fault>
     requires { IsHubOf mailbox hub }
 {
     let left = count_left(alloc, &mailbox, &mut hub, plan.producers)?;
@@ -45,5 +63,5 @@ pub fn check_refused(
             return Err(Fault::NotEnded);
         }
     }
-    Ok(())
+    Ok(count_busy(&report))
 }

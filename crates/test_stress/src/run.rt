@@ -128,8 +128,8 @@ fn run_with<W: Threads + Wait + Sync, R: Rng + Send + Drop>(
     let worked = match work(alloc, rt, &mailbox, &mut hub, items, budget, rngs, &gate) {
         Ok(worked) => worked,
         Err(fault) => {
-            check_refused(alloc, plan, mailbox, hub)?;
-            return Err(Fault::Work(fault));
+            let busy = check_refused(alloc, plan, mailbox, hub)?;
+            return Err(Fault::Work(fault, busy));
         }
     };
     let Ok(report) = mailbox.gather(alloc, hub) else {
