@@ -34,7 +34,10 @@ pub(crate) fn round_is_served<'r, R: Abort + Threads + Wait + Sync>(
     match rounds.round(rt, sources(rt, ample, 1), 100, &OpenGate) {
         Ok(round) => {
             same(rt, &round.worked, &ALL_DONE);
-            same(rt, &round.taken[0].as_slice(), &&items[..4]);
+            same(rt, &round.taken.len(), &1);
+            for taken in &round.taken {
+                same(rt, &taken.as_slice(), &&items[..4]);
+            }
             same(rt, &rounds.carried(), &&items[4..]);
             true
         }
