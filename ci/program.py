@@ -11,6 +11,7 @@ import os
 import pty
 import re
 import resource
+import shlex
 import subprocess
 import sys
 
@@ -119,7 +120,7 @@ def printed(command, program):
         return read(f"{crate[1]}/stdout")
     if not all(re.match(r" *(examples/script|\./mailbox|head|tail) ", f"{part} ") for part in command.split("|")):
         return ""
-    ran = f"{{ {command.replace('./mailbox', program)}; }} 2>&1"
+    ran = f"{{ {command.replace('./mailbox', shlex.quote(program))}; }} 2>&1"
     how = {"stdin": subprocess.DEVNULL, "stdout": subprocess.PIPE, "text": True, "timeout": LIMIT}
     return subprocess.run(["sh", "-c", ran], cwd=TOP, **how).stdout
 
