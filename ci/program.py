@@ -107,12 +107,6 @@ def differences(program, words, given, output, error, status, limit):
     return "; ".join(f"{what} {found!r:.80}, and not {wanted!r:.80}" for what, wanted, found in wrong)
 
 
-def results(program):
-    """Each run by its name, and what the program does otherwise than it must."""
-    for name, *run in [*examples(), *ENDS]:
-        yield name, differences(program, *run)
-
-
 def printed(command, program):
     """What a command of a page prints, or nothing if it is none of ours."""
     crate = re.fullmatch(r"cd (crates/\w+) && rt run", command)
@@ -148,7 +142,7 @@ def false_samples(program):
 
 
 def main(programs):
-    told = [(os.path.basename(program), *run) for program in programs for run in results(program)]
+    told = [(os.path.basename(it), name, differences(it, *run)) for it in programs for name, *run in [*examples(), *ENDS]]
     false = [*false_samples(programs[0])]
     print("".join(f"{', '.join(it[:-1])}: {it[-1]}\n" for it in [*told, *false] if it[-1]), end="")
     passed = sum(not it[-1] for it in told)
