@@ -50,11 +50,12 @@ class Test(Room):
 
     def test_a_part_that_fails(self):
         passed = self.run_it()[1][0]
-        for text in ("exit 1", "echo 0 passed, 0 failed; exit 1", "kill -9 $$", "echo x: NOT TRIED", "echo x: BAD EDIT: y"):
+        for text in ("exit 1", "echo 0 passed, 0 failed", "kill -9 $$", "kill -9 $PPID", "echo x: NOT TRIED", "echo x: BAD EDIT: y"):
             self.tool("make", text)
             self.assertEqual(self.run_it()[:2], (1, (passed - 1, 1, 0)), text)
-        self.tool("make", "echo 3 passed, 2 failed; exit 1")
-        self.assertEqual(self.run_it()[:2], (1, (passed + 2, 2, 0)))
+        for told, counts in (("3 passed, 2 failed", (passed + 2, 2, 0)), ("3 passed, 0 failed", (passed + 2, 1, 0))):
+            self.tool("make", f"echo {told}; exit 1")
+            self.assertEqual(self.run_it()[:2], (1, counts))
         self.assertNotIn("rt ci", self.run_it("--all")[2])
 
     def test_a_third_thread_that_is_not_refused_fails(self):
@@ -80,6 +81,9 @@ class Test(Room):
         self.tool("cargo", '[ "$2" != miri ]')
         self.assertEqual(self.run_it("--all", "--may-skip", "C", "--may-skip", "Miri")[:2], (0, (passed - 1, 0, 1)))
         self.assertEqual(self.run_it("--all", "--may-skip", "C")[0], 1)
+        self.tool("cargo-clippy", "exit 1")
+        self.assertEqual(self.run_it()[:2], (0, (few - 1, 0, 1)))
+        self.tool("cargo-clippy", "exit 0")
         self.tool("clang", "exit 1")
         self.tool("make", "echo 'x, no memory: SKIPPED: a limit'; echo 1 passed, 0 failed")
         self.assertIn("C, sanitized: SKIPPED: there is no clang:address,undefined\n", self.run_it("--all")[2])
