@@ -47,6 +47,8 @@ class Test(Room):
         self.assertEqual((status, counts), (0, (len(re.findall("^-- .*: ", said, re.M)), 0, 0)))
         self.assertGreater(counts, few[1])
         self.assertEqual(self.run_it("--some")[0], 2)
+        self.write("crates/a/out/rlib/stamp")
+        self.assertEqual((said.count("--proved"), self.run_it("--all")[2].count("--proved")), (2, 0))
 
     def test_a_part_that_fails(self):
         passed = self.run_it()[1][0]
