@@ -33,7 +33,7 @@ IN_WORDS = b"line 2: expected `offer <lane> <item>`, `push <lane>`, `finish <lan
 
 
 def threads(most):
-    """Limits with which so many threads start, and no more: a process has addresses for their stacks, half a stack and some room."""
+    """Limits with which so many threads start, and no more: there are addresses for their stacks, half a stack and some room."""
     hard = resource.getrlimit(resource.RLIMIT_STACK)[1]
     stack = 64 << 20 if hard == resource.RLIM_INFINITY else min(64 << 20, hard)
     return (resource.RLIMIT_STACK, stack), (resource.RLIMIT_AS, most * stack + stack // 2 + (4 << 20))

@@ -46,7 +46,7 @@ class Mutants(Room):
         for more in ({"more": "refuse: x\n"}, {"more": "new: x\n"}, {"function": "other::a::one"}, {"function": "q::a::two"}):
             self.assertEqual(len(self.edit("bad", **more)[1]), 1, more)
         self.write("crates/q/mutants/half.edit", "refuses: q::a::one\nfile: src/a.rt\nold: 1 + 1\n")
-        for stray in ("crates/q/mutants/note.txt", "crates/q/must-fail/a.edit", "crates/other/mutants/a.edit", "crates/q/specs/a.edit"):
+        for stray in ("crates/q/mutants/note.txt", "crates/q/must-fail/a.edit", "crates/r/mutants/a.edit", "crates/q/specs/a.edit"):
             self.write(stray, "")
         self.assertEqual(len(mutants.edits()[1]), 6)
 
