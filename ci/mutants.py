@@ -3,7 +3,7 @@
 
     ci/mutants.py [CRATE..]     over the libraries of this text, which it builds if they are not there
     ci/mutants.py --proved      the same right after `rt ci`, over the libraries that it left
-    ci/mutants.py --texts       only whether each edit applies, those of must-fail/ too: no prover runs
+    ci/mutants.py --texts       only whether each edit applies: no prover runs
 
 A mutant is a file NAME.edit of these lines: `refuses: CRATE::..::FUNCTION`, `file: src/FILE.rt`, and pairs of `old: TEXT` and
 `new: TEXT`. The old text stands once in that file, and in that function or in an import. With `alone: WHY` it may stand anywhere.
@@ -36,7 +36,7 @@ def read(path):
 
 
 class Edit:
-    """A file of mutants/ or must-fail/. A ValueError says why it cannot be tried."""
+    """A file of mutants/. A ValueError says why it cannot be tried."""
 
     def __init__(self, path):
         part, name = os.path.split(path)
@@ -52,7 +52,7 @@ class Edit:
         self.label, self.function, self.alone = f"{crate}/{name}", said.get("refuses", "").strip(), "alone" in said
         if not self.changes or "old" in said:
             raise ValueError("it has no `old:` and `new:` pair, or one without its end")
-        if part.endswith("/mutants") and not self.function.startswith(f"{crate}::"):
+        if not self.function.startswith(f"{crate}::"):
             raise ValueError("it has no line `refuses: CRATE::..::FUNCTION` of its crate")
         self.applied({})
 
@@ -67,7 +67,7 @@ class Edit:
                 raise ValueError(f"the text `{old}` is in {path} {text.count(old)} times, and not once, or is new as well")
             above = FUNCTION.findall(text[: text.index(old) + len(old)])
             line = text[text.rfind("\n", 0, text.index(old)) + 1 :].lstrip()
-            if self.function and not self.alone and not line.startswith("use ") and above[-1:] != [self.function.split("::")[-1]]:
+            if not self.alone and not line.startswith("use ") and above[-1:] != [self.function.split("::")[-1]]:
                 raise ValueError(f"`{old}` is not in {self.function}: correct the name, or say `alone: WHY`")
             texts[path] = text.replace(old, new)
         return texts
@@ -79,11 +79,11 @@ def edits():
     found, wrong = [], {}
     for at, folders, names in os.walk(TOP):
         folders[:] = sorted(it for it in folders if it not in (".git", "out", "target"))
-        place = re.fullmatch(r"crates/(\w+)/(mutants|must-fail)", os.path.relpath(at, TOP))
+        place = re.fullmatch(r"crates/(\w+)/mutants", os.path.relpath(at, TOP))
         for name in sorted(it for it in names if place or it.endswith(".edit")):
             try:
                 if not place or place[1] not in listed or not name.endswith(".edit"):
-                    raise ValueError("nothing would try it: it is no *.edit in mutants/ or must-fail/ of a crate of crates.txt")
+                    raise ValueError("nothing would try it: it is no *.edit in mutants/ of a crate of crates.txt")
                 found.append(Edit(f"{at}/{name}"))
             except (ValueError, OSError) as fault:
                 wrong[os.path.relpath(f"{at}/{name}", TOP)] = fault
@@ -198,7 +198,7 @@ def main(words):
         print(f"{len(found)} passed, {len(wrong)} failed")
         return bool(wrong)
     (kit, crates), names = kits.load(), {it for it in words if not it.startswith("--")}
-    of_crate = {it.name: [edit for edit in found if edit.path.startswith(f"{it.folder}/mutants/")] for it in crates.values()}
+    of_crate = {it.name: [edit for edit in found if edit.folder == it.folder] for it in crates.values()}
     wanted = [it for it in crates.values() if of_crate[it.name] and it.name in (names or crates)]
     held = kit.lock({it for crate in wanted for it in [crate, *crate.below()]})
     for it in dict.fromkeys(lib for crate in wanted for lib in kits.lacking(crate, "--proved" in words)):
@@ -207,7 +207,6 @@ def main(words):
     with ThreadPoolExecutor(kits.lanes(kit, MEMORY)) as pool:
         wanted.sort(key=lambda it: -it.count(rb"\n"))
         counts = [*pool.map(lambda it: try_crate(kit, it, of_crate[it.name]), wanted)]
-    del held
     passed, failed = sum(it[0] for it in counts), sum(it[1] for it in counts) + len(names - {it.name for it in wanted})
     print(f"{passed} passed, {failed} failed")
     return bool(failed) or not passed

@@ -11,6 +11,7 @@ import os
 import pty
 import re
 import resource
+import shlex
 import subprocess
 import sys
 
@@ -32,7 +33,7 @@ IN_WORDS = b"line 2: expected `offer <lane> <item>`, `push <lane>`, `finish <lan
 
 
 def threads(most):
-    """Limits with which so many threads start, and no more: a process has addresses for their stacks, half a stack and some room."""
+    """Limits with which so many threads start, and no more: there are addresses for their stacks, half a stack and some room."""
     hard = resource.getrlimit(resource.RLIMIT_STACK)[1]
     stack = 64 << 20 if hard == resource.RLIM_INFINITY else min(64 << 20, hard)
     return (resource.RLIMIT_STACK, stack), (resource.RLIMIT_AS, most * stack + stack // 2 + (4 << 20))
@@ -106,12 +107,6 @@ def differences(program, words, given, output, error, status, limit):
     return "; ".join(f"{what} {found!r:.80}, and not {wanted!r:.80}" for what, wanted, found in wrong)
 
 
-def results(program):
-    """Each run by its name, and what the program does otherwise than it must."""
-    for name, *run in [*examples(), *ENDS]:
-        yield name, differences(program, *run)
-
-
 def printed(command, program):
     """What a command of a page prints, or nothing if it is none of ours."""
     crate = re.fullmatch(r"cd (crates/\w+) && rt run", command)
@@ -119,7 +114,7 @@ def printed(command, program):
         return read(f"{crate[1]}/stdout")
     if not all(re.match(r" *(examples/script|\./mailbox|head|tail) ", f"{part} ") for part in command.split("|")):
         return ""
-    ran = f"{{ {command.replace('./mailbox', program)}; }} 2>&1"
+    ran = f"{{ {command.replace('./mailbox', shlex.quote(program))}; }} 2>&1"
     how = {"stdin": subprocess.DEVNULL, "stdout": subprocess.PIPE, "text": True, "timeout": LIMIT}
     return subprocess.run(["sh", "-c", ran], cwd=TOP, **how).stdout
 
@@ -147,7 +142,7 @@ def false_samples(program):
 
 
 def main(programs):
-    told = [(os.path.basename(program), *run) for program in programs for run in results(program)]
+    told = [(os.path.basename(it), name, differences(it, *run)) for it in programs for name, *run in [*examples(), *ENDS]]
     false = [*false_samples(programs[0])]
     print("".join(f"{', '.join(it[:-1])}: {it[-1]}\n" for it in [*told, *false] if it[-1]), end="")
     passed = sum(not it[-1] for it in told)

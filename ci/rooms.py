@@ -3,7 +3,6 @@ import os
 import shutil
 import tempfile
 import unittest
-from unittest import mock
 
 
 class Room(unittest.TestCase):
@@ -18,9 +17,3 @@ class Room(unittest.TestCase):
             file.write(text)
         os.chmod(file.name, 0o755)
         return file.name
-
-    def patch(self, module, **names):
-        """Gives names of a module other values until the test ends."""
-        patched = mock.patch.multiple(module, **names)
-        patched.start()
-        self.addCleanup(patched.stop)

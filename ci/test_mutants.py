@@ -24,7 +24,8 @@ SOURCE = "use a::{b};\n\nfn one() -> u32 {\n    1 + 1\n}\n\nfn two() -> u32 {\n 
 class Mutants(Room):
     def setUp(self):
         super().setUp()
-        self.patch(mutants, TOP=self.top)
+        self.addCleanup(setattr, mutants, "TOP", mutants.TOP)
+        mutants.TOP = self.top
         self.write("crates.txt", "# Each\nq: low\n")
         self.write("crates/q/src/a.rt", SOURCE)
 
@@ -44,10 +45,10 @@ class Mutants(Room):
             self.assertEqual([*self.edit("bad", *bad)[1]], ["crates/q/mutants/bad.edit"], bad)
         for more in ({"more": "refuse: x\n"}, {"more": "new: x\n"}, {"function": "other::a::one"}, {"function": "q::a::two"}):
             self.assertEqual(len(self.edit("bad", **more)[1]), 1, more)
-        self.write("crates/q/must-fail/half.edit", "file: src/a.rt\nold: 1 + 1\n")
-        for stray in ("crates/q/mutants/note.txt", "crates/other/mutants/a.edit", "crates/q/specs/a.edit"):
+        self.write("crates/q/mutants/half.edit", "refuses: q::a::one\nfile: src/a.rt\nold: 1 + 1\n")
+        for stray in ("crates/q/mutants/note.txt", "crates/q/must-fail/a.edit", "crates/r/mutants/a.edit", "crates/q/specs/a.edit"):
             self.write(stray, "")
-        self.assertEqual(len(mutants.edits()[1]), 5)
+        self.assertEqual(len(mutants.edits()[1]), 6)
 
     def test_groups_hold_each_function_once_and_what_applies_together(self):
         self.edit("a")

@@ -37,7 +37,7 @@ class Program(Room):
         self.assertEqual(self.told(right, limit=((resource.RLIMIT_STACK, 64 << 20), (resource.RLIMIT_AS, 164 << 20))), "")
 
     def test_examples_and_false_samples_are_told(self):
-        path = self.write("program", '#!/bin/sh\n[ "$*" = replay ] && cat\n')
+        path = self.write("a folder/it's", '#!/bin/sh\n[ "$*" = replay ] && cat\n')
         known = {it[0]: it[2].decode() for it in program.examples()}
         self.assertGreater(len(known), 20)
         script = known["one_loses"]

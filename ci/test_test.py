@@ -9,6 +9,8 @@ from rooms import Room
 TOP = os.path.dirname(os.path.dirname(os.path.abspath(__file__)))
 OWN = "sh env sed grep tee mktemp date dirname rm cat tail".split()
 FILES = "mailbox examples/script bindings/rust/tests/packing.sh bindings/c/Makefile ci/prebuilt.sh".split()
+# A program that is refused a thread, as it should be.
+REFUSED = 'echo "run 0 of seed $1: Work(NoThread, 2), Plan { cells: 3 }"; exit 1'
 TOOLS = "python3 cargo rustfmt cargo-clippy make cc c++ gcc clang valgrind pkg-config git rt sha256sum".split()
 
 
@@ -24,6 +26,8 @@ class Test(Room):
             self.tool(name, f'while [ "$1" != -o ]; do shift; done; echo exit >"$2"; {shutil.which("chmod")} +x "$2"')
         for path in FILES:
             self.write(path)
+        for ending in ("", ".by-rattle"):
+            self.tool(f"../crates/test_stress/out/test_stress{ending}", REFUSED)
         shutil.copy(f"{TOP}/test", self.top)
 
     def tool(self, name, text):
@@ -43,15 +47,24 @@ class Test(Room):
         self.assertEqual((status, counts), (0, (len(re.findall("^-- .*: ", said, re.M)), 0, 0)))
         self.assertGreater(counts, few[1])
         self.assertEqual(self.run_it("--some")[0], 2)
+        self.write("crates/a/out/rlib/stamp")
+        self.assertEqual((said.count("--proved"), self.run_it("--all")[2].count("--proved")), (2, 0))
 
     def test_a_part_that_fails(self):
         passed = self.run_it()[1][0]
-        for text in ("exit 1", "echo 0 passed, 0 failed; exit 1", "kill -9 $$", "echo x: NOT TRIED", "echo x: BAD EDIT: y"):
+        for text in ("exit 1", "echo 0 passed, 0 failed", "kill -9 $$", "kill -9 $PPID", "echo x: NOT TRIED", "echo x: BAD EDIT: "):
             self.tool("make", text)
             self.assertEqual(self.run_it()[:2], (1, (passed - 1, 1, 0)), text)
-        self.tool("make", "echo 3 passed, 2 failed; exit 1")
-        self.assertEqual(self.run_it()[:2], (1, (passed + 2, 2, 0)))
+        for told, counts in (("3 passed, 2 failed", (passed + 2, 2, 0)), ("3 passed, 0 failed", (passed + 2, 1, 0))):
+            self.tool("make", f"echo {told}; exit 1")
+            self.assertEqual(self.run_it()[:2], (1, counts))
         self.assertNotIn("rt ci", self.run_it("--all")[2])
+
+    def test_a_third_thread_that_is_not_refused_fails(self):
+        for wrong in (REFUSED.replace("2)", "3)"), REFUSED.replace("exit 1", "kill -9 $$"), "exit 1"):
+            self.tool("../crates/test_stress/out/test_stress.by-rattle", wrong)
+            status, counts, said = self.run_it("--all")
+            self.assertEqual((status, counts[1:], "third thread, by seed 7: 0 passed" in said), (1, (1, 0), True), wrong)
 
     def test_a_program_of_one_compiler_alone_fails(self):
         self.tool("rt", """echo "rt: note: Rattle's own compiler did not compile this program, so"; echo 9 passed, 0 failed""")
@@ -70,6 +83,9 @@ class Test(Room):
         self.tool("cargo", '[ "$2" != miri ]')
         self.assertEqual(self.run_it("--all", "--may-skip", "C", "--may-skip", "Miri")[:2], (0, (passed - 1, 0, 1)))
         self.assertEqual(self.run_it("--all", "--may-skip", "C")[0], 1)
+        self.tool("cargo-clippy", "exit 1")
+        self.assertEqual(self.run_it()[:2], (0, (few - 1, 0, 1)))
+        self.tool("cargo-clippy", "exit 0")
         self.tool("clang", "exit 1")
         self.tool("make", "echo 'x, no memory: SKIPPED: a limit'; echo 1 passed, 0 failed")
         self.assertIn("C, sanitized: SKIPPED: there is no clang:address,undefined\n", self.run_it("--all")[2])

@@ -5,8 +5,8 @@
     examples/script one_loses | examples/draw.py PROGRAM > one_loses.svg    # another build than that of ./mailbox
 
 The program makes the transcript, and finds every fault of a script: then there is no picture, but its line and its
-status. Status 1 is this script's own. A picture has a column for each who acts, a row for each event, a line from
-each store to the loads that found it, and a box round each claim. The report below is of all events.
+status. Status 1 is this script's own. A picture has a column for each who acts, and a row for each event. A line leads
+from each store to the loads that found it. A box stands round each claim. The report below is of all events.
 """
 import dataclasses
 import html
