@@ -162,7 +162,7 @@ typedef struct {
 
 /* A number that the process has for no other mailbox. It is of heap.c, from 2^63 on: the Rust crate counts from 0. It never
  * comes twice from one copy of heap.c, in whatever threads it is called. Shared libraries that hide their names may have
- * a copy each. Then none may be given a handle of another's. */
+ * a copy each. Their equal numbers do no harm if none is given a handle of another's. */
 extern uint64_t hz_next_id(void);
 
 /* A mailbox of this setup, and its hub. It takes up to 13 kB of stack: a thread of the least size, 16 kB, is too small.
