@@ -3,15 +3,16 @@
  * alone.
  *
  * Link libhazbultra.a and heap.c, which has its allocation functions: gcc -pthread your.c heap.c libhazbultra.a
+ * The library that `make install` puts has heap.c in it. Both are for x86-64 Linux, on a processor of level x86-64-v2.
  *
  * WHAT A CALLER OWES. Nothing checks a C caller, and what is proved holds only if it keeps this:
  *
  *  1. Each hz_handle begins as HZ_NONE. After that only calls of this library write it. It is not copied: after a copy,
  *     only one of the two may be used. It may be moved, as a struct is moved by memcpy.
- *  2. No pointer is null, not even that of hz_free. Each leads to an object of its type, or to as many as the length
- *     beside it says. A handle, a setup and a seed are initialised. What a call is to write need not be: a call never
- *     reads value, missing, lanes, consumers, out, items, notes or copied. A bool is 0 or 1. Two pointers of one call
- *     lead to different objects.
+ *  2. No pointer is null, not even that of hz_free, or items or notes if room is 0. Each leads to an object of its type,
+ *     or to as many as the length beside it says. A handle, a setup and a seed are initialised. What a call is to write
+ *     need not be: a call never reads value, missing, lanes, consumers, out, items, notes or copied. A bool is 0 or 1.
+ *     Two pointers of one call lead to different objects.
  *  3. A handle is in one call at a time. From call to call it may go from thread to thread, if the one call happens
  *     before the other: by a lock, the start or the join of a thread, an atomic, or whatever else orders them. Handles
  *     of one mailbox may be in calls at the same time: that is what it is for.
@@ -160,7 +161,8 @@ typedef struct {
 } hz_missing;
 
 /* A number that the process has for no other mailbox. It is of heap.c, from 2^63 on: the Rust crate counts from 0. It never
- * comes twice, in whatever threads it is called. */
+ * comes twice from one copy of heap.c, in whatever threads it is called. Shared libraries that hide their names may have
+ * a copy each. Their equal numbers do no harm if none is given a handle of another's. */
 extern uint64_t hz_next_id(void);
 
 /* A mailbox of this setup, and its hub. It takes up to 13 kB of stack: a thread of the least size, 16 kB, is too small.
@@ -252,8 +254,8 @@ void hz_free(hz_handle *handle);
 #ifdef HZ_THREAD_SANITIZER
 void __tsan_release(void *at);
 void __tsan_acquire(void *at);
-#define HZ_BEFORE_PUT(p) __tsan_release(p)
-#define HZ_AFTER_TAKE(p) __tsan_acquire(p)
+#define HZ_BEFORE_PUT(p) __tsan_release((void *)(p))
+#define HZ_AFTER_TAKE(p) __tsan_acquire((void *)(p))
 #else
 #define HZ_BEFORE_PUT(p) ((void)(p))
 #define HZ_AFTER_TAKE(p) ((void)(p))

@@ -1,9 +1,10 @@
 /* What libhazbultra.a leaves to its program: the three functions by which it asks for memory, over malloc, realloc and free,
  * and the numbers of mailboxes.
  *
- * Link this file, or functions of your own under the same names. All here are weak: others of these names take their place,
- * as those of a Rust library with the crate `hazbultra` do. A block that is asked for with size 0 has an address of its own,
- * so that no two blocks share one. A refused block is told by `there`. Then `at` is not null and is not used.
+ * Link this file, or functions of your own under the same names: all three of memory, or none of them. All here are weak:
+ * others of these names take their place, as those of a Rust library with the crate `hazbultra` do. A block that is asked
+ * for with size 0 has an address of its own, so that no two blocks share one. A refused block is told by `there`. Then `at`
+ * is not null and is not used.
  */
 #include <stdatomic.h>
 #include <stdbool.h>

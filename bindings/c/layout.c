@@ -34,6 +34,13 @@ HAS(hz_missing, consumers, 4);
 
 static_assert(HZ_VERSION_MAJOR * 10000 + HZ_VERSION_MINOR * 100 + HZ_VERSION_PATCH > 0, "the version is of numbers");
 
+/* An item may be the address of a constant. */
+void tell_of(const int *item);
+void tell_of(const int *item) {
+    HZ_BEFORE_PUT(item);
+    HZ_AFTER_TAKE(item);
+}
+
 /* HZ_NONE is given at the start and later. */
 hz_handle nothing_twice(void);
 hz_handle nothing_twice(void) {

@@ -26,7 +26,7 @@ pub enum Shape {
     Plain,
     /// Two ratifiers before the pairs: a consumer that comes alone makes fewer accesses.
     Fast,
-    /// An object after the pairs, which makes one compare-exchange: no poll is undecided.
+    /// An object after the pairs, which makes one compare-exchange: no poll is undecided. Take it for four consumers or more.
     Last,
     /// Both. This one is taken if you name none.
     #[default]

@@ -3,7 +3,8 @@
 //! takes a lock or waits, but for what the allocator does with a box.
 //!
 //! The mailbox is written in Rattle, which is Rust with contracts, and proved for every run: every order of the threads'
-//! steps, and all random words. This crate links the archive built from it, and needs nothing else.
+//! steps, and all random words. This crate links the archive built from it, and needs nothing else. It is for x86-64 Linux,
+//! on a processor of level x86-64-v2.
 //!
 //! ```
 //! use hazbultra::Mailbox;
