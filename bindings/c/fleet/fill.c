@@ -47,6 +47,6 @@ int main(int count, char **words) {
     jsStreamInfo_Destroy(info);
     jsCtx_Destroy(jets);
     natsConnection_Destroy(connection);
-    nats_Close();
+    nats_CloseAndWait(0);
     return 0;
 }

@@ -19,7 +19,7 @@
 
 #define CONSUMER "fleet"
 
-enum { MOST_BATCH = 1024, SECOND = 1000, FETCH = 500 }; /* (times are in milliseconds) */
+enum { MOST_BATCH = 1024, SECOND = 1000, FETCH = 500, LOOK = 10 }; /* (times are in milliseconds) */
 
 static const int64_t NANOSECONDS = 1000000000;
 static const char *server = "nats://127.0.0.1:4222", *stream = "JOBS", *effects = "effects";
@@ -127,8 +127,9 @@ static bool is_connected(void) {
 }
 
 /* Fetches what there is, at most so many, and waits for the first. While the server is away it asks for nothing: such
- * requests would be kept, and sent when it is back. */
+ * requests would be kept, and sent when it is back. After some empty ones it looks whether the stream is still there. */
 static void fetch(natsMsgList *list, uint64_t most) {
+    static unsigned empty;
     jsFetchRequest request;
     natsStatus status = jsFetchRequest_Init(&request);
     request.Batch = (int)most;
@@ -138,15 +139,19 @@ static void fetch(natsMsgList *list, uint64_t most) {
         status = natsSubscription_FetchRequest(list, subscription, &request);
     else
         nats_Sleep(100);
-    if (status == NATS_OK || status == NATS_TIMEOUT || !is_connected())
+    empty = status == NATS_TIMEOUT ? empty + 1 : 0;
+    if (status == NATS_OK || !is_connected() || (status == NATS_TIMEOUT && empty % LOOK != 0))
         return;
     jsConsumerInfo *info = NULL;
-    if (js_GetConsumerInfo(&info, jets, stream, CONSUMER, NULL, NULL) == NATS_NOT_FOUND)
+    jsErrCode error = 0;
+    natsStatus there = js_GetConsumerInfo(&info, jets, stream, CONSUMER, NULL, &error);
+    if (error == JSStreamNotFoundErr || error == JSConsumerNotFoundErr)
         say(true, "the stream %s or its consumer %s is gone", stream, CONSUMER);
-    else
-        say(status == NATS_NO_MEMORY, "no jobs are fetched: %s", natsStatus_GetText(status));
+    else if (status != NATS_TIMEOUT)
+        say(status == NATS_NO_MEMORY || there == NATS_NO_MEMORY, "no jobs are fetched: %s", natsStatus_GetText(status));
     jsConsumerInfo_Destroy(info);
-    nats_Sleep(FETCH);
+    if (status != NATS_TIMEOUT)
+        nats_Sleep(FETCH);
 }
 
 static void *feed(void *at) {
@@ -313,7 +318,10 @@ static int read_words(int count, char **words) {
         if (!strcmp(words[i], "--help")) {
             printf("fleet runs the jobs of a stream, up to SIGTERM or SIGINT.\n");
             for (; it < options_end; it++)
-                printf("  %s %s\n", it->name, it->help);
+                if (it->text)
+                    printf("  %s %s: %s if not given\n", it->name, it->help, *it->text);
+                else
+                    printf("  %s %s: %" PRIu64 " if not given\n", it->name, it->help, *it->number);
             return 0;
         }
         while (it < options_end && strcmp(it->name, words[i]))
