@@ -3,7 +3,6 @@
 
     test.py [JOBS]      # how many jobs the long run has, by default 20000
 """
-import collections
 import json
 import os
 import resource
@@ -209,24 +208,32 @@ def refusals(server):
 
 
 def gone(server):
-    """The stream is removed under a running process."""
+    """The stream is deleted under a running process, by a request of the server's own protocol."""
+    server.fill("GONE", range(4))
+    process = server.fleet("GONE")
+    wait(lambda: server.left("GONE") == 0, "the stream is empty")
+    with socket.create_connection(("127.0.0.1", server.port)) as it:
+        it.sendall(b"CONNECT {}\r\nPUB $JS.API.STREAM.DELETE.GONE 0\r\n\r\n")
+        said = process.communicate(timeout=30)[1]
+    expect(process.returncode == 1 and said == "fleet: the stream GONE or its consumer fleet is gone\n", said)
 
 
 def low_memory(server):
-    """With little memory a process runs, or says so and ends with 1. Nothing is lost."""
-    statuses = collections.Counter()
-    for kind in (resource.RLIMIT_AS, resource.RLIMIT_DATA):
-        for size in range(8, 120, 8):
-            process = server.fleet("STOP", "--cells", 100000, memory=(kind, (size << 20, size << 20)))
-            try:
-                process.wait(0.5)
-            except subprocess.TimeoutExpired:
-                pass
-            status, said = end(process)
-            expect(status in (0, 1, 127) and said.strip(), f"{size} MB: {status}: {said}")
-            statuses[status] += 1
-    expect(statuses[1] > 0, "no run lacked memory")
-    return str(dict(statuses))
+    """With too little memory a process says so and ends with 1. What it has is not lost."""
+    sizes = [(resource.RLIMIT_AS, it) for it in (24, 40, 64, 80)] + [(resource.RLIMIT_DATA, it) for it in (2, 16, 64)]
+    for kind, size in sizes:
+        said = server.fleet("STOP", "--cells", 200000, memory=(kind, (size << 20, size << 20))).communicate(timeout=30)[1]
+        expect(started[-1].returncode == 1 and said.startswith("fleet: ") and said.count("\n") == 1, f"{size} MB: {said}")
+    server.fill("LACK", range(30000))
+    process = server.fleet("LACK", "--cells", 2000)
+    wait(lambda: len(rows("LACK")) > 0, "some jobs ran")
+    resource.prlimit(process.pid, resource.RLIMIT_AS, (1 << 20, 1 << 20))
+    said = process.communicate(timeout=30)[1]
+    expect(process.returncode == 1 and "no memory for a further mailbox" in said, f"{process.returncode}: {said}")
+    process = server.fleet("LACK")
+    wait(lambda: server.left("LACK") == 0, "the stream is empty")
+    end(process)
+    expect_each("LACK", range(30000))
 
 
 def main(words):
@@ -240,7 +247,7 @@ def main(words):
         os.chdir(room)
         server = Server()
         try:
-            for part in (long_run, away, long_jobs, handed_out_again, stop_in_the_middle, bad_jobs, refusals, low_memory):
+            for part in (long_run, away, long_jobs, handed_out_again, stop_in_the_middle, bad_jobs, refusals, gone, low_memory):
                 began = time.monotonic()
                 told = part(server, int(words[0]) if words else 20000) if part == long_run else part(server)
                 print(f"fleet: {part.__name__}: passed, {time.monotonic() - began:.0f} s{': ' * bool(told)}{told or ''}", flush=True)
