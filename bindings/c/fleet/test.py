@@ -125,17 +125,18 @@ def long_run(server):
 
 
 def away(server):
-    """The server goes away for ten seconds, and the acknowledge time runs out. The one process runs nothing twice."""
-    server.fill("AWAY", range(4000))
+    """The server is killed, and away for ten seconds. It forgets acknowledgements, and the acknowledge time runs out. The
+    one process runs nothing twice."""
+    server.fill("AWAY", range(6000))
     process = server.fleet("AWAY", ack=5)
-    wait_rows("AWAY", 500)
-    end(server.process)
+    wait_rows("AWAY", 3000)
+    end(server.process, signal.SIGKILL)
     time.sleep(10)
     server.start()
-    server.wait_empty("AWAY")
+    wait(lambda: len({job for job, _ in rows("AWAY")}) == 6000, "all jobs ran")
     status, said = end(process)
     expect(status == 0 and "the server is away" in said and "the server is back" in said, said)
-    expect_each("AWAY", range(4000))
+    expect_each("AWAY", range(6000))
 
 
 def long_jobs(server):
