@@ -32,8 +32,11 @@ int main(int count, char **words) {
     const char *subject = info->Config->SubjectsLen > 0 ? info->Config->Subjects[0] : words[2];
     char line[1024];
     long lines = 0;
-    for (; fgets(line, sizeof line, stdin); lines++)
-        expect(js_PublishAsync(jets, subject, line, (int)strcspn(line, "\n"), NULL), "a job is not sent");
+    for (; fgets(line, sizeof line, stdin); lines++) {
+        size_t length = strcspn(line, "\n");
+        expect(length < sizeof line - 1 ? NATS_OK : NATS_LINE_TOO_LONG, "a job is longer than 1022 bytes");
+        expect(js_PublishAsync(jets, subject, line, (int)length, NULL), "a job is not sent");
+    }
     jsPubOptions patience;
     expect(jsPubOptions_Init(&patience), "the patience");
     patience.MaxWait = 60000;
