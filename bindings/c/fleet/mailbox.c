@@ -33,7 +33,8 @@ static hz_setup setup = {.producers = 1, .pairs = 4, .last = true};
 /* Says whether the call was done. */
 static bool is_done(uint32_t code, const struct round *round, const char *call) {
     if (code != HZ_DONE)
-        say(true, "mailbox %" PRIu64 ": %s returned the code %" PRIu32, round->number, call, code);
+        say(true, "mailbox %" PRIu64 ": %s returned the code %" PRIu32 "%s", round->number, call, code,
+            code == HZ_NO_MEMORY ? " (no memory)" : "");
     return code == HZ_DONE;
 }
 
