@@ -19,8 +19,9 @@ COST_IN_C = measuring.ROOM / "cost"
 WAYS = {
     "inside Rattle": lambda items: (measuring.LOOPS, "relay", "bits", 4, items, "plain", CELLS),
     "from C": lambda items: (COST_IN_C, items),
-    "from plain Rust, `u64`": lambda items: (measuring.COST, "numbers", items),
-    "from plain Rust, a box each": lambda items: (measuring.COST, "boxes", items),
+    "from C, with a budget of 1": lambda items: (COST_IN_C, items, 1),
+    "from plain Rust, `u64`": lambda items: (measuring.BESIDE, "plain", "relay", 1, 4, items, CELLS),
+    "from plain Rust, a box each": lambda items: (measuring.BESIDE, "plain_boxes", "relay", 1, 4, items, CELLS),
     "`SegQueue`, `u64`": lambda items: (measuring.BESIDE, "seg", "relay", 1, 1, items, CELLS),
     "`SegQueue`, a box each": lambda items: (measuring.BESIDE, "seg_boxes", "relay", 1, 1, items, CELLS),
 }
@@ -28,8 +29,7 @@ WAYS = {
 
 def build():
     measuring.proved(measuring.LOOPS)
-    measuring.compiled(measuring.C / "cost.c")
-    measuring.cargo("bindings/rust", "--example", "cost")
+    measuring.compiled(measuring.TOP / "bench" / "cost.c")
     measuring.cargo("bench/beside_queues")
 
 

@@ -4,8 +4,8 @@
 usage: bench/by_cells.py [--cells 256,16384,1048576] [--keep]
 
 `by_cells.c` fills a mailbox of 2 producers and 2 consumers, plain cells, `bits` and 4 pairs, and polls each item. callgrind counts each call of
-the library with all that it calls. A call that is made again and again has its mean. Of a `World` the script takes the mean event of bench_loops, with
-one consumer and without making the world. With --keep the programs of the last run are taken as they are. It wants rt, cc and valgrind.
+the library with all that it calls. A call that is made again and again has its mean. With --keep the program of the last run is taken
+as it is. It wants cc and valgrind.
 """
 import argparse
 import re
@@ -39,27 +39,16 @@ def calls(cells):
     return means(subprocess.run(told, check=True, capture_output=True, text=True).stdout)
 
 
-def event(cells):
-    """The instructions of a mean event of a world."""
-    def run(loop):
-        return measuring.LOOPS, loop, "bits", 1, 1, "plain", cells
-    said = subprocess.run([*map(str, run("events"))], check=True, capture_output=True, text=True).stdout
-    events = int(re.search(r": (\d+) events", said)[1])
-    return (measuring.instructions(run("events")) - measuring.instructions(run("worlds"))) / events
-
-
 def main():
     parser = argparse.ArgumentParser()
     parser.add_argument("--cells", default="256,16384,1048576")
     parser.add_argument("--keep", action="store_true")
     options = parser.parse_args()
     if not options.keep:
-        measuring.proved(measuring.LOOPS)
         measuring.compiled(measuring.TOP / "bench" / "by_cells.c")
     sizes = [int(word) for word in options.cells.split(",")]
     told = {cells: calls(cells) for cells in sizes}
     rows = [(name, *(told[cells][call] for cells in sizes)) for call, name in CALLS.items()]
-    rows.append(("an event of a `World`", *(event(cells) for cells in sizes)))
     for call in ("hz_mailbox_new", "hz_gather"):
         rows.append((f"{CALLS[call]}, a cell", *(told[cells][call] / cells for cells in sizes)))
     print(measuring.table(("Instructions", *(f"{cells:,} cells" for cells in sizes)), rows))

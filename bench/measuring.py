@@ -13,7 +13,6 @@ ROOM = pathlib.Path(tempfile.gettempdir()) / "hazbultra_bench"
 LOOPS = TOP / "crates" / "bench_loops" / "out" / "bench_loops"
 LARGE = TOP / "crates" / "bench_large" / "out" / "bench_large"
 BESIDE = ROOM / "release" / "beside_queues"
-COST = ROOM / "release" / "examples" / "cost"
 C = TOP / "bindings" / "c"
 ARCHIVE = TOP / "bindings" / "rust" / "prebuilt" / "libhazbultra.a"
 NANOSECONDS = {"s": 1e9, "ms": 1e6, "µs": 1e3, "ns": 1}
@@ -28,11 +27,11 @@ def proved(*programs):
         subprocess.run(["rt", "run", "--jobs", "1", "--", *words], cwd=folder, check=True, stdout=subprocess.DEVNULL)
 
 
-def cargo(folder, *words):
+def cargo(folder):
     """Builds with cargo, into the room of these scripts."""
     # (the crates of others ask for settings that this cargo does not know)
     into = {**os.environ, "CARGO_TARGET_DIR": str(ROOM), "RUSTFLAGS": "-A unexpected_cfgs"}
-    subprocess.run(["cargo", "build", "--quiet", "--release", "--offline", *words], cwd=TOP / folder, env=into, check=True)
+    subprocess.run(["cargo", "build", "--quiet", "--release", "--offline"], cwd=TOP / folder, env=into, check=True)
 
 
 def compiled(source):

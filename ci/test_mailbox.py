@@ -1,149 +1,156 @@
-"""Tests of the script `mailbox`, with stand-ins for the kit's `rt` and for the Python that runs ci/libraries.py."""
-import functools
+"""Tests of the script `mailbox`, of ci/sources.sh and ci/prebuilt.sh, with stand-ins for the program and for the kit's `rt`."""
+import hashlib
 import os
 import shutil
-import signal
 import subprocess
-import tempfile
-import unittest
+
+from rooms import Room
 
 TOP = os.path.dirname(os.path.dirname(os.path.abspath(__file__)))
-PROGRAM = "crates/mailbox_main/out/mailbox_main"
-# The crates that stand there: that of the program, and one whose source may be newer.
-CRATES = ("mailbox_main", "mb_quorum")
-# It says what it was asked, and `rt run` leaves a program that says what it is asked, and a copy of a source.
+PROGRAM = '#!/bin/sh\n[ "$1" = --version ] || { echo "SHIPPED $*"; cat; }\n'
+# It says what it was asked, and `rt run` leaves a program that says what it is asked.
 RT = """#!/bin/sh
-if [ "$1" = run ]; then
-    echo 'rt: chose --jobs 4 for mb_quorum'
-    echo 'so far: 2 of 9 functions checked; the verdict comes last'
-    echo 'fn mb_quorum::table::Table::new: proved'
-    [ "${BROKEN-}" != run ] || exit 1
-    [ -z "${EDITED-}" ] || { sleep 0.1; touch "$EDITED"; sleep 0.1; }
-    mkdir -p out/rlib
-    touch out/rlib/lib.rt
-    printf '#!/bin/sh\\necho "built $*"\\ncat\\n' >out/mailbox_main
-    chmod +x out/mailbox_main
-else
-    echo "rt $*"
-    cat
-    exit 2
-fi
+[ "$1" != version ] || exec echo the kit
+[ "$1" != lib ] || { mkdir -p out && echo ARCHIVE >out/libhazbultra.a; exit; }
+[ "$1" = run ] || { echo "rt $*"; cat; exit 2; }
+echo 'so far: 2 of 9 functions checked; the verdict comes last'
+[ -z "${BROKEN-}" ] || exit 1
+[ -z "${EDITED-}" ] || echo // >>"$EDITED"
+mkdir -p out
+printf '#!/bin/sh\\necho "own $*"\\ncat\\n' >out/mailbox_main
+chmod +x out/mailbox_main
 """
-# It says how far two libraries are, one of them in a process of its own.
-PYTHON = """#!/bin/sh
-[ "$*" = "$(dirname "$(dirname "$0")")/ci/libraries.py mailbox_main" ] || exit 2
-(
-    echo 'so far: 1 of 3 functions of mb_cells checked; the verdict comes last'
-    [ -z "${SLOW-}" ] || sleep 60
-) &
-echo 'so far: 2 of 3 functions of mb_quorum checked; the verdict comes last'
-[ -z "${LINES-}" ] || { wait; echo "$LINES"; }
-[ "${BROKEN-}" != libraries ] || exit 1
-# (an interrupt while a shell starts a command may be lost to that command)
-[ -z "${SLOW-}" ] || exec sleep 60
-wait
-"""
+FILES = {
+    "crates.txt": "# Each crate.\nlow:\nmailbox_main: low clap\nhazbultra staticlib: low\n",
+    "crates/mailbox_main/src/main.rt": "",
+    "crates/low/src/lib.rt": "",
+    "crates/hazbultra/src/lib.rt": "",
+    "bindings/rust/prebuilt/libhazbultra.a": "ARCHIVE\n",
+    "prebuilt/mailbox": PROGRAM,
+    "bin/rt": RT,
+}
+SOURCE = "crates/low/src/lib.rt"
 
 
-class TheScript(unittest.TestCase):
+class Place(Room):
+    """A repository with the program, a library below it, and one that is not."""
+
     def setUp(self):
-        self.top = os.path.realpath(tempfile.mkdtemp(prefix="mailbox-"))
-        self.addCleanup(shutil.rmtree, self.top)
-        shutil.copy(f"{TOP}/mailbox", self.top)
-        for folder in ("bin", *(f"crates/{it}/src" for it in CRATES)):
-            os.makedirs(f"{self.top}/{folder}")
-        self.write("crates/mb_quorum/src/lib.rt", "")
-        for name, text in (("rt", RT), ("python3", PYTHON)):
-            self.write(f"bin/{name}", text)
-            os.chmod(f"{self.top}/bin/{name}", 0o755)
+        super().setUp()
+        for path, text in FILES.items():
+            self.write(path, text)
+        os.mkdir(f"{self.top}/ci")
+        for path in ("mailbox", "ci/sources.sh", "ci/prebuilt.sh"):
+            shutil.copy(f"{TOP}/{path}", f"{self.top}/{path}")
+        self.record()
+        self.record("bindings/rust/prebuilt/libhazbultra.a", "hazbultra")
 
-    def write(self, path, text):
-        with open(f"{self.top}/{path}", "w", encoding="utf-8") as file:
-            file.write(text)
+    def sources(self, crate="mailbox_main"):
+        return subprocess.check_output(["sh", f"{self.top}/ci/sources.sh", crate], text=True).strip()
 
-    def environment(self, **more):
-        return {"PATH": f"{self.top}/bin:/usr/bin:/bin", **more}
+    def record(self, path="prebuilt/mailbox", crate="mailbox_main", **more):
+        with open(f"{self.top}/{path}", "rb") as file:
+            lines = {"sha256": hashlib.sha256(file.read()).hexdigest(), "sources": self.sources(crate)}
+        lines = {**lines, "commit": "0" * 40, "kit": "kit", "needs": "x86_64 Linux, x86-64-v2", **more}
+        self.write(f"{path.removesuffix('.a')}.txt", "".join(f"{name}: {value}\n" for name, value in lines.items()))
 
-    def run_it(self, *words, **more):
-        how = {"input": "script\n", "capture_output": True, "text": True, "env": self.environment(**more)}
-        ran = subprocess.run([f"{self.top}/mailbox", *words], check=False, **how)
+    def run_it(self, *words, kit=True, **more):
+        env = {"PATH": f"{f'{self.top}/bin:' * kit}/usr/bin:/bin", **more}
+        ran = subprocess.run([f"{self.top}/mailbox", *words], input="x\n", capture_output=True, text=True, env=env, check=False)
         return ran.returncode, ran.stdout, ran.stderr
 
-    def test_without_a_build_the_run_is_unproved(self):
+    def expect_unproved(self, why):
+        """The program is run without a proof if there is a kit, and one line says why; without one it is not run."""
         status, said, errors = self.run_it("replay")
-        self.assertEqual((status, said), (2, "rt try -- replay\nscript\n"))
-        self.assertEqual(errors.count("\n"), 1)
-        self.assertIn("unproved", errors)
+        self.assertEqual((status, said, errors.count("\n")), (2, "rt try -- replay\nx\n", 1))
+        self.assertIn(f"{why}. So this run is unproved", errors)
+        status, said, errors = self.run_it("replay", kit=False)
+        self.assertEqual((status, said, errors.count("\n")), (1, "", 1))
+        self.assertIn(f"{why}. Without a proved program this needs the command rt", errors)
 
-    def test_a_build_is_kept_and_tells_how_far_it_is(self):
+
+class Mailbox(Place):
+    def test_the_prebuilt_program_runs_without_a_kit(self):
+        self.assertEqual(self.run_it("replay", "now", kit=False), (0, "SHIPPED replay now\nx\n", ""))
+        self.assertEqual(self.run_it("--which", kit=False), (0, f"{self.top}/prebuilt/mailbox\n", ""))
+
+    def test_only_the_content_of_its_own_sources_counts(self):
+        before = self.sources()
+        for path in ("crates/hazbultra/src/lib.rt", "crates/low/specs/A.antt"):
+            self.write(path, "changed")
+        os.utime(f"{self.top}/{SOURCE}", (1, 1))
+        self.assertEqual(self.sources(), before)
+        for path, text in ((SOURCE, "//"), ("crates/low/src/new.rt", ""), ("crates.txt", "low:\nmailbox_main: low\n")):
+            self.write(path, text)
+            self.assertNotEqual(self.sources(), before)
+            before = self.sources()
+
+    def test_stale_or_with_another_byte_it_is_not_run(self):
+        self.write(SOURCE, "//")
+        self.expect_unproved("there is no build of your own; the program prebuilt/mailbox is stale: sources were changed")
+        self.assertEqual(self.run_it("--which")[:2], (1, ""))
+        self.write("prebuilt/mailbox", PROGRAM.replace("SHIPPED", "shipped"))
+        self.write(SOURCE, "")
+        self.expect_unproved("program prebuilt/mailbox is not the one that its text tells of: it has another SHA-256")
+
+    def test_on_another_machine_one_line_says_what_it_needs(self):
+        self.write("bin/uname", "#!/bin/sh\necho Linux wrong\n")
+        for text in ("#!/no/loader\n", "#!/bin/sh\necho no GLIBC_9 >&2; exit 1\n", "\0no program\n"):
+            self.write("prebuilt/mailbox", text)
+            self.record()
+            status, said, errors = self.run_it("replay")
+            self.assertEqual((status, said, errors.count("\n")), (1, "", 1), errors)
+            self.assertIn("needs x86_64 Linux, x86-64-v2, and does not run here (Linux wrong): ", errors)
+
+    def test_an_own_build_goes_first_until_it_is_stale(self):
         status, said, errors = self.run_it("--build")
         self.assertEqual((status, said), (0, ""))
-        self.assertIn("mailbox: 2 of 9 functions of mb_quorum\n", errors)
-        self.assertIn("mailbox: mb_quorum is proved\n", errors)
-        self.assertIn("mailbox: built in ", errors)
-        self.assertEqual(self.run_it("replay", "now"), (0, "built replay now\nscript\n", ""))
-        self.assertIn("minutes the last time", self.run_it("--build")[2])
+        self.assertIn("mailbox: so far: 2 of 9 functions", errors)
+        self.assertEqual(self.run_it("replay", kit=False), (0, "own replay\nx\n", ""))
+        self.write(SOURCE, "//")
+        self.record()
+        self.assertEqual(self.run_it("replay"), (0, "SHIPPED replay\nx\n", ""))
+        self.record(sources="other")
+        self.assertIn("the build of your own is stale", self.run_it("replay")[2])
 
-    def test_a_later_source_makes_it_stale_and_builds_nothing(self):
-        self.run_it("--build")
-        later = os.path.getmtime(f"{self.top}/{PROGRAM}") + 10
-        os.utime(f"{self.top}/crates/mb_quorum/src/lib.rt", (later, later))
-        status, said, errors = self.run_it("ratify")
-        self.assertEqual((status, said), (0, "built ratify\nscript\n"))
-        self.assertIn("stale", errors)
-
-    def test_an_edit_during_the_build_makes_it_stale(self):
-        edited = f"{self.top}/crates/mb_quorum/src/lib.rt"
-        self.run_it("--build", EDITED=edited)
-        self.assertIn(f"stale: {edited} is newer", self.run_it("ratify")[2])
-        self.run_it("--build")
-        self.assertEqual(self.run_it("ratify")[2], "")
-        left = sorted(os.listdir(os.path.dirname(f"{self.top}/{PROGRAM}")))
-        self.assertEqual(left, ["building.minutes", "building.txt", "mailbox_main", "rlib"])
-
-    def test_libraries_come_first_and_may_fail(self):
-        for broken in ("", "libraries"):
-            with self.subTest(broken):
-                status, _, errors = self.run_it("--build", BROKEN=broken)
-                self.assertEqual(status, 0)
-                for line in ("1 of 3 functions of mb_cells", "2 of 3 functions of mb_quorum"):
-                    self.assertIn(f"mailbox: {line}\n", errors.partition("2 of 9")[0])
-                self.assertEqual("not all libraries stand" in errors, bool(broken))
-                self.assertIn("mailbox: built in ", errors)
-
-    def test_a_library_is_told_once_and_so_is_waiting(self):
-        lines = ["fn one::f: proved", "fn two::f: proved", "fn one::g: proved", "rt: waiting for another rt to finish in HERE"]
-        errors = self.run_it("--build", LINES="\n".join(lines))[2]
-        told = ["one is proved", "two is proved", "waiting for another rt to finish in HERE"]
-        self.assertIn("".join(f"mailbox: {it}\n" for it in told), errors)
-
-    def test_an_interrupt_ends_both(self):
-        # Whoever runs this in the background may have it ignore interrupts.
-        heeds = functools.partial(signal.signal, signal.SIGINT, signal.SIG_DFL)
-        how = {"stderr": subprocess.PIPE, "text": True, "start_new_session": True, "preexec_fn": heeds}
-        with subprocess.Popen([f"{self.top}/mailbox", "--build"], env=self.environment(SLOW="yes"), **how) as script:
-            # Each says how far it is when it has begun.
-            begun = 0
-            while begun < 2 and (line := script.stderr.readline()):
-                begun += "of 3 functions" in line
-            self.assertEqual(begun, 2)
-            os.killpg(script.pid, signal.SIGINT)
-            # This waits until nobody is left that could write there.
-            script.communicate(timeout=20)
-            self.assertNotEqual(script.returncode, 0)
-
-    def test_a_build_that_fails_leaves_none(self):
-        status, _, errors = self.run_it("--build", BROKEN="run")
-        self.assertEqual(status, 1)
-        self.assertIn("could not be built", errors)
-        self.assertFalse(os.path.exists(f"{self.top}/{PROGRAM}"))
-
-    def test_it_says_what_is_lacking(self):
-        os.remove(f"{self.top}/bin/rt")
-        self.assertEqual(self.run_it("replay")[0], 1)
-        self.assertIn("Rattle kit", self.run_it("--build")[2])
+    def test_a_build_that_fails_or_is_of_two_texts_is_not_kept(self):
+        self.assertIn("could not be built", self.run_it("--build", BROKEN="yes")[2])
+        self.assertIn("changed during the build", self.run_it("--build", EDITED=f"{self.top}/{SOURCE}")[2])
+        self.record()
+        self.assertEqual(self.run_it("replay")[1], "SHIPPED replay\nx\n")
+        self.assertIn("Rattle kit", self.run_it("--build", kit=False)[2])
         self.assertEqual(self.run_it("--build", "now")[0], 1)
 
 
-if __name__ == "__main__":
-    unittest.main()
+class Prebuilt(Place):
+    def told(self, *words):
+        """All lines but the last, which counts faults. The status says whether there is one."""
+        env = {**os.environ, "PATH": f"{self.top}/bin:{os.environ['PATH']}"}
+        how = {"stdout": subprocess.PIPE, "stderr": subprocess.STDOUT, "text": True, "env": env}
+        ran = subprocess.run(["sh", f"{self.top}/ci/prebuilt.sh", *words], check=False, **how)
+        self.assertEqual((ran.returncode == 0), ran.stdout.endswith("2 files, 0 faults\n"))
+        return ran.stdout
+
+    def test_what_a_text_says_has_to_hold(self):
+        self.assertEqual(self.told(), "2 files, 0 faults\n")
+        for name in ("commit", "kit", "sha256", "sources", "needs"):
+            self.record(**{name: ""})
+            self.assertIn("2 files, 1 faults", self.told(), name)
+        self.write("prebuilt/mailbox", "GLIBC_2.4 GLIBC_2.34 GLIBC_2.14")
+        self.record(needs="x86_64 Linux, glibc 2.34, x86-64-v2")
+        self.assertEqual(self.told(), "2 files, 0 faults\n")
+        os.remove(f"{self.top}/prebuilt/mailbox.txt")
+        self.assertIn("there is no prebuilt/mailbox or no prebuilt/mailbox.txt", self.told())
+
+    def test_what_is_built_is_compared_and_put_in_place(self):
+        self.assertIn("is not what the sources build. It was built by kit, and now by the kit", self.told("--compare"))
+        for words in ("init -q", "add crates crates.txt", "-c user.name=a -c user.email=a commit -qm a"):
+            subprocess.run(["git", *words.split()], cwd=self.top, check=True)
+        self.write(".gitignore", "out/\n")
+        self.assertIn("2 files, 0 faults", self.told("--place"))
+        self.assertIn("2 files, 0 faults", self.told("--compare"))
+        self.assertEqual(self.run_it("replay", kit=False), (0, "own replay\nx\n", ""))
+        self.write("bindings/rust/prebuilt/libhazbultra.a", "ARchive\n")
+        self.assertIn("2 files, 2 faults", self.told("--compare"))
+        self.write(SOURCE, "//")
+        self.assertIn("commit the crates first", self.told("--place"))

@@ -4,52 +4,10 @@ use crate::layout::Layout;
 use std::sync::atomic::AtomicU64;
 use std::sync::atomic::Ordering::SeqCst;
 
-/// Words in which a claim makes its accesses: those of one thread, or of many.
-pub trait Words {
-    fn load(&self, at: usize) -> u64;
-    fn store(&mut self, at: usize, value: u64);
-
-    /// Stores the value in an empty word, and returns what stood there before.
-    fn exchange(&mut self, at: usize, value: u64) -> u64;
-}
-
-impl Words for [u64] {
-    #[inline]
-    fn load(&self, at: usize) -> u64 {
-        self[at]
-    }
-
-    #[inline]
-    fn store(&mut self, at: usize, value: u64) {
-        self[at] = value
-    }
-
-    #[inline]
-    fn exchange(&mut self, at: usize, value: u64) -> u64 {
-        let word = &mut self[at];
-        let found = *word;
-        if found == 0 {
-            *word = value
-        }
-        found
-    }
-}
-
-impl Words for &[AtomicU64] {
-    #[inline]
-    fn load(&self, at: usize) -> u64 {
-        self[at].load(SeqCst)
-    }
-
-    #[inline]
-    fn store(&mut self, at: usize, value: u64) {
-        self[at].store(value, SeqCst)
-    }
-
-    #[inline]
-    fn exchange(&mut self, at: usize, value: u64) -> u64 {
-        self[at].compare_exchange(0, value, SeqCst, SeqCst).unwrap_or_else(|found| found)
-    }
+/// Stores the value in an empty word, and returns what stood there before.
+#[inline]
+pub fn exchange(word: &AtomicU64, value: u64) -> u64 {
+    word.compare_exchange(0, value, SeqCst, SeqCst).unwrap_or_else(|found| found)
 }
 
 /// How far a claim has come.
@@ -105,11 +63,11 @@ impl Claim {
 
     /// One access, with its random word. By `inline` alone the loops would call it, and take a quarter more.
     #[inline(always)]
-    pub fn step<W: Words + ?Sized>(&mut self, layout: &Layout, words: &mut W, word: u64) -> Stage {
+    pub fn step(&mut self, layout: &Layout, words: &[AtomicU64], word: u64) -> Stage {
         let base = self.base;
         match self.place {
             Place::Look { limit } => {
-                let seen = words.load(base);
+                let seen = words[base].load(SeqCst);
                 if seen != 0 {
                     self.ratify(layout, (seen - 1) as u32)
                 } else if word & (layout.modulus - 1) < limit {
@@ -119,20 +77,20 @@ impl Claim {
                 }
             }
             Place::Write => {
-                words.store(base, u64::from(self.value) + 1);
+                words[base].store(u64::from(self.value) + 1, SeqCst);
                 self.place = Place::Again
             }
             Place::Again => {
-                let seen = words.load(base);
+                let seen = words[base].load(SeqCst);
                 self.ratify(layout, (seen - 1) as u32)
             }
             Place::Announce { left } => {
-                words.store(base + 1 + left.trailing_zeros() as usize, 1);
+                words[base + 1 + left.trailing_zeros() as usize].store(1, SeqCst);
                 let left = left & (left - 1);
                 self.place = if left == 0 { Place::Propose } else { Place::Announce { left } }
             }
             Place::Propose => {
-                let seen = words.load(base);
+                let seen = words[base].load(SeqCst);
                 if seen == 0 {
                     self.place = Place::SetProposal
                 } else {
@@ -141,17 +99,17 @@ impl Claim {
                 }
             }
             Place::SetProposal => {
-                words.store(base, u64::from(self.value) + 1);
+                words[base].store(u64::from(self.value) + 1, SeqCst);
                 self.check(layout.read[self.value as usize], self.value)
             }
             Place::Check { left, preference } => {
-                if words.load(base + 1 + left.trailing_zeros() as usize) != 0 {
+                if words[base + 1 + left.trailing_zeros() as usize].load(SeqCst) != 0 {
                     self.pass(layout, preference)
                 } else {
                     self.check(left & (left - 1), preference)
                 }
             }
-            Place::Exchange => match words.exchange(base, u64::from(self.value) + 1) {
+            Place::Exchange => match exchange(&words[base], u64::from(self.value) + 1) {
                 0 => self.decide(self.value),
                 found => self.decide((found - 1) as u32),
             },

@@ -2,7 +2,7 @@
 
 use std::sync::atomic::AtomicU64;
 
-/// The cells of a block of words, and of a mailbox.
+/// The cells of a mailbox.
 pub const CELLS: usize = 256;
 
 /// The most consumers of a layout.
@@ -72,8 +72,6 @@ pub struct Layout {
     pub modulus: u64,
     /// How many ratifiers a cell has.
     pub ratifiers: u32,
-    /// How many objects it has before the last one.
-    pub objects: u32,
     pub ratifier_words: usize,
     pub cell_words: usize,
     /// The most accesses on a pair, or on a ratifier, with the last object after it.
@@ -102,7 +100,6 @@ impl Layout {
             last,
             modulus: 1 << (width + 1),
             ratifiers,
-            objects: first + 2 * pairs,
             ratifier_words,
             cell_words: ratifiers as usize * ratifier_words + pairs as usize + usize::from(last),
             // Of a conciliator s + 3, of a ratifier its registers and twice the proposal, and the last object's one.
@@ -113,11 +110,6 @@ impl Layout {
     }
 
     /// The words of all cells, empty.
-    pub fn words(&self) -> Vec<u64> {
-        vec![0; CELLS * self.cell_words]
-    }
-
-    /// The same for threads to share.
     pub fn atomic_words(&self) -> Vec<AtomicU64> {
         atomic_zeros(CELLS * self.cell_words)
     }

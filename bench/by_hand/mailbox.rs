@@ -1,9 +1,9 @@
 //! A mailbox that threads can share, under one thread: a producer fills it, and then each consumer polls it to its end.
 
-use crate::mail::Post;
 use crate::claim::{Claim, Stage};
 use crate::layout::{CELLS, Layout, atomic_zeros};
 use crate::source::Source;
+use std::fmt;
 use std::hint::black_box;
 use std::sync::atomic::AtomicU64;
 use std::sync::atomic::Ordering::SeqCst;
@@ -13,6 +13,20 @@ const END: u64 = u64::MAX;
 
 /// How many lanes there are.
 const LANES: usize = 1;
+
+/// The counts of all mailboxes together.
+#[derive(Default)]
+pub struct Post {
+    items: u64,
+    notes: u64,
+    taken: u64,
+}
+
+impl fmt::Display for Post {
+    fn fmt(&self, f: &mut fmt::Formatter) -> fmt::Result {
+        write!(f, "{} items, {} notes, {} taken in sum", self.items, self.notes, self.taken)
+    }
+}
 
 /// The words of the lanes, of the cells, and of the claims on them.
 struct Mailbox<'a> {
@@ -159,8 +173,8 @@ impl Consumer {
     }
 
     /// Makes accesses on a lane until one has an answer, or as many were made as the budget allows. It goes on straight
-    /// as long as that has room for a pair, or always by steps.
-    fn poll<const STRAIGHT: bool>(&mut self, mailbox: &Mailbox, p: usize, budget: u64, source: &mut Source) -> Poll {
+    /// as long as that has room for a pair, and then by steps.
+    fn poll(&mut self, mailbox: &Mailbox, p: usize, budget: u64, source: &mut Source) -> Poll {
         let Some(lane) = self.lanes.get_mut(p) else {
             return Poll::NoLane;
         };
@@ -179,17 +193,15 @@ impl Consumer {
                 }
             },
         };
-        if STRAIGHT {
-            left = claim.run(mailbox.layout, &mut &mailbox.claims[..], source, left);
-            match claim.stage() {
-                Stage::Going => {}
-                Stage::Won => return lane.take(mailbox, cell),
-                Stage::Lost(winner) => return lane.noted(cell, Note::Lost(winner)),
-                Stage::Undecided => return lane.noted(cell, Note::Undecided),
-            }
+        left = claim.run(mailbox.layout, &mailbox.claims, source, left);
+        match claim.stage() {
+            Stage::Going => {}
+            Stage::Won => return lane.take(mailbox, cell),
+            Stage::Lost(winner) => return lane.noted(cell, Note::Lost(winner)),
+            Stage::Undecided => return lane.noted(cell, Note::Undecided),
         }
         for left in (0..left).rev() {
-            match claim.step(mailbox.layout, &mut &mailbox.claims[..], source.word()) {
+            match claim.step(mailbox.layout, &mailbox.claims, source.word()) {
                 Stage::Going => {}
                 Stage::Won if left == 0 => {
                     lane.place = Place::Won(cell);
@@ -206,37 +218,35 @@ impl Consumer {
 }
 
 /// So many mailboxes, one after the other, each filled and then polled to its end by each consumer.
-pub fn mailboxes<const STRAIGHT: bool>(layout: &Layout, times: u64) -> Post {
+pub fn mailboxes(layout: &Layout, times: u64) -> Post {
     let mut source = Source::new();
-    let mut post = Post { items: 0, notes: 0, taken: 0 };
+    let mut post = Post::default();
     for time in 0..times {
         let mailbox = Mailbox::new(layout);
         post.items += fill(&mailbox, time * CELLS as u64);
         for number in 0..layout.consumers {
-            read::<STRAIGHT>(&mailbox, &mut Consumer::new(number), &mut source, &mut post)
+            read(&mailbox, &mut Consumer::new(number), &mut source, &mut post)
         }
     }
     post
 }
 
 /// So many mailboxes and their producers alone.
-pub fn mailboxes_alone(layout: &Layout, times: u64) -> u64 {
-    let mut made = 0;
+pub fn mailboxes_alone(layout: &Layout, times: u64) -> Post {
     for _ in 0..times {
         black_box((Mailbox::new(layout), Producer::new(0)));
-        made += 1
     }
-    made
+    Post::default()
 }
 
 /// So many mailboxes, in each of which a producer puts an item in each cell, and no more.
-pub fn puts(layout: &Layout, times: u64) -> u64 {
-    let mut linked = 0;
+pub fn puts(layout: &Layout, times: u64) -> Post {
+    let mut post = Post::default();
     for time in 0..times {
         let mailbox = Mailbox::new(layout);
-        linked += put_all(&mailbox, &mut Producer::new(0), time * CELLS as u64)
+        post.items += put_all(&mailbox, &mut Producer::new(0), time * CELLS as u64)
     }
-    linked
+    post
 }
 
 /// Puts an item in each cell, numbered from `first`, and ends the lane. The answer is the number of items.
@@ -259,9 +269,9 @@ fn put_all(mailbox: &Mailbox, producer: &mut Producer, first: u64) -> u64 {
 }
 
 /// A consumer polls the lane to its end.
-fn read<const STRAIGHT: bool>(mailbox: &Mailbox, consumer: &mut Consumer, source: &mut Source, post: &mut Post) {
+fn read(mailbox: &Mailbox, consumer: &mut Consumer, source: &mut Source, post: &mut Post) {
     loop {
-        match consumer.poll::<STRAIGHT>(mailbox, 0, u64::MAX, source) {
+        match consumer.poll(mailbox, 0, u64::MAX, source) {
             Poll::Noted(note) => {
                 post.notes += 1;
                 if let Note::Took(item) = note {

@@ -19,8 +19,4 @@ impl Source {
         self.state = word;
         word
     }
-
-    pub fn below(&mut self, bound: u64) -> u64 {
-        self.word() % bound
-    }
 }

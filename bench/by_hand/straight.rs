@@ -1,17 +1,19 @@
 //! A claim gone through by plain loops: the same accesses with the same random words as by steps.
 
-use crate::claim::{Claim, Place, Stage, Words, announcing};
+use crate::claim::{self, Claim, Place, Stage, announcing};
 use crate::layout::Layout;
 use crate::source::Source;
+use std::sync::atomic::AtomicU64;
+use std::sync::atomic::Ordering::SeqCst;
 
 /// Where a claim makes its accesses, the source of its random words, and how many accesses it may still make.
-struct Turns<'a, W: Words + ?Sized> {
-    words: &'a mut W,
+struct Turns<'a> {
+    words: &'a [AtomicU64],
     source: &'a mut Source,
     left: u64,
 }
 
-impl<W: Words + ?Sized> Turns<'_, W> {
+impl Turns<'_> {
     /// The random word of the next access.
     #[inline(always)]
     fn draw(&mut self) -> u64 {
@@ -22,13 +24,13 @@ impl<W: Words + ?Sized> Turns<'_, W> {
     #[inline(always)]
     fn load(&mut self, at: usize) -> u64 {
         self.draw();
-        self.words.load(at)
+        self.words[at].load(SeqCst)
     }
 
     #[inline(always)]
     fn store(&mut self, at: usize, value: u64) {
         self.draw();
-        self.words.store(at, value)
+        self.words[at].store(value, SeqCst)
     }
 }
 
@@ -37,13 +39,7 @@ impl Claim {
     /// room for all that one may take and an access more. The answer is what is left of the budget. A claim that stands
     /// elsewhere does not move.
     #[inline(always)]
-    pub fn run<W: Words + ?Sized>(
-        &mut self,
-        layout: &Layout,
-        words: &mut W,
-        source: &mut Source,
-        budget: u64,
-    ) -> u64 {
+    pub fn run(&mut self, layout: &Layout, words: &[AtomicU64], source: &mut Source, budget: u64) -> u64 {
         if self.place != first(layout, self.value, self.passed) {
             return budget;
         }
@@ -98,11 +94,11 @@ fn ended(consumer: u32, value: u32) -> Stage {
 
 /// A conciliator with this word and this input: its output.
 #[inline(always)]
-fn conciliate<W: Words + ?Sized>(layout: &Layout, turns: &mut Turns<W>, base: usize, input: u32) -> u32 {
+fn conciliate(layout: &Layout, turns: &mut Turns, base: usize, input: u32) -> u32 {
     let mut limit = 1;
     loop {
         let word = turns.draw();
-        let seen = turns.words.load(base);
+        let seen = turns.words[base].load(SeqCst);
         if seen != 0 {
             return (seen - 1) as u32;
         }
@@ -116,7 +112,7 @@ fn conciliate<W: Words + ?Sized>(layout: &Layout, turns: &mut Turns<W>, base: us
 
 /// A ratifier whose words begin there, with this input: whether it decided, and its output.
 #[inline(always)]
-fn ratify<W: Words + ?Sized>(layout: &Layout, turns: &mut Turns<W>, base: usize, input: u32) -> (bool, u32) {
+fn ratify(layout: &Layout, turns: &mut Turns, base: usize, input: u32) -> (bool, u32) {
     let mut left = layout.write[input as usize];
     while left != 0 {
         turns.store(base + 1 + left.trailing_zeros() as usize, 1);
@@ -141,9 +137,9 @@ fn ratify<W: Words + ?Sized>(layout: &Layout, turns: &mut Turns<W>, base: usize,
 
 /// A last object with this word and this input: its output.
 #[inline(always)]
-fn exchange<W: Words + ?Sized>(turns: &mut Turns<W>, base: usize, input: u32) -> u32 {
+fn exchange(turns: &mut Turns, base: usize, input: u32) -> u32 {
     turns.draw();
-    match turns.words.exchange(base, u64::from(input) + 1) {
+    match claim::exchange(&turns.words[base], u64::from(input) + 1) {
         0 => input,
         found => (found - 1) as u32,
     }

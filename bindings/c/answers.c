@@ -12,11 +12,6 @@ static void fail(int line, const char *what) {
     exit(1);
 }
 
-/* The sizes that the library was built with. */
-_Static_assert(sizeof(hz_handle) == 16 && sizeof(hz_setup) == 40, "hazbultra.h is of another machine");
-_Static_assert(sizeof(hz_lane) == 24 && sizeof(hz_diary) == 16, "hazbultra.h is of another machine");
-_Static_assert(sizeof(hz_note) == 16 && sizeof(hz_missing) == 8, "hazbultra.h is of another machine");
-
 struct tried {
     bool there;
     void *at;
@@ -130,9 +125,9 @@ static void kinds(hz_handle *part, bool is_hub, bool is_producer, bool is_consum
 }
 
 static void report_of_one(hz_handle *report) {
-    uint64_t lanes = 0, consumers = 0, copied = 0, items[4] = {9, 9, 9, 9};
-    hz_lane lane = {0};
-    hz_diary diary = {0};
+    uint64_t lanes, consumers, copied, items[4] = {9, 9, 9, 9};
+    hz_lane lane;
+    hz_diary diary;
     hz_note notes[4] = {{9, 9}, {9, 9}, {9, 9}, {9, 9}};
     kinds(report, false, false, false, true);
     EXPECT(hz_report_size(report, &lanes, &consumers) == HZ_DONE && lanes == 2 && consumers == 2);
@@ -205,11 +200,29 @@ static void life(void) {
     hz_free(&other);
 }
 
+/* All numbers of the largest setup: 16 producers and 64 consumers are given, and no more. */
+static void numbers(void) {
+    hz_setup setup = setup_of(16, 64, 1, 1, HZ_BITS);
+    hz_handle hub = HZ_NONE, report = HZ_NONE, more = HZ_NONE, parts[80] = {HZ_NONE};
+    hz_missing missing = {7, 7};
+    EXPECT(hz_mailbox_new(1, &setup, &hub) == HZ_DONE);
+    for (uint64_t i = 0; i < 80; i++)
+        EXPECT((i < 16 ? hz_producer_new(&hub, &parts[i]) : hz_consumer_new(&hub, SEED, i, &parts[i])) == HZ_DONE);
+    EXPECT(hz_producer_new(&hub, &more) == HZ_ALL_GIVEN && hz_consumer_new(&hub, SEED, 80, &more) == HZ_ALL_GIVEN);
+    EXPECT(hz_gather(&hub, &report, &missing) == HZ_MISSING && missing.producers == 16 && missing.consumers == 64);
+    for (int i = 0; i < 80; i++)
+        EXPECT(hz_take_back(&hub, &parts[i]) == HZ_DONE);
+    EXPECT(hz_gather(&hub, &report, &missing) == HZ_DONE);
+    hz_free(&report);
+    EXPECT(blocks == 0);
+}
+
 int main(void) {
     hz_handle none = HZ_NONE;
     kinds(&none, false, false, false, false);
     hz_free(&none);
     setups();
+    numbers();
     long refused = 0;
     do {
         told = 0;

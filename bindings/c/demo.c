@@ -1,7 +1,7 @@
-/* Two producers and three consumers, in threads. Each item is the number of a job, and each job is done once.
+/* Two producers and three consumers, in threads. Each item is the address of a job, and each job is done once.
  *
- * done[] is written without a lock or an atomic, since whoever took an item is the only one who did. A build with
- * -fsanitize=thread would tell of a second one.
+ * A job is written without a lock or an atomic: by its producer before the put, and by whoever took it, who is the only
+ * one. A build with -fsanitize=thread would tell of a second one.
  */
 #include "hazbultra.h"
 
@@ -18,7 +18,12 @@ struct worker {
     int number;
 };
 
-static int done[JOBS];
+struct job {
+    int number;
+    int done; /* how often */
+};
+
+static struct job jobs[JOBS];
 
 static void expect(bool so, const char *what) {
     if (!so) {
@@ -29,18 +34,25 @@ static void expect(bool so, const char *what) {
 
 static void *produce(void *arg) {
     struct worker *self = arg;
-    for (int job = self->number; job < JOBS; job += PRODUCERS)
-        expect(hz_put(&self->part, (uint64_t)job) == HZ_LINKED, "there is a cell for each job");
+    for (int number = self->number; number < JOBS; number += PRODUCERS) {
+        struct job *job = &jobs[number];
+        *job = (struct job){.number = number, .done = 0};
+        HZ_BEFORE_PUT(job);
+        expect(hz_put(&self->part, (uintptr_t)job) == HZ_LINKED, "there is a cell for each job");
+    }
     expect(hz_finish(&self->part) == HZ_DONE, "a lane ends once");
     return NULL;
 }
 
 /* One poll of a lane. Returns whether the lane has ended. */
 static bool poll_lane(struct worker *self, uint64_t lane) {
-    uint64_t job = 0;
-    switch (hz_poll(&self->part, lane, UINT64_MAX, &job)) {
+    uint64_t item;
+    struct job *job;
+    switch (hz_poll(&self->part, lane, UINT64_MAX, &item)) {
     case HZ_TOOK:
-        done[job]++;
+        job = (struct job *)(uintptr_t)item;
+        HZ_AFTER_TAKE(job);
+        job->done++;
         return false;
     case HZ_LOST:
     case HZ_NOTHING:
@@ -69,10 +81,10 @@ static void *consume(void *arg) {
 static uint64_t do_what_is_left(hz_handle *report) {
     uint64_t all = 0;
     for (uint64_t lane = 0; lane < PRODUCERS; lane++) {
-        uint64_t jobs[JOBS] = {0}, left = 0;
-        expect(hz_report_items(report, lane, true, 0, jobs, JOBS, &left) == HZ_DONE, "the lane is there");
+        uint64_t items[JOBS], left;
+        expect(hz_report_items(report, lane, true, 0, items, JOBS, &left) == HZ_DONE, "the lane is there");
         for (uint64_t i = 0; i < left; i++)
-            done[jobs[i]]++;
+            ((struct job *)(uintptr_t)items[i])->done++;
         all += left;
     }
     return all;
@@ -83,7 +95,7 @@ int main(void) {
     setup.table = HZ_BITS;
     setup.fast = setup.last = true;
     hz_handle hub = HZ_NONE, report = HZ_NONE;
-    expect(hz_mailbox_new(1, &setup, &hub) == HZ_DONE, "the mailbox is made");
+    expect(hz_mailbox_new(hz_next_id(), &setup, &hub) == HZ_DONE, "the mailbox is made");
 
     struct worker producers[PRODUCERS] = {0}, consumers[CONSUMERS] = {0};
     const uint8_t seed[32] = "any 32 bytes do";
@@ -108,12 +120,12 @@ int main(void) {
         expect(hz_take_back(&hub, &consumers[c].part) == HZ_DONE, "a consumer comes back");
     }
 
-    hz_missing missing = {0, 0};
+    hz_missing missing;
     expect(hz_gather(&hub, &report, &missing) == HZ_DONE, "the report is made");
     uint64_t left = do_what_is_left(&report);
     hz_free(&report);
-    for (int job = 0; job < JOBS; job++)
-        expect(done[job] == 1, "each job is done once");
+    for (int number = 0; number < JOBS; number++)
+        expect(jobs[number].number == number && jobs[number].done == 1, "each job is done once");
     printf("%d jobs, each done once; nobody took %d of them\n", JOBS, (int)left);
     return 0;
 }

@@ -2,30 +2,37 @@
  * consumer takes each item. A report at the end says who took what. The library has no lock, and waits for the allocator
  * alone.
  *
- * Link libhazbultra.a and the three allocation functions (heap.c): gcc -pthread your.c heap.c libhazbultra.a
+ * Link libhazbultra.a and heap.c, which has its allocation functions: gcc -pthread your.c heap.c libhazbultra.a
  *
  * WHAT A CALLER OWES. Nothing checks a C caller, and what is proved holds only if it keeps this:
  *
  *  1. Each hz_handle begins as HZ_NONE. After that only calls of this library write it. It is not copied: after a copy,
  *     only one of the two may be used. It may be moved, as a struct is moved by memcpy.
- *  2. No pointer is null, not even that of hz_free. Each leads to an initialised value of its type, or to as many as the
- *     length beside it says. A bool is 0 or 1. Two pointers of one call lead to different objects.
+ *  2. No pointer is null, not even that of hz_free. Each leads to an object of its type, or to as many as the length
+ *     beside it says. A handle, a setup and a seed are initialised. What a call is to write need not be: a call never
+ *     reads value, missing, lanes, consumers, out, items, notes or copied. A bool is 0 or 1. Two pointers of one call
+ *     lead to different objects.
  *  3. A handle is in one call at a time. From call to call it may go from thread to thread, if the one call happens
  *     before the other: by a lock, the start or the join of a thread, an atomic, or whatever else orders them. Handles
  *     of one mailbox may be in calls at the same time: that is what it is for.
  *  4. Each mailbox has a number (id) that no other mailbox of the process was given, also none of another copy of this
- *     library. Equal numbers are not noticed, and the reports may be wrong then. One counter for all mailboxes does.
+ *     library: take that of hz_next_id. Equal numbers are not noticed. A hub takes back what belongs to the other
+ *     mailbox then, and its report may be wrong.
  *  5. malloc, realloc and free are of one allocator, and malloc and realloc align as the C standard says.
  *  6. No call is made from a signal handler, or from the forked child of a process with threads.
  *
  * AN ITEM MAY BE A POINTER. Each access to a shared word is seq_cst. So what a thread wrote before it put an item is seen
- * by the thread that is told HZ_TOOK. ThreadSanitizer may report races there that are none, since the library is not
- * built with it. Equal items are different items: what is put twice may be taken twice.
+ * by the thread that is told HZ_TOOK. ThreadSanitizer does not see these accesses, and reports races that are none. Say
+ * HZ_BEFORE_PUT(p) before p is put and HZ_AFTER_TAKE(p) after it was taken, as demo.c does. Equal items are different
+ * items: what is put twice may be taken twice.
  *
  * WHAT A CALL CHECKS ITSELF. A handle that leads to nothing (HZ_NONE), or to another kind of thing than the call wants, is
  * HZ_BAD_HANDLE. So is a handle that the call is to fill and that leads to something. After each code but HZ_DONE,
  * HZ_LINKED, HZ_FULL and those of a poll nothing has changed, if no line below says otherwise. No call loses what a
  * handle leads to, also if memory is refused.
+ *
+ * STACK. hz_mailbox_new takes up to 13 kB of it, and no other call takes more than 8 kB. A backtrace ends at the library's
+ * functions: they have no unwind tables, and keep no frame pointer.
  */
 #ifndef HAZBULTRA_H
 #define HAZBULTRA_H
@@ -33,6 +40,27 @@
 #include <stdbool.h>
 #include <stddef.h>
 #include <stdint.h>
+
+#define HZ_VERSION_MAJOR 0
+#define HZ_VERSION_MINOR 1
+#define HZ_VERSION_PATCH 0
+
+/* HZ_CHECKED: the caller has to look at the code. HZ_NONNULL: no pointer is null, as rule 2 says. */
+#if defined(__GNUC__)
+#define HZ_CHECKED __attribute__((warn_unused_result))
+#define HZ_NONNULL __attribute__((nonnull))
+#else
+#define HZ_CHECKED
+#define HZ_NONNULL
+#endif
+
+#if defined(__SANITIZE_THREAD__)
+#define HZ_THREAD_SANITIZER
+#elif defined(__has_feature)
+#if __has_feature(thread_sanitizer)
+#define HZ_THREAD_SANITIZER
+#endif
+#endif
 
 #ifdef __cplusplus
 extern "C" {
@@ -44,8 +72,13 @@ typedef struct {
     void *at;
 } hz_handle;
 
-/* A handle that leads to nothing: hz_handle hub = HZ_NONE; */
-#define HZ_NONE { false, NULL }
+/* A handle that leads to nothing: hz_handle hub = HZ_NONE; Where C wants a constant, as for a static handle, leave it out:
+ * a handle of zeros leads to nothing too. */
+#ifdef __cplusplus
+#define HZ_NONE (hz_handle())
+#else
+#define HZ_NONE ((hz_handle){ false, NULL })
+#endif
 
 /* The codes that calls return. No two mean different things by one number. */
 typedef enum {
@@ -126,28 +159,37 @@ typedef struct {
     uint32_t consumers;
 } hz_missing;
 
-/* A mailbox of this setup, and its hub.
+/* A number that the process has for no other mailbox. It is of heap.c, from 2^63 on: the Rust crate counts from 0. It never
+ * comes twice, in whatever threads it is called. */
+extern uint64_t hz_next_id(void);
+
+/* A mailbox of this setup, and its hub. It takes up to 13 kB of stack: a thread of the least size, 16 kB, is too small.
  * HZ_DONE: hub leads to the hub. HZ_BAD_HANDLE: hub is not HZ_NONE. HZ_NO_MEMORY. HZ_BAD_TABLE .. HZ_BAD_PAIRS. */
+HZ_CHECKED HZ_NONNULL
 uint32_t hz_mailbox_new(uint64_t id, const hz_setup *setup, hz_handle *hub);
 
 /* The producer of the next lane. Lanes are given in order, from 0 on.
  * HZ_DONE: producer leads to it. HZ_BAD_HANDLE. HZ_ALL_GIVEN: every lane was given. HZ_NO_MEMORY. */
+HZ_CHECKED HZ_NONNULL
 uint32_t hz_producer_new(hz_handle *hub, hz_handle *producer);
 
 /* The consumer of the next number. Numbers are given in order, from 0 on. Its random words are those of ChaCha8 from this
  * seed and stream: give each consumer of a mailbox another seed or another stream. Equal words make polls longer, and
  * never wrong.
  * HZ_DONE: consumer leads to it. HZ_BAD_HANDLE. HZ_ALL_GIVEN: every number was given. HZ_NO_MEMORY. */
+HZ_CHECKED HZ_NONNULL
 uint32_t hz_consumer_new(hz_handle *hub, const uint8_t seed[32], uint64_t stream, hz_handle *consumer);
 
 /* Puts an item, any number, at the end of the producer's lane. It makes three accesses at most and takes no memory.
  * HZ_LINKED: it is there. HZ_FULL: no cell is left, the item is still the caller's, and each further put
  * up to hz_finish is HZ_FULL too.
  * HZ_CLOSED: the lane has ended. HZ_BAD_HANDLE. */
+HZ_CHECKED HZ_NONNULL
 uint32_t hz_put(hz_handle *producer, uint64_t item);
 
-/* Ends the lane: no item comes after those that it has.
+/* Ends the lane: no item comes after those that it has. Its code may be ignored: the lane has ended after the first two.
  * HZ_DONE. HZ_CLOSED: it had ended before. HZ_BAD_HANDLE. */
+HZ_NONNULL
 uint32_t hz_finish(hz_handle *producer);
 
 /* Makes accesses on a lane until one has a result, or budget of them were made. It takes no memory.
@@ -156,46 +198,66 @@ uint32_t hz_finish(hz_handle *producer);
  * true. HZ_NOTHING: no further item is linked yet. HZ_ENDED: no further item comes. HZ_SPENT: the budget is used up,
  * and the next poll of the lane goes on from there. It never comes of the budget UINT64_MAX. HZ_NO_LANE: there is no
  * such lane. HZ_BAD_HANDLE. value is written at HZ_TOOK and HZ_LOST only. */
+HZ_CHECKED HZ_NONNULL
 uint32_t hz_poll(hz_handle *consumer, uint64_t lane, uint64_t budget, uint64_t *value);
 
 /* Takes a producer or a consumer back, also before its lane has ended or while it holds a claim. What it did is kept for
  * the report, and its number is not given again.
  * HZ_DONE: part is HZ_NONE then. HZ_BAD_HANDLE: hub is no hub, or part is no producer or consumer. HZ_OTHER_MAILBOX:
  * part's mailbox has another id than the hub. */
+HZ_CHECKED HZ_NONNULL
 uint32_t hz_take_back(hz_handle *hub, hz_handle *part);
 
 /* Ends the mailbox, and makes the report of all that was taken back.
  * HZ_DONE: hub is HZ_NONE then, and report leads to the report. HZ_BAD_HANDLE. HZ_MISSING: so many producers and consumers
  * were given and not taken back; missing is written at this code only. HZ_NO_MEMORY: it may be called again. */
+HZ_CHECKED HZ_NONNULL
 uint32_t hz_gather(hz_handle *hub, hz_handle *report, hz_missing *missing);
 
 /* How many lanes and how many consumers a report has: those of the setup.
  * HZ_DONE. HZ_BAD_HANDLE. */
+HZ_CHECKED HZ_NONNULL
 uint32_t hz_report_size(hz_handle *report, uint64_t *lanes, uint64_t *consumers);
 
 /* The numbers of one lane.
  * HZ_DONE. HZ_BAD_HANDLE. HZ_NOT_THERE: there is no such lane. */
+HZ_CHECKED HZ_NONNULL
 uint32_t hz_report_lane(hz_handle *report, uint64_t lane, hz_lane *out);
 
 /* The numbers of one diary, that of this consumer on this lane.
  * HZ_DONE. HZ_BAD_HANDLE. HZ_NOT_THERE: there is no such consumer or lane. */
+HZ_CHECKED HZ_NONNULL
 uint32_t hz_report_diary(hz_handle *report, uint64_t consumer, uint64_t lane, hz_diary *out);
 
 /* Copies items of a lane in their order, from position from on: if left is true those that nobody took, else those put.
  * copied is how many were copied, at most room. The rest of items is as it was.
  * HZ_DONE. HZ_BAD_HANDLE. HZ_NOT_THERE: there is no such lane. */
+HZ_CHECKED HZ_NONNULL
 uint32_t hz_report_items(hz_handle *report, uint64_t lane, bool left, uint64_t from, uint64_t *items, size_t room,
                          uint64_t *copied);
 
 /* Copies notes of a diary in their order, from position from on.
  * copied is how many were copied, at most room. The rest of notes is as it was.
  * HZ_DONE. HZ_BAD_HANDLE. HZ_NOT_THERE: there is no such consumer or lane. */
+HZ_CHECKED HZ_NONNULL
 uint32_t hz_report_notes(hz_handle *report, uint64_t consumer, uint64_t lane, uint64_t from, hz_note *notes, size_t room,
                          uint64_t *copied);
 
 /* Frees what the handle leads to, which is HZ_NONE then. HZ_NONE itself is left as it is. A producer or a consumer that is
  * freed, and not taken back, is missing at each gather of its mailbox. */
+HZ_NONNULL
 void hz_free(hz_handle *handle);
+
+/* Told to ThreadSanitizer, if there is one: see AN ITEM MAY BE A POINTER. */
+#ifdef HZ_THREAD_SANITIZER
+void __tsan_release(void *at);
+void __tsan_acquire(void *at);
+#define HZ_BEFORE_PUT(p) __tsan_release(p)
+#define HZ_AFTER_TAKE(p) __tsan_acquire(p)
+#else
+#define HZ_BEFORE_PUT(p) ((void)(p))
+#define HZ_AFTER_TAKE(p) ((void)(p))
+#endif
 
 #ifdef __cplusplus
 }

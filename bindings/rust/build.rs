@@ -1,30 +1,42 @@
-//! Links the archive of proved code: the one that stands in the repository, or that of the folder `HAZBULTRA_LIB`.
-use std::env;
-use std::fs;
+//! Links the archive of proved code: the one that stands in the package, or that of the folder `HAZBULTRA_LIB`.
+use std::error::Error;
 use std::path::PathBuf;
+use std::process::ExitCode;
+use std::{env, fs};
 
 const ARCHIVE: &str = "libhazbultra.a";
 
-fn main() {
+fn main() -> ExitCode {
+    match link() {
+        Ok(()) => ExitCode::SUCCESS,
+        Err(why) => {
+            println!("cargo::error={why}");
+            ExitCode::FAILURE
+        }
+    }
+}
+
+/// Copies the archive to cargo's folder for this build, and links that copy. Cargo knows this folder anew after a package
+/// was moved or copied with its `target`. No other whole path is told. So no package links the archive of another.
+fn link() -> Result<(), Box<dyn Error>> {
     let target = |part: &str| env::var(format!("CARGO_CFG_TARGET_{part}")).unwrap_or_default();
     let (arch, os) = (target("ARCH"), target("OS"));
-    assert!(
-        arch == "x86_64" && os == "linux",
-        "the proved archive is for x86_64 Linux alone, and not for {arch} {os}"
-    );
-    println!("cargo:rerun-if-env-changed=HAZBULTRA_LIB");
-    let beside = PathBuf::from(env!("CARGO_MANIFEST_DIR")).join("prebuilt");
-    let folder = env::var_os("HAZBULTRA_LIB").map_or(beside, PathBuf::from);
-    // A relative folder is looked up from that of the package, where this runs. rustc runs elsewhere, so it gets the
-    // whole path.
-    let folder = fs::canonicalize(&folder).unwrap_or(folder);
+    if arch != "x86_64" || os != "linux" {
+        let why = "the proved archive is for x86_64 Linux alone";
+        return Err(format!("{why}, and not for {arch} {os}").into());
+    }
+    println!("cargo::rerun-if-env-changed=HAZBULTRA_LIB");
+    // A relative folder is looked up from that of the package, where cargo runs this.
+    let folder = env::var_os("HAZBULTRA_LIB").map_or_else(|| "prebuilt".into(), PathBuf::from);
     let archive = folder.join(ARCHIVE);
-    assert!(
-        archive.is_file(),
-        "there is no {}: HAZBULTRA_LIB names the folder of {ARCHIVE}",
-        archive.display()
-    );
-    println!("cargo:rerun-if-changed={}", archive.display());
-    println!("cargo:rustc-link-search=native={}", folder.display());
-    println!("cargo:rustc-link-lib=static=hazbultra");
+    println!("cargo::rerun-if-changed={}", archive.display());
+    let bytes = fs::read(&archive).map_err(|why| {
+        let archive = archive.display();
+        format!("{archive}: {why}. HAZBULTRA_LIB may name another folder of {ARCHIVE}")
+    })?;
+    let out = PathBuf::from(env::var_os("OUT_DIR").ok_or("cargo names no OUT_DIR")?);
+    fs::write(out.join(ARCHIVE), bytes)?;
+    println!("cargo::rustc-link-search=native={}", out.display());
+    println!("cargo::rustc-link-lib=static=hazbultra");
+    Ok(())
 }

@@ -16,7 +16,7 @@ use std::time::Duration;
 use work::{mailbox, queue, Plan, Way};
 
 const USAGE: &str = "usage: beside_queues \
-    plain|fast|last|fastlast|boxes|seg|seg_boxes|array|channel|deque \
+    plain|fast|last|fastlast|plain_boxes|boxes|seg|seg_boxes|array|channel|deque \
     threads|lanes|apart|turns|relay PRODUCERS CONSUMERS ITEMS CELLS";
 
 fn shaped(shape: Shape) -> Builder<u64> {
@@ -30,6 +30,7 @@ fn run(what: &str, plan: Plan) -> Option<Duration> {
         "fast" => mailbox(|| shaped(Shape::Fast), plan, |item| item),
         "last" => mailbox(|| shaped(Shape::Last), plan, |item| item),
         "fastlast" => mailbox(|| shaped(Shape::FastLast), plan, |item| item),
+        "plain_boxes" => mailbox(|| Mailbox::builder().shape(Shape::Plain), plan, |item| item),
         "boxes" => mailbox(Mailbox::builder, plan, |item| item),
         "seg" => queue(|_| SegQueue::new(), plan, |item| item),
         "seg_boxes" => queue(|_| SegQueue::new(), plan, Box::new),
@@ -44,7 +45,7 @@ fn asked(words: &[String]) -> Option<(&str, Plan)> {
     let [what, way, numbers @ ..] = words else {
         return None;
     };
-    let numbers: Option<Vec<u64>> = numbers.iter().map(|it| it.parse().ok()).collect();
+    let numbers: Option<Vec<usize>> = numbers.iter().map(|it| it.parse().ok()).collect();
     let &[producers, consumers, items, cells] = numbers?.as_slice() else {
         return None;
     };
@@ -60,7 +61,7 @@ fn asked(words: &[String]) -> Option<(&str, Plan)> {
         way,
         producers,
         consumers,
-        items,
+        items: items as u64,
         cells,
     };
     (producers > 0).then_some((what.as_str(), plan))

@@ -2,7 +2,7 @@
 use crate::queues::Queue;
 use hazbultra::{Builder, Consumer, Mailbox, Poll, Producer};
 use std::hint::black_box;
-use std::sync::atomic::{AtomicU64, Ordering};
+use std::sync::atomic::{AtomicUsize, Ordering};
 use std::thread;
 use std::time::{Duration, Instant};
 
@@ -25,17 +25,17 @@ pub enum Way {
 #[derive(Clone, Copy)]
 pub struct Plan {
     pub way: Way,
-    pub producers: u64,
-    pub consumers: u64,
+    pub producers: usize,
+    pub consumers: usize,
     pub items: u64,
     /// How many items there is room for: what a mailbox or a bounded queue is made with.
-    pub cells: u64,
+    pub cells: usize,
 }
 
 impl Plan {
     /// How many items each producer puts.
     fn share(&self) -> u64 {
-        self.items / self.producers
+        self.items / self.producers as u64
     }
 
     /// The plan of each of `producers` parts that have one producer and one consumer.
@@ -107,7 +107,7 @@ fn threads<T: Send>(mut parts: Vec<Crew<T>>, plan: Plan, value: fn(u64) -> T) ->
             }
             for (number, mut consumer) in part.consumers.drain(..).enumerate() {
                 scope.spawn(move || match plan.way {
-                    Way::Lanes => take_lane(&mut consumer, number as u32),
+                    Way::Lanes => take_lane(&mut consumer, number),
                     _ => consumer
                         .values(thread::yield_now)
                         .for_each(|it| drop(black_box(it))),
@@ -119,7 +119,7 @@ fn threads<T: Send>(mut parts: Vec<Crew<T>>, plan: Plan, value: fn(u64) -> T) ->
 }
 
 /// One lane up to its end.
-fn take_lane<T>(consumer: &mut Consumer<T>, lane: u32) {
+fn take_lane<T>(consumer: &mut Consumer<T>, lane: usize) {
     loop {
         match consumer.poll(lane) {
             Poll::Took(value) => drop(black_box(value)),
@@ -148,7 +148,7 @@ fn relay<T: Send>(mut parts: Vec<Crew<T>>, plan: Plan, value: fn(u64) -> T) -> D
     let began = Instant::now();
     for item in 0..plan.items {
         assert!(producer.put(value(item)).is_ok(), "a cell for each item");
-        drop(black_box(consumer.poll(0)));
+        drop(black_box(consumer.poll(0).taken()));
     }
     began.elapsed()
 }
@@ -164,8 +164,8 @@ pub fn queue<T: Send, Q: Queue<T>>(
         _ => plan,
     };
     let copies = plan.producers / part.producers;
-    let queues: Vec<(Q, AtomicU64)> = (0..copies)
-        .map(|_| (make(part.cells as usize), AtomicU64::new(part.producers)))
+    let queues: Vec<(Q, AtomicUsize)> = (0..copies)
+        .map(|_| (make(part.cells), AtomicUsize::new(part.producers)))
         .collect();
     let began = Instant::now();
     match plan.way {
@@ -201,7 +201,7 @@ pub fn queue<T: Send, Q: Queue<T>>(
 }
 
 /// Takes until no producer is at it any more, and then what is left.
-fn take_all<T, Q: Queue<T>>(queue: &Q, open: &AtomicU64) {
+fn take_all<T, Q: Queue<T>>(queue: &Q, open: &AtomicUsize) {
     loop {
         let is_last = open.load(Ordering::SeqCst) == 0;
         match queue.take() {

@@ -2,22 +2,20 @@
 //! the report still comes.
 use hazbultra::Mailbox;
 use std::error::Error;
-use std::sync::atomic::{AtomicU64, Ordering};
+use std::sync::atomic::{AtomicUsize, Ordering};
 use std::thread;
 
 type Job = Box<dyn FnOnce() + Send>;
 
-const JOBS: u64 = 500;
-const BAD_JOB: u64 = 250;
-const WORKERS: u64 = 4;
+const JOBS: usize = 500;
+const BAD_JOB: usize = 250;
+const WORKERS: usize = 4;
 
-static SUM: AtomicU64 = AtomicU64::new(0);
+static SUM: AtomicUsize = AtomicUsize::new(0);
 
-fn job(number: u64) -> Job {
+fn job(number: usize) -> Job {
     Box::new(move || {
-        if number == BAD_JOB {
-            panic!("job {number}, as it should");
-        }
+        assert!(number != BAD_JOB, "job {number}, as it should");
         SUM.fetch_add(number, Ordering::Relaxed);
     })
 }

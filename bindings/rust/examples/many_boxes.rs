@@ -3,19 +3,19 @@
 use hazbultra::{Builder, Mailbox};
 use std::env;
 use std::error::Error;
-use std::sync::atomic::{AtomicU64, Ordering};
+use std::sync::atomic::{AtomicUsize, Ordering};
 use std::thread;
 use std::time::Instant;
 
-const PRODUCERS: u64 = 4;
-const CONSUMERS: u64 = 4;
-const ROUND: u64 = 100_000;
+const PRODUCERS: usize = 4;
+const CONSUMERS: usize = 4;
+const ROUND: usize = 100_000;
 
-static DROPS: AtomicU64 = AtomicU64::new(0);
-static SUM: AtomicU64 = AtomicU64::new(0);
+static DROPS: AtomicUsize = AtomicUsize::new(0);
+static SUM: AtomicUsize = AtomicUsize::new(0);
 
 /// A number that counts when it is dropped, and adds itself up.
-struct Counted(u64);
+struct Counted(usize);
 
 impl Drop for Counted {
     fn drop(&mut self) {
@@ -27,9 +27,9 @@ impl Drop for Counted {
 /// Puts the boxes of one round. Returns how many were taken, and how many were left.
 fn round(
     builder: &Builder<Box<Counted>>,
-    first: u64,
-    count: u64,
-) -> Result<(u64, u64), Box<dyn Error>> {
+    first: usize,
+    count: usize,
+) -> Result<(usize, usize), Box<dyn Error>> {
     let mailbox = builder.build()?;
     let producers = (0..PRODUCERS)
         .map(|_| mailbox.producer())
@@ -40,7 +40,7 @@ fn round(
     let taken = thread::scope(|scope| {
         for (lane, mut producer) in (0..).zip(producers) {
             scope.spawn(move || {
-                for number in (first + lane..first + count).step_by(PRODUCERS as usize) {
+                for number in (first + lane..first + count).step_by(PRODUCERS) {
                     producer
                         .put(Box::new(Counted(number)))
                         .expect("a cell for each box");
@@ -53,10 +53,10 @@ fn round(
             .collect();
         takers
             .into_iter()
-            .map(|it| it.join().expect("no taker panics") as u64)
+            .map(|it| it.join().expect("no taker panics"))
             .sum()
     });
-    Ok((taken, mailbox.gather()?.into_left().count() as u64))
+    Ok((taken, mailbox.gather()?.into_left().count()))
 }
 
 fn main() -> Result<(), Box<dyn Error>> {

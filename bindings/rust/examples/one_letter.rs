@@ -8,7 +8,7 @@ fn main() -> Result<(), Box<dyn Error>> {
     let (mut one, mut two) = (mailbox.consumer()?, mailbox.consumer()?);
 
     producer.put("a letter")?;
-    println!("{:?}", one.poll(0));
+    println!("{:?}", one.poll(0).taken());
     println!("{:?}", two.poll(0));
 
     drop((producer, one, two));

@@ -4,12 +4,12 @@ use hazbultra::{Builder, Mailbox};
 use std::error::Error;
 use std::thread;
 
-const WORKERS: u64 = 3;
+const WORKERS: usize = 3;
 
 /// A task that wants so many further turns.
 struct Task {
     name: usize,
-    turns: u32,
+    turns: usize,
 }
 
 /// Runs one turn of each task, and returns those that want a further one.
@@ -51,7 +51,7 @@ fn main() -> Result<(), Box<dyn Error>> {
     let mut tasks: Vec<_> = (0..100)
         .map(|name| Task {
             name,
-            turns: name as u32 % 7 + 1,
+            turns: name % 7 + 1,
         })
         .collect();
     let mut rounds = 0;

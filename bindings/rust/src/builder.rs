@@ -7,6 +7,7 @@ use std::fmt;
 
 /// The quorum table of a mailbox's ratifiers. All promises hold over each. They differ in what an item costs.
 #[derive(Clone, Copy, PartialEq, Eq, Hash, Debug, Default)]
+#[non_exhaustive]
 pub enum Table {
     /// One register for each consumer.
     Unary,
@@ -19,6 +20,7 @@ pub enum Table {
 
 /// What stands in each cell.
 #[derive(Clone, Copy, PartialEq, Eq, Hash, Debug, Default)]
+#[non_exhaustive]
 pub enum Shape {
     /// Pairs of a conciliator and a ratifier alone, which load and store. A poll may be undecided.
     Plain,
@@ -36,10 +38,10 @@ pub enum Shape {
 #[must_use = "it builds no mailbox until `build` is called"]
 pub struct Builder<T> {
     carrier: Carrier<T>,
-    producers: u64,
-    consumers: u64,
-    cells: u64,
-    pairs: u64,
+    producers: usize,
+    consumers: usize,
+    cells: usize,
+    pairs: usize,
     table: Table,
     shape: Shape,
     seed: Option<[u8; 32]>,
@@ -60,24 +62,34 @@ impl<T> Builder<T> {
     }
 
     /// So many producers, 1 to 16. Each has a lane of its own. If you name none, it is 1.
-    pub fn producers(self, producers: u64) -> Self {
+    pub fn producers(self, producers: usize) -> Self {
         Builder { producers, ..self }
     }
 
     /// So many consumers, 1 to 64. If you name none, it is 1.
-    pub fn consumers(self, consumers: u64) -> Self {
+    ///
+    /// ```
+    /// # fn main() -> Result<(), Box<dyn std::error::Error>> {
+    /// use std::thread;
+    ///
+    /// let workers = thread::available_parallelism()?.get().min(64);
+    /// let mailbox = hazbultra::Mailbox::<String>::builder().consumers(workers).build()?;
+    /// # Ok(())
+    /// # }
+    /// ```
+    pub fn consumers(self, consumers: usize) -> Self {
         Builder { consumers, ..self }
     }
 
     /// So many cells, 0 to 2^24. Each takes one item, and none is used again. If you name none, it is 256.
     ///
     /// Memory grows with it: some 16 bytes for each cell and consumer, and the words of each cell.
-    pub fn cells(self, cells: u64) -> Self {
+    pub fn cells(self, cells: usize) -> Self {
         Builder { cells, ..self }
     }
 
     /// So many pairs of deciding objects in each cell, 1 to 8. If you name none, it is 4.
-    pub fn pairs(self, pairs: u64) -> Self {
+    pub fn pairs(self, pairs: usize) -> Self {
         Builder { pairs, ..self }
     }
 
@@ -91,7 +103,7 @@ impl<T> Builder<T> {
         Builder { shape, ..self }
     }
 
-    /// This seed for the random words of all consumers, each of which draws from a stream of ChaCha8 of its own. There is
+    /// This seed for the random words of all consumers, each of which draws from a stream of `ChaCha8` of its own. There is
     /// no other source of random words. So in one thread all goes the same way once more. If you give none, each mailbox
     /// gets a seed of the system's, as hash maps do.
     pub fn seed(self, seed: [u8; 32]) -> Self {
@@ -112,10 +124,10 @@ impl<T: Send> Builder<T> {
     /// The first number that is out of range, or that there is not enough memory.
     pub fn build(&self) -> Result<Mailbox<T>, BuildError> {
         let setup = Setup {
-            producers: self.producers,
-            consumers: self.consumers,
-            cells: self.cells,
-            pairs: self.pairs,
+            producers: self.producers as u64,
+            consumers: self.consumers as u64,
+            cells: self.cells as u64,
+            pairs: self.pairs as u64,
             table: match self.table {
                 Table::Unary => UNARY,
                 Table::Bits => BITS,

@@ -5,14 +5,14 @@ use std::fmt;
 use std::iter::FusedIterator;
 use std::sync::Arc;
 
-/// The result of a poll.
-#[derive(Clone, Copy, PartialEq, Eq, Hash, Debug)]
+/// The result of a poll. Its `Debug` shows no value, so that it is there for each `T`.
+#[derive(Clone, Copy, PartialEq, Eq, Hash)]
 #[must_use = "a value that was taken is in it"]
 pub enum Poll<T> {
     /// This consumer has won the item, and this is its value. Nobody else gets it.
     Took(T),
     /// No consumer but this other one can win the item. Perhaps it has not won it yet.
-    Lost(u32),
+    Lost(usize),
     /// This consumer does not know who has won the item, if anybody has. It comes only from the shapes
     /// [`Plain`](crate::Shape::Plain) and [`Fast`](crate::Shape::Fast).
     Undecided,
@@ -36,8 +36,22 @@ impl<T> Poll<T> {
     }
 }
 
-/// The result of going over all lanes.
-#[derive(Clone, Copy, PartialEq, Eq, Hash, Debug)]
+impl<T> fmt::Debug for Poll<T> {
+    fn fmt(&self, f: &mut fmt::Formatter<'_>) -> fmt::Result {
+        match self {
+            Poll::Took(_) => f.write_str("Took(..)"),
+            Poll::Lost(consumer) => f.debug_tuple("Lost").field(consumer).finish(),
+            Poll::Undecided => f.write_str("Undecided"),
+            Poll::Nothing => f.write_str("Nothing"),
+            Poll::Ended => f.write_str("Ended"),
+            Poll::Spent => f.write_str("Spent"),
+            Poll::NoLane => f.write_str("NoLane"),
+        }
+    }
+}
+
+/// The result of going over all lanes. Its `Debug` shows no value, so that it is there for each `T`.
+#[derive(Clone, Copy, PartialEq, Eq, Hash)]
 #[must_use = "a value that was taken is in it"]
 pub enum Sweep<T> {
     /// This consumer took this value.
@@ -58,6 +72,16 @@ impl<T> Sweep<T> {
     }
 }
 
+impl<T> fmt::Debug for Sweep<T> {
+    fn fmt(&self, f: &mut fmt::Formatter<'_>) -> fmt::Result {
+        f.write_str(match self {
+            Sweep::Took(_) => "Took(..)",
+            Sweep::Nothing => "Nothing",
+            Sweep::Ended => "Ended",
+        })
+    }
+}
+
 /// A consumer, which competes for the items of all lanes. [`Mailbox::consumer`](crate::Mailbox::consumer) gives it.
 ///
 /// When it is dropped, also by a panic, it goes home to its mailbox. It may go to another thread, but no two threads share
@@ -71,8 +95,8 @@ impl<T> Sweep<T> {
 /// that it was taken ([`Report::taker`](crate::Report::taker)).
 #[must_use = "its drop sends it home, and its number is not given again"]
 pub struct Consumer<T> {
-    number: u32,
-    next: u32,
+    number: usize,
+    next: usize,
     /// Bit `lane` is set if the end of that lane was met. There are at most 16.
     ended: u16,
     part: ffi::Consumer<T>,
@@ -80,7 +104,7 @@ pub struct Consumer<T> {
 }
 
 impl<T> Consumer<T> {
-    pub(crate) fn new(number: u32, part: ffi::Consumer<T>, home: Arc<Home<T>>) -> Consumer<T> {
+    pub(crate) fn new(number: usize, part: ffi::Consumer<T>, home: Arc<Home<T>>) -> Consumer<T> {
         Consumer {
             number,
             next: 0,
@@ -91,7 +115,8 @@ impl<T> Consumer<T> {
     }
 
     /// Its number, from 0 on, by which others name it in [`Poll::Lost`].
-    pub fn number(&self) -> u32 {
+    #[must_use]
+    pub fn number(&self) -> usize {
         self.number
     }
 
@@ -116,14 +141,14 @@ impl<T> Consumer<T> {
     /// # Ok(())
     /// # }
     /// ```
-    pub fn poll(&mut self, lane: u32) -> Poll<T> {
+    pub fn poll(&mut self, lane: usize) -> Poll<T> {
         self.poll_within(lane, u64::MAX)
     }
 
     /// The same with at most so many accesses. With a budget of 0 it makes none. After [`Poll::Spent`] the next poll of
     /// the lane goes on.
-    pub fn poll_within(&mut self, lane: u32, budget: u64) -> Poll<T> {
-        let polled = self.part.poll(u64::from(lane), budget);
+    pub fn poll_within(&mut self, lane: usize, budget: u64) -> Poll<T> {
+        let polled = self.part.poll(lane as u64, budget);
         if let Poll::Ended = polled {
             self.ended |= 1 << lane;
         }
@@ -149,7 +174,7 @@ impl<T> Consumer<T> {
                 Poll::Lost(_) | Poll::Undecided | Poll::Spent => quiet = 0,
             }
         }
-        if self.ended.count_ones() == lanes {
+        if self.ended.count_ones() as usize == lanes {
             Sweep::Ended
         } else {
             Sweep::Nothing

@@ -5,6 +5,7 @@ use std::fmt;
 
 /// Why no mailbox was built. If several numbers are out of range, it is the first of them in this order.
 #[derive(Clone, Copy, PartialEq, Eq, Hash, Debug)]
+#[non_exhaustive]
 pub enum BuildError {
     /// The number of producers is not 1 to 16.
     BadProducers,
@@ -34,13 +35,14 @@ impl Error for BuildError {}
 
 /// Why no producer or consumer was given. A number is given once, also if its part went home.
 #[derive(Clone, Copy, PartialEq, Eq, Hash, Debug)]
+#[non_exhaustive]
 pub enum IssueError {
     /// So many producers were given, and the mailbox was built for no more
     /// ([`Builder::producers`](crate::Builder::producers)).
-    AllProducersGiven(u32),
+    AllProducersGiven(usize),
     /// So many consumers were given, and the mailbox was built for no more
     /// ([`Builder::consumers`](crate::Builder::consumers)).
-    AllConsumersGiven(u32),
+    AllConsumersGiven(usize),
     /// There is not enough memory.
     NoMemory,
 }
@@ -89,13 +91,15 @@ impl<T> fmt::Display for Full<T> {
 impl<T> Error for Full<T> {}
 
 /// Why there is no report. The mailbox is in it, as it was.
+#[non_exhaustive]
 pub enum GatherError<T> {
     /// Some parts are not home: a producer or a consumer is still alive, or was forgotten.
+    #[non_exhaustive]
     Missing {
         /// So many producers are out.
-        producers: u32,
+        producers: usize,
         /// So many consumers are out.
-        consumers: u32,
+        consumers: usize,
         /// The mailbox, as it was.
         mailbox: Mailbox<T>,
     },

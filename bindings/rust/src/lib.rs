@@ -55,16 +55,23 @@
 //! Not promised: that each value is taken, that a consumer who took one does its work, and fairness. But with a last
 //! object, and no [`Consumer::poll_within`], nothing is left if one consumer has read [`Consumer::values`] to its end.
 
+#[forbid(unsafe_code)]
 mod builder;
+#[forbid(unsafe_code)]
 mod consumer;
+#[forbid(unsafe_code)]
 mod errors;
-#[allow(unsafe_code)]
+#[allow(unsafe_code, reason = "values go through the archive as words")]
 mod ffi;
+#[forbid(unsafe_code)]
 mod mailbox;
+#[forbid(unsafe_code)]
 mod producer;
 #[cfg(doctest)]
 mod refused;
+#[forbid(unsafe_code)]
 mod report;
+#[forbid(unsafe_code)]
 mod seeds;
 
 /// The program of the README, which is to compile and run.

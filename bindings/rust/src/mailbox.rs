@@ -27,14 +27,14 @@ pub struct Mailbox<T> {
 pub(crate) struct Home<T> {
     desk: Mutex<Desk<T>>,
     seed: [u8; 32],
-    pub(crate) lanes: u32,
+    pub(crate) lanes: usize,
 }
 
 /// What the lock of a home guards.
 pub(crate) struct Desk<T> {
     pub(crate) hub: ffi::Hub<T>,
-    producers: u32,
-    consumers: u32,
+    producers: usize,
+    consumers: usize,
 }
 
 impl<T> Home<T> {
@@ -90,7 +90,7 @@ impl<T> Mailbox<T> {
             producers: 0,
             consumers: 0,
         });
-        let lanes = setup.producers as u32;
+        let lanes = ffi::number(setup.producers);
         Ok(Mailbox {
             home: Arc::new(Home { desk, seed, lanes }),
         })
@@ -120,7 +120,7 @@ impl<T> Mailbox<T> {
         let number = desk.consumers;
         let part = desk
             .hub
-            .consumer(&self.home.seed, u64::from(number))
+            .consumer(&self.home.seed, number as u64)
             .map_err(|why| match why {
                 NotIssued::AllGiven => IssueError::AllConsumersGiven(number),
                 NotIssued::NoMemory => IssueError::NoMemory,

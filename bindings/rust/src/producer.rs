@@ -11,18 +11,19 @@ use std::sync::Arc;
 /// two threads share it, and it is not `Clone`.
 #[must_use = "its drop ends its lane"]
 pub struct Producer<T> {
-    lane: u32,
+    lane: usize,
     part: ffi::Producer<T>,
     home: Arc<Home<T>>,
 }
 
 impl<T> Producer<T> {
-    pub(crate) fn new(lane: u32, part: ffi::Producer<T>, home: Arc<Home<T>>) -> Producer<T> {
+    pub(crate) fn new(lane: usize, part: ffi::Producer<T>, home: Arc<Home<T>>) -> Producer<T> {
         Producer { lane, part, home }
     }
 
     /// The number of its lane, from 0 on.
-    pub fn lane(&self) -> u32 {
+    #[must_use]
+    pub fn lane(&self) -> usize {
         self.lane
     }
 

@@ -1,11 +1,15 @@
 //! What a mailbox reports at its end.
+use std::fmt;
 
 /// What became of all items of a mailbox.
 ///
 /// The main theorem is about this report. One assignment explains it: each item goes to at most one consumer, who took it,
 /// and each item that nobody took is left.
-#[derive(Clone, PartialEq, Eq, Hash, Debug)]
+///
+/// Its `Debug` shows how many values are left of a lane, and not the values. So it is there for each `T`.
+#[derive(Clone, PartialEq, Eq, Hash)]
 #[must_use = "the values that nobody took are in it"]
+#[non_exhaustive]
 pub struct Report<T> {
     /// One for each lane, in their order.
     pub lanes: Vec<LaneReport<T>>,
@@ -14,7 +18,8 @@ pub struct Report<T> {
 }
 
 /// What became of one lane.
-#[derive(Clone, PartialEq, Eq, Hash, Debug)]
+#[derive(Clone, PartialEq, Eq, Hash)]
+#[non_exhaustive]
 pub struct LaneReport<T> {
     /// How many items were put.
     pub put: usize,
@@ -26,11 +31,12 @@ pub struct LaneReport<T> {
 
 /// The notes of one consumer on one lane.
 #[derive(Clone, PartialEq, Eq, Hash, Debug)]
+#[non_exhaustive]
 pub struct Diary {
     /// The consumer's number, from 0 on.
-    pub consumer: u32,
+    pub consumer: usize,
     /// The lane, from 0 on.
-    pub lane: u32,
+    pub lane: usize,
     /// Its notes, the first on the first item put there, and so on.
     pub notes: Vec<Note>,
     /// Whether it had begun to compete for the next item, on which it has no note.
@@ -43,14 +49,15 @@ pub enum Note {
     /// It took the item.
     Took,
     /// No consumer but this other one can have won the item.
-    Lost(u32),
+    Lost(usize),
     /// It does not know who won the item, if anybody has.
     Undecided,
 }
 
 impl<T> Report<T> {
     /// The diary of this consumer on this lane, if the mailbox has both.
-    pub fn diary(&self, consumer: u32, lane: u32) -> Option<&Diary> {
+    #[must_use]
+    pub fn diary(&self, consumer: usize, lane: usize) -> Option<&Diary> {
         self.diaries
             .iter()
             .find(|diary| diary.consumer == consumer && diary.lane == lane)
@@ -60,7 +67,8 @@ impl<T> Report<T> {
     /// there is no such lane or place.
     ///
     /// The places of a lane for which it is `None` are those of its values in `left`, in the same order.
-    pub fn taker(&self, lane: u32, place: usize) -> Option<u32> {
+    #[must_use]
+    pub fn taker(&self, lane: usize, place: usize) -> Option<usize> {
         self.diaries
             .iter()
             .filter(|diary| diary.lane == lane)
@@ -69,7 +77,8 @@ impl<T> Report<T> {
     }
 
     /// How many values this consumer took.
-    pub fn taken_by(&self, consumer: u32) -> usize {
+    #[must_use]
+    pub fn taken_by(&self, consumer: usize) -> usize {
         self.diaries
             .iter()
             .filter(|diary| diary.consumer == consumer)
@@ -81,5 +90,24 @@ impl<T> Report<T> {
     /// All values that nobody took: those of lane 0 first, each lane's in the order put.
     pub fn into_left(self) -> impl Iterator<Item = T> {
         self.lanes.into_iter().flat_map(|lane| lane.left)
+    }
+}
+
+impl<T> fmt::Debug for Report<T> {
+    fn fmt(&self, f: &mut fmt::Formatter<'_>) -> fmt::Result {
+        f.debug_struct("Report")
+            .field("lanes", &self.lanes)
+            .field("diaries", &self.diaries)
+            .finish()
+    }
+}
+
+impl<T> fmt::Debug for LaneReport<T> {
+    fn fmt(&self, f: &mut fmt::Formatter<'_>) -> fmt::Result {
+        f.debug_struct("LaneReport")
+            .field("put", &self.put)
+            .field("ended", &self.ended)
+            .field("left", &format_args!("[..; {}]", self.left.len()))
+            .finish()
     }
 }

@@ -127,7 +127,7 @@ fn threads_drop_each_value_once() {
     let mailbox = Mailbox::builder()
         .producers(2)
         .consumers(3)
-        .cells(2 * EACH as u64)
+        .cells(2 * EACH)
         .build()
         .unwrap();
     let producers = [mailbox.producer().unwrap(), mailbox.producer().unwrap()];

@@ -26,6 +26,7 @@ fn a_report_waits_for_all_parts() {
         producers: 2,
         consumers: 1,
         mailbox,
+        ..
     }) = mailbox.gather()
     else {
         panic!("three parts are out")
@@ -35,6 +36,7 @@ fn a_report_waits_for_all_parts() {
         producers: 1,
         consumers: 1,
         mailbox,
+        ..
     }) = mailbox.gather()
     else {
         panic!("two parts are out")
@@ -141,26 +143,28 @@ fn parts_go_on_after_their_mailbox_was_dropped() {
 #[test]
 fn each_number_is_given_once() {
     let mailbox = Mailbox::<u8>::builder()
-        .producers(2)
-        .consumers(2)
+        .producers(16)
+        .consumers(64)
         .build()
         .unwrap();
-    assert_eq!(mailbox.producer().unwrap().lane(), 0);
-    assert_eq!(mailbox.producer().unwrap().lane(), 1);
+    let producers: Vec<_> = (0..16).map(|_| mailbox.producer().unwrap()).collect();
+    assert!(producers.iter().map(|one| one.lane()).eq(0..16));
     let error = mailbox.producer().unwrap_err();
-    assert_eq!(error, IssueError::AllProducersGiven(2));
+    assert_eq!(error, IssueError::AllProducersGiven(16));
     assert_eq!(
         error.to_string(),
-        "the mailbox was built for 2 producers, and all were given"
+        "the mailbox was built for 16 producers, and all were given"
     );
-    assert_eq!(mailbox.consumer().unwrap().number(), 0);
-    assert_eq!(mailbox.consumer().unwrap().number(), 1);
+    let consumers: Vec<_> = (0..64).map(|_| mailbox.consumer().unwrap()).collect();
+    assert!(consumers.iter().map(|one| one.number()).eq(0..64));
     let error = mailbox.consumer().unwrap_err();
-    assert_eq!(error, IssueError::AllConsumersGiven(2));
+    assert_eq!(error, IssueError::AllConsumersGiven(64));
     assert_eq!(
         error.to_string(),
-        "the mailbox was built for 2 consumers, and all were given"
+        "the mailbox was built for 64 consumers, and all were given"
     );
+    drop((producers, consumers));
+    assert!(mailbox.gather().is_ok());
 }
 
 #[test]
@@ -176,14 +180,14 @@ fn lanes_that_nobody_asked_for_can_be_ended() {
 
 #[test]
 fn a_sweep_takes_the_lanes_in_turn() {
+    use Sweep::{Nothing, Took};
     let mailbox = Mailbox::numbers().producers(3).build().unwrap();
     let mut producers = [(); 3].map(|()| mailbox.producer().unwrap());
-    for item in [0, 10, 1, 11] {
-        producers[item as usize / 10].put(item).unwrap();
+    for (lane, item) in [(0, 0), (1, 10), (0, 1), (1, 11)] {
+        producers[lane].put(item).unwrap();
     }
     let mut consumer = mailbox.consumer().unwrap();
     let taken: Vec<_> = (0..5).map(|_| consumer.sweep()).collect();
-    use Sweep::{Nothing, Took};
     assert_eq!(taken, [Took(0), Took(10), Took(1), Took(11), Nothing]);
     producers[2].put(20).unwrap();
     assert_eq!(consumer.sweep().taken(), Some(20));

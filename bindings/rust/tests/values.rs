@@ -28,19 +28,19 @@ fn values_come_out_as_they_were() {
 fn values_keep_their_alignment() {
     #[repr(align(4096))]
     struct Page(u8);
-    for Page(byte) in through((0..10).map(Page).collect()).iter() {
+    for Page(byte) in &through((0..10).map(Page).collect()) {
         assert_eq!(std::ptr::from_ref(byte).addr() % 4096, 0);
     }
 }
 
 #[test]
 fn closures_go_through() {
-    let mailbox = Mailbox::<Box<dyn FnOnce() -> u8 + Send>>::builder()
+    let mailbox = Mailbox::<Box<dyn FnOnce() -> usize + Send>>::builder()
         .build()
         .unwrap();
     let (mut producer, mut consumer) = (mailbox.producer().unwrap(), mailbox.consumer().unwrap());
     let text = String::from("four");
-    assert!(producer.put(Box::new(move || text.len() as u8)).is_ok());
+    assert!(producer.put(Box::new(move || text.len())).is_ok());
     assert_eq!(consumer.poll(0).taken().map(|job| job()), Some(4));
 }
 
@@ -52,6 +52,23 @@ fn a_builder_has_a_clone_also_if_its_values_have_none() {
     let mut producer = mailbox.producer().unwrap();
     assert!(producer.put(Single).is_ok());
     assert!(producer.put(Single).is_err());
+}
+
+#[test]
+fn results_can_be_printed_whatever_their_values_are() {
+    struct Silent;
+    let mailbox = Mailbox::builder().producers(2).build().unwrap();
+    let mut producer = mailbox.producer().unwrap();
+    let mut consumer = mailbox.consumer().unwrap();
+    (0..4).for_each(|_| assert!(producer.put(Silent).is_ok()));
+    assert_eq!(format!("{:?}", consumer.poll(0)), "Took(..)");
+    assert_eq!(format!("{:?}", consumer.sweep()), "Took(..)");
+    drop((producer, consumer));
+    let report = format!("{:?}", mailbox.gather().unwrap());
+    let lane = "LaneReport { put: 4, ended: true, left: [..; 2] }";
+    assert!(report.starts_with(&format!("Report {{ lanes: [{lane}, ")));
+    let lost: Poll<Silent> = Poll::Lost(63);
+    assert_eq!(format!("{lost:?}"), "Lost(63)");
 }
 
 #[test]
@@ -128,7 +145,7 @@ fn all_tables_and_shapes_are_there() {
             for item in 0..4 {
                 assert_eq!(consumers[item].poll(0), Poll::Took(item as u64));
                 for other in (0..5).filter(|&other| other != item) {
-                    assert_eq!(consumers[other].poll(0), Poll::Lost(item as u32));
+                    assert_eq!(consumers[other].poll(0), Poll::Lost(item));
                 }
             }
         }

@@ -4,47 +4,49 @@ ghost use Rattle.mb_mailbox.specs.Consumers.{IsConsumerOf};
 ghost use Rattle.mb_mailbox.specs.Hubs.{IsHubOf};
 ghost use Rattle.mb_mailbox.specs.Producers.{IsProducerOf};
 
-use crate::choice::{Choice, PAIRS};
-use crate::mail::Post;
+use crate::choice::Choice;
 use mb_mailbox::{Consumer, Hub, HubFault, Mailbox, Poll, Producer, Put};
-use mb_world::Setup;
 use rand_core::Rng;
 use std::alloc::{AllocError, Allocator};
+use std::fmt;
 
-/// Makes `choice.times` mailboxes with a producer each, and nothing else. Returns how many were made.
-pub fn mailboxes_alone<A: Allocator + Copy + Drop>(
-    alloc: A,
-    choice: &Choice,
-) -> Result<u64, AllocError> {
-    let mut made = 0u64;
-    let Some(setup) = setup_of(choice) else {
-        return Ok(made);
-    };
-    for _ in 0..choice.times {
-        let (mailbox, mut hub) = Mailbox::new(alloc, setup.copy())?;
-        let put = fill(alloc, &mailbox, &mut hub, 0, 0, false);
-        drop(mailbox);
-        drop(hub);
-        put?;
-        made = made.wrapping_add(1);
-    }
-    Ok(made)
+/// The counts of all mailboxes together.
+#[derive(Clone, Copy, Debug, Default)]
+pub struct Post {
+    /// The items that producers put.
+    pub items: u64,
+    /// The notes that consumers made.
+    pub notes: u64,
+    /// The sum of the items that consumers took.
+    pub taken: u64,
 }
 
-/// Makes and fills `choice.times` mailboxes, and nothing else. Returns how many items were put.
-pub fn puts<A: Allocator + Copy + Drop>(alloc: A, choice: &Choice) -> Result<u64, AllocError> {
-    let mut items = 0u64;
-    let Some(setup) = setup_of(choice) else {
-        return Ok(items);
-    };
+impl fmt::Display for Post {
+    fn fmt<W: fmt::Write>(&self, f: &mut fmt::Formatter<W>) -> fmt::Result {
+        let Post {
+            items,
+            notes,
+            taken,
+        } = self;
+        write!(f, "{items} items, {notes} notes, {taken} taken in sum")
+    }
+}
+
+/// Makes `choice.times` mailboxes with a producer each, which puts so many items, and nothing else.
+pub fn puts<A: Allocator + Copy + Drop>(
+    alloc: A,
+    choice: &Choice,
+    items: u64,
+) -> Result<Post, AllocError> {
+    let mut post = Post::default();
     for time in 0..choice.times {
-        let (mailbox, mut hub) = Mailbox::new(alloc, setup.copy())?;
-        let put = fill(alloc, &mailbox, &mut hub, choice.cells, time, false);
+        let (mailbox, mut hub) = Mailbox::new(alloc, choice.setup.copy())?;
+        let put = fill(alloc, &mailbox, &mut hub, items, time, false);
         drop(mailbox);
         drop(hub);
-        items = items.wrapping_add(put?);
+        post.items = post.items.wrapping_add(put?);
     }
-    Ok(items)
+    Ok(post)
 }
 
 /// Makes and fills `choice.times` mailboxes, one after the other. Each consumer polls each of them to its end.
@@ -53,13 +55,10 @@ pub fn mailboxes<A: Allocator + Copy + Drop, R: Rng>(
     choice: &Choice,
     rng: &mut R,
 ) -> Result<Post, AllocError> {
-    let mut post = Post::new();
-    let Some(setup) = setup_of(choice) else {
-        return Ok(post);
-    };
+    let mut post = Post::default();
     for time in 0..choice.times {
-        let (mailbox, mut hub) = Mailbox::new(alloc, setup.copy())?;
-        let put = fill(alloc, &mailbox, &mut hub, choice.cells, time, true);
+        let (mailbox, mut hub) = Mailbox::new(alloc, choice.setup.copy())?;
+        let put = fill(alloc, &mailbox, &mut hub, choice.setup.cells(), time, true);
         let read = read_all(alloc, &mailbox, &mut hub, rng, &mut post);
         drop(mailbox);
         drop(hub);
@@ -69,13 +68,13 @@ pub fn mailboxes<A: Allocator + Copy + Drop, R: Rng>(
     Ok(post)
 }
 
-/// Makes a producer, which puts an item for each cell and ends its lane if `ends`. Then it is dropped. Returns how many
+/// Makes a producer, which puts so many items and ends its lane if `ends`. Then it is dropped. Returns how many
 /// items were linked.
 fn fill<A: Allocator + Copy + Drop>(
     alloc: A,
     mailbox: &Mailbox<A>,
     hub: &mut Hub<A>,
-    cells: u64,
+    items: u64,
     time: u64,
     ends: bool,
 ) -> Result<u64, AllocError>
@@ -84,39 +83,31 @@ fn fill<A: Allocator + Copy + Drop>(
 {
     match hub.producer(alloc, mailbox) {
         Ok(mut producer) => {
-            let items = put_all(mailbox, &mut producer, cells, time);
+            let linked = put_all(mailbox, &mut producer, items, time);
             if ends {
                 producer.finish(mailbox);
             }
             drop(producer);
-            Ok(items)
+            Ok(linked)
         }
         Err(_) => Err(AllocError),
     }
 }
 
-/// The setup of one lane and of the choice's cells, shape and consumers.
-pub fn setup_of(choice: &Choice) -> Option<Setup> {
-    let consumers = u64::from(choice.layout.consumers());
-    let setup = Setup::large(1, consumers, choice.cells, PAIRS, choice.name).ok()?;
-    Some(setup.shaped(choice.layout.shape()))
-}
-
-/// Puts an item for each cell. The items' numbers go on after those of the mailboxes before. Returns how many items
-/// were linked.
+/// Puts so many items. Their numbers go on after those of the mailboxes before. Returns how many were linked.
 #[inline(always)]
 fn put_all<A: Allocator + Drop>(
     mailbox: &Mailbox<A>,
     producer: &mut Producer<A>,
-    cells: u64,
+    items: u64,
     time: u64,
 ) -> u64
     requires of { IsProducerOf mailbox.now producer.old }
     ensures of { IsProducerOf mailbox.now producer.new }
 {
-    let first = time.wrapping_mul(cells);
+    let first = time.wrapping_mul(items);
     let mut linked = 0u64;
-    for number in 0..cells {
+    for number in 0..items {
         if producer.put(mailbox, first.wrapping_add(number)) == Put::Linked {
             linked = linked.wrapping_add(1);
         }

@@ -1,26 +1,18 @@
-//! Claims, mailboxes and whole schedules in loops, so that their instructions can be counted.
+//! Mailboxes in loops, so that their instructions can be counted.
 //!
 //! With the words LOOP TABLE CONSUMERS TIMES it runs one loop, and prints its result. Without words it runs each loop
-//! once. A fifth word is the shape of the cells, a sixth the number of cells of a mailbox or a world.
+//! once over each shape of the cells. A fifth word is their shape, a sixth their number.
 #![tactic(auto)]
 
 use std::io;
 use std::process::ExitCode;
 
 pub mod choice;
-pub mod contended;
-pub mod count;
 pub mod examples;
-pub mod lone;
-pub mod mail;
 pub mod mailbox;
 pub mod relay;
 pub mod run;
-pub mod schedules;
-pub mod shared;
 pub mod source;
-pub mod step;
-pub mod world;
 
 use choice::Choice;
 use run::{run, run_all};

@@ -4,8 +4,7 @@ ghost use Rattle.mb_mailbox.specs.Hubs.{IsHubOf};
 ghost use Rattle.mb_mailbox.specs.Producers.{IsProducerOf};
 
 use crate::choice::Choice;
-use crate::mail::Post;
-use crate::mailbox::setup_of;
+use crate::mailbox::Post;
 use mb_mailbox::{Consumer, Hub, Mailbox, Poll, Producer, Put};
 use rand_core::Rng;
 use std::alloc::{AllocError, Allocator};
@@ -16,11 +15,8 @@ pub fn relay<A: Allocator + Copy + Drop, R: Rng>(
     choice: &Choice,
     rng: &mut R,
 ) -> Result<Post, AllocError> {
-    let mut post = Post::new();
-    let Some(setup) = setup_of(choice) else {
-        return Ok(post);
-    };
-    let (mailbox, mut hub) = Mailbox::new(alloc, setup)?;
+    let mut post = Post::default();
+    let (mailbox, mut hub) = Mailbox::new(alloc, choice.setup.copy())?;
     let passed = pass_all(alloc, &mailbox, &mut hub, choice.times, rng, &mut post);
     drop(mailbox);
     drop(hub);

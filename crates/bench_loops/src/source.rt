@@ -1,9 +1,8 @@
 //! Random words.
-ghost use Rattle.std.specs.Prelude.{◌<◌, ℕ};
+ghost use Rattle.std.specs.Prelude.{ℕ};
 ghost use Rattle.rand_core.specs.Steps.{stream_of};
 ghost use Rattle.bench_loops.specs.Shifts.{shift_steps, word_after};
 
-use mb_claim::RandomWords;
 use rand_core::utils::NextWord;
 use rand_core::{Rng, utils};
 use std::marker::Model;
@@ -26,20 +25,6 @@ impl Source {
         Source {
             state: 0x9E37_79B9_7F4A_7C15,
         }
-    }
-
-    /// The next random word.
-    #[inline(always)]
-    pub fn word(&mut self) -> u64 {
-        self.next_word()
-    }
-
-    /// The next random number below the bound.
-    pub fn below(&mut self, bound: u64) -> u64
-        requires { 0 < bound }
-        ensures { result < bound }
-    {
-        self.word() % bound
     }
 }
 
@@ -72,17 +57,5 @@ impl Rng for Source {
 
     fn fill_bytes(&mut self, dst: &mut [u8]) {
         utils::fill_bytes_via_u64(self, dst)
-    }
-}
-
-impl RandomWords for Source {
-    ghost use Rattle.std.specs.Prelude.{◌≡◌};
-
-    // The word is the next one by shifts.
-    ghost gives = { λ s word t. (word, t) ≡ word_after s };
-
-    #[inline(always)]
-    fn random_word(&mut self) -> u64 {
-        self.next_word()
     }
 }

@@ -1,4 +1,3 @@
 mod AsBox
-mod BlockExamples
 mod Diaries
 mod Steps

@@ -1,7 +1,7 @@
 pub mod Apart
 pub mod Blocks
 pub mod Calls
-pub mod CallExamples
 pub mod Refusals
 pub mod Reports
 pub mod Handles
+pub mod Defaults

@@ -1,6 +1,6 @@
 //! The calls that take producers and consumers back, end a mailbox, and free what a handle leads
 //! to.
-ghost use Rattle.std.specs.Prelude.{◌≡◌, ◌≢◌, ◌↔◌, ◌⊎◌, ◌+◌, None};
+ghost use Rattle.std.specs.Prelude.{◌≡◌, ◌≢◌, ◌↔◌, ◌⊎◌, ◌+◌, ◌<◌, None};
 ghost use Rattle.mb_mailbox.specs.Imports.{consumer_count};
 ghost use Rattle.mb_mailbox.specs.Gathering.{FullTakesAll, IsGathered, IsReportIn};
 ghost use Rattle.mb_mailbox.specs.Gathering.{UndecidedHasCompany, count_missing};
@@ -105,6 +105,9 @@ pub extern "C" fn hz_gather(
     ensures missing { result ≡ MISSING
         → HubMade (λ h. (missing.new.producers ≡ count_missing h.hub.puts)
         × (missing.new.consumers ≡ count_missing h.hub.ledgers)) hub.old.block.thing }
+    ensures out { result ≡ MISSING
+        → HubMade (λ h. 0 < count_missing h.hub.puts + count_missing h.hub.ledgers)
+        hub.old.block.thing }
     ensures all_back { (result ≡ DONE) ⊎ (result ≡ NO_MEMORY)
         → HubMade (λ h. count_missing h.hub.puts + count_missing h.hub.ledgers ≡ 0)
         hub.old.block.thing }

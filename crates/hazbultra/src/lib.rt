@@ -11,9 +11,9 @@ mod calls;
 mod codes;
 mod copies;
 mod create;
-pub mod examples;
 mod gathering_end;
 mod handle;
+pub mod laws;
 mod reports;
 mod thing;
 

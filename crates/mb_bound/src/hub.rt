@@ -146,7 +146,7 @@ impl<A: Allocator + Drop> BoundHub<A> {
 }
 
 impl<A: Allocator + Clone + Drop> BoundHub<A> {
-    ghost use Rattle.std.specs.Prelude.{◌≡◌, ◌↔◌, ◌+◌, ◌<◌, ◌≤◌, ◌⊎◌, Err, IfErr, IfOk, OnErr, length};
+    ghost use Rattle.std.specs.Prelude.{◌≡◌, ◌↔◌, ◌+◌, ◌<◌, ◌≤◌, Err, IfErr, IfOk, OnErr, length};
     ghost use Rattle.mb_world.specs.Plan.{size_of};
     ghost use Rattle.mb_world.specs.Setups.{layout_of, plan_in};
     ghost use Rattle.mb_mailbox.specs.declared.gather.GatherFault.TheVariants.{Missing, NoMemory};
@@ -200,14 +200,13 @@ impl<A: Allocator + Clone + Drop> BoundHub<A> {
     }
 
     /// Ends the mailbox, and returns a report of what its producers and consumers did, as [`Mailbox::gather`] does.
-    /// With an error the hub is returned as it was. [`GatherFault::Missing`] with two zeros would say that a copy of
-    /// the mailbox is in use elsewhere, though all were taken back. Nothing makes such a copy.
+    /// With an error the hub is returned as it was. If all were taken back, the error is [`GatherFault::NoMemory`].
     pub fn gather(self, alloc: A) -> Result<Report<A>, (GatherFault, BoundHub<A>)>
         ensures missing { 0 < count_missing self.hub.puts + count_missing self.hub.ledgers
             → result ≡ Err
             (Missing (count_missing self.hub.puts) (count_missing self.hub.ledgers), self) }
         ensures refused { count_missing self.hub.puts + count_missing self.hub.ledgers ≡ 0
-            → IfErr result (λ e. (e.0 ≡ NoMemory) ⊎ (e.0 ≡ Missing 0 0)) }
+            → IfErr result (λ e. e.0 ≡ NoMemory) }
         ensures same { IfErr result (λ e. e.1 ≡ self) }
         ensures lists { IfOk result (λ r. IsReportIn self.mailbox.cells.size.lanes
             (consumer_count self.mailbox.claims.layout) self.hub r) }
@@ -224,10 +223,10 @@ impl<A: Allocator + Clone + Drop> BoundHub<A> {
         match mailbox.draft(alloc, hub) {
             Ok(draft) => match Arc::try_unwrap(mailbox) {
                 Ok(mailbox) => Ok(mailbox.gather_with(draft)),
+                // (this does not come: all were taken back, so nobody else holds the mailbox)
                 Err(mailbox) => {
-                    let why = GatherFault::Missing(0, 0);
                     let hub = draft.undone();
-                    Err((why, BoundHub { id, mailbox, hub }))
+                    Err((GatherFault::NoMemory, BoundHub { id, mailbox, hub }))
                 }
             },
             Err(hub) => Err((GatherFault::NoMemory, BoundHub { id, mailbox, hub })),

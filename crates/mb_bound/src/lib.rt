@@ -10,7 +10,6 @@
 #![tactic(auto)]
 
 mod consumer;
-pub mod examples;
 mod hub;
 mod producer;
 

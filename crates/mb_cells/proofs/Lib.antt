@@ -28,5 +28,3 @@ pub mod CallHistories
 pub mod CallLaws
 pub mod CallNumbers
 pub mod Totals
--- Examples
-pub mod ExamplePools

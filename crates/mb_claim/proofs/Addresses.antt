@@ -113,13 +113,6 @@ within r kinds cells k o reg p l =
     let s : suc k * row_words r kinds ≡ k * row_words r kinds + row_words r kinds = suc-mul k (row_words r kinds) in
     omega arith
 
--- the word of a cell below `cells` cells lies among the words, if these are enough for so many cells
-pub within_words :
-    (r : ℕ) (kinds : List Kind) (cells k o : ℕ) (reg : Reg) (words : List ℕ) (at : ℕ) → IsWordOf r kinds o reg
-    → k < cells → cells * row_words r kinds ≤ length words → at ≡ address_of r kinds k o reg → at < length words
-within_words r kinds cells k o reg words at word below room is =
-    let lies = within r kinds cells k o reg word below in omega (arith, lies, room, is)
-
 -- ---- how many words objects have, and how many lie before one
 -- an object has at most as many words as a ratifier
 pub width_few : (r : ℕ) (k : Kind) → width r k ≤ 1 + r

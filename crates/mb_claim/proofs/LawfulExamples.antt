@@ -213,11 +213,11 @@ one_here : IsMine both_undecided 1 0
 one_here = ((omega arith), (omega arith), (Undecided, second_undecided))
 
 -- a turn that loads 2 is within words
-pub two_word : IsInWords (record { act = Load Value 2; word = 0 })
+two_word : IsInWords (record { act = Load Value 2; word = 0 })
 two_word = ((omega arith, tt), (omega arith))
 
 -- a turn that stores 2 is within words
-pub two_put : IsInWords (record { act = Store Value 2; word = 0 })
+two_put : IsInWords (record { act = Store Value 2; word = 0 })
 two_put = ((tt, omega arith), (omega arith))
 
 -- the history in which both are undecided is lawful

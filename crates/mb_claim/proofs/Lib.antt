@@ -39,7 +39,6 @@ pub mod StepsLeft
 pub mod MostSteps
 -- A claim that goes straight
 pub mod Straight
-pub mod WordSteps
 -- The fast path and the last object
 pub mod FastPath
 pub mod PassedRatifiers
@@ -49,9 +48,5 @@ pub mod PlaySteps
 pub mod OnePlay
 -- Examples
 pub mod LawfulExamples
-pub mod UsedExamples
 pub mod ShapedExamples
-pub mod BothExamples
 pub mod Counterexamples
-pub mod PlayedExamples
-mod StraightExamples

@@ -1,6 +1,7 @@
 -- A claim before its first access to an object, and the accesses to that object that lead it on or end it.
 use Rattle.std.proofs.Common.{◌≡◌, ◌≢◌, ◌+◌, ◌<◌, ◌==◌, ◌∙◌, ℕ, suc, Bool, true, false, cond, Option, Some, None, MatchOption, arith}
-use Rattle.std.proofs.Common.{[], length, slice_get, get_or, refl, sym, subst, ap}
+use Rattle.std.proofs.Common.{[], List, length, slice_get, get_or, refl, sym, subst, ap}
+use Rattle.std.proofs.lemmas.Bool.{false≢true}
 use Rattle.std.proofs.lemmas.Option.{slice_get-get_or, slice_get_within}
 use Rattle.mb_quorum.specs.Vocabulary.{QuorumTable}
 use Rattle.mb_deciding.specs.declared.access.Op.{Op}
@@ -9,11 +10,12 @@ use Rattle.mb_deciding.specs.Course.{IsFitKind}
 use Rattle.mb_deciding.specs.Vocabulary.{answer, PcIsAt, IsPlace, IsOpAt, spread, first_place}
 use Rattle.mb_deciding.specs.ManySteps.{AreSteps, DrawsAndMakes}
 use Rattle.mb_claim.specs.{Kind, Conciliator, Ratifier, LastObject, Pc, Next, Site, Claim, ClaimOp, Going, Won, Lost, Undecided, Stage, Stretch, Layout}
-use Rattle.mb_claim.specs.{quorums_of, kinds_of, consumer_count, claim_stage, stage_for, FitsLayout, IsNextOp}
+use Rattle.mb_claim.specs.{quorums_of, kinds_of, claims_in, consumer_count, consumer_of, claim_stage, stage_for, FitsLayout, IsNextOp}
+use Rattle.mb_claim.specs.{Claims, ClaimsAreSound, IsClaimIn, IsClaimPrefix, ObjectTurn, StandsAt}
 use Rattle.mb_claim.specs.{standing, IsStanding, site_of, HasEnd, AreClaimSteps, DrawsAndMakesNext}
-use Rattle.mb_claim.proofs.ClaimSteps.{PlacesMakeParts, claim_passed, claim_decided}
+use Rattle.mb_claim.proofs.ClaimSteps.{PlacesMakeParts, claim_passed, claim_decided, stands_first}
 use Rattle.mb_claim.proofs.StepsLeft.{won_ended, lost_ended}
-use Rattle.mb_claim.proofs.LayoutObjects.{length-row_of, fit_in_row, last_turn_small}
+use Rattle.mb_claim.proofs.LayoutObjects.{length-row_of, fit_in_row, last_turn_small, quorums_lawful}
 use Rattle.mb_claim.proofs.ManyClaimSteps.{ended_on, stood_after, all_go_on, stage_after, object_after, place_after, joined}
 
 -- ---- the first place of an object
@@ -278,12 +280,43 @@ one_of : (kind : Option Kind) (there : Kind → Claim) (a b : Claim) → MatchOp
 one_of None there a b p q = absurd p
 one_of (Some k) there a b p q = p ∙ sym q
 
+-- a layout has a first object
+has_first : (layout : Layout) → 0 < length (kinds_of layout)
+has_first layout =
+    let all = length-row_of layout.shape (spread (quorums_of layout).values) layout.pairs in
+    omega (arith, all, layout.some)
+
 -- a consumer's new claim stands before the first object
 pub first_claim : (layout : Layout) (c : ℕ) → (claim : Claim) × IsStanding layout c 0 c claim
 first_claim layout c =
-    let all = length-row_of layout.shape (spread (quorums_of layout).values) layout.pairs in
-    let kind = some_kind layout 0 (omega (arith, all, layout.some)) in
+    let kind = some_kind layout 0 (has_first layout) in
     (standing layout c 0 c kind.0, is_standing layout c 0 c kind.0 (standing layout c 0 c kind.0) kind.1 refl)
+
+-- that claim is the consumer's
+pub first_owner : (layout : Layout) (c : ℕ) (claim : Claim) → IsStanding layout c 0 c claim → consumer_of claim ≡ c
+first_owner layout c claim stands =
+    let kind = some_kind layout 0 (has_first layout) in
+    ap consumer_of (standing_is layout c 0 c kind.0 claim kind.1 stands)
+
+-- that claim has made no access
+pub first_path :
+    ((cs : Claims) (c object : ℕ) (pc : Pc) (xs : List ObjectTurn) → ClaimsAreSound cs
+    → StandsAt cs.table cs.kinds c object pc xs → IsClaimPrefix cs c xs Going)
+    → (layout : Layout) (c : ℕ) (claim : Claim) → c < consumer_count layout → IsStanding layout c 0 c claim
+    → IsClaimIn layout claim []
+first_path prefix layout c claim below stands =
+    let kind = some_kind layout 0 (has_first layout) in
+    let is = standing_is layout c 0 c kind.0 claim kind.1 stands in
+    let t = quorums_of layout in
+    let place = first_place t kind.0 c in
+    let at = stands_first t (kinds_of layout) kind.0 c place kind.1 below
+    (first_begins t kind.0 c kind.2 below) in
+    subst (λ d. IsClaimIn layout d []) (sym is) (record {
+      known = below;
+      prefix = prefix (claims_in layout 0) c 0 place [] (quorums_lawful layout) at;
+      begun = (λ b. absurd (false≢true b), λ some. absurd (some refl));
+      stands = λ g. at;
+    })
 
 -- accesses led each claim that stands before object o, where its input is v, to one of which P holds. What is left
 -- of the budget is told

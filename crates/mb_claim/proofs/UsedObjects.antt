@@ -108,23 +108,6 @@ module _ (cs : Claims) (law : AreDeciding cs.table) (h : List ClaimAccess) (lawf
   pub some_inputs : (inputs : ℕ → ℕ) × IsUsedWith cs k o kind inputs h
   some_inputs = (object_used.inputs, record { is = is; lawful = object_used.lawful; enters = object_used.enters })
 
-  -- consumers use the object with any inputs with which those come who have an access there
-  pub with_inputs :
-      (inputs : ℕ → ℕ)
-      → ((c : ℕ) → part_at c k o h ≢ [] → Enters cs.table cs.kinds 0 c (part_on c k h) o (inputs c))
-      → IsUsedWith cs k o kind inputs h
-  with_inputs inputs enters =
-      record {
-        is = is;
-        lawful = record {
-          memory = object_used.lawful.memory;
-          words = object_used.lawful.words;
-          parts = λ c ne. subst (λ v. (v < cs.table.values) × IsPrefix cs.table kind v (part_at c k o h))
-              (object_used.only c (inputs c) ne (enters c ne)) (object_used.lawful.parts c ne);
-        };
-        enters = enters;
-      }
-
   -- a consumer with an access to the object comes to it with one input
   pub one_input :
       (c u w : ℕ) → part_at c k o h ≢ [] → Enters cs.table cs.kinds 0 c (part_on c k h) o u

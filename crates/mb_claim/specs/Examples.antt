@@ -1,14 +1,11 @@
 -- Histories of claims on one cell, for two consumers and one pair over the unary table. Some are lawful, and some are
--- not. Below them stand the steps and entries of a play of such claims, and accesses in words.
-use Rattle.std.specs.Prelude.{ℕ, ◌≡◌, ◌+◌, List, [], ◌∷◌}
+-- not.
+use Rattle.std.specs.Prelude.{ℕ, List, [], ◌∷◌}
 use Rattle.mb_quorum.specs.Unary.{unary_table}
-use Rattle.mb_claim.specs.declared.run.ClaimEntry.TheVariants as entry
 use Rattle.mb_claim.specs.AllClaims.{Claims, claims_of}
-use Rattle.mb_claim.specs.ObjectTypes.{Value, Proposal, Quorum, Act, Load, Store, Op}
-use Rattle.mb_claim.specs.Types.{ClaimAccess, Stage, ClaimEntry}
+use Rattle.mb_claim.specs.ObjectTypes.{Value, Proposal, Quorum, Act, Load, Store}
+use Rattle.mb_claim.specs.Types.{ClaimAccess}
 use Rattle.mb_claim.specs.Rows.{pairs_of}
-use Rattle.mb_claim.specs.Plays.{IsPlayed}
-use Rattle.mb_claim.specs.WordSteps.{MakesInWords}
 
 -- the claims of two consumers on one cell with one pair over the unary table
 abbrev pub two_consumers : Claims
@@ -63,37 +60,3 @@ own_number_again = access_at 1 1 (Store (Quorum 1) 1) ∷ access_at 1 0 (Load Va
 -- a third consumer comes, although there are two
 abbrev pub of_a_stranger : List ClaimAccess
 of_a_stranger = access_at 2 0 (Load Value 0) ∷ []
-
--- ---- steps and entries of a play
--- two consumers that make these steps have these entries and stages
-abbrev pub IsPlayedByTwo : List (ℕ × ℕ) → List ClaimEntry → List Stage → Type 0
-IsPlayedByTwo steps entries stages = IsPlayed two_consumers steps entries stages
-
--- a step of consumer 0 with the random word 0
-abbrev pub step : ℕ × ℕ
-step = (0, 0)
-
--- eight steps of consumer 0: those of `won_alone`, and one more
-abbrev pub eight_steps : List (ℕ × ℕ)
-eight_steps = step ∷ step ∷ step ∷ step ∷ step ∷ step ∷ step ∷ step ∷ []
-
--- the entries of the accesses of `won_alone`, in the order of time, and then this entry
-abbrev pub won_and : ClaimEntry → List ClaimEntry
-won_and e =
-    entry.Access 0 0 (Load Value 0) ∷ entry.Access 0 0 (Store Value 1) ∷ entry.Access 0 0
-    (Load Value 1)
-    ∷ entry.Access 0 1 (Store (Quorum 0) 1) ∷ entry.Access 0 1 (Load Proposal 0) ∷ entry.Access 0 1
-    (Store Proposal 1)
-    ∷ entry.Access 0 1 (Load (Quorum 1) 0) ∷ e ∷ []
-
--- ---- accesses in words
--- a source whose words count on from the number that it is at
-abbrev pub counts_on : ℕ → ℕ → ℕ → Type 0
-counts_on source word after = (word ≡ source) × (after ≡ source + 1)
-
--- in four words that were 0, with the random word 0 of such a source, consumer 0 made this op on object 0 of cell 0, and
--- it found this value. It left these words, and is this access
-abbrev pub IsMadeFirst : Op → ℕ → List ℕ → ClaimAccess → Type 0
-IsMadeFirst op seen after access =
-    MakesInWords two_consumers 0 0 counts_on (0 ∷ 0 ∷ 0 ∷ 0 ∷ [], [], 0) 0 (record { object = 0; op = op }) seen
-    (after, access ∷ [], 1)

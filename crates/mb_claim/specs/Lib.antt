@@ -12,14 +12,11 @@ pub mod States
 pub mod OneClaim
 pub mod ManyClaimSteps
 pub mod Straight
-pub mod WordSteps
-pub mod CellClaims
 pub mod Refusals
 pub mod Plays
 pub mod Boards
 pub mod Examples
 pub mod ShapedExamples
-pub mod StraightExamples
 pub mod Vocabulary
 -- clauses name these definitions after `Rattle.mb_claim.specs`
 pub use ObjectTypes.*
@@ -35,8 +32,6 @@ pub use States.*
 pub use OneClaim.*
 pub use ManyClaimSteps.*
 pub use Straight.*
-pub use WordSteps.*
-pub use CellClaims.*
 pub use Refusals.*
 pub use Plays.*
 pub use Boards.*

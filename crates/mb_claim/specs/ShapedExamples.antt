@@ -1,5 +1,5 @@
--- Histories of claims on one cell, for two consumers and one pair over the unary table, with a fast path, a last object
--- or both. Some are lawful, and some are not.
+-- Histories of claims on one cell, for two consumers and one pair over the unary table, with a fast path or a last
+-- object. Some are lawful, and some are not.
 use Rattle.std.specs.Prelude.{ℕ, Bool, List, [], ◌∷◌}
 use Rattle.mb_quorum.specs.Unary.{unary_table}
 use Rattle.mb_claim.specs.AllClaims.{Claims, claims_of}
@@ -53,28 +53,3 @@ last_found_empty_twice =
 -- not lawful: consumer 0 begins with the last object
 abbrev pub last_comes_first : List ClaimAccess
 last_comes_first = access_at 0 2 (Exchange Last 1 0) ∷ []
-
--- ---- a fast path and a last object
--- on ratifier o each consumer announces its number, finds no proposal, and then meets the other's announcement
-abbrev pub both_pass : ℕ → List ClaimAccess → List ClaimAccess
-both_pass o before =
-    access_at 1 o (Load (Quorum 0) 1) ∷ access_at 1 o (Store Proposal 2)
-    ∷ access_at 0 o (Load (Quorum 1) 1) ∷ access_at 0 o (Store Proposal 1)
-    ∷ access_at 1 o (Load Proposal 0) ∷ access_at 0 o (Load Proposal 0)
-    ∷ access_at 1 o (Store (Quorum 1) 1) ∷ access_at 0 o (Store (Quorum 0) 1) ∷ before
-
--- the fast path leaves both undecided, and each has its own number from the conciliator
-abbrev pub through_three : List ClaimAccess
-through_three =
-    access_at 1 2 (Load Value 2) ∷ access_at 1 2 (Store Value 2)
-    ∷ access_at 0 2 (Load Value 1) ∷ access_at 0 2 (Store Value 1)
-    ∷ access_at 1 2 (Load Value 0) ∷ access_at 0 2 (Load Value 0) ∷ both_pass 1 (both_pass 0 [])
-
--- lawful: after that the pair's ratifier leaves both undecided, too. The last object decides for consumer 0
-abbrev pub through_all : List ClaimAccess
-through_all =
-    access_at 1 4 (Exchange Last 2 1) ∷ access_at 0 4 (Exchange Last 1 0) ∷ both_pass 3 through_three
-
--- not lawful: consumer 0 goes from the fast path to the last object
-abbrev pub skip_the_pair : List ClaimAccess
-skip_the_pair = access_at 0 4 (Exchange Last 1 0) ∷ both_pass 1 (both_pass 0 [])

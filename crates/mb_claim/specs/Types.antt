@@ -6,7 +6,6 @@ pub use Rattle.mb_claim.specs.declared.access.ClaimStep.{ClaimStep}
 pub use Rattle.mb_claim.specs.declared.access.Stage.{Stage}
 pub use Rattle.mb_claim.specs.declared.access.Stage.TheVariants.{Going, Won, Lost, Undecided}
 pub use Rattle.mb_claim.specs.declared.claim.Claim.{Claim}
-pub use Rattle.mb_claim.specs.declared.claim.on_cell.CellClaim.{CellClaim}
 pub use Rattle.mb_claim.specs.declared.claim.straight.Stretch.{Stretch}
 pub use Rattle.mb_claim.specs.declared.layout.BadLayout.{BadLayout}
 pub use Rattle.mb_claim.specs.declared.layout.BadLayout.TheVariants.{BadConsumers, BadRounds}

@@ -16,6 +16,5 @@ pub use Rattle.mb_claim.specs.OneClaim.{consumer_of, claim_stage, is_begun, Fits
 pub use Rattle.mb_claim.specs.OneClaim.{claim_access, IsOnObject, IsNextOp, IsClaimOn, IsClaimStep}
 pub use Rattle.mb_claim.specs.ManyClaimSteps.{DrawsAndMakesNext, AreClaimSteps}
 pub use Rattle.mb_claim.specs.Straight.{is_past, standing, IsStanding, site_of, HasEnd, HasStopped}
-pub use Rattle.mb_claim.specs.{WordSteps.MakesInWords, CellClaims.{claim_of, IsOnCell, IsAtFirst}}
 pub use Rattle.mb_claim.specs.Refusals.{layout_refusal, stranger_in}
 pub use Rattle.mb_claim.specs.Plays.{entry_consumer, with_entry, history_from, history_of, IsEntryAfter, AreEntriesOf, IsPlayed}

@@ -4,7 +4,6 @@ use crate::layout::Layout;
 use crate::steps::places_show_prefixes;
 use mb_deciding::{Memory, Next, Out, Pc};
 
-pub mod on_cell;
 pub mod straight;
 
 /// The claim of one consumer on one cell: the object on which it stands, its place there, and how far it has come. It

@@ -13,9 +13,6 @@ use mb_deciding::{Act, Memory, Op, Reg, Turn};
 use std::alloc::{AllocError, Allocator};
 use std::marker::Model;
 
-mod on_cell;
-pub mod straight;
-
 /// The words of the claims on some cells, in one block. One caller makes the accesses of the claims there, one by one.
 #[derive(Drop)]
 pub struct ClaimWords<A: Allocator + Drop> {

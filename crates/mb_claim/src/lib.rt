@@ -21,12 +21,11 @@
 //!   the [`Stage`] that this leads to. It holds no words, so it serves a simulation and threads alike.
 //! - [`Claim::straight`] makes the accesses of a new claim through whole objects, in a memory that draws random words.
 //!   The [`Stretch`] says where they ended.
-//! - [`ClaimWords`] has the words of some cells in one block, and makes the next access of a claim there. For a
-//!   [`CellClaim`] that takes less: it is a claim that is kept for one cell.
+//! - [`ClaimWords`] has the words of some cells in one block, and makes the next access of a claim there.
 //! - [`play`] runs the claims of all consumers on one cell, step by step.
 //! - [`laws`] has what holds of every lawful history of claims, for all orders of accesses and all random words, and of
 //!   every layout and run. [`steps`] has what one access more changes, for callers that keep words and histories of
-//!   their own. [`examples`] has small histories and runs. All are contracts of functions that compute nothing.
+//!   their own. [`examples`] has small histories. All are contracts of functions that compute nothing.
 #![tactic(auto)]
 
 mod access;
@@ -43,10 +42,8 @@ pub mod steps;
 
 pub use access::{ClaimAccess, ClaimOp, ClaimStep, ObjectTurn, Stage};
 pub use claim::Claim;
-pub use claim::on_cell::CellClaim;
 pub use claim::straight::Stretch;
 pub use claim_words::ClaimWords;
-pub use claim_words::straight::RandomWords;
 pub use layout::{BadLayout, Layout, MAX_CELLS, MAX_LARGE_CELLS, MAX_PAIRS};
 pub use plays::play;
 pub use run::{ClaimEntry, ClaimRun, PlayFault};

@@ -43,4 +43,3 @@ pub mod OnePlace
 -- Examples
 pub mod SmallHistories
 pub mod SmallLasts
-pub mod SmallTraces

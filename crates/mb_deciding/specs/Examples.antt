@@ -1,12 +1,9 @@
--- Small histories of process 0 alone, with the input 0, and its traces: some are lawful, and some are not. Between them
--- stand histories of a last object that several processes use.
-use Rattle.std.specs.Prelude.{ℕ, zero, suc, ◌+◌, true, false, List, [], ◌∷◌, map, Option, Some, None}
+-- Small histories of process 0 alone, with the input 0, and histories of a last object that several processes use. Some
+-- are lawful, and some are not.
+use Rattle.std.specs.Prelude.{ℕ, ◌+◌, List, [], ◌∷◌, map}
 use Rattle.mb_quorum.specs.Unary.{unary_table}
-use Rattle.mb_deciding.specs.Types.{Value, Proposal, Quorum, Last, Act, Load, Store, Exchange, Turn, Access, Out, Kind, Entry}
-use Rattle.mb_deciding.specs.declared.trace.Entry.TheVariants as entry
-use Rattle.mb_deciding.specs.OneObject.{Object, ratifier_of, conciliator_of, last_of, setup_of}
-use Rattle.mb_deciding.specs.Objects.{answer}
-use Rattle.mb_deciding.specs.Trace.{IsTrace}
+use Rattle.mb_deciding.specs.Types.{Value, Proposal, Quorum, Last, Act, Load, Store, Exchange, Turn, Access}
+use Rattle.mb_deciding.specs.OneObject.{Object, ratifier_of, conciliator_of, last_of}
 
 -- ---- a ratifier and a conciliator
 -- every process has the input 0
@@ -83,44 +80,3 @@ stored_over = exchange_by 2 2 ∷ exchange_by 1 1 ∷ exchange_by 0 0 ∷ []
 -- process 0 loads the word, and then stores in it by an access of its own
 abbrev pub loaded_then_stored : List Turn
 loaded_then_stored = turn 0 (Store Last 1) ∷ turn 0 (Load Last 0) ∷ []
-
--- ---- entries and traces of process 0
--- n turns of process 0, each with this random word
-abbrev pub turns_of_one : ℕ → ℕ → List (ℕ × ℕ)
-turns_of_one zero word = []
-turns_of_one (suc n) word = (0, word) ∷ turns_of_one n word
-
--- these are the entries of n turns of process 0, each with this random word, and its output at the end. The object has
--- this kind, over the unary table of two values
-abbrev pub IsTraceOfOne : Kind → ℕ → ℕ → List Entry → Option Out → Type 0
-IsTraceOfOne kind n word entries out =
-    IsTrace (setup_of (unary_table 2) kind (0 ∷ [])) (turns_of_one n word) entries (out ∷ [])
-
--- the entry of process 0 with this act and without an output
-abbrev pub entry_of_one : Act → Entry
-entry_of_one act = entry.Access 0 act None
-
--- the entries of `clear_turns`, with its output
-abbrev pub clear_entries : List Entry
-clear_entries =
-    entry_of_one (Store (Quorum 0) 1) ∷ entry_of_one (Load Proposal 0) ∷ entry_of_one
-    (Store Proposal 1)
-    ∷ entry.Access 0 (Load (Quorum 1) 0) (Some (answer true 0)) ∷ []
-
--- the entries of `clear_turns`, with the output left out
-abbrev pub hidden_entries : List Entry
-hidden_entries =
-    entry_of_one (Store (Quorum 0) 1) ∷ entry_of_one (Load Proposal 0) ∷ entry_of_one
-    (Store Proposal 1)
-    ∷ entry_of_one (Load (Quorum 1) 0) ∷ []
-
--- the entries of `patient_turns`, with its output
-abbrev pub patient_entries : List Entry
-patient_entries =
-    entry_of_one (Load Value 0) ∷ entry_of_one (Load Value 0) ∷ entry_of_one
-    (Load Value 0) ∷ entry_of_one (Store Value 1)
-    ∷ entry.Access 0 (Load Value 1) (Some (answer false 0)) ∷ []
-
--- the entries of `impatient_turns`
-abbrev pub impatient_entries : List Entry
-impatient_entries = entry_of_one (Load Value 0) ∷ entry_of_one (Store Value 1) ∷ []

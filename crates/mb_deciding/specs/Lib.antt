@@ -8,7 +8,6 @@ pub mod Objects
 pub mod Deciding
 pub mod Place
 pub mod OneStep
-pub mod FlatPlaces
 pub mod ManySteps
 pub mod FirstPlaces
 pub mod Checks

@@ -13,9 +13,6 @@ pub use Rattle.mb_deciding.specs.declared.place.ratifier.RatifierPlace.{Ratifier
 pub use Rattle.mb_deciding.specs.declared.place.ratifier.RatifierPlace.TheVariants.{Begin, Announce, Propose, Check}
 pub use Rattle.mb_deciding.specs.declared.place.conciliator.ConciliatorPlace.{ConciliatorPlace}
 pub use Rattle.mb_deciding.specs.declared.place.conciliator.ConciliatorPlace.TheVariants.{Draw, Put, Look}
-pub use Rattle.mb_deciding.specs.declared.place.flat.{FlatPlace.FlatPlace, FlatOut.FlatOut, Spot.Spot}
-pub use Rattle.mb_deciding.specs.declared.place.flat.Spot.TheVariants.{AtDraw, AtPut, AtLook, AtBegin, AtAnnounce, AtPropose, AtCheck, AtLast}
-pub use Rattle.mb_deciding.specs.declared.place.flat.FlatOut.TheVariants.{NotYet, Undecided, Decided}
 pub use Rattle.mb_deciding.specs.declared.trace.{Entry.Entry, Fault.Fault}
 pub use Rattle.mb_deciding.specs.declared.trace.Fault.TheVariants.{BadValues, BadInput, NoSuchProcess, NoMemory}
 pub use Rattle.mb_deciding.specs.declared.run.words.ObjectMemory.{ObjectMemory}

@@ -13,7 +13,6 @@ pub use Rattle.mb_deciding.specs.Place.{IsRatifierOp, IsConciliatorOp, IsLastOp,
 pub use Rattle.mb_deciding.specs.Place.{turn_after}
 pub use Rattle.mb_deciding.specs.OneStep.{next_from, IsStep}
 pub use Rattle.mb_deciding.specs.FirstPlaces.{first_place}
-pub use Rattle.mb_deciding.specs.FlatPlaces.{pc_at, pc_of, out_in, flat_next}
 pub use Rattle.mb_deciding.specs.Bounds.{turns_left, turns_after}
 pub use Rattle.mb_deciding.specs.Trace.{process_of, with_entry, history_from, history_of, plain_schedule, HasEnded, IsOutputOf, IsEntryAfter, AreEntriesOf}
 pub use Rattle.mb_deciding.specs.Trace.{IsTrace}

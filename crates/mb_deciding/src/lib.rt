@@ -32,15 +32,13 @@
 //! # What is here
 //!
 //! - [`Pc`] is the place of one process in an object. [`Pc::next`] returns its next access, and [`Pc::after`] what that
-//!   leads to. It holds no words, so it serves a simulation and threads alike. A [`FlatPlace`] stands for a [`Pc`], and
-//!   serves a caller that makes many single steps.
+//!   leads to. It holds no words, so it serves a simulation and threads alike.
 //! - [`through_conciliator`] and [`through_ratifier`] make all accesses of a process to one object, in a memory that
 //!   draws random words, with a budget that has room for them.
 //! - [`ratify`] and [`conciliate`] run one object for a whole schedule of turns.
 //! - [`laws`] has what holds of every lawful history of one object, for all orders of accesses and all random words:
 //!   validity, coherence, acceptance and more. These are contracts of functions that compute nothing. [`steps`] is for
-//!   proofs that build histories step by step. [`examples`] has small histories and traces that the definitions admit
-//!   or refuse.
+//!   proofs that build histories step by step. [`examples`] has small histories that the definitions admit or refuse.
 #![tactic(auto)]
 
 mod access;
@@ -59,8 +57,7 @@ pub use attempts::spread;
 pub use memory::{Drawing, Memory, Site};
 pub use object::{Kind, Out};
 pub use place::{
-    ConciliatorPlace, FlatOut, FlatPlace, LastPlace, Next, Pc, RatifierPlace, through_conciliator,
-    through_ratifier,
+    ConciliatorPlace, LastPlace, Next, Pc, RatifierPlace, through_conciliator, through_ratifier,
 };
 pub use run::conciliate::conciliate;
 pub use run::ratify::ratify;

@@ -6,7 +6,6 @@ use mb_quorum::Quorums;
 
 mod conciliator;
 mod conciliator_steps;
-mod flat;
 mod last;
 mod mask;
 mod pc;
@@ -15,7 +14,6 @@ mod ratifier_steps;
 mod straight;
 
 pub use conciliator::ConciliatorPlace;
-pub use flat::{FlatOut, FlatPlace};
 pub use last::LastPlace;
 pub use pc::{Next, Pc};
 pub use ratifier::RatifierPlace;

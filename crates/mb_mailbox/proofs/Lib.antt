@@ -53,5 +53,3 @@ pub mod ToldDiaries
 pub mod TakenIn
 pub mod Reported
 pub mod Counted
--- Examples
-pub mod ExampleParts

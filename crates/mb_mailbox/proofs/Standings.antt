@@ -5,8 +5,8 @@ use Rattle.std.specs.Option.{option_map_or}
 use Rattle.std.proofs.lemmas.Option.{slice_get_within}
 use Rattle.std.proofs.lemmas.List.{length-set}
 use Rattle.mb_claim.specs.declared.access.Stage.TheVariants as stage
-use Rattle.mb_mailbox.specs.Imports.{ClaimAccess, Claims, EndsAs, Fits, HasNotPassed, HasRead, HasStageIn, Has, History, IsClaimIn, IsClaimPrefix, Item}
-use Rattle.mb_mailbox.specs.Imports.{Layout, Lost, Note, Parts, Stage, Took, Undecided, cells_met, claims_in, note_of, part_on, place_past}
+use Rattle.mb_mailbox.specs.Imports.{ClaimAccess, Claims, EndsAs, Fits, HasNotPassed, HasRead, Has, History, IsClaimIn, IsClaimPrefix, Item}
+use Rattle.mb_mailbox.specs.Imports.{Layout, Lost, Note, Parts, Took, Undecided, cells_met, claims_in, part_on, place_past}
 use Rattle.mb_mailbox.specs.Consumers.{AreEnds, ConsumerView, IsConsumer, StandsOn, parts_of}
 use Rattle.mb_mailbox.specs.Moves.{moved_to}
 use Rattle.mb_mailbox.specs.Steps.{notes_on, with_note}
@@ -39,14 +39,6 @@ same_length cs c [] [] x e = refl
 same_length cs c [] (n ∷ ns) x e = absurd e
 same_length cs c (k ∷ ks) [] x e = absurd e
 same_length cs c (k ∷ ks) (n ∷ ns) x e = omega (arith, same_length cs c ks ns x e.1)
-
--- a claim whose stage has a note has ended with this note
-pub ends_by : (cs : Claims) (c k : ℕ) (s : Stage) (n : Note) (x : Parts) → note_of s ≡ Some n
-    → HasStageIn cs c k s x → EndsAs cs c k n x
-ends_by cs c k stage.Going n x e has = absurd (cc)
-ends_by cs c k stage.Won n x e has = absurd (cc)
-ends_by cs c k (stage.Lost w) n x e has = subst (λ m. EndsAs cs c k m x) (some_same (Lost w) n e) has
-ends_by cs c k stage.Undecided n x e has = subst (λ m. EndsAs cs c k m x) (some_same Undecided n e) has
 
 -- ---- lanes on which nothing changes
 -- an access changes the parts x to y, and leaves lane q alone

@@ -1,5 +1,5 @@
 -- What the answers of a consumer's accesses say of their lane.
-use Rattle.std.proofs.Common.{◌≡◌, ◌≢◌, ◌⊎◌, ℕ, Bool, true, false, List, [], ◌∷◌, length, reverse, refl, sym, ap, ◌∙◌, subst, inl, inr}
+use Rattle.std.proofs.Common.{◌≡◌, ◌⊎◌, ℕ, Bool, true, false, List, [], ◌∷◌, length, reverse, refl, sym, ap, ◌∙◌, subst, inl, inr}
 use Rattle.std.specs.Prelude.{Option, Some, None, slice_get}
 use Rattle.std.specs.Option.{option_map_or}
 use Rattle.std.proofs.lemmas.List.{length-reverse}
@@ -7,15 +7,11 @@ use Rattle.mb_world.proofs.Diaries.{values_length}
 use Rattle.mb_claim.specs.declared.access.Stage.TheVariants as stage
 use Rattle.mb_cells.specs.declared.answer.Look.TheVariants as look
 use Rattle.mb_shared_cells.specs.Vocabulary.{LookMakes}
-use Rattle.mb_mailbox.specs.Imports.{Claim, ClaimAccess, Cursor, END, HasMet, History, Note, Has, Load, ReaderSeatView, Reader, Stage, cells_met, claims_in, has_ended, linked_cells, load, look_of}
+use Rattle.mb_mailbox.specs.Imports.{Cursor, END, HasMet, History, Note, Has, Load, ReaderSeatView, Reader, cells_met, claims_in, has_ended, linked_cells, load, look_of}
 use Rattle.mb_mailbox.specs.Imports.{part, place_past, word_of}
-use Rattle.mb_mailbox.specs.ConsumerWords.{Poll, ConsumerView, IsConsumer, parts_of, stage_answer, Laws, HasLoads, HasPlace, moved_to, AnswerTells, HasLoadedEnd, HasNoteOnEach, HasReadWhole, notes_on}
+use Rattle.mb_mailbox.specs.ConsumerWords.{ConsumerView, IsConsumer, parts_of, Laws, HasLoads, HasPlace, AnswerTells, HasLoadedEnd, HasNoteOnEach, HasReadWhole, notes_on}
 use Rattle.mb_mailbox.specs.declared.consumer.Poll.TheVariants as poll
 use Rattle.mb_world.specs.declared.place.Place.TheVariants.{Before}
-use Rattle.mb_world.specs.Places.{place_after}
-use Rattle.mb_world.specs.declared.place.Place.{Place}
-use Rattle.mb_cells.specs.declared.cursor.Cursor.TheVariants.{Past}
-use Rattle.mb_mailbox.proofs.Lists.{set_here}
 use Rattle.mb_mailbox.proofs.Moving.{before}
 use Rattle.mb_mailbox.proofs.Standings.{same_length}
 
@@ -79,10 +75,6 @@ module _ (laws : Laws) (s : ConsumerView) (p : ℕ) (at : Cursor) (now : ReaderS
   )
 
 -- ---- what each answer says
--- equal answers are equal polls
-some_poll : (a b : Poll) → Some a ≡ Some b → a ≡ b
-some_poll a b e = cc
-
 -- what the answer `Nothing` says
 pub tells_nothing : Laws → ((v : ℕ) → look_of v ≡ look.Nothing → v ≡ 0)
     → (s : ConsumerView) (p : ℕ) (at : Cursor) (now : ReaderSeatView) → IsConsumer s → HasLoads s
@@ -139,34 +131,3 @@ tells_item p v old new has = record {
   known_nothing = λ theirs k f. absurd (cc);
   known_ended = λ theirs k f. absurd (cc);
 }
-
--- what the answer of a claim's access says. If there is an answer, the claim has its note
-pub tells_stage : (p : ℕ) (st : Stage) (old new : ConsumerView)
-    → (stage_answer st ≢ None → HasNoteOnEach p new) → AnswerTells p (stage_answer st) old new
-tells_stage p stage.Going old new has = tells_none p old new
-tells_stage p stage.Won old new has = tells_none p old new
-tells_stage p (stage.Lost w) old new has = record {
-  noted = has;
-  ended = λ f. absurd (cc);
-  known_nothing = λ theirs k f. absurd (cc);
-  known_ended = λ theirs k f. absurd (cc);
-}
-tells_stage p stage.Undecided old new has = record {
-  noted = has;
-  ended = λ f. absurd (cc);
-  known_nothing = λ theirs k f. absurd (cc);
-  known_ended = λ theirs k f. absurd (cc);
-}
-
--- a claim's access with an answer leads past the cell. Then all cells met have their notes
-pub noted_after : (s : ConsumerView) (p k : ℕ) (claim : Claim) (st : Stage) (o : Option Note)
-    (reads : History) (made : List ClaimAccess) (was : Place)
-    → slice_get s.places p ≡ Some was → stage_answer st ≢ None
-    → IsConsumer (moved_to p (place_after k claim st) o reads made s)
-    → HasNoteOnEach p (moved_to p (place_after k claim st) o reads made s)
-noted_after s p k claim stage.Going o reads made was e some i = absurd (some refl)
-noted_after s p k claim stage.Won o reads made was e some i = absurd (some refl)
-noted_after s p k claim (stage.Lost w) o reads made was e some i =
-    noted (moved_to p (Before (Past k)) o reads made s) p (Past k) i (set_here s.places p (Before (Past k)) was e)
-noted_after s p k claim stage.Undecided o reads made was e some i =
-    noted (moved_to p (Before (Past k)) o reads made s) p (Past k) i (set_here s.places p (Before (Past k)) was e)

@@ -8,4 +8,3 @@ pub use Rattle.mb_mailbox.specs.LaneNotes.{AreMarked, all_told, by_lane, noted}
 pub use Rattle.mb_mailbox.specs.NoteLists.{HasAllRoom, HasRoom, NotesGrow}
 pub use Rattle.mb_mailbox.specs.Pursuits.{IsBeforeObject, IsHolding, IsPursuit, holding, with_fields}
 pub use Rattle.mb_mailbox.specs.Moves.{HasLoads, HasPlace, HasTurns, moved_to, reads_with_item, reads_with_link}
-pub use Rattle.mb_mailbox.specs.Examples.{head_loaded, link_loaded, met_four}

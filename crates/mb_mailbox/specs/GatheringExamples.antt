@@ -1,20 +1,11 @@
--- Small diaries and put lists, and reports of one lane with one item that nobody took.
-use Rattle.std.specs.Prelude.{ℕ, false, true, List, [], ◌∷◌}
+-- Small diaries, and reports of one lane with one item that nobody took.
+use Rattle.std.specs.Prelude.{ℕ, false, List, [], ◌∷◌}
 use Rattle.mb_world.specs.Report.{DiaryView, ReportView}
 use Rattle.mb_mailbox.specs.Imports.{Note, Undecided}
-use Rattle.mb_mailbox.specs.Hubs.{PutListView}
 
--- the diary of consumer c on lane p, which holds no claim
-abbrev pub diary_on : ℕ → ℕ → List Note → DiaryView
-diary_on c p notes = record { consumer = c; lane = p; notes = notes; begun = false }
-
--- the diary of consumer c on lane 0
+-- the diary of consumer c on lane 0, which holds no claim
 abbrev pub diary_of : ℕ → List Note → DiaryView
-diary_of c notes = diary_on c 0 notes
-
--- what a producer put that put the item 7 and ended its lane
-abbrev pub one_put : PutListView
-one_put = record { items = 7 ∷ []; ended = true }
+diary_of c notes = record { consumer = c; lane = 0; notes = notes; begun = false }
 
 -- the report of one item on lane 0, which is left, with these diaries
 abbrev pub one_left : List DiaryView → ReportView

@@ -13,7 +13,6 @@ pub mod PutLaws
 pub mod PartPlaces
 pub mod Hubs
 pub mod NewConsumers
-pub mod Examples
 pub mod Jobs
 pub mod Begun
 pub mod Calls
@@ -27,6 +26,5 @@ pub mod Gathering
 pub mod ReportedRuns
 pub mod Filling
 pub mod GatheringExamples
-pub mod WorkExamples
 pub mod ConsumerWords
 pub mod Vocabulary

@@ -13,5 +13,3 @@ pub use Rattle.mb_mailbox.specs.Worked.{AreCutByCells, AreStoppedPolls, AreStopp
 pub use Rattle.mb_mailbox.specs.Worked.{ProducerEnd, WereTakenIn, WereTakenInEarly, ended_list, items_behind, items_beyond, lists_in}
 pub use Rattle.mb_mailbox.specs.Called.{IsCalled, WasPassed, WerePassed, WerePolled}
 pub use Rattle.mb_mailbox.specs.Given.{AreAllGiven, AreGiven, ArePollJobs, ArePutJobs}
-pub use Rattle.mb_mailbox.specs.WorkExamples.{any_call, fetched, has_linked, idle_producer, ledger_with, linked_early, producer_end, producer_of_one, reader_end, seven_put, stopped_as}
-pub use Rattle.mb_mailbox.specs.WorkExamples.{stopped_lane}

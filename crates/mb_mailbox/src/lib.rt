@@ -36,7 +36,6 @@
 mod consumer;
 mod creation;
 mod crew;
-pub mod examples;
 mod gate;
 mod gather;
 mod hub;

@@ -2,7 +2,6 @@
 
 -- Scripts of the command `ratify`
 pub mod LongScripts
-pub mod Nobody
 pub mod ScriptSpelling
 -- Where clap's text goes
 pub mod Told

@@ -1,6 +1,5 @@
 pub mod Answer
 pub mod CommandLine
-pub mod RunExamples
 pub mod RunOptions
 pub mod Running
 pub mod Source

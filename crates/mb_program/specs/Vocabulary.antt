@@ -4,7 +4,6 @@ pub use Rattle.mb_program.specs.declared.options.Options.{Options}
 pub use Rattle.mb_program.specs.declared.options.TheConstants.{MAX_BUDGET}
 pub use Rattle.mb_program.specs.Answer.{IsAnswer, ratifying}
 pub use Rattle.mb_program.specs.CommandLine.{command_in, program}
-pub use Rattle.mb_program.specs.RunExamples.{IsEndOver, asked, help_words, nobody_script, nothing_done, one_item, ratify_now, ratify_words, report_with, run_words}
 pub use Rattle.mb_program.specs.RunOptions.{HasBudget, HasToldOptions}
 pub use Rattle.mb_program.specs.Running.{AreFew, AreOwnReaders, HasNotedAll, IsLaneOf, IsRun, IsRunReport, accesses_by, item_lists, items_of, plan_asked, setup_refused, terms_asked}
 pub use Rattle.mb_program.specs.Source.{seed_bytes, source_from, words_from}

@@ -2,7 +2,6 @@
 #![tactic(auto)]
 
 mod command;
-pub mod examples;
 mod fault;
 mod help;
 mod input;

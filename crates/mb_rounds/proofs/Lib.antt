@@ -7,3 +7,4 @@ pub mod Cutting
 pub mod Reading
 pub mod Played
 pub mod Noted
+pub mod Dealing

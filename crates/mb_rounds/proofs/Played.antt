@@ -1,16 +1,16 @@
 -- A mailbox in which workers worked, from its making to its report.
-use Rattle.std.proofs.Common.{◌≡◌, ◌++◌, ℕ, List, Some, length, map, refl, sym, ap, subst, ◌∙◌}
+use Rattle.std.proofs.Common.{◌≡◌, ◌≤◌, ◌++◌, ℕ, List, Some, arith, inl, inr, length, map, refl, sym, ap, subst, ◌∙◌}
 use Rattle.std.proofs.lemmas.List.{length-map}
 use Rattle.mb_mailbox.specs.Imports.{Stream, consumer_count}
 use Rattle.mb_mailbox.specs.Called.{IsCalled}
 use Rattle.mb_mailbox.specs.Gathering.{FullTakesAll, IsGathered, IsReportIn}
 use Rattle.mb_mailbox.specs.Hubs.{HubView, IsHubOf, hub_empty}
 use Rattle.mb_mailbox.specs.Mailboxes.{MailboxView, plan_at}
-use Rattle.mb_mailbox.specs.Worked.{ended_list}
+use Rattle.mb_mailbox.specs.Worked.{AsksTooMany, ended_list}
 use Rattle.mb_mailbox.specs.declared.gate.Who.{Who}
 use Rattle.mb_mailbox.specs.declared.crew.Worked.{Worked}
 use Rattle.mb_world.specs.Headline.{IsHonest}
-use Rattle.mb_world.specs.Plan.{Plan, size_of}
+use Rattle.mb_world.specs.Plan.{Plan, consumers_of, size_of}
 use Rattle.mb_world.specs.Report.{ReportView}
 use Rattle.mb_world.specs.Reporting.{IsReportOf}
 use Rattle.mb_world.specs.Sound.{AreSound}
@@ -21,6 +21,20 @@ use Rattle.mb_rounds.proofs.Fronts.{fronts_told}
 -- there is one source of random words for each generator
 pub count_sources : {X : Type 0} (stream : X → Stream) (rngs : List X) → length rngs ≡ length (map stream rngs)
 count_sources stream rngs = sym (length-map rngs stream)
+
+-- a new hub has a number for each lane and for each consumer of its plan, so a round does not ask for too many
+pub asks_enough : (plan : Plan) (m : MailboxView) (old : HubView) (lists sources : ℕ) → plan_at m ≡ plan
+    → old ≡ hub_empty m
+    → lists ≡ plan.lanes → sources ≤ consumers_of plan → AsksTooMany m lists sources old → ⊥
+asks_enough plan m old lists sources same empty all few asks =
+    let lanes : m.cells.size.lanes ≡ plan.lanes = ap (λ p. p.lanes) same in
+    let consumers : consumer_count m.claims.layout ≡ consumers_of plan = ap consumers_of same in
+    let none = ap (λ (g : HubView). length g.puts) empty in
+    let nobody = ap (λ (g : HubView). length g.ledgers) empty in
+    elim asks [
+      | inl more ↦ omega (arith, more, lanes, all, none)
+      | inr more ↦ omega (arith, more, consumers, few, nobody)
+    ]
 
 -- workers that led from a new hub to the hub of a report have played the round
 pub played : (m : MailboxView) (old h : HubView) (r : ReportView) (terms : Terms) (lists : List (List ℕ))

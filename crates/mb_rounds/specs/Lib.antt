@@ -2,4 +2,3 @@ pub mod Carried
 pub mod Round
 pub mod Turns
 pub mod TurnExamples
-pub mod RoundExamples

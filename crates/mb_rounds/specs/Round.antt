@@ -1,6 +1,6 @@
 -- One round: which items went in, what its report says of them, what was given out, and what stays.
-use Rattle.std.specs.Prelude.{ℕ, zero, suc, ◌≡◌, ◌<◌, ◌++◌, List, [], ◌∷◌, drop, length, min}
-use Rattle.std.specs.List.{AllZip, concat, filter_map}
+use Rattle.std.specs.Prelude.{ℕ, zero, suc, ◌≡◌, ◌<◌, ◌≤◌, ◌++◌, List, [], ◌∷◌, drop, length, min}
+use Rattle.std.specs.List.{All, AllZip, concat, filter_map}
 use Rattle.mb_mailbox.specs.Jobs.{IsFront}
 use Rattle.mb_mailbox.specs.declared.crew.Worked.{Worked}
 use Rattle.mb_mailbox.specs.declared.gate.Who.{Who}
@@ -12,6 +12,10 @@ use Rattle.mb_world.specs.Reporting.{IsReportOf}
 use Rattle.mb_world.specs.Sound.{AreSound}
 use Rattle.mb_world.specs.declared.report.Note.{Note}
 use Rattle.mb_mailbox.specs.ReportedRuns.{IsReportedRun, Terms}
+
+-- the items are dealt evenly: no list has two items more than another
+abbrev pub AreEven : List (List ℕ) → Type 0
+AreEven lists = All (λ list. All (λ other. length list ≤ suc (length other)) lists) lists
 
 -- what was put on a lane is a beginning of the list dealt to its producer
 abbrev pub IsPutOf : List ℕ → LaneView → Type 0
@@ -51,7 +55,7 @@ staying [] _ = []
 staying _ [] = []
 staying (list ∷ lists) (lane ∷ lanes) = (lane.left ++ drop (length lane.put) list) ++ staying lists lanes
 
--- one round: the oldest of the items carried, as many as there are cells if there are so many, were dealt to the
+-- one round: the oldest of the items carried, as many as there are cells if there are so many, were dealt evenly to the
 -- producers. They went into a mailbox of these terms. What each consumer took there is given out. What nobody took or
 -- nobody put is carried, before what was not dealt
 pub record IsRound (may_stop may_pass : Who → ℕ → Type 0) (terms : Terms) (was : List ℕ)
@@ -62,6 +66,7 @@ pub record IsRound (may_stop may_pass : Who → ℕ → Type 0) (terms : Terms) 
   pub behind : List ℕ
   pub dealt : concat lists ++ behind ≡ was
   pub amount : length (concat lists) ≡ min terms.plan.claims.cells (length was)
+  pub even : AreEven lists
   pub played : IsPlayed may_stop may_pass terms lists counts r
   pub given : taken ≡ ledgers_of (consumers_of terms.plan) r
   pub carried : now ≡ staying lists r.lanes ++ behind

@@ -2,6 +2,7 @@
 ghost use Rattle.std.specs.Prelude.{◌≡◌, ◌<◌, IfOk, length, vec_len};
 ghost use Rattle.std.specs.List.{concat};
 ghost use Rattle.mb_mailbox.specs.Worked.{lists_in};
+ghost use Rattle.mb_rounds.specs.Round.{AreEven};
 
 use std::alloc::{AllocError, Allocator};
 
@@ -14,7 +15,7 @@ fn copy_of<A: Allocator + Clone + Drop>(alloc: &A, items: &[u64]) -> Result<Vec<
     Ok(copy)
 }
 
-/// The items in their order, cut into `count` lists of about the same length.
+/// The items in their order, cut into `count` lists. No list has two items more than another.
 pub(crate) fn deal<A: Allocator + Clone + Drop>(
     alloc: &A,
     items: &[u64],
@@ -23,6 +24,7 @@ pub(crate) fn deal<A: Allocator + Clone + Drop>(
     requires some { 0 < count }
     ensures items { IfOk result (λ lists. concat (lists_in lists.items) ≡ items.now) }
     ensures count { IfOk result (λ lists. vec_len lists ≡ count) }
+    ensures even { IfOk result (λ lists. AreEven (lists_in lists.items)) }
 {
     let mut lists = Vec::with_capacity(alloc.clone()?, count)?;
     let mut rest = items;

@@ -5,7 +5,8 @@ ghost use Rattle.mb_world.specs.Plan.{consumers_of};
 ghost use Rattle.mb_world.specs.Setups.{plan_in};
 ghost use Rattle.mb_mailbox.specs.ReportedRuns.{terms_of};
 ghost use Rattle.mb_rounds.specs.Round.{IsPlayed};
-ghost use Rattle.mb_rounds.specs.declared.rounds.RoundFault.TheVariants.{BadBudget, TooManySources};
+ghost use Rattle.mb_mailbox.specs.declared.crew.WorkFault.TheVariants as work;
+ghost use Rattle.mb_rounds.specs.declared.rounds.RoundFault.TheVariants.{BadBudget, NoMemory, NoThread, TooManySources};
 
 use crate::rounds::RoundFault;
 use mb_mailbox::{Gate, Mailbox, WorkFault, Worked, work};
@@ -27,6 +28,23 @@ fn three_of<A: Allocator + Clone>(alloc: &A) -> Result<(A, A, A), AllocError> {
     Ok((alloc.clone()?, alloc.clone()?, alloc.clone()?))
 }
 
+/// The fault of a round for a fault of `work`. The mailbox has numbers for all workers and the budget is not 0, so two
+/// of the faults do not come.
+fn fault_of_work(fault: WorkFault) -> RoundFault
+    requires numbers { fault ≢ work.AllGiven }
+    requires budget { fault ≢ work.BadBudget }
+    ensures no_memory { fault ≡ work.NoMemory → result ≡ NoMemory }
+    ensures no_thread { fault ≡ work.NoThread → result ≡ NoThread }
+    ensures too_many { result ≢ TooManySources }
+    ensures bad_budget { result ≢ BadBudget }
+{
+    match fault {
+        WorkFault::NoMemory => RoundFault::NoMemory,
+        WorkFault::NoThread => RoundFault::NoThread,
+        WorkFault::AllGiven | WorkFault::BadBudget => unreachable!(),
+    }
+}
+
 /// Lets workers put these lists into a mailbox of this setup and take from it. Returns what they came to, and the
 /// mailbox's report.
 pub(crate) fn play<
@@ -43,26 +61,22 @@ pub(crate) fn play<
     gate: &G,
 ) -> Result<(Worked, Report<A>), RoundFault>
     requires lists { vec_len lists ≡ (plan_in setup.now).lanes }
+    requires sources { vec_len means.sources ≤ consumers_of (plan_in setup.now) }
+    requires budget { 0 < means.budget }
     ensures played { IfOk result (λ o. IsPlayed (G.may_stop gate.now) (G.may_pass gate.now)
         (terms_of setup.now means.budget (map R.stream means.sources.items))
         (lists_in lists.items) o.0 o.1) }
-    ensures sources { result ≢ Err TooManySources }
-    ensures budget { result ≢ Err BadBudget }
+    ensures too_many { result ≢ Err TooManySources }
+    ensures bad_budget { result ≢ Err BadBudget }
 {
-    let Ok((for_mailbox, for_work, for_report)) = three_of(alloc) else {
-        return Err(RoundFault::NoMemory);
-    };
-    let Ok((mailbox, mut hub)) = Mailbox::new(for_mailbox, setup.copy()) else {
-        return Err(RoundFault::NoMemory);
-    };
+    let (for_mailbox, for_work, for_report) = three_of(alloc)?;
+    let (mailbox, mut hub) = Mailbox::new(for_mailbox, setup.copy())?;
     let Means { sources, budget } = means;
     let worked = match work(
         for_work, rt, &mailbox, &mut hub, lists, budget, sources, gate,
     ) {
         Ok(worked) => worked,
-        Err(WorkFault::NoThread) => return Err(RoundFault::NoThread),
-        // `round` has checked the sources and the budget, so memory ran out.
-        Err(_) => return Err(RoundFault::NoMemory),
+        Err(fault) => return Err(fault_of_work(fault)),
     };
     let Ok(report) = mailbox.gather(for_report, hub) else {
         return Err(RoundFault::NoMemory);

@@ -46,6 +46,18 @@ impl fmt::Display for RoundFault {
 
 impl Error for RoundFault {}
 
+// `?` turns a refused allocation into the fault of a round.
+impl From<AllocError> for RoundFault {
+    ghost use Rattle.std.specs.Prelude.{◌≡◌};
+    ghost use Rattle.mb_rounds.specs.declared.rounds.RoundFault.TheVariants.{NoMemory};
+
+    ghost from_gives = { λ _ e. e ≡ NoMemory };
+
+    fn from(_e: AllocError) -> RoundFault {
+        RoundFault::NoMemory
+    }
+}
+
 /// The items that were handed in and not yet given out, and the setup of each round's mailbox.
 #[derive(Drop)]
 pub struct Rounds<A: Allocator + Drop> {

@@ -5,7 +5,6 @@
 mod act_text;
 mod command;
 mod device;
-pub mod examples;
 mod fault;
 mod few_words;
 pub mod laws;

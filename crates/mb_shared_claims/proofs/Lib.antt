@@ -10,7 +10,6 @@ pub mod Moves
 pub mod Accesses
 pub mod ClaimMoves
 pub mod Running
-pub mod SeatRuns
 pub mod Sites
 -- Names of tables, and their end
 pub mod Names

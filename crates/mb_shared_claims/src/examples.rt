@@ -1,10 +1,8 @@
-//! The definitions by example: what they admit, and what only looks right. The functions compute nothing: their
+//! The rule of the table by example: what it admits, and what only looks right. The functions compute nothing: their
 //! contracts are the examples. Their proofs are in `proofs/examples/`, one folder for each.
 ghost use Rattle.std.specs.Prelude.{ℕ, ◌≡◌, ◌+◌, ◌<◌, List, None, [], ◌∷◌, replicate, slice_index};
-ghost use Rattle.mb_claim.specs.Vocabulary.{IsClaimLawful, IsWordIn, address_in};
-ghost use Rattle.rand_core.specs.Stream.{Stream};
-ghost use Rattle.mb_shared_claims.specs.{AreSeatSteps, Claim, ClaimAccess, Handing, IsClaimsState, IsSeatStep, Layout};
-ghost use Rattle.mb_shared_claims.specs.{Reg, SeatView, Standing, TableSize, View, claims_of_size, makes, roster};
+ghost use Rattle.mb_claim.specs.Vocabulary.{IsWordIn, address_in};
+ghost use Rattle.mb_shared_claims.specs.{Handing, IsClaimsState, Reg, Standing, TableSize, View, claims_of_size, roster};
 
 use crate::laws::{states_have_one_history, steps_keep_states};
 use mb_claim::steps::accesses_lengthen_one_part;
@@ -43,23 +41,3 @@ pub fn words_and_views_disagree()
     accesses_lengthen_one_part();
     states_have_one_history();
 }
-
-/// A step is one access more in the part of its seat.
-pub fn steps_add_one_access()
-    ensures made { (k : TableSize) (a : ClaimAccess) → IsClaimLawful (claims_of_size k) (a ∷ [])
-        → makes a (Standing k a.consumer [], []) (Standing k a.consumer (a ∷ []), []) }
-    ensures not_made { (k : TableSize) (a : ClaimAccess)
-        → makes a (Standing k a.consumer [], []) (Standing k a.consumer [], []) → ⊥ }
-    ensures made_twice { (k : TableSize) (a : ClaimAccess)
-        → makes a (Standing k a.consumer [], []) (Standing k a.consumer (a ∷ a ∷ []), []) → ⊥ }
-
-    // A call of a seat that leaves the seat as it was.
-    ensures stuck { (layout : Layout) (cell word : ℕ) (claim follows : Claim) (seat : SeatView)
-        → IsSeatStep layout cell word claim seat follows seat → ⊥ }
-
-    // No access leaves all as it was. One access does not.
-    ensures none { (layout : Layout) (cell : ℕ) (claim : Claim) (seat : SeatView) (s : Stream)
-        → AreSeatSteps layout cell claim seat s 0 claim seat s }
-    ensures idle { (layout : Layout) (cell : ℕ) (claim follows : Claim) (seat : SeatView)
-        (s t : Stream) → AreSeatSteps layout cell claim seat s 1 follows seat t → ⊥ }
-{}

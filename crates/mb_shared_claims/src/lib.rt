@@ -17,7 +17,7 @@
 //!   gives the next number out, [`SharedClaims::take_in`] takes a seat back, and [`SharedClaims::close`] says that all
 //!   parts are of one history.
 //! - [`SharedClaims::step`] makes the next access of a claim from a [`ClaimSeat`]. It takes no lock and never waits.
-//!   [`SharedClaims::run`] makes many steps, and [`SharedClaims::straight`] those of a new claim, faster.
+//!   [`SharedClaims::straight`] makes those of a new claim, faster.
 //! - [`laws`] has what the rule says of each state of a table, that each kind of step keeps it, and that no cell has two
 //!   winners. [`rule`] has the rule itself, and [`view`] what a seat knows. Programs need none of these three.
 #![tactic(auto)]

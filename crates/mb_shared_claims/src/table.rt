@@ -1,6 +1,6 @@
 //! The table: the words of the claims, and the roster.
-mod run;
 mod step;
+mod straight;
 mod zeros;
 
 use crate::hub::{AllGiven, ClaimHub};

@@ -1,11 +1,10 @@
 -- Small reports that agree with an assignment.
 use Rattle.std.proofs.Common.{◌≡◌, ◌↔◌, ℕ, zero, suc, ◌<◌, ◌≤◌, true, false, List, [], ◌∷◌, length, Some, refl, inl, inr, arith}
-use Rattle.mb_world.specs.declared.report.Note.{Note}
-use Rattle.mb_world.specs.declared.report.Note.TheVariants.{Took, Lost, Undecided}
-use Rattle.mb_world.specs.Report.{DiaryView, is_begun, note, notes}
+use Rattle.mb_world.specs.declared.report.Note.TheVariants.{Took, Lost}
+use Rattle.mb_world.specs.Report.{DiaryView, is_begun, notes}
 use Rattle.mb_world.specs.Agreement.{AgreesWith, HasCompeted, HasLostTo, HasTaken, IsLossTo, ledger}
 use Rattle.mb_world.specs.Assignment.{share}
-use Rattle.mb_world.specs.ReportExamples.{both_undecided, diary_of, first_to, nobody_came, taken_and_lost, to_nobody, won_not_loaded}
+use Rattle.mb_world.specs.ReportExamples.{diary_of, first_to, taken_and_lost, to_nobody, won_not_loaded}
 use Rattle.mb_world.proofs.ReportLists.{no_diary, not_noted}
 use Rattle.mb_world.proofs.OneLaneReports.{agrees_on_lane}
 
@@ -151,84 +150,3 @@ won_agrees = agrees_on_lane to_nobody (5 ∷ []) (5 ∷ []) won_diaries (record 
   begun_within = won_begun;
   left = refl;
 })
-
--- ---- both consumers are undecided
--- the diaries of the report `both_undecided`. The lemmas below are the parts of `AgreesOnLane` for it
-abbrev undecided_diaries : List DiaryView
-undecided_diaries = diary_of 0 (Undecided ∷ []) false ∷ diary_of 1 (Undecided ∷ []) false ∷ []
-
--- each note of the report is undecided
-undecided_note : (c j : ℕ) (n : Note) → c < 2 → note c 0 j both_undecided ≡ Some n → n ≡ Undecided
-undecided_note zero zero n less e = cc
-undecided_note zero (suc j) n less e = absurd (cc)
-undecided_note (suc zero) zero n less e = cc
-undecided_note (suc zero) (suc j) n less e = absurd (cc)
-undecided_note (suc (suc c)) j n less e = absurd (omega (arith, less))
-
--- each ledger is the share of its consumer, which is empty
-undecided_ledgers : (c : ℕ) → c < 2 → ledger c 0 both_undecided ≡ share to_nobody c 0 both_undecided
-undecided_ledgers zero less = refl
-undecided_ledgers (suc zero) less = refl
-undecided_ledgers (suc (suc c)) less = absurd (omega (arith, less))
-
--- no consumer has more notes than items were put
-undecided_within : (c : ℕ) → c < 2 → length (notes c 0 both_undecided) ≤ 1
-undecided_within zero less = omega arith
-undecided_within (suc zero) less = omega arith
-undecided_within (suc (suc c)) less = absurd (omega (arith, less))
-
--- a begun claim is on the item
-undecided_begun : (c : ℕ) → c < 2 → is_begun c 0 both_undecided ≡ true → length (notes c 0 both_undecided) < 1
-undecided_begun zero less e = absurd (cc)
-undecided_begun (suc zero) less e = absurd (cc)
-undecided_begun (suc (suc c)) less e = absurd (omega (arith, less))
-
--- so the report agrees with the assignment that gives nothing
-pub undecided_agrees : AgreesWith to_nobody both_undecided
-undecided_agrees = agrees_on_lane to_nobody (5 ∷ []) (5 ∷ []) undecided_diaries (record {
-  elsewhere = λ p j. refl;
-  known = λ c j e. absurd (cc);
-  taken = λ c j less. ((λ h. absurd (let e = undecided_note c j (Took h.0) less h.1 in cc)), (λ e. absurd (cc)));
-  ledgers = undecided_ledgers;
-  competitors = λ c j less e. absurd (cc);
-  losses = λ c w j less e. absurd (let f = undecided_note c j (Lost w) less e in cc);
-  within = undecided_within;
-  begun_within = undecided_begun;
-  left = refl;
-})
-
--- ---- nobody came for the items
--- the report `nobody_came` agrees with the assignment that gives nothing
-pub untouched_agrees : AgreesWith to_nobody nobody_came
-untouched_agrees = agrees_on_lane to_nobody (10 ∷ 11 ∷ []) (10 ∷ 11 ∷ []) (diary_of 0 [] false ∷ []) (record {
-  elsewhere = λ p j. refl;
-  known = λ c j e. absurd (cc);
-  taken = taken;
-  ledgers = ledgers;
-  competitors = λ c j less e. absurd (cc);
-  losses = losses;
-  within = within;
-  begun_within = begun;
-  left = refl;
-})
-  where
-    -- the parts of `AgreesOnLane` for this report, whose one consumer has no note and no claim
-    taken : (c j : ℕ) → c < 1 → HasTaken c 0 j nobody_came ↔ (to_nobody 0 j ≡ Some c)
-    taken zero j less = ((λ h. absurd (let e = h.1 in cc)), (λ e. absurd (cc)))
-    taken (suc c) j less = absurd (omega (arith, less))
-
-    ledgers : (c : ℕ) → c < 1 → ledger c 0 nobody_came ≡ share to_nobody c 0 nobody_came
-    ledgers zero less = refl
-    ledgers (suc c) less = absurd (omega (arith, less))
-
-    losses : (c w j : ℕ) → c < 1 → HasLostTo c w 0 j nobody_came → IsLossTo to_nobody c w 0 j nobody_came
-    losses zero w j less e = absurd (cc)
-    losses (suc c) w j less e = absurd (omega (arith, less))
-
-    within : (c : ℕ) → c < 1 → length (notes c 0 nobody_came) ≤ 2
-    within zero less = omega arith
-    within (suc c) less = absurd (omega (arith, less))
-
-    begun : (c : ℕ) → c < 1 → is_begun c 0 nobody_came ≡ true → length (notes c 0 nobody_came) < 2
-    begun zero less e = absurd (cc)
-    begun (suc c) less e = absurd (omega (arith, less))

@@ -65,8 +65,5 @@ pub mod ClaimNotes
 -- Examples
 pub mod OneLaneReports
 pub mod AgreeingReports
-pub mod SmallPaths
 pub mod ExampleWorlds
-pub mod ExampleLimits
 pub mod ExampleReports
-pub mod ExampleEvents

@@ -15,7 +15,6 @@ pub mod Setups
 pub mod Replay
 pub mod PathExamples
 pub mod WorldExamples
-pub mod EventExamples
 pub mod PartSteps
 pub mod Places
 pub mod WorldState

@@ -32,15 +32,6 @@ taken_and_lost = report_of (5 ∷ []) [] (diary_of 0 (Took 5 ∷ []) false ∷ d
 abbrev pub won_not_loaded : ReportView
 won_not_loaded = report_of (5 ∷ []) (5 ∷ []) (diary_of 0 [] true ∷ diary_of 1 (Lost 0 ∷ []) false ∷ [])
 
--- both consumers are undecided
-abbrev pub both_undecided : ReportView
-both_undecided = report_of (5 ∷ []) (5 ∷ [])
-    (diary_of 0 (Undecided ∷ []) false ∷ diary_of 1 (Undecided ∷ []) false ∷ [])
-
--- nobody came for the two items
-abbrev pub nobody_came : ReportView
-nobody_came = report_of (10 ∷ 11 ∷ []) (10 ∷ 11 ∷ []) (diary_of 0 [] false ∷ [])
-
 -- the diary of consumer c on lane p, in a report of two lanes
 abbrev pub diary_on : ℕ → ℕ → List Note → DiaryView
 diary_on c p ns = record { consumer = c; lane = p; notes = ns; begun = false }

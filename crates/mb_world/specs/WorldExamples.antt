@@ -1,5 +1,5 @@
 -- A world of two lanes, two consumers and two cells, with one pair of objects over the unary table. Below are what was
--- done in it, what may not follow, and its report and reports that are not its own.
+-- done in it, and its report and reports that are not its own.
 use Rattle.std.specs.Prelude.{ℕ, true, false, List, [], ◌∷◌, ◌++◌, map}
 use Rattle.mb_cells.specs.LanePath.{fetch, store}
 use Rattle.mb_claim.specs.Examples.{won_and_lost}
@@ -9,7 +9,6 @@ use Rattle.mb_world.specs.Plan.{Histories, Plan}
 use Rattle.mb_world.specs.Report.{DiaryView, ReportView}
 use Rattle.mb_world.specs.Reporting.{IsDiaryOf, IsReportOf}
 use Rattle.mb_world.specs.World.{ToCells, WorldAccess, WorldHistory, histories_of}
-use Rattle.mb_world.specs.Worlds.{IsWorldLawful}
 use Rattle.mb_world.specs.ConsumerPath.{claim_step, item_load, link_load}
 use Rattle.mb_world.specs.PathExamples.{first_step, two_cells, won_steps}
 
@@ -86,46 +85,9 @@ all_done = link_load 1 0 (0 ∷ []) END ∷ stores 0 (Link 0) END ∷ second_beg
 abbrev pub all_histories : Histories
 all_histories = histories_of all_done
 
--- ---- what may not follow
--- the access may not follow on what was done in all: the history would not be lawful
-abbrev pub MayNotFollow : WorldAccess → Type 0
-MayNotFollow a = IsWorldLawful two_by_two (a ∷ all_done) → ⊥
-
--- consumer 1 loads the item 6 while its claim goes on
-abbrev pub taken_unwon : WorldAccess
-taken_unwon = item_load 1 1 6
-
--- consumer 0 loads the item 5 again
-abbrev pub taken_again : WorldAccess
-taken_again = item_load 0 0 5
-
--- consumer 1 loads the item 5, which it has lost
-abbrev pub taken_lost : WorldAccess
-taken_lost = item_load 1 0 5
-
--- consumer 0 makes a step of a claim on the item 6, to which no link that it loaded leads
-abbrev pub unmet_claimed : WorldAccess
-unmet_claimed = claim_step 0 1 first_step
-
--- consumer 1 loads the link past the item 6 while its claim goes on
-abbrev pub claim_passed : WorldAccess
-claim_passed = link_load 1 1 (1 ∷ []) 0
-
--- consumer 0 finds nothing past the item 5, although the end mark is there
-abbrev pub end_missed : WorldAccess
-end_missed = link_load 0 0 (0 ∷ []) 0
-
 -- producer 0 makes a fetch-add after its end mark
 abbrev pub offered_late : WorldAccess
 offered_late = ToCells (fetch 0 (record { cell = 2; value = 7 }))
-
--- a consumer that the world does not have loads the head of lane 1
-abbrev pub stranger : WorldAccess
-stranger = link_load 2 1 [] 2
-
--- consumer 0 loads the head of a lane that the world does not have
-abbrev pub no_lane : WorldAccess
-no_lane = link_load 0 2 [] 0
 
 -- ---- what is reported
 -- the diary of consumer c on lane p with these notes, and no claim begun

@@ -62,7 +62,7 @@ fn two_thousand_turns_of_sixteen_processes(rt: HostRuntime) {
         &turns_in_order(),
     )
     .expect(&rt, "no trace");
-    // All have one input, so all decide it. Each announces in one register, finds the proposal empty, stores it, and checks
-    // the 15 others.
+    // All have one input, so all decide it. Each announces in one register, finds the proposal empty, stores it, and
+    // checks the 15 others.
     are_done_from(&rt, &trace, TURNS, Out::decided(3), 288);
 }

@@ -89,7 +89,7 @@ fn step_once<A: Allocator + Drop>(
 }
 
 /// Makes `most` steps of a claim with the random word 0, or fewer if it ends before. Returns how many.
-fn step_on<A: Allocator + Drop>(
+pub(crate) fn step_on<A: Allocator + Drop>(
     table: &SharedClaims<A>,
     seat: &mut ClaimSeat,
     claim: &mut Claim,

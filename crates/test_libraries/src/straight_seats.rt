@@ -4,7 +4,7 @@ ghost use Rattle.mb_shared_claims.specs.Vocabulary.{name_of};
 
 use crate::claims::one_pair;
 use crate::compare::same_at;
-use crate::shared_claims::{new_seat, new_table};
+use crate::shared_claims::{new_seat, new_table, step_on};
 use mb_claim::{Claim, Stage};
 use mb_shared_claims::{ClaimSeat, SharedClaims};
 use std::alloc::Allocator;
@@ -17,8 +17,8 @@ use test_support::Zeros;
 fn straight_and_on<A: Allocator + Drop>(
     table: &SharedClaims<A>,
     seat: &mut ClaimSeat,
-    budgets: (u64, u64),
-) -> (u64, u64, Stage)
+    budgets: (u64, u32),
+) -> (u64, u32, Stage)
     requires table { (seat.old.table ≡ name_of table.now) × (seat.old.part ≡ []) }
     requires cell { 0 < table.now.cells }
 {
@@ -30,7 +30,7 @@ fn straight_and_on<A: Allocator + Drop>(
         return (straight, 0, end.stage);
     }
     let mut claim = Claim::standing(table.layout(), consumer, end.object, end.value);
-    let made = table.run(seat, &mut claim, 0, &mut rng, budgets.1);
+    let made = step_on(table, seat, &mut claim, 0, budgets.1);
     (straight, made, claim.stage())
 }
 

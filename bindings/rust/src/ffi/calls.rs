@@ -130,6 +130,11 @@ unsafe extern "C" {
     pub(super) fn hz_free(handle: &mut Handle);
 }
 
+/// A number of the archive's. This compiles only if `usize` has 64 bits too.
+pub(crate) fn number(word: u64) -> usize {
+    usize::from_ne_bytes(word.to_ne_bytes())
+}
+
 /// For a code that `hazbultra.h` excludes at this call.
 pub(super) fn excluded(call: &str, code: u32) -> ! {
     unreachable!("{call} returned {code}, which its header excludes here")

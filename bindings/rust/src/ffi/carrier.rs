@@ -1,7 +1,6 @@
 //! How a value goes through a mailbox, whose items are words of 64 bits.
+use super::calls::number;
 use std::ptr;
-
-const _: () = assert!(size_of::<usize>() == size_of::<u64>());
 
 /// A way to make a word of a value, which then belongs to whoever has the word, and the value of the word again.
 pub(crate) struct Carrier<T> {
@@ -52,7 +51,7 @@ impl Carrier<u64> {
 /// # Safety
 /// The word is the address of a box of a `T`, and the caller owns the box.
 unsafe fn unboxed<T>(word: u64) -> T {
-    let at: *mut T = ptr::with_exposed_provenance_mut(word as usize);
+    let at: *mut T = ptr::with_exposed_provenance_mut(number(word));
     // SAFETY: the caller's promise. The address was exposed when the word was made.
     *unsafe { Box::from_raw(at) }
 }

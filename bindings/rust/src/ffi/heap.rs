@@ -68,10 +68,10 @@ mod tests {
         assert!(block.there);
         // SAFETY: the block has 8 bytes, then 4096, and it is freed once.
         unsafe {
-            block.at.cast::<u64>().write(7);
+            block.at.write_bytes(7, 8);
             let grown = rattle_realloc(block.at, 8, 4096, 8);
             assert!(grown.there);
-            assert_eq!(grown.at.cast::<u64>().read(), 7);
+            assert_eq!(grown.at.cast::<[u8; 8]>().read(), [7; 8]);
             rattle_dealloc(grown.at);
         }
     }

@@ -24,7 +24,7 @@ pub(crate) struct Hub<T> {
 /// Why there is no report.
 pub(crate) enum Refusal {
     /// So many producers and consumers are out.
-    Missing(u32, u32),
+    Missing(usize, usize),
     /// The report wants more memory than there is.
     NoMemory,
 }
@@ -120,7 +120,10 @@ impl<T> Hub<T> {
         // SAFETY: the rules of calls.
         match unsafe { hz_gather(&mut self.handle, &mut report, &mut missing) } {
             calls::DONE => Ok(report),
-            calls::MISSING => Err(Refusal::Missing(missing.producers, missing.consumers)),
+            calls::MISSING => Err(Refusal::Missing(
+                missing.producers as usize,
+                missing.consumers as usize,
+            )),
             calls::NO_MEMORY => Err(Refusal::NoMemory),
             other => excluded("hz_gather", other),
         }

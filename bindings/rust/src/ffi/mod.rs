@@ -41,7 +41,7 @@ mod hub;
 mod parts;
 mod report;
 
-pub(crate) use calls::{Setup, BITS, MIDDLE, UNARY};
+pub(crate) use calls::{number, Setup, BITS, MIDDLE, UNARY};
 pub(crate) use carrier::Carrier;
 pub(crate) use hub::{Hub, NotIssued, Refusal};
 pub(crate) use parts::{Consumer, Producer};

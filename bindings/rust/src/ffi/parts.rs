@@ -1,5 +1,5 @@
 //! A producer and a consumer of the archive.
-use super::calls::{self, excluded, expect_done, hz_finish, hz_poll, hz_put};
+use super::calls::{self, excluded, expect_done, hz_finish, hz_poll, hz_put, number};
 use super::carrier::Carrier;
 use super::handle::Handle;
 use crate::consumer::Poll;
@@ -53,7 +53,7 @@ impl<T> Consumer<T> {
             // SAFETY: ownership. A producer of this mailbox, with this carrier, made the word of the item, and this
             // consumer alone takes it, now.
             calls::TOOK => Poll::Took(unsafe { self.carrier.unpack(value) }),
-            calls::LOST => Poll::Lost(value as u32),
+            calls::LOST => Poll::Lost(number(value)),
             calls::UNDECIDED => Poll::Undecided,
             calls::NOTHING => Poll::Nothing,
             calls::ENDED => Poll::Ended,

@@ -1,6 +1,6 @@
 //! A report of the archive, read into one of Rust.
 use super::calls::{self, excluded, expect_done, hz_report_diary, hz_report_items};
-use super::calls::{hz_report_lane, hz_report_notes, hz_report_size, Diary, Lane};
+use super::calls::{hz_report_lane, hz_report_notes, hz_report_size, number, Diary, Lane};
 use super::carrier::Carrier;
 use super::handle::Handle;
 use crate::report::{self, LaneReport, Note};
@@ -27,7 +27,7 @@ pub(super) unsafe fn read_lanes<T>(mut report: Handle, carrier: Carrier<T>) -> V
         .collect();
     read.into_iter()
         .map(|(lane, left)| LaneReport {
-            put: lane.put as usize,
+            put: number(lane.put),
             ended: lane.ended,
             left: left
                 .into_iter()
@@ -54,7 +54,7 @@ fn read_lane(report: &mut Handle, lane: u64) -> (Lane, Vec<u64>) {
     // SAFETY: the rules of calls.
     let code = unsafe { hz_report_lane(report, lane, &mut numbers) };
     expect_done("hz_report_lane", code);
-    let mut left = vec![0; numbers.left as usize];
+    let mut left = vec![0; number(numbers.left)];
     let mut copied = 0;
     // SAFETY: the rules of calls. There is room for as many words as the vector has.
     let code = unsafe {
@@ -62,7 +62,7 @@ fn read_lane(report: &mut Handle, lane: u64) -> (Lane, Vec<u64>) {
         hz_report_items(report, lane, true, 0, items, room, &mut copied)
     };
     expect_done("hz_report_items", code);
-    assert_eq!(copied as usize, left.len());
+    assert_eq!(number(copied), left.len());
     (numbers, left)
 }
 
@@ -72,7 +72,7 @@ fn read_diary(report: &mut Handle, consumer: u64, lane: u64) -> report::Diary {
     // SAFETY: the rules of calls.
     let code = unsafe { hz_report_diary(report, consumer, lane, &mut numbers) };
     expect_done("hz_report_diary", code);
-    let mut notes = vec![calls::Note::default(); numbers.notes as usize];
+    let mut notes = vec![calls::Note::default(); number(numbers.notes)];
     let mut copied = 0;
     // SAFETY: the rules of calls. There is room for as many notes as the vector has.
     let code = unsafe {
@@ -80,10 +80,10 @@ fn read_diary(report: &mut Handle, consumer: u64, lane: u64) -> report::Diary {
         hz_report_notes(report, consumer, lane, 0, at, room, &mut copied)
     };
     expect_done("hz_report_notes", code);
-    assert_eq!(copied as usize, notes.len());
+    assert_eq!(number(copied), notes.len());
     report::Diary {
-        consumer: consumer as u32,
-        lane: lane as u32,
+        consumer: number(consumer),
+        lane: number(lane),
         notes: notes.into_iter().map(note_of).collect(),
         begun: numbers.begun,
     }
@@ -92,7 +92,7 @@ fn read_diary(report: &mut Handle, consumer: u64, lane: u64) -> report::Diary {
 fn note_of(note: calls::Note) -> Note {
     match note.kind {
         calls::TOOK => Note::Took,
-        calls::LOST => Note::Lost(note.value as u32),
+        calls::LOST => Note::Lost(number(note.value)),
         calls::UNDECIDED => Note::Undecided,
         other => excluded("hz_report_notes", other),
     }

@@ -7,12 +7,12 @@ use crate::object::Out;
 use mb_quorum::Quorums;
 
 impl RatifierPlace {
-    ghost use Rattle.std.specs.Prelude.{◌≡◌, ◌≢◌, ◌<◌, ◌≤◌, ℕ, count_ones, List, ◌∷◌, Some, false};
+    ghost use Rattle.std.specs.Prelude.{◌≡◌, ◌≢◌, ◌<◌, ◌≤◌, ℕ, count_ones, List, ◌∷◌};
     ghost use Rattle.mb_quorum.specs.Quorum.{QuorumTable};
     ghost use Rattle.mb_deciding.specs.{Op, Turn, Ratifier, Announce, Propose, Check, InRatifier};
     ghost use Rattle.mb_deciding.specs.{acts, ReadsClear, PcIsAt, IsRatifierPlace, IsRatifierOp, IsRest, IsNext};
     ghost use Rattle.mb_deciding.specs.{IsReached, CanFind, act_of, RatifierReaches, IsStep, next_from};
-    ghost use Rattle.mb_deciding.specs.{turns_left, turns_after, answer};
+    ghost use Rattle.mb_deciding.specs.{turns_left, turns_after};
 
     /// The access that the process makes next.
     #[inline(always)]
@@ -190,20 +190,13 @@ impl RatifierPlace {
 
     /// What follows the load of the least register that is left of the preference's read quorum.
     #[inline(always)]
-    pub(crate) fn checked<Q: Quorums>(
-        &mut self,
-        q: &Q,
-        preference: u32,
-        left: u64,
-        seen: u64,
-    ) -> Option<Out>
+    fn checked<Q: Quorums>(&mut self, q: &Q, preference: u32, left: u64, seen: u64) -> Option<Out>
         requires { IsRatifierPlace (Q.table q.now) (Check preference left) }
         ensures fits { IsNext (Q.table q.now) (next_from result (InRatifier self.new)) }
         ensures fewer { turns_after (Q.table q.now) (next_from result (InRatifier self.new))
             < turns_left (Q.table q.now) (InRatifier (Check preference left)) }
         ensures reached { RatifierReaches (Q.table q.now) (Check preference left) seen
             (next_from result (InRatifier self.new)) }
-        ensures contested { seen ≢ 0 → result ≡ Some (answer false preference) }
     {
         if seen == 0 {
             self.checks(preference, without(left, least(left)))

@@ -96,5 +96,6 @@ pub(crate) struct Polls<G: Gate, R: Rng + Drop, A: Allocator + Drop> {
 impl<G: Gate, R: Rng + Drop, A: Allocator + Drop> Promise<PollDone<A>> for Polls<G, R, A> {
     ghost use Rattle.mb_mailbox.specs.Jobs.{IsPollEnd};
 
-    ghost kept_by = { λ p d. IsPollEnd (G.may_stop p.gate.value) (G.may_pass p.gate.value) p.from p.end p.budget (R.stream p.rng.value) p.consumer.value d };
+    ghost kept_by = { λ p d. IsPollEnd (G.may_stop p.gate.value) (G.may_pass p.gate.value) p.from p.end p.budget
+        (R.stream p.rng.value) p.consumer.value d };
 }

@@ -11,7 +11,7 @@ use std::sync::Wait;
 use std::thread::Threads;
 
 impl<A: Allocator + Clone + Drop + Send + Sync> Rounds<A> {
-    ghost use Rattle.std.specs.Prelude.{◌≡◌, ◌<◌, ◌≢◌, ◌↔◌, ◌++◌, Err, IfOk, OnErr, map, vec_len};
+    ghost use Rattle.std.specs.Prelude.{◌≡◌, ◌<◌, ◌≤◌, ◌≢◌, ◌↔◌, ◌++◌, Err, IfOk, OnErr, map, vec_len};
     ghost use Rattle.std.specs.List.{concat};
     ghost use Rattle.mb_mailbox.specs.Worked.{lists_in};
     ghost use Rattle.mb_world.specs.Plan.{consumers_of};
@@ -82,8 +82,10 @@ impl<A: Allocator + Clone + Drop + Send + Sync> Rounds<A> {
         means: Means<R, A>,
         gate: &G,
     ) -> Result<(Round<A>, Vec<u64, A>), RoundFault>
-        ensures sources { result ≢ Err TooManySources }
-        ensures budget { result ≢ Err BadBudget }
+        requires sources { vec_len means.sources ≤ consumers_of (plan_in self.now.setup) }
+        requires budget { 0 < means.budget }
+        ensures too_many { result ≢ Err TooManySources }
+        ensures bad_budget { result ≢ Err BadBudget }
         ensures round { IfOk result (λ o. IsRound (G.may_stop gate.now) (G.may_pass gate.now)
             (terms_of self.now.setup means.budget (map R.stream means.sources.items))
             self.now.carried (lists_in o.0.taken.items) o.0.worked o.0.report o.1.items) }
@@ -91,20 +93,11 @@ impl<A: Allocator + Clone + Drop + Send + Sync> Rounds<A> {
         let cells = self.setup.cells() as usize;
         let dealt = cells.min(self.carried.len());
         let (items, behind) = self.carried().split_at(dealt);
-        let Ok(lists) = deal(&self.alloc, items, self.setup.producers() as usize) else {
-            return Err(RoundFault::NoMemory);
-        };
-        let Ok(copies) = copies_of(&self.alloc, lists.as_slice()) else {
-            return Err(RoundFault::NoMemory);
-        };
+        let lists = deal(&self.alloc, items, self.setup.producers() as usize)?;
+        let copies = copies_of(&self.alloc, lists.as_slice())?;
         let (worked, report) = play(&self.alloc, rt, &self.setup, copies, means, gate)?;
-        let consumers = self.setup.consumers() as usize;
-        let Ok(taken) = ledgers(&self.alloc, &report, consumers) else {
-            return Err(RoundFault::NoMemory);
-        };
-        let Ok(carried) = stay(&self.alloc, lists.as_slice(), &report, behind) else {
-            return Err(RoundFault::NoMemory);
-        };
+        let taken = ledgers(&self.alloc, &report, self.setup.consumers() as usize)?;
+        let carried = stay(&self.alloc, lists.as_slice(), &report, behind)?;
         Ok((
             Round {
                 taken,

@@ -1,8 +1,8 @@
 //! Reports by example: with which an assignment agrees, and which are settled.
 ghost use Rattle.std.specs.Prelude.{◌≡◌, [], ◌∷◌};
-ghost use Rattle.mb_world.specs.ReportExamples.{begun_beyond, both_undecided, first_to, left_and_taken, left_omitted, left_out_of_order, lost_to_a_third, lost_to_each_other, lost_to_itself};
-ghost use Rattle.mb_world.specs.ReportExamples.{nobody_came, noted_beyond, other_value, taken_and_lost, taken_on_both, to_nobody, turned_diaries, two_takers, winner_stayed_away, won_not_loaded};
-ghost use Rattle.mb_world.specs.Vocabulary.{AgreesWith, AreAllTaken, Assignment, IsLeftBesideBegun, IsSettled, Lost, Took, notes};
+ghost use Rattle.mb_world.specs.ReportExamples.{begun_beyond, first_to, left_and_taken, left_omitted, left_out_of_order, lost_to_a_third, lost_to_each_other, lost_to_itself};
+ghost use Rattle.mb_world.specs.ReportExamples.{noted_beyond, other_value, taken_and_lost, taken_on_both, to_nobody, turned_diaries, two_takers, winner_stayed_away, won_not_loaded};
+ghost use Rattle.mb_world.specs.Vocabulary.{AgreesWith, Assignment, IsSettled, Lost, Took, notes};
 
 use crate::laws::agreeing_reports_are_settled;
 
@@ -10,8 +10,6 @@ use crate::laws::agreeing_reports_are_settled;
 pub fn reports_agree()
     ensures taken { AgreesWith (first_to 0) taken_and_lost }
     ensures not_loaded { AgreesWith to_nobody won_not_loaded }
-    ensures undecided { AgreesWith to_nobody both_undecided }
-    ensures untouched { AgreesWith to_nobody nobody_came }
 {}
 
 /// In a report of two lanes, the diary of consumer `c` on lane `p` is at `c * 2 + p`.
@@ -24,8 +22,6 @@ pub fn diaries_stand_by_consumers()
 pub fn reports_settle()
     ensures taken { IsSettled taken_and_lost }
     ensures not_loaded { IsSettled won_not_loaded }
-    ensures undecided { IsSettled both_undecided }
-    ensures untouched { IsSettled nobody_came }
 {
     reports_agree();
     agreeing_reports_are_settled();
@@ -57,16 +53,4 @@ pub fn reports_disagree()
 /// A report that is not settled: its item was competed for, nobody took it, and all claims on it are finished.
 pub fn reports_stay_unsettled()
     ensures { IsSettled lost_to_each_other → ⊥ }
-{}
-
-/// What last objects promise of reports: small reports that keep it, and one that does not.
-pub fn reports_have_begun_claims()
-    ensures taken { IsLeftBesideBegun taken_and_lost }
-    ensures not_loaded { IsLeftBesideBegun won_not_loaded }
-    ensures all { AreAllTaken taken_and_lost }
-    ensures waiting { AreAllTaken won_not_loaded }
-
-    // Undecided claims alone stand beside the item left, so neither promise is kept.
-    ensures undecided { IsLeftBesideBegun both_undecided → ⊥ }
-    ensures not_all { AreAllTaken both_undecided → ⊥ }
 {}

@@ -44,7 +44,8 @@ Options:
       --pairs <N>      How many pairs of deciding objects each item has, 1 to 8 [default: 4]
       --budget <N>     The most accesses of one poll, 1 to 1000000 [default: 64]
       --seed <N>       The seed of the consumers' random words [default: 0]
-      --shape <NAME>   What each item has beside its pairs: a fast path, a last object or both [default: plain] [possible values: plain, fast, last, fastlast]
+      --shape <NAME>   What each item has beside its pairs: a fast path, a last object or both [default: plain] \
+        [possible values: plain, fast, last, fastlast]
   -h, --help           Print help
 
 Producer p puts the items 1000 * p, 1000 * p + 1 and so on into lane p, and ends it. Each consumer polls the

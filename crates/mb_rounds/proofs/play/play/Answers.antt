@@ -1,12 +1,27 @@
 -- Proof of `play`: lets workers put these lists into a mailbox of this setup and take from it.
-use Rattle.std.proofs.Common.{◌≡◌, ◌∙◌, ap, length, map, rules, sym}
+use Rattle.std.proofs.Common.{◌≡◌, ◌∙◌, Err, ap, arith, length, map, rules, sym}
 use Rattle.mb_mailbox.specs.Worked.{lists_in}
 use Rattle.mb_world.specs.Plan.{size_of}
 use Rattle.mb_world.specs.Setups.{plan_in}
 use Rattle.mb_mailbox.specs.ReportedRuns.{terms_of}
 use Rattle.mb_rounds.proofs.Cutting.{count_lists}
-use Rattle.mb_rounds.proofs.Played.{played}
+use Rattle.mb_rounds.proofs.Played.{asks_enough, played}
 use Rattle.mb_rounds.proofs.play.play.Goals as goal
+
+-- a new mailbox has enough numbers for the lists and for the sources, and the budget is not 0
+pub fault_of_work-requires-clause-numbers : goal.fault_of_work-requires-clause-numbers
+fault_of_work-requires-clause-numbers g c =
+    λ same. asks_enough (plan_in c.args.setup.now) c.in_ok-mailbox.mailbox c.in_ok-mailbox.hub _ _
+    (c.in_ok-mailbox.ensures.plan ∙ ap plan_in c.copy.ensures)
+    c.in_ok-mailbox.ensures.empty c.requires.lists c.requires.sources
+    (c.work.ensures.all_given.0 (c.in-Err.is ∙ ap (λ e. Err e) same))
+
+pub fault_of_work-requires-clause-budget : goal.fault_of_work-requires-clause-budget
+fault_of_work-requires-clause-budget g c =
+    λ is. let refused = c.work.ensures.bad_budget.0 (c.in-Err.is ∙ ap (λ e. Err e) is) in
+    let none = refused.0 in
+    let some = c.requires.budget in
+    omega (arith, none, some)
 
 -- what the mailbox's calls promise is what a played round asks for
 pub returns-clause-played : goal.returns-clause-played
@@ -15,9 +30,9 @@ returns-clause-played g c =
     let rngs = c.args.means.sources.items in
     let long : length items ≡ (plan_in c.args.setup.now).lanes = search rules in
     let copied = ap plan_in c.copy.ensures in
-    played c.in-Ok-new.mailbox c.in-Ok-new.hub c.work.new.hub c.in-Ok-gather.report
+    played c.in_ok-mailbox.mailbox c.in_ok-mailbox.hub c.work.new.hub c.in-Ok-gather.report
     (terms_of c.args.setup.now c.args.means.budget (map g.R.Rng.stream rngs)) (lists_in items) _ _ _
-    (c.in-Ok-new.ensures.plan ∙ copied) (c.in-Ok-new.ensures.size ∙ ap size_of copied)
+    (c.in_ok-mailbox.ensures.plan ∙ copied) (c.in_ok-mailbox.ensures.size ∙ ap size_of copied)
     (sym long ∙ count_lists items)
-    c.in-Ok-new.ensures.empty c.work.ensures.of c.in-Ok-work.ensures.called
+    c.in_ok-mailbox.ensures.empty c.work.ensures.of c.in-Ok.ensures.called
     c.in-Ok-gather.ensures.lists c.in-Ok-gather.ensures.headline c.in-Ok-gather.ensures.full

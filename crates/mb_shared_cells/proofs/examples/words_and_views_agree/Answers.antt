@@ -143,7 +143,7 @@ returns-clause-put c = (
   putting,
   record {
     memory = record {
-      lawful = c.pools_hold_what_was_done.ensures.put.lawful;
+      lawful = c.one_item_is_put_and_read.ensures.item;
       room = omega arith;
       left = holds;
     };

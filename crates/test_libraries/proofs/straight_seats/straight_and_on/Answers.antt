@@ -40,8 +40,8 @@ pub straight-end-requires-clause-fresh : goal.straight-end-requires-clause-fresh
 straight-end-requires-clause-fresh g c = ap (λ xs. part_on c.args.seat.now.consumer 0 xs) c.requires.table.1
 
 -- the claim where the straight accesses ended is the one that goes on
-pub run-made-requires-clause-standing : goal.run-made-requires-clause-standing
-run-made-requires-clause-standing g c =
+pub step_on-made-requires-clause-standing : goal.step_on-made-requires-clause-standing
+step_on-made-requires-clause-standing g c =
     let layout = c.args.table.now.layout in
     let own = c.args.seat.now.consumer in
     let end = c.straight-end.ensures.steps in
@@ -53,8 +53,8 @@ run-made-requires-clause-standing g c =
     subst (λ d. IsClaimIn layout d (part_on c.straight-end.new.seat.consumer 0 c.straight-end.new.seat.part))
     (one_claim layout own at.object at.value end.3 c.standing-claim.result going there) end.7
 
-pub run-made-requires-clause-consumer : goal.run-made-requires-clause-consumer
-run-made-requires-clause-consumer g c =
+pub step_on-made-requires-clause-consumer : goal.step_on-made-requires-clause-consumer
+step_on-made-requires-clause-consumer g c =
     let layout = c.args.table.now.layout in
     let own = c.args.seat.now.consumer in
     let end = c.straight-end.ensures.steps in
@@ -67,8 +67,8 @@ run-made-requires-clause-consumer g c =
     let is = one_claim layout own at.object at.value end.3 c.standing-claim.result going there in
     subst (λ (d : Claim). d.consumer ≡ c.straight-end.new.seat.consumer) is (end.6.1 ∙ sym p.1)
 
-pub run-made-requires-clause-table : goal.run-made-requires-clause-table
-run-made-requires-clause-table g c =
+pub step_on-made-requires-clause-table : goal.step_on-made-requires-clause-table
+step_on-made-requires-clause-table g c =
     let layout = c.args.table.now.layout in
     let own = c.args.seat.now.consumer in
     let end = c.straight-end.ensures.steps in

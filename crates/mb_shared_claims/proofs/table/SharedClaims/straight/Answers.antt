@@ -2,7 +2,7 @@
 use Rattle.std.proofs.Common.{◌≡◌, ◌<◌, ◌+◌, ◌*◌, ◌^◌, ℕ, ap, sym, ◌∙◌, subst, arith}
 use Rattle.mb_deciding.specs.Vocabulary.{reg_of}
 use Rattle.mb_claim.specs.Vocabulary.{IsWordInLayout, IsClaimIn, HasEnd, IsStanding, cell_words, claims_in, consumer_count, part_on, site_of}
-use Rattle.mb_claim.proofs.WordSteps.{first_claim, first_owner, first_path}
+use Rattle.mb_claim.proofs.Straight.{first_claim, first_owner, first_path}
 use Rattle.mb_shared_claims.specs.Types.{Claim, Layout}
 use Rattle.mb_shared_claims.specs.Seats.{SeatView, TableView, name_of}
 use Rattle.mb_shared_claims.specs.SeatSteps.{MayComeNext}

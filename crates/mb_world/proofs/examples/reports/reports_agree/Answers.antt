@@ -1,5 +1,5 @@
 -- Proof of `examples::reports::reports_agree`: reports that agree with an assignment.
-use Rattle.mb_world.proofs.AgreeingReports.{taken_agrees, undecided_agrees, untouched_agrees, won_agrees}
+use Rattle.mb_world.proofs.AgreeingReports.{taken_agrees, won_agrees}
 use Rattle.mb_world.proofs.examples.reports.reports_agree.Goals as goal
 
 pub returns-clause-taken : goal.returns-clause-taken
@@ -7,9 +7,3 @@ returns-clause-taken c = taken_agrees
 
 pub returns-clause-not_loaded : goal.returns-clause-not_loaded
 returns-clause-not_loaded c = won_agrees
-
-pub returns-clause-undecided : goal.returns-clause-undecided
-returns-clause-undecided c = undecided_agrees
-
-pub returns-clause-untouched : goal.returns-clause-untouched
-returns-clause-untouched c = untouched_agrees

@@ -1,0 +1,27 @@
+/* A program with a mailbox of its own, and with a Rust library that has one. Both are over one copy of the archive's code. */
+#include "hazbultra.h"
+
+#include <stdio.h>
+
+uint64_t through_rust(uint64_t number);
+
+static uint64_t through_c(uint64_t number) {
+    hz_setup setup = {.producers = 1, .consumers = 1, .cells = 1, .pairs = 4, .table = HZ_BITS, .last = true};
+    hz_handle hub = HZ_NONE, producer = HZ_NONE, consumer = HZ_NONE;
+    const uint8_t seed[32] = {1};
+    uint64_t value = 0;
+    bool done = hz_mailbox_new(hz_next_id(), &setup, &hub) == HZ_DONE && hz_producer_new(&hub, &producer) == HZ_DONE
+        && hz_consumer_new(&hub, seed, 0, &consumer) == HZ_DONE && hz_put(&producer, number) == HZ_LINKED
+        && hz_poll(&consumer, 0, UINT64_MAX, &value) == HZ_TOOK;
+    hz_free(&producer);
+    hz_free(&consumer);
+    hz_free(&hub);
+    return done ? value : 0;
+}
+
+int main(void) {
+    if (through_c(7) != 7 || through_rust(8) != 8 || hz_next_id() == hz_next_id())
+        return 1;
+    puts("a mailbox in C and one in Rust, in one program");
+    return 0;
+}

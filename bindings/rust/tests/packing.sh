@@ -1,0 +1,77 @@
+#!/bin/sh
+# Builds the crate where it may stand: in place, moved, copied, packed, as a git dependency, vendored. It prints a line for
+# each case, and its status is 0 if all hold. It needs cargo and git, no network, and one temporary folder.
+set -u
+crate=$(cd "$(dirname "$0")/.." && pwd) && room=$(mktemp -d) || exit 2
+trap 'rm -rf "$room"' EXIT
+trap 'exit 2' HUP INT TERM
+unset CARGO_TARGET_DIR CARGO_BUILD_TARGET_DIR CARGO_BUILD_TARGET HAZBULTRA_LIB
+export CARGO_HOME="$room/home" GIT_CONFIG_GLOBAL=/dev/null
+letter=target/debug/examples/one_letter failed=0
+
+try() { # NAME FUNCTION: runs it in a folder of its own
+    mkdir "$room/$2" && cd "$room/$2" || exit 2
+    if "$2" >"$room/said" 2>&1; then
+        echo "$1: holds"
+    else
+        echo "$1: FAILED" && sed 's/^/    /' "$room/said"
+        failed=1
+    fi
+}
+
+place() { # FOLDER: puts the crate there
+    mkdir -p "$1" && for it in Cargo.toml Cargo.lock README.md build.rs src examples tests prebuilt; do
+        cp -R "$crate/$it" "$1" || return
+    done
+}
+
+prints() { # FOLDER WORDS..: what cargo runs there prints what it should
+    printed=$(cd "$1" && shift && cargo run --quiet --offline "$@") && echo "$printed" &&
+        [ "$printed" = "$(printf 'Some("a letter")\nLost(0)\n0 left')" ]
+}
+prints_letter() { prints "$1" --example one_letter; }
+
+# A word in the archive's comment, which the linker keeps, shows which archive a program has.
+mark() { LC_ALL=C sed -i 's/rattle logic=/marked logic=/' "$1/prebuilt/libhazbultra.a"; }
+has_mark() { grep -q 'marked logic=' "$1"; }
+
+built() { place here && prints_letter here; }
+moved() { built && mv here there && prints_letter there; }
+copied() { # and the archive of one is not linked into the other
+    built && cp -a here there && mark here && touch there/src/lib.rs && prints_letter there && prints_letter here &&
+        ! has_mark "there/$letter" && has_mark "here/$letter" && mark there && prints_letter there &&
+        has_mark "there/$letter"
+}
+packed() { # also by cargo, to verify it. After that the crate still has its own archive
+    place here && (cd here && cargo package --quiet --offline) && tar -xzf here/target/package/hazbultra-*.crate &&
+        prints_letter hazbultra-* && mark here && prints_letter here && has_mark "here/$letter"
+}
+depended_on() {
+    place repository/bindings/rust && mark repository/bindings/rust && cd repository && git init --quiet && git add . &&
+        git -c user.name=a -c user.email=a@b commit --quiet --message=a && mkdir -p ../user/src && cd ../user &&
+        cp "$crate/examples/one_letter.rs" src/main.rs && {
+        printf '[package]\nname = "user"\nedition = "2021"\n[workspace]\n[dependencies]\n'
+        echo "hazbultra = { git = \"file://$room/depended_on/repository\" }"
+    } >Cargo.toml && cargo fetch --quiet && prints . && has_mark target/debug/user
+}
+vendored() { # and what it was vendored from is gone
+    mv ../depended_on/user . && cd user && mkdir .cargo && cargo vendor --offline >.cargo/config.toml &&
+        rm -r ../../depended_on "$CARGO_HOME" target && prints . && has_mark target/debug/user
+}
+fails() { # REASON WORDS..: a build fails with this error, and without a panic
+    reason=$1 && shift && ! cargo build --quiet --offline "$@" 2>../why && cat ../why &&
+        grep -q "^error: hazbultra@.*$reason" ../why && ! grep -q panicked ../why
+}
+refused() {
+    place here && cd here && mv prebuilt .. && fails 'libhazbultra.a: No such file' &&
+        (export HAZBULTRA_LIB=../prebuilt && prints_letter . && fails 'not for aarch64' --target aarch64-unknown-linux-gnu)
+}
+
+try 'built' built
+try 'moved' moved
+try 'copied, and each has its own archive' copied
+try 'packed' packed
+try 'a git dependency' depended_on
+try 'vendored' vendored
+try 'refused without an archive, and on another processor' refused
+exit $failed

@@ -1,0 +1,55 @@
+#!/bin/sh
+# Looks after what is built and kept in the repository: the program prebuilt/mailbox and the archive libhazbultra.a.
+#
+#   ci/prebuilt.sh             without the kit: each is the file that its text tells of, and is of these sources
+#   ci/prebuilt.sh --compare   builds both anew, and compares them byte by byte
+#   ci/prebuilt.sh --place     builds both anew, and puts them there with their texts. The crates have to be committed.
+#
+# With `--proved` after it, right after `rt ci`, the program is the one that it left, and the archive is built over its
+# libraries. (`rt lib` would prove each of them once more.)
+set -eu
+cd "$(dirname -- "$0")/.."
+mode=${1-} proved=${2-} faults=0
+
+tell() {
+    echo "$1"
+    faults=$((faults + 1))
+}
+
+# What holds of a file of a crate, as lines of its text. The kit compiles for x86-64-v2, and links a program with glibc.
+facts() {
+    libc=$(grep -aoE 'GLIBC_[0-9]+\.[0-9]+' "$1" | sort -V | tail -n 1 | sed 's/GLIBC_\(.*\)/glibc \1, /')
+    echo "sha256: $(sha256sum <"$1" | cut -d' ' -f1)"
+    echo "sources: $(sh ci/sources.sh "$2")"
+    echo "needs: x86_64 Linux, ${libc}x86-64-v2"
+}
+
+# look FILE TEXT CRATE BUILT FOLDER COMMAND..: the command builds it there
+look() {
+    file=$1 text=$2 crate=$3 built=$4 folder=$5
+    shift 5
+    case $mode$proved in
+    --place | --compare) (cd "$folder" && "$@") ;;
+    *--proved) [ "${built%.a}" = "$built" ] || python3 ci/kit.py --archive ;;
+    esac
+    if [ "$mode" = --place ]; then
+        cp "$built" "$file"
+        { echo "commit: $(git rev-parse HEAD)" && echo "kit: $(rt version)" && facts "$file" "$crate"; } >"$text"
+    fi
+    [ -f "$file" ] && [ -f "$text" ] || { tell "there is no $file or no $text" && return; }
+    false=$(facts "$file" "$crate" | grep -vxFf "$text") &&
+        tell "$text does not hold of $file. It would have to say (ci/prebuilt.sh --place): $false"
+    grep -Eqx 'commit: [0-9a-f]{40}' "$text" && grep -q '^kit: .' "$text" || tell "$text names no commit or no kit"
+    [ "$mode" != --compare ] || cmp "$built" "$file" ||
+        tell "$file is not what the sources build. It was built by $(sed -n 's/^kit: //p' "$text"), and now by $(rt version)"
+}
+
+if [ "$mode" = --place ] && [ -n "$(git status --porcelain -- crates crates.txt)" ]; then
+    echo "commit the crates first: the texts name the commit that the files are of" >&2
+    exit 1
+fi
+archive=bindings/rust/prebuilt/libhazbultra
+look prebuilt/mailbox prebuilt/mailbox.txt mailbox_main crates/mailbox_main/out/mailbox_main . ./mailbox --build
+look $archive.a $archive.txt hazbultra crates/hazbultra/out/libhazbultra.a crates/hazbultra rt lib
+echo "2 files, $faults faults"
+[ "$faults" = 0 ]

@@ -1,3 +1,0 @@
-mod Contests
-mod WordChains
-mod Seats

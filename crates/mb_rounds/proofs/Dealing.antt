@@ -1,0 +1,84 @@
+-- Lists that each have a fair share of the items: the whole number of items for each list, or one more.
+use Rattle.std.proofs.Common.{◌≡◌, ◌∙◌, ◌+◌, ◌*◌, ◌/◌, ◌-◌, ◌<◌, ◌≤◌, ℕ, suc, List, inl, inr, length, take, ap, arith}
+use Rattle.std.proofs.Math.Nat.{add-mul, div-le_of_le-mul, div-mul-le_self, lt-div-mul-add, mul-add, mul-one, mul_comm, one-mul}
+use Rattle.std.proofs.lemmas.Bool.{cases_lt}
+use Rattle.std.proofs.lemmas.List.{length-take-le}
+use Rattle.std.proofs.lemmas.Nat.{le-div}
+use Rattle.std.specs.List.{All}
+use Rattle.mb_rounds.specs.Round.{AreEven}
+
+-- the list has q items or one more
+abbrev pub IsShare : ℕ → List ℕ → Type 0
+IsShare q list = (q ≤ length list) × (length list ≤ suc q)
+
+-- `left` items are enough for q in each of k lists, and no more than one more in each
+pub record HasShares (q k left : ℕ) : Type 0 where
+  pub low : q * k ≤ left
+  pub high : left ≤ k + q * k
+
+-- so many items for each of k lists, in whole numbers
+pub shares_first : (n k : ℕ) → 0 < k → HasShares (n / k) k n
+shares_first n k some = record {
+  low = div-mul-le_self n k;
+  high = let below = lt-div-mul-add {a = n} {b = k} some in omega (arith, below);
+}
+
+-- a list that gets its part of what is left has a fair share
+pub share_of : (q k left : ℕ) → 0 < k → HasShares q k left → (q ≤ left / k) × (left / k ≤ 1 + q)
+share_of q k left some shares =
+    let one = mul-add k 1 q in
+    let unit = mul-one k in
+    let swap = mul_comm k q in
+    let high = shares.high in (
+      le-div q left k some shares.low,
+      div-le_of_le-mul k {m = left} {n = 1 + q} (omega (arith, one, unit, swap, high)),
+    )
+
+-- after it what is left has fair shares for the other lists
+pub shares_on : (q k j left : ℕ) → k ≡ 1 + j → HasShares q k left → HasShares q j (left - left / k)
+shares_on q k j left more shares =
+    let some : 0 < k = omega (arith, more) in
+    let part = share_of q k left some shares in
+    let least = part.0 in
+    let most = part.1 in
+    let whole = ap (λ z. q * z) more ∙ mul-add q 1 j in
+    let unit = mul-one q in
+    let low = shares.low in
+    let high = shares.high in
+    elim (cases_lt (left / k) (1 + q)) [
+      | inl less ↦ (
+          let is : left / k ≡ q = omega (arith, least, less) in
+          let times = ap (λ z. z * k) is in
+          let below = lt-div-mul-add {a = left} {b = k} some in
+          record {
+            low = omega (arith, whole, unit, low, is);
+            high = omega (arith, whole, unit, below, times, is, more);
+          }
+          )
+      | inr more_than ↦ (
+          let is : left / k ≡ 1 + q = omega (arith, most, more_than) in
+          let times = ap (λ z. z * k) is ∙ add-mul 1 q k in
+          let own = one-mul k in
+          let within = div-mul-le_self left k in
+          record {
+            low = omega (arith, whole, unit, within, times, own, is, more);
+            high = omega (arith, whole, unit, high, is, more);
+          }
+          )
+    ]
+
+-- the first items of what is left are a fair share, if so many are
+pub share_has : (q n : ℕ) (rest list : List ℕ) → list ≡ take n rest → n ≤ length rest → (q ≤ n) × (n ≤ 1 + q)
+    → IsShare q list
+share_has q n rest list front within part =
+    let count = ap length front ∙ length-take-le n rest within in
+    let least = part.0 in
+    let most = part.1 in
+    (omega (arith, count, least), omega (arith, count, most))
+
+-- lists with fair shares are even
+pub shares_are_even : (q : ℕ) (lists : List (List ℕ)) → All (IsShare q) lists → AreEven lists
+shares_are_even q lists all = λ k d low. λ n e less.
+    let most = (all k d low).1 in
+    let least = (all n e less).0 in
+    omega (arith, most, least)

@@ -1,7 +1,0 @@
--- Choices for the calls of `DrawingWords::perform_at`: makes an access from the seat.
-use Rattle.mb_shared_claims.specs.SeatSteps.{access_of}
-use Rattle.mb_shared_claims.proofs.table.run.DrawingWordsDrawing.perform_at.Given as goal
-
--- the access that the call of `make_at` makes, by the value that it finds
-abbrev pub ghosts-make_at : goal.ghosts-make_at
-ghosts-make_at g a = record { access = λ found. access_of a.seat.now.consumer a.cell a.next found a.word }
