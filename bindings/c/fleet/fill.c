@@ -1,5 +1,5 @@
 /* Puts each line of its input into a stream as one job. The stream is made if it is not there. */
-#include <nats.h>
+#include <nats/nats.h>
 #include <stdio.h>
 #include <stdlib.h>
 #include <string.h>

@@ -1,364 +1,450 @@
-/* One process of a fleet. It pulls jobs of a NATS JetStream stream, hands them to its threads by a box of mailboxes, and
- * acknowledges each after its run. README.md says what this promises.
- *
- * One thread feeds, and the workers run jobs. The main thread waits for signals, and tells the server what is in
- * progress. */
-#include "fleet.h"
-#include "held.h"
-
+/* One process of a fleet: README.md says what it promises. The main thread pulls jobs of a NATS JetStream stream.
+ * Workers take them from mailboxes and run them. One more thread tells the server what is in progress. */
+#include "../hazbultra.h"
+#include <errno.h>
+#include <fcntl.h>
 #include <inttypes.h>
-#include <nats.h>
+#include <nats/nats.h>
 #include <pthread.h>
 #include <signal.h>
-#include <stdarg.h>
 #include <stdatomic.h>
 #include <stdio.h>
+#include <stdlib.h>
 #include <string.h>
-#include <time.h>
 #include <unistd.h>
 
 #define CONSUMER "fleet"
+enum { MOST_WORKERS = 64, MOST_BATCH = 1024 };
+enum { SECOND = 1000, FETCH = 500, MILLISECOND = 1000000 }; /* in milliseconds, the last in nanoseconds */
 
-enum { MOST_BATCH = 1024, SECOND = 1000, FETCH = 500, LOOK = 10 }; /* (times are in milliseconds) */
-
-static const int64_t NANOSECONDS = 1000000000;
 static const char *server = "nats://127.0.0.1:4222", *stream = "JOBS", *effects = "effects";
 static uint64_t workers = 4, batch = 64, ack = 30, cells = 4096, rest = 0;
 
 static const struct option {
-    const char *name, *help;
-    const char **text;
+    const char *name, *help, **text;
     uint64_t *number, least, most;
 } options[] = {
-    {"--server", "URL     where the NATS server is", &server, NULL, 0, 0},
-    {"--stream", "NAME    the stream that has the jobs", &stream, NULL, 0, 0},
-    {"--workers", "N      how many threads run jobs", NULL, &workers, 1, MOST_WORKERS},
-    {"--batch", "N        how many jobs wait in this process at most", NULL, &batch, 1, MOST_BATCH},
-    {"--ack", "SECONDS    after so long without a sign of life a job goes to another process", NULL, &ack, 1, 3600},
-    {"--cells", "N        how many jobs one mailbox has room for, before the next is made", NULL, &cells, 1, 1 << 24},
-    {"--effects", "FILE   to which a job of the sample appends its row", &effects, NULL, 0, 0},
-    {"--pause", "MS       how long a job of the sample takes besides", NULL, &rest, 0, 3600 * SECOND},
+    {"--server", "where the NATS server is", &server, NULL, 0, 0},
+    {"--stream", "which stream has the jobs", &stream, NULL, 0, 0},
+    {"--workers", "1 to 64, how many threads run jobs", NULL, &workers, 1, MOST_WORKERS},
+    {"--batch", "1 to 1024, how many jobs wait in this process at most", NULL, &batch, 1, MOST_BATCH},
+    {"--ack", "1 to 3600 seconds: without a sign of life a job goes to another process then", NULL, &ack, 1, 3600},
+    {"--cells", "1 to 16777216, for how many jobs a mailbox has room", NULL, &cells, 1, 1 << 24},
+    {"--effects", "to which file a job of the sample appends its row", &effects, NULL, 0, 0},
+    {"--pause", "0 to 3600000 milliseconds, which a job of the sample takes besides", NULL, &rest, 0, 3600 * SECOND},
+    {NULL, "--server, --stream, --workers, --batch, --ack, --cells, --effects or --pause", NULL, NULL, 0, 0},
 };
-static const struct option *const options_end = options + sizeof options / sizeof *options;
+
+/* What becomes of a job. One that is done is acknowledged. One that failed is given back, and comes again a second
+ * later. A bad one can never be done, and is ended. One that is left is given back since no worker took it. */
+enum outcome { DONE, FAILED, BAD, LEFT, OUTCOMES };
+
+/* A message that is in this process. The server hands it out with the same two numbers each time. */
+struct job {
+    natsMsg *message; /* NULL: this place is free */
+    uint64_t sequence;
+    int64_t stored;   /* (a stream that is made anew begins again with the same sequences) */
+    bool is_settling; /* from now on its worker alone touches the message */
+};
+
+/* What the threads share. All of it needs the lock. */
+static pthread_mutex_t lock = PTHREAD_MUTEX_INITIALIZER;
+static pthread_cond_t came = PTHREAD_COND_INITIALIZER, room = PTHREAD_COND_INITIALIZER;
+static struct {
+    struct job jobs[MOST_BATCH + MOST_WORKERS];
+    struct mailbox *oldest;
+    uint64_t waiting; /* how many jobs no worker has taken yet */
+    uint64_t events;  /* how often jobs came */
+    uint64_t outcomes[OUTCOMES], dropped, mailboxes;
+    bool is_stopping;
+} shared;
 
 static natsConnection *connection;
 static jsCtx *jets;
 static natsSubscription *subscription;
-static atomic_bool has_fault, is_closing;
-static atomic_uint alive; /* how many threads feed or work */
-static atomic_ulong has_run, acknowledged, failed, bad; /* how many jobs */
+static int file; /* of effects */
+static atomic_bool has_fault;
+/* One line. After FAIL the process stops. (All threads block the signal, and one waits for it.) */
+#define SAY(...) fprintf(stderr, "fleet: " __VA_ARGS__)
+#define FAIL(...) (SAY(__VA_ARGS__), atomic_store(&has_fault, true), kill(getpid(), SIGTERM))
+#define EXIT(status, ...) (SAY(__VA_ARGS__), exit(status))
 
-void say(bool is_fault, const char *format, ...) {
-    char line[512];
-    va_list list;
-    va_start(list, format);
-    vsnprintf(line, sizeof line, format, list);
-    va_end(list);
-    for (char *it = line; *it; it++)
-        *it = (unsigned char)*it < ' ' ? '?' : *it;
-    fprintf(stderr, "fleet: %s\n", line);
-    if (is_fault) {
-        atomic_store(&has_fault, true);
-        kill(getpid(), SIGTERM); /* (which all threads block, and main waits for) */
+/* Reads digits alone, and no number out of these bounds. */
+static bool is_number(const char *text, uint64_t least, uint64_t most, uint64_t *number) {
+    char *end;
+    errno = 0;
+    *number = strtoull(text, &end, 10);
+    return *text >= '0' && *text <= '9' && *end == '\0' && errno == 0 && *number >= least && *number <= most;
+}
+
+/* What a job does: PUT YOUR OWN HERE. This one's text is a number. Its effect is a row of a file, with the number, the
+ * process and the worker, written by one call, so that no two rows mix. */
+static enum outcome run(const char *text, uint64_t worker) {
+    uint64_t number;
+    if (!is_number(text, 0, UINT64_MAX, &number)) {
+        SAY("a job is no number, and is ended\n");
+        return BAD;
     }
+    if (rest > 0)
+        nats_Sleep((int64_t)rest);
+    if (dprintf(file, "%" PRIu64 " %d %" PRIu64 "\n", number, (int)getpid(), worker) > 0)
+        return DONE;
+    SAY("job %" PRIu64 " failed, and is given back: %s\n", number, strerror(errno));
+    return FAILED;
 }
 
-/* Workers. */
-
-static int64_t now(void) {
-    struct timespec it;
-    clock_gettime(CLOCK_MONOTONIC, &it);
-    return (int64_t)it.tv_sec * SECOND + it.tv_nsec / 1000000;
-}
-
-/* Acknowledges again and again, until the server says that it knows or the acknowledge time is over. */
-static void acknowledge(struct job *job) {
-    int64_t end = now() + (int64_t)ack * SECOND;
-    jsOptions patience;
-    natsStatus status = jsOptions_Init(&patience);
-    patience.Wait = SECOND;
-    while ((status = natsMsg_AckSync(job->message, &patience, NULL)) != NATS_OK && now() < end)
-        nats_Sleep(100);
-    if (status == NATS_OK)
-        atomic_fetch_add(&acknowledged, 1);
-    else
-        say(false, "a job ran, and may run again, since its acknowledgement is not confirmed: %s", natsStatus_GetText(status));
-}
-
-/* Tells the server what became of a job. */
-static void answer(struct job *job, enum outcome outcome) {
-    settle(job, outcome == DONE);
-    if (outcome == DONE) {
-        atomic_fetch_add(&has_run, 1);
-        acknowledge(job);
-        forget(job);
-    } else if (outcome == FAILED) {
-        atomic_fetch_add(&failed, 1);
-        natsMsg_NakWithDelay(job->message, SECOND, NULL);
+/* Finds a place for a message. Returns its job, or NULL: a message that the process has already is dropped. */
+static struct job *admit(natsMsg *message) {
+    struct job *place = NULL;
+    jsMsgMetaData *about = NULL;
+    bool is_held = false;
+    if (natsMsg_GetMetaData(&about, message) != NATS_OK)
+        FAIL("a message is not read\n");
+    pthread_mutex_lock(&lock);
+    for (struct job *job = shared.jobs; about && job < shared.jobs + batch + workers; job++) {
+        if (!job->message)
+            place = job;
+        else if (job->sequence == about->Sequence.Stream && job->stored == about->Timestamp)
+            is_held = true;
+    }
+    if (place && !is_held) {
+        *place = (struct job){message, about->Sequence.Stream, about->Timestamp, false};
+        shared.waiting++;
     } else {
-        atomic_fetch_add(&bad, 1);
-        natsMsg_Term(job->message, NULL);
+        place = NULL;
+        shared.dropped++;
+        natsMsg_Destroy(message);
     }
-    destroy(job);
+    pthread_mutex_unlock(&lock);
+    jsMsgMetaData_Destroy(about);
+    return place;
 }
 
-/* The last call of a thread. The last thread wakes main. */
-static void *leave(void) {
+/* Tells the server what became of a job. An acknowledgement is sent again and again, until the server says that it
+ * knows or the acknowledge time is over. The job is held meanwhile, and dropped if it comes again. */
+static void settle(struct job *job, enum outcome outcome) {
+    int64_t end = nats_Now() + (int64_t)ack * SECOND;
+    natsStatus status;
+    pthread_mutex_lock(&lock);
+    job->is_settling = true;
+    pthread_mutex_unlock(&lock);
+    do {
+        status = outcome == DONE  ? natsMsg_AckSync(job->message, NULL, NULL)
+                 : outcome == BAD ? natsMsg_Term(job->message, NULL)
+                                  : natsMsg_NakWithDelay(job->message, outcome == FAILED ? SECOND : 0, NULL);
+        if (status != NATS_OK)
+            nats_Sleep(100);
+    } while (status != NATS_OK && nats_Now() < end);
+    if (status != NATS_OK)
+        SAY("the server does not confirm the end of a job, which may run again: %s\n", natsStatus_GetText(status));
+    pthread_mutex_lock(&lock);
+    shared.outcomes[outcome]++;
+    natsMsg_Destroy(job->message);
+    job->message = NULL;
+    pthread_mutex_unlock(&lock);
+}
+
+#ifdef QUEUE /* in place of the mailboxes, to compare with */
+static struct job *queue[MOST_BATCH];
+static uint64_t first, last;
+
+static bool put(struct job *job) {
+    pthread_mutex_lock(&lock);
+    queue[last++ % MOST_BATCH] = job;
+    pthread_mutex_unlock(&lock);
+    return true;
+}
+
+static struct job *get(uint64_t worker) {
+    (void)worker;
+    return first < last ? queue[first++ % MOST_BATCH] : NULL;
+}
+
+static bool add_mailbox(void) {
+    return true;
+}
+
+static void end_mailboxes(bool all) {
+    while (all && first < last)
+        settle(get(0), LEFT);
+}
+#else
+/* A mailbox of a list. If it is full, the next is linked to it before its lane ends. So workers go on. */
+struct mailbox {
+    uint64_t number; /* greater than of those before */
+    hz_handle hub, producer, consumers[MOST_WORKERS];
+    uint64_t put, taken;
+    uint64_t inside; /* how many workers are in a poll of it */
+    struct mailbox *next;
+};
+
+static struct mailbox *newest; /* of the thread that feeds, as is its put */
+
+/* Says whether a call was done, after a line if not. */
+static bool is_done(uint32_t code, const char *call) {
+    if (code != HZ_DONE)
+        FAIL("%s returned the code %" PRIu32 "%s\n", call, code, code == HZ_NO_MEMORY ? " (no memory)" : "");
+    return code == HZ_DONE;
+}
+
+/* Makes a mailbox, and links it to the newest, which is full. (The end of the process frees what a fault leaves.) */
+static bool add_mailbox(void) {
+    static const uint8_t seed[32] = "any 32 bytes do";
+    hz_setup setup = {.producers = 1, .consumers = workers, .cells = cells, .pairs = 4, .last = true};
+    setup.table = workers > 4 ? HZ_MIDDLE : HZ_BITS;
+    struct mailbox *box = malloc(sizeof *box);
+    if (!box)
+        return is_done(HZ_NO_MEMORY, "malloc");
+    *box = (struct mailbox){.number = hz_next_id()}; /* (each handle is HZ_NONE) */
+    bool is_well = is_done(hz_mailbox_new(box->number, &setup, &box->hub), "hz_mailbox_new")
+                   && is_done(hz_producer_new(&box->hub, &box->producer), "hz_producer_new");
+    for (uint64_t w = 0; w < workers && is_well; w++)
+        is_well = is_done(hz_consumer_new(&box->hub, seed, w, &box->consumers[w]), "hz_consumer_new");
+    if (!is_well)
+        return false;
+    pthread_mutex_lock(&lock);
+    *(newest ? &newest->next : &shared.oldest) = box;
+    is_well = !newest || is_done(hz_finish(&newest->producer), "hz_finish");
+    newest = box;
+    shared.mailboxes++;
+    pthread_mutex_unlock(&lock);
+    return is_well;
+}
+
+/* Says whether the job was put. */
+static bool put(struct job *job) {
+    uint32_t code = hz_put(&newest->producer, (uintptr_t)job);
+    if (code == HZ_FULL && add_mailbox())
+        code = hz_put(&newest->producer, (uintptr_t)job);
+    newest->put += code == HZ_LINKED;
+    return code == HZ_LINKED || (code != HZ_FULL && is_done(code, "hz_put"));
+}
+
+/* The job that this worker gets, or NULL if there is none yet. The caller has the lock, which is let go in a poll. */
+static struct job *get(uint64_t worker) {
+    static _Thread_local uint64_t reached; /* the number of the first mailbox whose end this worker has not met */
+    uint64_t item = 0;
+    uint32_t code;
+    do {
+        struct mailbox *box = shared.oldest;
+        while (box->number < reached)
+            box = box->next;
+        box->inside++;
+        pthread_mutex_unlock(&lock);
+        do
+            code = hz_poll(&box->consumers[worker], 0, UINT64_MAX, &item);
+        while (code == HZ_LOST);
+        pthread_mutex_lock(&lock);
+        box->inside--;
+        box->taken += code == HZ_TOOK;
+        reached = box->number + (code == HZ_ENDED);
+    } while (code == HZ_ENDED);
+    if (code != HZ_TOOK && code != HZ_NOTHING)
+        is_done(code, "hz_poll");
+    return code == HZ_TOOK ? (struct job *)(uintptr_t)item : NULL;
+}
+
+/* Gathers a mailbox that no thread uses any more, and gives back what nobody took. Its report has to say what was
+ * counted here. */
+static void end_mailbox(struct mailbox *box) {
+    uint64_t items[MOST_BATCH], left = 0;
+    hz_handle report = HZ_NONE;
+    hz_missing missing;
+    hz_lane lane;
+    is_done(hz_take_back(&box->hub, &box->producer), "hz_take_back");
+    for (uint64_t w = 0; w < workers; w++)
+        is_done(hz_take_back(&box->hub, &box->consumers[w]), "hz_take_back");
+    if (!is_done(hz_gather(&box->hub, &report, &missing), "hz_gather")
+        || !is_done(hz_report_lane(&report, 0, &lane), "hz_report_lane")
+        || !is_done(hz_report_items(&report, 0, true, 0, items, MOST_BATCH, &left), "hz_report_items"))
+        return;
+    if (lane.put != box->put || lane.left != box->put - box->taken || lane.left != left || lane.ended != !!box->next)
+        FAIL("a report has %" PRIu64 " put and %" PRIu64 " left: not what was counted\n", lane.put, lane.left);
+    for (uint64_t i = 0; i < left; i++)
+        settle((struct job *)(uintptr_t)items[i], LEFT);
+    hz_free(&report);
+    free(box);
+}
+
+/* Ends each mailbox that is full and all of which was taken, or all mailboxes after the last take. */
+static void end_mailboxes(bool all) {
+    pthread_mutex_lock(&lock);
+    struct mailbox *box = shared.oldest;
+    while (box && (all || (box->next && box->inside == 0 && box->taken == box->put))) {
+        shared.oldest = box->next;
+        pthread_mutex_unlock(&lock);
+        end_mailbox(box);
+        pthread_mutex_lock(&lock);
+        box = shared.oldest;
+    }
+    pthread_mutex_unlock(&lock);
+}
+#endif
+
+/* Runs jobs up to the stop, and sleeps while there is none. */
+static void *work(void *number) {
+    uint64_t worker = (uintptr_t)number;
+    pthread_mutex_lock(&lock);
+    while (!shared.is_stopping) {
+        uint64_t seen = shared.events;
+        struct job *job = get(worker);
+        /* What came up to seen was put before the poll. So it was met, and only a further event has more. */
+        while (!job && seen == shared.events && !shared.is_stopping)
+            pthread_cond_wait(&came, &lock);
+        if (!job)
+            continue;
+        shared.waiting--;
+        pthread_cond_signal(&room);
+        pthread_mutex_unlock(&lock);
+        settle(job, run(natsMsg_GetData(job->message), worker));
+        pthread_mutex_lock(&lock);
+    }
+    pthread_mutex_unlock(&lock);
     nats_ReleaseThreadMemory();
-    if (atomic_fetch_sub(&alive, 1) == 1)
-        kill(getpid(), SIGTERM);
     return NULL;
 }
 
-static void *work(void *at) {
-    uint64_t worker = *(uint64_t *)at;
-    struct job *job;
-    while ((job = box_take(worker))) {
-        no_longer_waits();
-        answer(job, run_job(natsMsg_GetData(job->message), (size_t)natsMsg_GetDataLength(job->message), worker));
+/* Tells the server of each job that is not settled that it is in progress, and looks whether the stream is still there.
+ * Waits for signals to stop. */
+static void *watch(void *signals) {
+    const struct timespec quarter = {(time_t)(ack / 4), (long)(ack % 4) * 250 * MILLISECOND};
+    for (;;) {
+        bool is_stop = sigtimedwait(signals, NULL, &quarter) > 0;
+        jsConsumerInfo *info = NULL;
+        jsErrCode error = 0;
+        pthread_mutex_lock(&lock);
+        shared.is_stopping = shared.is_stopping || is_stop;
+        pthread_cond_broadcast(&came);
+        pthread_cond_broadcast(&room);
+        for (struct job *job = shared.jobs; job < shared.jobs + batch + workers; job++)
+            if (job->message && !job->is_settling)
+                natsMsg_InProgress(job->message, NULL); /* (if it fails, the next one makes up for it) */
+        pthread_mutex_unlock(&lock);
+        js_GetConsumerInfo(&info, jets, stream, CONSUMER, NULL, &error);
+        jsConsumerInfo_Destroy(info);
+        if (error == JSStreamNotFoundErr || error == JSConsumerNotFoundErr)
+            FAIL("the stream %s or its consumer %s is gone\n", stream, CONSUMER);
     }
-    return leave();
+    return NULL;
 }
 
-/* The feeder. */
-
-static bool is_connected(void) {
-    return natsConnection_Status(connection) == NATS_CONN_STATUS_CONNECTED;
-}
-
-/* Fetches what there is, at most so many, and waits for the first. While the server is away it asks for nothing: such
- * requests would be kept, and sent when it is back. After some empty ones it looks whether the stream is still there. */
-static void fetch(natsMsgList *list, uint64_t most) {
-    static unsigned empty;
+/* Feeds up to the stop. It fetches when at most half of the jobs that may wait do, and waits for the first. */
+static void feed(void) {
     jsFetchRequest request;
-    natsStatus status = jsFetchRequest_Init(&request);
-    request.Batch = (int)most;
-    request.Expires = NANOSECONDS / SECOND * FETCH;
+    jsFetchRequest_Init(&request);
+    request.Expires = FETCH * MILLISECOND;
     request.NoWait = true;
-    if (is_connected())
-        status = natsSubscription_FetchRequest(list, subscription, &request);
-    else
-        nats_Sleep(100);
-    empty = status == NATS_TIMEOUT ? empty + 1 : 0;
-    if (status == NATS_OK || !is_connected() || (status == NATS_TIMEOUT && empty % LOOK != 0))
-        return;
-    jsConsumerInfo *info = NULL;
-    jsErrCode error = 0;
-    natsStatus there = js_GetConsumerInfo(&info, jets, stream, CONSUMER, NULL, &error);
-    if (error == JSStreamNotFoundErr || error == JSConsumerNotFoundErr)
-        say(true, "the stream %s or its consumer %s is gone", stream, CONSUMER);
-    else if (status != NATS_TIMEOUT)
-        say(status == NATS_NO_MEMORY || there == NATS_NO_MEMORY, "no jobs are fetched: %s", natsStatus_GetText(status));
-    jsConsumerInfo_Destroy(info);
-    if (status != NATS_TIMEOUT)
-        nats_Sleep(FETCH);
-}
-
-static void *feed(void *at) {
-    (void)at;
-    void *jobs[MOST_BATCH];
-    uint64_t most;
-    while ((most = wait_for_room(batch)) > 0) {
+    for (;;) {
         natsMsgList list = {NULL, 0};
-        fetch(&list, most);
-        size_t new = 0;
+        pthread_mutex_lock(&lock);
+        shared.events++; /* (what the turn before put) */
+        pthread_cond_broadcast(&came);
+        while (!shared.is_stopping && shared.waiting > batch / 2)
+            pthread_cond_wait(&room, &lock);
+        request.Batch = shared.is_stopping ? 0 : (int)(batch - shared.waiting);
+        pthread_mutex_unlock(&lock);
+        if (request.Batch == 0)
+            return;
+        /* While the server is away nothing is asked for: such requests would be kept, and sent when it is back. */
+        bool is_there = natsConnection_Status(connection) == NATS_CONN_STATUS_CONNECTED;
+        natsStatus status = is_there ? natsSubscription_FetchRequest(&list, subscription, &request) : NATS_NOT_FOUND;
+        if (status != NATS_OK && status != NATS_TIMEOUT)
+            nats_Sleep(100);
+        if (status == NATS_NO_MEMORY)
+            FAIL("no jobs are fetched: %s\n", natsStatus_GetText(status));
         for (int i = 0; i < list.Count; i++) {
-            jobs[new] = admit(list.Msgs[i]);
+            struct job *job = admit(list.Msgs[i]);
             list.Msgs[i] = NULL;
-            new += jobs[new] != NULL;
+            if (job && (atomic_load(&has_fault) || !put(job)))
+                settle(job, LEFT);
         }
         natsMsgList_Destroy(&list);
-        size_t put = new > 0 ? box_put(jobs, new) : 0;
-        if (put < new)
-            say(true, "no memory for a further mailbox");
-        while (put < new)
-            give_back(jobs[put++]);
+        end_mailboxes(false);
     }
-    return leave();
 }
 
-/* The server. */
-
-static void on_lost(natsConnection *it, void *closure) {
-    (void)it, (void)closure;
-    if (!atomic_load(&is_closing))
-        say(false, "the server is away, and is tried again and again");
+/* Says what happens to the connection. If the server refuses it later, it is closed. */
+static void tell(natsConnection *it, void *what) {
+    if (natsConnection_IsClosed(it))
+        FAIL("the server %s\n", (char *)what);
+    else
+        SAY("the server %s\n", (char *)what);
 }
 
-static void on_back(natsConnection *it, void *closure) {
-    (void)it, (void)closure;
-    say(false, "the server is back");
-}
-
-static void on_closed(natsConnection *it, void *closure) {
-    (void)closure;
-    const char *why = NULL;
-    natsStatus status = natsConnection_GetLastError(it, &why);
-    if (!atomic_load(&is_closing))
-        say(true, "the server refuses this process: %s", why && *why ? why : natsStatus_GetText(status));
-}
-
-/* Connects. A connection that is lost later is made again, for as long as the process lives. */
-static natsStatus connect_to_server(void) {
+/* Connects for as long as the process lives. Joins the consumer that the fleet shares: the first process makes it. */
+static natsStatus join_fleet(void) {
+    jsSubOptions fleet;
+    jsSubOptions_Init(&fleet);
+    fleet.Stream = stream;
+    fleet.Consumer = fleet.Config.Durable = CONSUMER;
+    fleet.Config.AckPolicy = js_AckExplicit;
+    fleet.Config.AckWait = (int64_t)ack * SECOND * MILLISECOND;
+    fleet.Config.MaxAckPending = 1000000;
     natsOptions *to = NULL;
+    jsOptions patience;
+    jsOptions_Init(&patience);
+    patience.Wait = 2 * SECOND;
     natsStatus status = natsOptions_Create(&to);
     status = status ? status : natsOptions_SetURL(to, server);
     status = status ? status : natsOptions_SetMaxReconnect(to, INT32_MAX);
     status = status ? status : natsOptions_SetReconnectWait(to, FETCH);
     status = status ? status : natsOptions_SetPingInterval(to, 5 * SECOND);
     status = status ? status : natsOptions_SetWriteDeadline(to, 5 * SECOND);
-    status = status ? status : natsOptions_SetFailRequestsOnDisconnect(to, true);
-    status = status ? status : natsOptions_SetDisconnectedCB(to, on_lost, NULL);
-    status = status ? status : natsOptions_SetReconnectedCB(to, on_back, NULL);
-    status = status ? status : natsOptions_SetClosedCB(to, on_closed, NULL);
+    status = status ? status : natsOptions_SetDisconnectedCB(to, tell, "is away, and is tried again and again");
+    status = status ? status : natsOptions_SetReconnectedCB(to, tell, "is back");
+    status = status ? status : natsOptions_SetClosedCB(to, tell, "refuses this process");
     status = status ? status : natsConnection_Connect(&connection, to);
-    status = status ? status : natsConnection_JetStream(&jets, connection, NULL);
+    status = status ? status : natsConnection_JetStream(&jets, connection, &patience);
+    status = status ? status : js_PullSubscribe(&subscription, jets, NULL, NULL, NULL, &fleet, NULL);
+    if (status == NATS_NOT_FOUND && js_AddConsumer(NULL, jets, stream, &fleet.Config, NULL, NULL) == NATS_OK)
+        status = js_PullSubscribe(&subscription, jets, NULL, NULL, NULL, &fleet, NULL);
     natsOptions_Destroy(to);
     return status;
 }
 
-/* Finds the consumer that all processes of the fleet share, and its acknowledge time. The first process makes it. */
-static natsStatus find_consumer(int64_t *wait) {
-    jsConsumerInfo *info = NULL;
-    natsStatus status = js_GetConsumerInfo(&info, jets, stream, CONSUMER, NULL, NULL);
-    if (status == NATS_NOT_FOUND) {
-        jsConsumerConfig config;
-        status = jsConsumerConfig_Init(&config);
-        config.Durable = CONSUMER;
-        config.AckPolicy = js_AckExplicit;
-        config.AckWait = (int64_t)ack * NANOSECONDS;
-        config.MaxAckPending = 1000000;
-        status = js_AddConsumer(&info, jets, stream, &config, NULL, NULL);
-    }
-    *wait = status == NATS_OK ? info->Config->AckWait / NANOSECONDS : 0;
-    jsConsumerInfo_Destroy(info);
-    return status;
-}
-
-/* Makes what the threads need. Says what is wrong if it cannot. */
-static bool prepare(void) {
-    jsStreamInfo *info = NULL;
-    int64_t wait = 0;
-    natsStatus status = connect_to_server();
-    if (status != NATS_OK) {
-        const char *why = nats_GetLastError(NULL), *place = why ? strstr(why, "): ") : NULL;
-        say(false, "no connection to %s: %s", server, place ? place + 3 : natsStatus_GetText(status));
-        return false;
-    }
-    status = js_GetStreamInfo(&info, jets, stream, NULL, NULL);
-    jsStreamInfo_Destroy(info);
-    if (status != NATS_OK) {
-        say(false, "there is no stream %s: %s", stream, natsStatus_GetText(status));
-        return false;
-    }
-    jsSubOptions to;
-    status = find_consumer(&wait);
-    status = status ? status : jsSubOptions_Init(&to);
-    to.Stream = stream;
-    to.Consumer = CONSUMER;
-    status = status ? status : js_PullSubscribe(&subscription, jets, NULL, NULL, NULL, &to, NULL);
-    if (status != NATS_OK) {
-        say(false, "the stream %s has no consumer %s: %s", stream, CONSUMER, natsStatus_GetText(status));
-        return false;
-    }
-    if (wait != (int64_t)ack) {
-        say(false, "the fleet of the stream %s has another acknowledge time: say --ack %" PRId64, stream, wait);
-        return false;
-    }
-    bool is_open = open_jobs(effects, rest), is_well = is_open && box_open(workers, cells);
-    if (is_open && !is_well)
-        say(false, "no memory for a mailbox of %" PRIu64 " cells and %" PRIu64 " workers", cells, workers);
-    return is_well;
-}
-
-/* The process. */
-
-/* Runs the threads up to a signal. Returns after the last has ended. */
-static void run_threads(const sigset_t *signals) {
-    pthread_t threads[MOST_WORKERS + 1];
-    uint64_t numbers[MOST_WORKERS + 1], count = 0;
-    int error = 0;
-    atomic_store(&alive, (unsigned)workers + 1);
-    for (; count <= workers && !error; count += !error) {
-        numbers[count] = count;
-        error = pthread_create(&threads[count], NULL, count < workers ? work : feed, &numbers[count]);
-    }
-    if (error) {
-        say(true, "a thread does not start: %s", strerror(error));
-        atomic_fetch_sub(&alive, (unsigned)(workers + 1 - count));
-    }
-    const struct timespec quarter = {(time_t)(ack / 4), (long)(ack % 4 * 250000000)};
-    while (atomic_load(&alive) > 0) {
-        if (sigtimedwait(signals, NULL, &quarter) > 0) {
-            stop_held();
-            box_stop();
-        }
-        keep();
-    }
-    for (uint64_t i = 0; i < count; i++)
-        pthread_join(threads[i], NULL);
-}
-
-/* Gives back what nobody took, and prints what became of all jobs. */
-static void end(void) {
-    uint64_t mailboxes = box_close(give_back);
-    struct sums sums = sums_of_held();
-    if (sums.held > 0)
-        say(true, "%" PRIu64 " jobs are not given back, and come again after %" PRIu64 " seconds", sums.held, ack);
-    if (natsConnection_FlushTimeout(connection, 5 * SECOND) != NATS_OK)
-        say(false, "the server is away: what is given back comes again after %" PRIu64 " seconds", ack);
-    printf("process %d: ran %lu, acknowledged %lu, failed %lu, bad %lu, ", (int)getpid(), has_run, acknowledged, failed, bad);
-    printf("given back %" PRIu64 ", dropped %" PRIu64 ", mailboxes %" PRIu64 "\n", sums.given_back, sums.dropped, mailboxes);
-}
-
-/* Reads the options. Returns the status to end with, or -1 to go on. */
-static int read_words(int count, char **words) {
+static void read_options(int count, char **words) {
     for (int i = 1; i < count; i += 2) {
         const struct option *it = options;
-        if (!strcmp(words[i], "--help")) {
-            printf("fleet runs the jobs of a stream, up to SIGTERM or SIGINT.\n");
-            for (; it < options_end; it++)
-                if (it->text)
-                    printf("  %s %s: %s if not given\n", it->name, it->help, *it->text);
-                else
-                    printf("  %s %s: %" PRIu64 " if not given\n", it->name, it->help, *it->number);
-            return 0;
-        }
-        while (it < options_end && strcmp(it->name, words[i]))
+        const char *value = words[i + 1] ? words[i + 1] : "";
+        while (it->name && strcmp(it->name, words[i]))
             it++;
-        if (it == options_end || i + 1 == count) {
-            say(false, "%s: %s", words[i], it == options_end ? "there is no such option, see --help" : "a value is missing");
-            return 2;
-        }
-        const char *value = words[i + 1];
-        if (it->text)
+        if (it->text && *value)
             *it->text = value;
-        else if (!is_number(value, strlen(value), it->most, it->number) || *it->number < it->least) {
-            say(false, "%s %s: give a number from %" PRIu64 " to %" PRIu64, words[i], value, it->least, it->most);
-            return 2;
-        }
+        else if (!it->number || !is_number(value, it->least, it->most, it->number))
+            EXIT(2, "%s %s: give %s\n", words[i], value, it->help);
     }
-    return -1;
 }
 
 int main(int count, char **words) {
+    pthread_t watcher, threads[MOST_WORKERS];
     sigset_t signals;
     sigemptyset(&signals);
     sigaddset(&signals, SIGTERM);
     sigaddset(&signals, SIGINT);
     pthread_sigmask(SIG_BLOCK, &signals, NULL); /* (before any thread starts, so that all block them) */
-    int status = read_words(count, words);
-    if (status >= 0)
-        return status;
-    bool is_ready = prepare();
-    if (is_ready) {
-        run_threads(&signals);
-        end();
-    }
-    atomic_store(&is_closing, true);
-    natsSubscription_Destroy(subscription);
-    jsCtx_Destroy(jets);
-    natsConnection_Destroy(connection);
-    nats_CloseAndWait(0);
-    return is_ready && !atomic_load(&has_fault) ? 0 : 1;
+    read_options(count, words);
+    file = open(effects, O_WRONLY | O_CREAT | O_APPEND | O_CLOEXEC, 0666);
+    if (file < 0)
+        EXIT(1, "%s: %s\n", effects, strerror(errno));
+    natsStatus status = join_fleet();
+    const char *why = nats_GetLastError(NULL) ? nats_GetLastError(NULL) : natsStatus_GetText(status);
+    if (status != NATS_OK)
+        EXIT(1, "the %s %s: %s\n", jets ? "stream" : "server", jets ? stream : server, why);
+    if (!add_mailbox())
+        return 1;
+    int error = pthread_create(&watcher, NULL, watch, &signals);
+    for (uint64_t w = 0; w < workers && !error; w++)
+        error = pthread_create(&threads[w], NULL, work, (void *)(uintptr_t)w);
+    if (error)
+        EXIT(1, "a thread does not start: %s\n", strerror(error));
+    feed();
+    for (uint64_t w = 0; w < workers; w++)
+        pthread_join(threads[w], NULL);
+    end_mailboxes(true);
+    natsConnection_FlushTimeout(connection, 5 * SECOND); /* (the end of the process closes it) */
+    printf("process %d: ran %" PRIu64 ", ", (int)getpid(), shared.outcomes[DONE]);
+    printf("failed %" PRIu64 ", bad %" PRIu64 ", ", shared.outcomes[FAILED], shared.outcomes[BAD]);
+    printf("given back %" PRIu64 ", ", shared.outcomes[LEFT]);
+    printf("dropped %" PRIu64 ", mailboxes %" PRIu64 "\n", shared.dropped, shared.mailboxes);
+    return atomic_load(&has_fault);
 }

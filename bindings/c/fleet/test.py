@@ -1,5 +1,5 @@
 #!/usr/bin/env python3
-"""Tries the fleet with a real server, on 127.0.0.1 and in a temporary folder. What ran is read from the files of effects.
+"""Tries the fleet with a real server, in a temporary folder. What ran is read from the files of effects.
 
     test.py [JOBS]      # how many jobs the long run has, by default 20000
 """
@@ -28,7 +28,7 @@ def expect(so, what):
         raise SystemExit(f"fleet: FAILED: {what}")
 
 
-def wait(so, what, seconds=60):
+def wait(so, what, seconds=120):
     end = time.monotonic() + seconds
     while not so():
         expect(time.monotonic() < end, f"{what}: not after {seconds} seconds")
@@ -40,11 +40,12 @@ def start(*words, **more):
     return started[-1]
 
 
-def end(process, number=signal.SIGTERM):
-    """Ends it by a signal. Returns its status and what it said."""
+def end(process, number=signal.SIGTERM, status=0):
+    """Ends it by a signal (0 sends none), and looks at its status. Returns what it said."""
     process.send_signal(number)
-    out, said = process.communicate(timeout=60)
-    return process.returncode, f"{out}{said}"
+    said = "".join(process.communicate(timeout=60))
+    expect(process.returncode == status, f"a process ended with {process.returncode}, not {status}: {said}")
+    return said
 
 
 class Server:
@@ -53,34 +54,36 @@ class Server:
     def __init__(self):
         with contextlib.ExitStack() as sockets:
             free = [sockets.enter_context(socket.create_server(("127.0.0.1", 0))) for _ in range(2)]
-            self.port, self.page = (it.getsockname()[1] for it in free)
-        self.url = f"nats://127.0.0.1:{self.port}"
+            self.ports = [it.getsockname()[1] for it in free]
+        self.url = f"nats://127.0.0.1:{self.ports[0]}"
         self.start()
 
     def is_there(self):
         with socket.socket() as one, socket.socket() as other:
-            return not (one.connect_ex(("127.0.0.1", self.port)) or other.connect_ex(("127.0.0.1", self.page)))
+            return not any(it.connect_ex(("127.0.0.1", port)) for it, port in zip((one, other), self.ports))
 
     def start(self):
-        self.process = start("nats-server", "-a", "127.0.0.1", "-p", self.port, "-m", self.page, "-js", "-sd", "store", "-l", "log")
+        port, page = self.ports
+        self.process = start("nats-server", "-a", "127.0.0.1", "-p", port, "-m", page, "-js", "-sd", "store", "-l", "log")
         wait(self.is_there, "the server listens")
 
     def is_empty(self, stream):
-        with urllib.request.urlopen(f"http://127.0.0.1:{self.page}/jsz?streams=1") as page:
+        with urllib.request.urlopen(f"http://127.0.0.1:{self.ports[1]}/jsz?streams=1") as page:
             streams = json.load(page)["account_details"][0]["stream_detail"]
         return [it["state"]["messages"] for it in streams if it["name"] == stream] == [0]
 
-    def wait_empty(self, stream):
-        wait(lambda: self.is_empty(stream), f"the stream {stream} is empty", 120)
+    def wait_empty(self, stream, seconds=120):
+        wait(lambda: self.is_empty(stream), f"the stream {stream} is empty", seconds)
 
     def fill(self, stream, lines):
         text = "".join(f"{it}\n" for it in lines)
         subprocess.run(["./fill", self.url, stream], input=text, text=True, check=True, stdout=subprocess.DEVNULL)
 
     def fleet(self, stream, *more, ack=30, memory=None):
-        words = ("./fleet", "--server", self.url, "--stream", stream, "--ack", ack, "--workers", WORKERS, "--batch", BATCH)
+        words = ["./fleet", "--server", self.url, "--stream", stream, "--ack", ack, "--workers", WORKERS, "--batch", BATCH]
         limit = memory and (lambda: resource.setrlimit(memory[0], (memory[1] << 20,) * 2))
-        return start(*words, "--effects", stream, *more, preexec_fn=limit, stdout=subprocess.PIPE, stderr=subprocess.PIPE)
+        pipe = subprocess.PIPE
+        return start(*words, "--effects", stream, *more, preexec_fn=limit, stdout=pipe, stderr=pipe)
 
 
 def rows(stream):
@@ -92,7 +95,7 @@ def rows(stream):
 
 
 def wait_rows(stream, count):
-    wait(lambda: len(rows(stream)) >= count, f"{stream}: {count} jobs ran", 120)
+    wait(lambda: len(rows(stream)) >= count, f"{stream}: {count} jobs ran")
 
 
 def expect_each(stream, jobs, most_again=0):
@@ -106,59 +109,53 @@ def expect_each(stream, jobs, most_again=0):
 
 
 def long_run(server):
-    """Of three processes one is killed, and started again. Then the server is restarted. The mailboxes are small and large."""
-    jobs = range(LONG)
-    server.fill("LONG", jobs)
+    """Of three processes one is killed and started again. Then the server is restarted. Mailboxes are small and large."""
+    server.fill("LONG", range(LONG))
     began = time.monotonic()
-    fleet = [server.fleet("LONG", "--cells", cells, ack=3) for cells in (50, 1000, 4096)]
+    fleet = [server.fleet("LONG", "--cells", cells, ack=5) for cells in (50, 1000, 4096)]
     wait_rows("LONG", LONG // 3)
-    end(fleet[0], signal.SIGKILL)
-    fleet[0] = server.fleet("LONG", ack=3)
+    end(fleet[0], signal.SIGKILL, -signal.SIGKILL)
+    fleet[0] = server.fleet("LONG", ack=5)
     wait_rows("LONG", LONG * 2 // 3)
-    end(server.process)
+    end_server(server)
     server.start()
     server.wait_empty("LONG")
     took = time.monotonic() - began
-    for status, said in map(end, fleet):
-        expect(status == 0 and "the server is back" in said, f"a process ended with {status}: {said}")
-    return f": {LONG} jobs in {took:.0f} s, {expect_each('LONG', jobs, 4 * HELD)} ran again in another process"
+    for process in fleet:
+        said = end(process)
+        expect("the server is back" in said, said)
+    return f": {LONG} jobs in {took:.0f} s, {expect_each('LONG', range(LONG), 4 * HELD)} ran again in another process"
+
+
+def end_server(server):
+    server.process.terminate()
+    server.process.wait(60)
 
 
 def away(server):
-    """The server is killed, and away for ten seconds. It forgets acknowledgements, and the acknowledge time runs out. The
-    one process runs nothing twice."""
+    """The server is away for ten seconds."""
     server.fill("AWAY", range(6000))
-    process = server.fleet("AWAY", ack=5)
+    process = server.fleet("AWAY")
     wait_rows("AWAY", 3000)
-    end(server.process, signal.SIGKILL)
+    end_server(server)
     time.sleep(10)
     server.start()
-    wait(lambda: len({job for job, _ in rows("AWAY")}) == 6000, "all jobs ran")
-    status, said = end(process)
-    expect(status == 0 and "the server is away" in said and "the server is back" in said, said)
+    server.wait_empty("AWAY")
+    said = end(process)
+    expect("the server is away" in said and "the server is back" in said, said)
     expect_each("AWAY", range(6000))
 
 
-def long_jobs(server):
-    """Jobs that run and wait for longer than the acknowledge time run once."""
-    server.fill("SLOW", range(16))
-    fleet = [server.fleet("SLOW", "--batch", 6, "--pause", 1300, ack=1) for _ in range(2)]
-    server.wait_empty("SLOW")
-    expect([end(it)[0] for it in fleet] == [0, 0], "a process ended badly")
-    expect_each("SLOW", range(16))
-
-
 def handed_out_again(server):
-    """A process is stopped for longer than the acknowledge time. What it is handed again it drops, since it has it."""
+    """Long jobs run once, also if a process is stopped for so long that it is handed out again what it has."""
     server.fill("AGAIN", range(40))
-    process = server.fleet("AGAIN", "--batch", 20, "--pause", 200, ack=1)
+    process = server.fleet("AGAIN", "--batch", 20, "--pause", 1300, ack=1)
     wait_rows("AGAIN", 4)
     process.send_signal(signal.SIGSTOP)
     time.sleep(2.5)
     process.send_signal(signal.SIGCONT)
     server.wait_empty("AGAIN")
-    status, said = end(process)
-    expect(status == 0 and "dropped 0" not in said, f"nothing was handed out again: {said}")
+    expect("dropped 0" not in end(process), "nothing was handed out again")
     expect_each("AGAIN", range(40))
 
 
@@ -167,45 +164,45 @@ def stop_in_the_middle(server):
     server.fill("STOP", range(600))
     full = server.fleet("STOP", "--effects", "/dev/full")
     wait(lambda: "is given back" in full.stderr.readline(), "a job failed")
-    expect(end(full)[0] == 0, "the first ended badly")
+    end(full)
     slow = server.fleet("STOP", "--pause", 20)
     wait_rows("STOP", 50)
-    expect(end(slow)[0] == 0 and len(rows("STOP")) < 600, "the second ended badly, or too late")
+    end(slow)
+    expect(len(rows("STOP")) < 600, "it ended too late")
     last = server.fleet("STOP")
-    wait(lambda: server.is_empty("STOP"), "the stream is empty", 10)
-    expect(end(last)[0] == 0, "the third ended badly")
+    server.wait_empty("STOP", 10)
+    end(last)
     expect_each("STOP", range(600))
 
 
 def bad_jobs(server):
-    bad = ["banana", "-1", "1.5", "", "18446744073709551616", "x" * 900, "\x1b[1m"]
+    bad = ["banana", "-1", "+1", " 1", "1.5", "", "18446744073709551616", "x" * 900, "\x1b[1m"]
     server.fill("BAD", [7, *bad, 8])
     process = server.fleet("BAD")
     server.wait_empty("BAD")
-    status, said = end(process)
-    expect(status == 0 and said.count("a job is no number") == len(bad) and "\x1b" not in said, said)
+    said = end(process)
+    expect(said.count("a job is no number") == len(bad) and f"bad {len(bad)}," in said, said)
     expect_each("BAD", (7, 8))
 
 
 def refusals(server):
     """Each bad input and fault has one line on standard error, and a status. So has too little memory."""
     cases = [
-        (1, "no connection to", "--server", "nats://127.0.0.1:1"),
-        (1, "no connection to", "--server", "nonsense:"),
-        (1, "there is no stream NONE", "--stream", "NONE"),
-        (1, "say --ack 30", "--ack", 5),
+        (1, "No server available", "--server", "nats://127.0.0.1:1"),
+        (1, "No server available", "--server", "nonsense:"),
+        (1, "stream not found", "--stream", "NONE"),
+        (1, "consumer's value is 30000000000", "--ack", 5),
         (1, "No such file or directory", "--effects", "no/folder"),
-        (2, "no such option", "--colour", "red"),
-        (2, "a value is missing", "--batch"),
-        *((2, "give a number", "--workers", it) for it in ("0", "65", "many", "-1", "", "99999999999999999999")),
+        (2, "give --server, ", "--colour", "red"),
+        (2, "give 1 to 1024", "--batch"),
+        *((2, "give 1 to 64", "--workers", it) for it in ("0", "65", "many", "-1", "", "99999999999999999999")),
     ]
     cases = [(*it, None) for it in cases]
     cases += [(1, "fleet: ", "--cells", 200000, (resource.RLIMIT_AS, it)) for it in (24, 40, 64)]
     cases += [(1, "fleet: ", "--cells", 200000, (resource.RLIMIT_DATA, it)) for it in (2, 16, 64)]
     for status, line, *words, memory in cases:
-        process = server.fleet("STOP", *words, memory=memory)
-        said = process.communicate(timeout=30)[1]
-        expect(process.returncode == status and line in said and said.count("\n") == 1, f"{words}: {process.returncode}: {said}")
+        said = end(server.fleet("STOP", *words, memory=memory), 0, status)
+        expect(line in said and said.count("\n") == 1, f"{words}: {said}")
 
 
 def memory_runs_out(server):
@@ -214,27 +211,25 @@ def memory_runs_out(server):
     process = server.fleet("LACK", "--cells", 4000, "--pause", 1)
     wait_rows("LACK", 1)
     resource.prlimit(process.pid, resource.RLIMIT_DATA, (1 << 20, 1 << 20))
-    said = process.communicate(timeout=30)[1]
-    status = process.returncode
-    expect(status == 1 and "no memory" in said.lower(), f"{status}: {said}")
+    said = end(process, 0, 1)
+    expect("no memory" in said.lower(), said)
     process = server.fleet("LACK")
     server.wait_empty("LACK")
-    expect(end(process)[0] == 0, "the next ended badly")
+    end(process)
     expect_each("LACK", range(9000))
 
 
 def gone(server):
     """The stream is deleted under a running process, by a request of the server's own protocol."""
     server.fill("GONE", range(4))
-    process = server.fleet("GONE")
+    process = server.fleet("GONE", ack=2)
     server.wait_empty("GONE")
-    with socket.create_connection(("127.0.0.1", server.port)) as it:
+    with socket.create_connection(("127.0.0.1", server.ports[0])) as it:
         it.sendall(b"CONNECT {}\r\nPUB $JS.API.STREAM.DELETE.GONE 0\r\n\r\n")
-        said = process.communicate(timeout=30)[1]
-    expect(process.returncode == 1 and said.endswith("fleet: the stream GONE or its consumer fleet is gone\n"), said)
+        expect("the stream GONE or its consumer fleet is gone" in end(process, 0, 1), "it is not noticed")
 
 
-PARTS = (long_run, away, long_jobs, handed_out_again, stop_in_the_middle, bad_jobs, refusals, memory_runs_out, gone)
+PARTS = (long_run, away, handed_out_again, stop_in_the_middle, bad_jobs, refusals, memory_runs_out, gone)
 
 
 def main():
