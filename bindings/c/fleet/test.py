@@ -1,9 +1,5 @@
 #!/usr/bin/env python3
-"""Tries the fleet with a real server, in a temporary folder. What ran is read from the files of effects.
-
-    test.py [JOBS]      # how many jobs the long run has, by default 20000
-"""
-import contextlib
+"""Tries the fleet with a real server. What ran is read from the files of effects. test.py [JOBS OF THE LONG RUN]"""
 import json
 import os
 import resource
@@ -16,22 +12,18 @@ import tempfile
 import time
 import urllib.request
 
-HERE = os.path.dirname(os.path.abspath(__file__))
-WORKERS, BATCH = 4, 64
-HELD = WORKERS + BATCH  # what a process holds at most
 LONG = int(sys.argv[1]) if sys.argv[1:] else 20000
-started = []  # each process, to be killed at the end
+with socket.create_server(("127.0.0.1", 0)) as one, socket.create_server(("127.0.0.1", 0)) as other:
+    PORT, PAGE = one.getsockname()[1], other.getsockname()[1]
+URL = f"nats://127.0.0.1:{PORT}"
+HELD = 4 + 64  # what a process holds at most: a job of each worker, and a batch that waits
+started = []  # each process, the server first
 
 
-def expect(so, what):
-    if not so:
-        raise SystemExit(f"fleet: FAILED: {what}")
-
-
-def wait(so, what, seconds=120):
+def wait(so, seconds=120):
     end = time.monotonic() + seconds
     while not so():
-        expect(time.monotonic() < end, f"{what}: not after {seconds} seconds")
+        assert time.monotonic() < end, f"not after {seconds} seconds"
         time.sleep(0.02)
 
 
@@ -43,213 +35,142 @@ def start(*words, **more):
 def end(process, number=signal.SIGTERM, status=0):
     """Ends it by a signal (0 sends none), and looks at its status. Returns what it said."""
     process.send_signal(number)
-    said = "".join(process.communicate(timeout=60))
-    expect(process.returncode == status, f"a process ended with {process.returncode}, not {status}: {said}")
+    said = "".join(filter(None, process.communicate(timeout=60)))
+    assert process.returncode == status, f"a process ended with {process.returncode}, not {status}: {said}"
     return said
 
 
-class Server:
-    """A NATS server that keeps streams in a folder."""
+def fill(stream, lines, check=True):
+    text = "".join(f"{it}\n" for it in lines)
+    return subprocess.run(["./fill", URL, stream], input=text, text=True, check=check, capture_output=True).returncode
 
-    def __init__(self):
-        with contextlib.ExitStack() as sockets:
-            free = [sockets.enter_context(socket.create_server(("127.0.0.1", 0))) for _ in range(2)]
-            self.ports = [it.getsockname()[1] for it in free]
-        self.url = f"nats://127.0.0.1:{self.ports[0]}"
-        self.start()
 
-    def is_there(self):
-        with socket.socket() as one, socket.socket() as other:
-            return not any(it.connect_ex(("127.0.0.1", port)) for it, port in zip((one, other), self.ports))
+def start_server():
+    start("nats-server", "-a", "127.0.0.1", "-p", PORT, "-m", PAGE, "-js", "-sd", "store", "-l", "log")
+    wait(lambda: fill("READY", [1], check=False) == 0)
 
-    def start(self):
-        port, page = self.ports
-        self.process = start("nats-server", "-a", "127.0.0.1", "-p", port, "-m", page, "-js", "-sd", "store", "-l", "log")
-        wait(self.is_there, "the server listens")
 
-    def is_empty(self, stream):
-        with urllib.request.urlopen(f"http://127.0.0.1:{self.ports[1]}/jsz?streams=1") as page:
-            streams = json.load(page)["account_details"][0]["stream_detail"]
-        return [it["state"]["messages"] for it in streams if it["name"] == stream] == [0]
+def fleet(stream, *more, ack=30, limit=None):
+    words = ("./fleet", "--server", URL, "--stream", stream, "--ack", ack, "--effects", stream, *more)
+    return start(*words, preexec_fn=limit, stdout=subprocess.PIPE, stderr=subprocess.PIPE)
 
-    def wait_empty(self, stream, seconds=120):
-        wait(lambda: self.is_empty(stream), f"the stream {stream} is empty", seconds)
 
-    def fill(self, stream, lines):
-        text = "".join(f"{it}\n" for it in lines)
-        subprocess.run(["./fill", self.url, stream], input=text, text=True, check=True, stdout=subprocess.DEVNULL)
-
-    def fleet(self, stream, *more, ack=30, memory=None):
-        words = ["./fleet", "--server", self.url, "--stream", stream, "--ack", ack, "--workers", WORKERS, "--batch", BATCH]
-        limit = memory and (lambda: resource.setrlimit(memory[0], (memory[1] << 20,) * 2))
-        pipe = subprocess.PIPE
-        return start(*words, "--effects", stream, *more, preexec_fn=limit, stdout=pipe, stderr=pipe)
+def left(stream):
+    """How many jobs of the stream were neither acknowledged nor ended."""
+    with urllib.request.urlopen(f"http://127.0.0.1:{PAGE}/jsz?streams=1") as page:
+        streams = json.load(page)["account_details"][0]["stream_detail"]
+    return next(it["state"]["messages"] for it in streams if it["name"] == stream)
 
 
 def rows(stream):
     """The effects: of each row the job and the process."""
-    if not os.path.exists(stream):
-        return []
-    with open(stream, encoding="ascii") as file:
+    with open(stream, "a+", encoding="ascii") as file:
+        file.seek(0)
         return [tuple(map(int, it.split()[:2])) for it in file if it.endswith("\n")]
-
-
-def wait_rows(stream, count):
-    wait(lambda: len(rows(stream)) >= count, f"{stream}: {count} jobs ran")
 
 
 def expect_each(stream, jobs, most_again=0):
     """Each job ran, none twice in one process, and at most so many again in another. Returns how many did."""
     found = rows(stream)
-    again = len(found) - len(jobs)
-    expect({job for job, _ in found} == set(jobs), f"{stream}: other jobs ran than there are")
-    expect(len(set(found)) == len(found), f"{stream}: a job ran twice in one process")
-    expect(again <= most_again, f"{stream}: {again} jobs ran again, more than {most_again}")
-    return again
+    assert {job for job, _ in found} == set(jobs), f"{stream}: other jobs ran than there are"
+    assert len(set(found)) == len(found), f"{stream}: a job ran twice in one process"
+    assert len(found) <= len(jobs) + most_again, f"{stream}: more than {most_again} jobs ran again"
+    return len(found) - len(jobs)
 
 
-def long_run(server):
-    """Of three processes one is killed and started again. Then the server is restarted. Mailboxes are small and large."""
-    server.fill("LONG", range(LONG))
-    began = time.monotonic()
-    fleet = [server.fleet("LONG", "--cells", cells, ack=5) for cells in (50, 1000, 4096)]
-    wait_rows("LONG", LONG // 3)
-    end(fleet[0], signal.SIGKILL, -signal.SIGKILL)
-    fleet[0] = server.fleet("LONG", ack=5)
-    wait_rows("LONG", LONG * 2 // 3)
-    end_server(server)
-    server.start()
-    server.wait_empty("LONG")
-    took = time.monotonic() - began
-    for process in fleet:
-        said = end(process)
-        expect("the server is back" in said, said)
-    return f": {LONG} jobs in {took:.0f} s, {expect_each('LONG', range(LONG), 4 * HELD)} ran again in another process"
-
-
-def end_server(server):
-    server.process.terminate()
-    server.process.wait(60)
-
-
-def away(server):
-    """The server is away for ten seconds."""
-    server.fill("AWAY", range(6000))
-    process = server.fleet("AWAY")
-    wait_rows("AWAY", 3000)
-    end_server(server)
+def long_run():
+    """Of three processes one is killed and started again. Then the server is away for ten seconds."""
+    fill("LONG", range(LONG))
+    processes = [fleet("LONG", "--cells", cells, ack=15) for cells in (50, 1000, 4096)]
+    wait(lambda: len(rows("LONG")) > LONG // 3)
+    end(processes[0], signal.SIGKILL, -signal.SIGKILL)
+    processes[0] = fleet("LONG", ack=15)
+    wait(lambda: len(rows("LONG")) > LONG * 2 // 3)
+    end(started[0], status=1)
     time.sleep(10)
-    server.start()
-    server.wait_empty("AWAY")
-    said = end(process)
-    expect("the server is away" in said and "the server is back" in said, said)
-    expect_each("AWAY", range(6000))
+    start_server()
+    wait(lambda: left("LONG") == 0)
+    for said in map(end, processes):
+        assert "the server is away" in said and "the server is back" in said, said
+    print(f"fleet: of {LONG} jobs {expect_each('LONG', range(LONG), 4 * HELD)} ran again in another process")
 
 
-def handed_out_again(server):
+def handed_out_again():
     """Long jobs run once, also if a process is stopped for so long that it is handed out again what it has."""
-    server.fill("AGAIN", range(40))
-    process = server.fleet("AGAIN", "--batch", 20, "--pause", 1300, ack=1)
-    wait_rows("AGAIN", 4)
+    fill("AGAIN", range(20))
+    process = fleet("AGAIN", "--pause", 1300, ack=1)
+    wait(lambda: len(rows("AGAIN")) >= 4)
     process.send_signal(signal.SIGSTOP)
     time.sleep(2.5)
     process.send_signal(signal.SIGCONT)
-    server.wait_empty("AGAIN")
-    expect("dropped 0" not in end(process), "nothing was handed out again")
-    expect_each("AGAIN", range(40))
+    wait(lambda: left("AGAIN") == 0)
+    assert "dropped 0" not in end(process), "nothing was handed out again"
+    expect_each("AGAIN", range(20))
 
 
-def stop_in_the_middle(server):
-    """A stopped process gives back what it has, so that the next one need not wait. So is a job that fails."""
-    server.fill("STOP", range(600))
-    full = server.fleet("STOP", "--effects", "/dev/full")
-    wait(lambda: "is given back" in full.stderr.readline(), "a job failed")
+def stop_in_the_middle():
+    """A job that fails is given back. So is what a process has if it is stopped, or if memory is refused: the next one
+    need not wait for the acknowledge time."""
+    fill("STOP", range(9000))
+    full = fleet("STOP", "--effects", "/dev/full")
+    wait(lambda: "is given back" in full.stderr.readline())
     end(full)
-    slow = server.fleet("STOP", "--pause", 20)
-    wait_rows("STOP", 50)
-    end(slow)
-    expect(len(rows("STOP")) < 600, "it ended too late")
-    last = server.fleet("STOP")
-    server.wait_empty("STOP", 10)
+    stopped = fleet("STOP", "--pause", 1)
+    wait(lambda: len(rows("STOP")) >= 50)
+    end(stopped)
+    lacking = fleet("STOP", "--cells", 4000, "--pause", 1)
+    wait(lambda: lacking.pid in (it for _, it in rows("STOP")))
+    resource.prlimit(lacking.pid, resource.RLIMIT_DATA, (1 << 20, 1 << 20))
+    said = end(lacking, 0, 1)
+    assert "no memory" in said.lower() and "given back 0" not in said and len(rows("STOP")) < 9000, said
+    last = fleet("STOP")
+    wait(lambda: left("STOP") == 0, 10)
     end(last)
-    expect_each("STOP", range(600))
+    expect_each("STOP", range(9000))
 
 
-def bad_jobs(server):
+def bad_jobs():
+    """Bad jobs are ended. Then the stream is deleted, by a request of the server's own protocol."""
     bad = ["banana", "-1", "+1", " 1", "1.5", "", "18446744073709551616", "x" * 900, "\x1b[1m"]
-    server.fill("BAD", [7, *bad, 8])
-    process = server.fleet("BAD")
-    server.wait_empty("BAD")
-    said = end(process)
-    expect(said.count("a job is no number") == len(bad) and f"bad {len(bad)}," in said, said)
+    fill("BAD", [7, *bad, 8])
+    process = fleet("BAD", ack=2)
+    wait(lambda: left("BAD") == 0)
     expect_each("BAD", (7, 8))
+    with socket.create_connection(("127.0.0.1", PORT)) as it:
+        it.sendall(b"CONNECT {}\r\nPUB $JS.API.STREAM.DELETE.BAD 0\r\n\r\n")
+        said = end(process, 0, 1)
+    assert said.count("a job is no number") == len(bad) and "the stream BAD or its consumer fleet is gone" in said, said
 
 
-def refusals(server):
+def refusals():
     """Each bad input and fault has one line on standard error, and a status. So has too little memory."""
-    cases = [
-        (1, "No server available", "--server", "nats://127.0.0.1:1"),
-        (1, "No server available", "--server", "nonsense:"),
-        (1, "stream not found", "--stream", "NONE"),
-        (1, "consumer's value is 30000000000", "--ack", 5),
-        (1, "No such file or directory", "--effects", "no/folder"),
-        (2, "give --server, ", "--colour", "red"),
-        (2, "give 1 to 1024", "--batch"),
-        *((2, "give 1 to 64", "--workers", it) for it in ("0", "65", "many", "-1", "", "99999999999999999999")),
-    ]
-    cases = [(*it, None) for it in cases]
-    cases += [(1, "fleet: ", "--cells", 200000, (resource.RLIMIT_AS, it)) for it in (24, 40, 64)]
-    cases += [(1, "fleet: ", "--cells", 200000, (resource.RLIMIT_DATA, it)) for it in (2, 16, 64)]
-    for status, line, *words, memory in cases:
-        said = end(server.fleet("STOP", *words, memory=memory), 0, status)
-        expect(line in said and said.count("\n") == 1, f"{words}: {said}")
-
-
-def memory_runs_out(server):
-    """A running process gets no further memory. It gives back what it has."""
-    server.fill("LACK", range(9000))
-    process = server.fleet("LACK", "--cells", 4000, "--pause", 1)
-    wait_rows("LACK", 1)
-    resource.prlimit(process.pid, resource.RLIMIT_DATA, (1 << 20, 1 << 20))
-    said = end(process, 0, 1)
-    expect("no memory" in said.lower(), said)
-    process = server.fleet("LACK")
-    server.wait_empty("LACK")
-    end(process)
-    expect_each("LACK", range(9000))
-
-
-def gone(server):
-    """The stream is deleted under a running process, by a request of the server's own protocol."""
-    server.fill("GONE", range(4))
-    process = server.fleet("GONE", ack=2)
-    server.wait_empty("GONE")
-    with socket.create_connection(("127.0.0.1", server.ports[0])) as it:
-        it.sendall(b"CONNECT {}\r\nPUB $JS.API.STREAM.DELETE.GONE 0\r\n\r\n")
-        expect("the stream GONE or its consumer fleet is gone" in end(process, 0, 1), "it is not noticed")
-
-
-PARTS = (long_run, away, handed_out_again, stop_in_the_middle, bad_jobs, refusals, memory_runs_out, gone)
+    cases = [(1, "No server available", "--server", it) for it in ("nats://127.0.0.1:1", "nonsense:")]
+    cases += [(2, "give 1 to 64", "--workers", it) for it in ("0", "65", "many", "-1", "", "99999999999999999999")]
+    cases += [(2, "give 1 to 1024", "--batch"), (2, "give --server, ", "--colour", "red")]
+    cases += [(1, "stream not found", "--stream", "NONE"), (1, "consumer's value is 30000000000", "--ack", 5)]
+    for status, line, *words in (*cases, (1, "No such file or directory", "--effects", "no/folder")):
+        said = end(fleet("STOP", *words), 0, status)
+        assert line in said and said.count("\n") == 1, f"{words}: {said}"
+    for kind, size in ((resource.RLIMIT_AS, 24), (resource.RLIMIT_AS, 64), (resource.RLIMIT_DATA, 16)):
+        said = end(fleet("STOP", limit=lambda: resource.setrlimit(kind, (size << 20,) * 2)), 0, 1)
+        assert said.startswith("fleet: ") and said.count("\n") == 1, f"{size} MB: {said}"
 
 
 def main():
     os.environ["PATH"] += ":/usr/sbin"  # (where Debian has the server)
-    lacks = [it for it in ("nats-server", "cc", "make") if not shutil.which(it)]
-    lacks += ["libnats-dev"] * (not os.path.exists("/usr/include/nats/nats.h"))
-    if lacks:
-        print(f"fleet: SKIPPED: there is no {lacks[0]}")
+    if not shutil.which("nats-server") or not os.path.exists("/usr/include/nats/nats.h"):
+        print(f"fleet: SKIPPED: there is no {'libnats-dev' if shutil.which('nats-server') else 'nats-server'}")
         return
     with tempfile.TemporaryDirectory() as room:
-        subprocess.run(["make", "--silent", "-C", HERE, f"BUILD={room}"], check=True)
+        subprocess.run(["make", "-s", "-C", os.path.dirname(os.path.abspath(__file__)), f"BUILD={room}"], check=True)
         os.chdir(room)
         try:
-            server = Server()
-            for part in PARTS:
+            start_server()
+            for part in (long_run, handed_out_again, stop_in_the_middle, bad_jobs, refusals):
                 began = time.monotonic()
-                told = part(server) or ""
-                print(f"fleet: {part.__name__.replace('_', ' ')}: passed, {time.monotonic() - began:.0f} s{told}", flush=True)
+                part()
+                print(f"fleet: {part.__name__}: passed, {time.monotonic() - began:.0f} s", flush=True)
         finally:
-            os.chdir("/")
             for process in started:
                 process.kill()
                 process.wait()
