@@ -1,0 +1,450 @@
+/* One process of a fleet: README.md says what it promises. The main thread pulls jobs of a NATS JetStream stream.
+ * Workers take them from mailboxes and run them. One more thread tells the server what is in progress. */
+#include "../hazbultra.h"
+#include <errno.h>
+#include <fcntl.h>
+#include <inttypes.h>
+#include <nats/nats.h>
+#include <pthread.h>
+#include <signal.h>
+#include <stdatomic.h>
+#include <stdio.h>
+#include <stdlib.h>
+#include <string.h>
+#include <unistd.h>
+
+#define CONSUMER "fleet"
+enum { MOST_WORKERS = 64, MOST_BATCH = 1024 };
+enum { SECOND = 1000, FETCH = 500, MILLISECOND = 1000000 }; /* in milliseconds, the last in nanoseconds */
+
+static const char *server = "nats://127.0.0.1:4222", *stream = "JOBS", *effects = "effects";
+static uint64_t workers = 4, batch = 64, ack = 30, cells = 4096, rest = 0;
+
+static const struct option {
+    const char *name, *help, **text;
+    uint64_t *number, least, most;
+} options[] = {
+    {"--server", "where the NATS server is", &server, NULL, 0, 0},
+    {"--stream", "which stream has the jobs", &stream, NULL, 0, 0},
+    {"--workers", "1 to 64, how many threads run jobs", NULL, &workers, 1, MOST_WORKERS},
+    {"--batch", "1 to 1024, how many jobs wait in this process at most", NULL, &batch, 1, MOST_BATCH},
+    {"--ack", "1 to 3600 seconds: without a sign of life a job goes to another process then", NULL, &ack, 1, 3600},
+    {"--cells", "1 to 16777216, for how many jobs a mailbox has room", NULL, &cells, 1, 1 << 24},
+    {"--effects", "to which file a job of the sample appends its row", &effects, NULL, 0, 0},
+    {"--pause", "0 to 3600000 milliseconds, which a job of the sample takes besides", NULL, &rest, 0, 3600 * SECOND},
+    {NULL, "--server, --stream, --workers, --batch, --ack, --cells, --effects or --pause", NULL, NULL, 0, 0},
+};
+
+/* What becomes of a job. One that is done is acknowledged. One that failed is given back, and comes again a second
+ * later. A bad one can never be done, and is ended. One that is left is given back since no worker took it. */
+enum outcome { DONE, FAILED, BAD, LEFT, OUTCOMES };
+
+/* A message that is in this process. The server hands it out with the same two numbers each time. */
+struct job {
+    natsMsg *message; /* NULL: this place is free */
+    uint64_t sequence;
+    int64_t stored;   /* (a stream that is made anew begins again with the same sequences) */
+    bool is_settling; /* from now on its worker alone touches the message */
+};
+
+/* What the threads share. All of it needs the lock. */
+static pthread_mutex_t lock = PTHREAD_MUTEX_INITIALIZER;
+static pthread_cond_t came = PTHREAD_COND_INITIALIZER, room = PTHREAD_COND_INITIALIZER;
+static struct {
+    struct job jobs[MOST_BATCH + MOST_WORKERS];
+    struct mailbox *oldest;
+    uint64_t waiting; /* how many jobs no worker has taken yet */
+    uint64_t events;  /* how often jobs came */
+    uint64_t outcomes[OUTCOMES], dropped, mailboxes;
+    bool is_stopping;
+} shared;
+
+static natsConnection *connection;
+static jsCtx *jets;
+static natsSubscription *subscription;
+static int file; /* of effects */
+static atomic_bool has_fault;
+/* One line. After FAIL the process stops. (All threads block the signal, and one waits for it.) */
+#define SAY(...) fprintf(stderr, "fleet: " __VA_ARGS__)
+#define FAIL(...) (SAY(__VA_ARGS__), atomic_store(&has_fault, true), kill(getpid(), SIGTERM))
+#define EXIT(status, ...) (SAY(__VA_ARGS__), exit(status))
+
+/* Reads digits alone, and no number out of these bounds. */
+static bool is_number(const char *text, uint64_t least, uint64_t most, uint64_t *number) {
+    char *end;
+    errno = 0;
+    *number = strtoull(text, &end, 10);
+    return *text >= '0' && *text <= '9' && *end == '\0' && errno == 0 && *number >= least && *number <= most;
+}
+
+/* What a job does: PUT YOUR OWN HERE. This one's text is a number. Its effect is a row of a file, with the number, the
+ * process and the worker, written by one call, so that no two rows mix. */
+static enum outcome run(const char *text, uint64_t worker) {
+    uint64_t number;
+    if (!is_number(text, 0, UINT64_MAX, &number)) {
+        SAY("a job is no number, and is ended\n");
+        return BAD;
+    }
+    if (rest > 0)
+        nats_Sleep((int64_t)rest);
+    if (dprintf(file, "%" PRIu64 " %d %" PRIu64 "\n", number, (int)getpid(), worker) > 0)
+        return DONE;
+    SAY("job %" PRIu64 " failed, and is given back: %s\n", number, strerror(errno));
+    return FAILED;
+}
+
+/* Finds a place for a message. Returns its job, or NULL: a message that the process has already is dropped. */
+static struct job *admit(natsMsg *message) {
+    struct job *place = NULL;
+    jsMsgMetaData *about = NULL;
+    bool is_held = false;
+    if (natsMsg_GetMetaData(&about, message) != NATS_OK)
+        FAIL("a message is not read\n");
+    pthread_mutex_lock(&lock);
+    for (struct job *job = shared.jobs; about && job < shared.jobs + batch + workers; job++) {
+        if (!job->message)
+            place = job;
+        else if (job->sequence == about->Sequence.Stream && job->stored == about->Timestamp)
+            is_held = true;
+    }
+    if (place && !is_held) {
+        *place = (struct job){message, about->Sequence.Stream, about->Timestamp, false};
+        shared.waiting++;
+    } else {
+        place = NULL;
+        shared.dropped++;
+        natsMsg_Destroy(message);
+    }
+    pthread_mutex_unlock(&lock);
+    jsMsgMetaData_Destroy(about);
+    return place;
+}
+
+/* Tells the server what became of a job. An acknowledgement is sent again and again, until the server says that it
+ * knows or the acknowledge time is over. The job is held meanwhile, and dropped if it comes again. */
+static void settle(struct job *job, enum outcome outcome) {
+    int64_t end = nats_Now() + (int64_t)ack * SECOND;
+    natsStatus status;
+    pthread_mutex_lock(&lock);
+    job->is_settling = true;
+    pthread_mutex_unlock(&lock);
+    do {
+        status = outcome == DONE  ? natsMsg_AckSync(job->message, NULL, NULL)
+                 : outcome == BAD ? natsMsg_Term(job->message, NULL)
+                                  : natsMsg_NakWithDelay(job->message, outcome == FAILED ? SECOND : 0, NULL);
+        if (status != NATS_OK)
+            nats_Sleep(100);
+    } while (status != NATS_OK && nats_Now() < end);
+    if (status != NATS_OK)
+        SAY("the server does not confirm the end of a job, which may run again: %s\n", natsStatus_GetText(status));
+    pthread_mutex_lock(&lock);
+    shared.outcomes[outcome]++;
+    natsMsg_Destroy(job->message);
+    job->message = NULL;
+    pthread_mutex_unlock(&lock);
+}
+
+#ifdef QUEUE /* in place of the mailboxes, to compare with */
+static struct job *queue[MOST_BATCH];
+static uint64_t first, last;
+
+static bool put(struct job *job) {
+    pthread_mutex_lock(&lock);
+    queue[last++ % MOST_BATCH] = job;
+    pthread_mutex_unlock(&lock);
+    return true;
+}
+
+static struct job *get(uint64_t worker) {
+    (void)worker;
+    return first < last ? queue[first++ % MOST_BATCH] : NULL;
+}
+
+static bool add_mailbox(void) {
+    return true;
+}
+
+static void end_mailboxes(bool all) {
+    while (all && first < last)
+        settle(get(0), LEFT);
+}
+#else
+/* A mailbox of a list. If it is full, the next is linked to it before its lane ends. So workers go on. */
+struct mailbox {
+    uint64_t number; /* greater than of those before */
+    hz_handle hub, producer, consumers[MOST_WORKERS];
+    uint64_t put, taken;
+    uint64_t inside; /* how many workers are in a poll of it */
+    struct mailbox *next;
+};
+
+static struct mailbox *newest; /* of the thread that feeds, as is its put */
+
+/* Says whether a call was done, after a line if not. */
+static bool is_done(uint32_t code, const char *call) {
+    if (code != HZ_DONE)
+        FAIL("%s returned the code %" PRIu32 "%s\n", call, code, code == HZ_NO_MEMORY ? " (no memory)" : "");
+    return code == HZ_DONE;
+}
+
+/* Makes a mailbox, and links it to the newest, which is full. (The end of the process frees what a fault leaves.) */
+static bool add_mailbox(void) {
+    static const uint8_t seed[32] = "any 32 bytes do";
+    hz_setup setup = {.producers = 1, .consumers = workers, .cells = cells, .pairs = 4, .last = true};
+    setup.table = workers > 4 ? HZ_MIDDLE : HZ_BITS;
+    struct mailbox *box = malloc(sizeof *box);
+    if (!box)
+        return is_done(HZ_NO_MEMORY, "malloc");
+    *box = (struct mailbox){.number = hz_next_id()}; /* (each handle is HZ_NONE) */
+    bool is_well = is_done(hz_mailbox_new(box->number, &setup, &box->hub), "hz_mailbox_new")
+                   && is_done(hz_producer_new(&box->hub, &box->producer), "hz_producer_new");
+    for (uint64_t w = 0; w < workers && is_well; w++)
+        is_well = is_done(hz_consumer_new(&box->hub, seed, w, &box->consumers[w]), "hz_consumer_new");
+    if (!is_well)
+        return false;
+    pthread_mutex_lock(&lock);
+    *(newest ? &newest->next : &shared.oldest) = box;
+    is_well = !newest || is_done(hz_finish(&newest->producer), "hz_finish");
+    newest = box;
+    shared.mailboxes++;
+    pthread_mutex_unlock(&lock);
+    return is_well;
+}
+
+/* Says whether the job was put. */
+static bool put(struct job *job) {
+    uint32_t code = hz_put(&newest->producer, (uintptr_t)job);
+    if (code == HZ_FULL && add_mailbox())
+        code = hz_put(&newest->producer, (uintptr_t)job);
+    newest->put += code == HZ_LINKED;
+    return code == HZ_LINKED || (code != HZ_FULL && is_done(code, "hz_put"));
+}
+
+/* The job that this worker gets, or NULL if there is none yet. The caller has the lock, which is let go in a poll. */
+static struct job *get(uint64_t worker) {
+    static _Thread_local uint64_t reached; /* the number of the first mailbox whose end this worker has not met */
+    uint64_t item = 0;
+    uint32_t code;
+    do {
+        struct mailbox *box = shared.oldest;
+        while (box->number < reached)
+            box = box->next;
+        box->inside++;
+        pthread_mutex_unlock(&lock);
+        do
+            code = hz_poll(&box->consumers[worker], 0, UINT64_MAX, &item);
+        while (code == HZ_LOST);
+        pthread_mutex_lock(&lock);
+        box->inside--;
+        box->taken += code == HZ_TOOK;
+        reached = box->number + (code == HZ_ENDED);
+    } while (code == HZ_ENDED);
+    if (code != HZ_TOOK && code != HZ_NOTHING)
+        is_done(code, "hz_poll");
+    return code == HZ_TOOK ? (struct job *)(uintptr_t)item : NULL;
+}
+
+/* Gathers a mailbox that no thread uses any more, and gives back what nobody took. Its report has to say what was
+ * counted here. */
+static void end_mailbox(struct mailbox *box) {
+    uint64_t items[MOST_BATCH], left = 0;
+    hz_handle report = HZ_NONE;
+    hz_missing missing;
+    hz_lane lane;
+    is_done(hz_take_back(&box->hub, &box->producer), "hz_take_back");
+    for (uint64_t w = 0; w < workers; w++)
+        is_done(hz_take_back(&box->hub, &box->consumers[w]), "hz_take_back");
+    if (!is_done(hz_gather(&box->hub, &report, &missing), "hz_gather")
+        || !is_done(hz_report_lane(&report, 0, &lane), "hz_report_lane")
+        || !is_done(hz_report_items(&report, 0, true, 0, items, MOST_BATCH, &left), "hz_report_items"))
+        return;
+    if (lane.put != box->put || lane.left != box->put - box->taken || lane.left != left || lane.ended != !!box->next)
+        FAIL("a report has %" PRIu64 " put and %" PRIu64 " left: not what was counted\n", lane.put, lane.left);
+    for (uint64_t i = 0; i < left; i++)
+        settle((struct job *)(uintptr_t)items[i], LEFT);
+    hz_free(&report);
+    free(box);
+}
+
+/* Ends each mailbox that is full and all of which was taken, or all mailboxes after the last take. */
+static void end_mailboxes(bool all) {
+    pthread_mutex_lock(&lock);
+    struct mailbox *box = shared.oldest;
+    while (box && (all || (box->next && box->inside == 0 && box->taken == box->put))) {
+        shared.oldest = box->next;
+        pthread_mutex_unlock(&lock);
+        end_mailbox(box);
+        pthread_mutex_lock(&lock);
+        box = shared.oldest;
+    }
+    pthread_mutex_unlock(&lock);
+}
+#endif
+
+/* Runs jobs up to the stop, and sleeps while there is none. */
+static void *work(void *number) {
+    uint64_t worker = (uintptr_t)number;
+    pthread_mutex_lock(&lock);
+    while (!shared.is_stopping) {
+        uint64_t seen = shared.events;
+        struct job *job = get(worker);
+        /* What came up to seen was put before the poll. So it was met, and only a further event has more. */
+        while (!job && seen == shared.events && !shared.is_stopping)
+            pthread_cond_wait(&came, &lock);
+        if (!job)
+            continue;
+        shared.waiting--;
+        pthread_cond_signal(&room);
+        pthread_mutex_unlock(&lock);
+        settle(job, run(natsMsg_GetData(job->message), worker));
+        pthread_mutex_lock(&lock);
+    }
+    pthread_mutex_unlock(&lock);
+    nats_ReleaseThreadMemory();
+    return NULL;
+}
+
+/* Tells the server of each job that is not settled that it is in progress, and looks whether the stream is still there.
+ * Waits for signals to stop. */
+static void *watch(void *signals) {
+    const struct timespec quarter = {(time_t)(ack / 4), (long)(ack % 4) * 250 * MILLISECOND};
+    for (;;) {
+        bool is_stop = sigtimedwait(signals, NULL, &quarter) > 0;
+        jsConsumerInfo *info = NULL;
+        jsErrCode error = 0;
+        pthread_mutex_lock(&lock);
+        shared.is_stopping = shared.is_stopping || is_stop;
+        pthread_cond_broadcast(&came);
+        pthread_cond_broadcast(&room);
+        for (struct job *job = shared.jobs; job < shared.jobs + batch + workers; job++)
+            if (job->message && !job->is_settling)
+                natsMsg_InProgress(job->message, NULL); /* (if it fails, the next one makes up for it) */
+        pthread_mutex_unlock(&lock);
+        js_GetConsumerInfo(&info, jets, stream, CONSUMER, NULL, &error);
+        jsConsumerInfo_Destroy(info);
+        if (error == JSStreamNotFoundErr || error == JSConsumerNotFoundErr)
+            FAIL("the stream %s or its consumer %s is gone\n", stream, CONSUMER);
+    }
+    return NULL;
+}
+
+/* Feeds up to the stop. It fetches when at most half of the jobs that may wait do, and waits for the first. */
+static void feed(void) {
+    jsFetchRequest request;
+    jsFetchRequest_Init(&request);
+    request.Expires = FETCH * MILLISECOND;
+    request.NoWait = true;
+    for (;;) {
+        natsMsgList list = {NULL, 0};
+        pthread_mutex_lock(&lock);
+        shared.events++; /* (what the turn before put) */
+        pthread_cond_broadcast(&came);
+        while (!shared.is_stopping && shared.waiting > batch / 2)
+            pthread_cond_wait(&room, &lock);
+        request.Batch = shared.is_stopping ? 0 : (int)(batch - shared.waiting);
+        pthread_mutex_unlock(&lock);
+        if (request.Batch == 0)
+            return;
+        /* While the server is away nothing is asked for: such requests would be kept, and sent when it is back. */
+        bool is_there = natsConnection_Status(connection) == NATS_CONN_STATUS_CONNECTED;
+        natsStatus status = is_there ? natsSubscription_FetchRequest(&list, subscription, &request) : NATS_NOT_FOUND;
+        if (status != NATS_OK && status != NATS_TIMEOUT)
+            nats_Sleep(100);
+        if (status == NATS_NO_MEMORY)
+            FAIL("no jobs are fetched: %s\n", natsStatus_GetText(status));
+        for (int i = 0; i < list.Count; i++) {
+            struct job *job = admit(list.Msgs[i]);
+            list.Msgs[i] = NULL;
+            if (job && (atomic_load(&has_fault) || !put(job)))
+                settle(job, LEFT);
+        }
+        natsMsgList_Destroy(&list);
+        end_mailboxes(false);
+    }
+}
+
+/* Says what happens to the connection. If the server refuses it later, it is closed. */
+static void tell(natsConnection *it, void *what) {
+    if (natsConnection_IsClosed(it))
+        FAIL("the server %s\n", (char *)what);
+    else
+        SAY("the server %s\n", (char *)what);
+}
+
+/* Connects for as long as the process lives. Joins the consumer that the fleet shares: the first process makes it. */
+static natsStatus join_fleet(void) {
+    jsSubOptions fleet;
+    jsSubOptions_Init(&fleet);
+    fleet.Stream = stream;
+    fleet.Consumer = fleet.Config.Durable = CONSUMER;
+    fleet.Config.AckPolicy = js_AckExplicit;
+    fleet.Config.AckWait = (int64_t)ack * SECOND * MILLISECOND;
+    fleet.Config.MaxAckPending = 1000000;
+    natsOptions *to = NULL;
+    jsOptions patience;
+    jsOptions_Init(&patience);
+    patience.Wait = 2 * SECOND;
+    natsStatus status = natsOptions_Create(&to);
+    status = status ? status : natsOptions_SetURL(to, server);
+    status = status ? status : natsOptions_SetMaxReconnect(to, INT32_MAX);
+    status = status ? status : natsOptions_SetReconnectWait(to, FETCH);
+    status = status ? status : natsOptions_SetPingInterval(to, 5 * SECOND);
+    status = status ? status : natsOptions_SetWriteDeadline(to, 5 * SECOND);
+    status = status ? status : natsOptions_SetDisconnectedCB(to, tell, "is away, and is tried again and again");
+    status = status ? status : natsOptions_SetReconnectedCB(to, tell, "is back");
+    status = status ? status : natsOptions_SetClosedCB(to, tell, "refuses this process");
+    status = status ? status : natsConnection_Connect(&connection, to);
+    status = status ? status : natsConnection_JetStream(&jets, connection, &patience);
+    status = status ? status : js_PullSubscribe(&subscription, jets, NULL, NULL, NULL, &fleet, NULL);
+    if (status == NATS_NOT_FOUND && js_AddConsumer(NULL, jets, stream, &fleet.Config, NULL, NULL) == NATS_OK)
+        status = js_PullSubscribe(&subscription, jets, NULL, NULL, NULL, &fleet, NULL);
+    natsOptions_Destroy(to);
+    return status;
+}
+
+static void read_options(int count, char **words) {
+    for (int i = 1; i < count; i += 2) {
+        const struct option *it = options;
+        const char *value = words[i + 1] ? words[i + 1] : "";
+        while (it->name && strcmp(it->name, words[i]))
+            it++;
+        if (it->text && *value)
+            *it->text = value;
+        else if (!it->number || !is_number(value, it->least, it->most, it->number))
+            EXIT(2, "%s %s: give %s\n", words[i], value, it->help);
+    }
+}
+
+int main(int count, char **words) {
+    pthread_t watcher, threads[MOST_WORKERS];
+    sigset_t signals;
+    sigemptyset(&signals);
+    sigaddset(&signals, SIGTERM);
+    sigaddset(&signals, SIGINT);
+    pthread_sigmask(SIG_BLOCK, &signals, NULL); /* (before any thread starts, so that all block them) */
+    read_options(count, words);
+    file = open(effects, O_WRONLY | O_CREAT | O_APPEND | O_CLOEXEC, 0666);
+    if (file < 0)
+        EXIT(1, "%s: %s\n", effects, strerror(errno));
+    natsStatus status = join_fleet();
+    const char *why = nats_GetLastError(NULL) ? nats_GetLastError(NULL) : natsStatus_GetText(status);
+    if (status != NATS_OK)
+        EXIT(1, "the %s %s: %s\n", jets ? "stream" : "server", jets ? stream : server, why);
+    if (!add_mailbox())
+        return 1;
+    int error = pthread_create(&watcher, NULL, watch, &signals);
+    for (uint64_t w = 0; w < workers && !error; w++)
+        error = pthread_create(&threads[w], NULL, work, (void *)(uintptr_t)w);
+    if (error)
+        EXIT(1, "a thread does not start: %s\n", strerror(error));
+    feed();
+    for (uint64_t w = 0; w < workers; w++)
+        pthread_join(threads[w], NULL);
+    end_mailboxes(true);
+    natsConnection_FlushTimeout(connection, 5 * SECOND); /* (the end of the process closes it) */
+    printf("process %d: ran %" PRIu64 ", ", (int)getpid(), shared.outcomes[DONE]);
+    printf("failed %" PRIu64 ", bad %" PRIu64 ", ", shared.outcomes[FAILED], shared.outcomes[BAD]);
+    printf("given back %" PRIu64 ", ", shared.outcomes[LEFT]);
+    printf("dropped %" PRIu64 ", mailboxes %" PRIu64 "\n", shared.dropped, shared.mailboxes);
+    return atomic_load(&has_fault);
+}
