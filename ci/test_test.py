@@ -11,7 +11,7 @@ OWN = "sh env sed grep tee mktemp date dirname rm cat tail".split()
 FILES = "mailbox examples/script bindings/rust/tests/packing.sh bindings/c/Makefile ci/prebuilt.sh".split()
 # A program that is refused a thread, as it should be.
 REFUSED = 'echo "run 0 of seed $1: Work(NoThread, 2), Plan { cells: 3 }"; exit 1'
-TOOLS = "python3 cargo rustfmt cargo-clippy make cc c++ gcc clang valgrind pkg-config git rt sha256sum".split()
+TOOLS = "python3 cargo rustfmt cargo-clippy make cc c++ gcc clang valgrind pkg-config git rt sha256sum nats-server".split()
 
 
 class Test(Room):
