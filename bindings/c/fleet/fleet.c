@@ -1,6 +1,7 @@
 /* One process of a fleet: README.md says what it promises. The main thread pulls jobs of a NATS JetStream stream.
  * Workers take them from mailboxes and run them. One more thread tells the server what is in progress. */
 #include "../hazbultra.h"
+
 #include <errno.h>
 #include <fcntl.h>
 #include <inttypes.h>
@@ -64,6 +65,7 @@ static jsCtx *jets;
 static natsSubscription *subscription;
 static int file; /* of effects */
 static atomic_bool has_fault;
+
 /* One line. After FAIL the process stops. (All threads block the signal, and one waits for it.) */
 #define SAY(...) fprintf(stderr, "fleet: " __VA_ARGS__)
 #define FAIL(...) (SAY(__VA_ARGS__), atomic_store(&has_fault, true), kill(getpid(), SIGTERM))
@@ -134,7 +136,7 @@ static void settle(struct job *job, enum outcome outcome) {
                                   : natsMsg_NakWithDelay(job->message, outcome == FAILED ? SECOND : 0, NULL);
         if (status != NATS_OK)
             nats_Sleep(100);
-    } while (status != NATS_OK && nats_Now() < end);
+    } while (outcome == DONE && status != NATS_OK && nats_Now() < end);
     if (status != NATS_OK)
         SAY("the server does not confirm the end of a job, which may run again: %s\n", natsStatus_GetText(status));
     pthread_mutex_lock(&lock);
@@ -244,8 +246,7 @@ static struct job *get(uint64_t worker) {
     return code == HZ_TOOK ? (struct job *)(uintptr_t)item : NULL;
 }
 
-/* Gathers a mailbox that no thread uses any more, and gives back what nobody took. Its report has to say what was
- * counted here. */
+/* Gathers a mailbox that no thread uses now, and gives back what is left. Its report has to say what was counted. */
 static void end_mailbox(struct mailbox *box) {
     uint64_t items[MOST_BATCH], left = 0;
     hz_handle report = HZ_NONE;
@@ -304,8 +305,7 @@ static void *work(void *number) {
     return NULL;
 }
 
-/* Tells the server of each job that is not settled that it is in progress, and looks whether the stream is still there.
- * Waits for signals to stop. */
+/* Waits for a signal to stop. Tells the server which jobs are in progress, and looks whether the stream is there. */
 static void *watch(void *signals) {
     const struct timespec quarter = {(time_t)(ack / 4), (long)(ack % 4) * 250 * MILLISECOND};
     for (;;) {
