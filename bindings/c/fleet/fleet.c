@@ -1,7 +1,6 @@
 /* One process of a fleet: README.md says what it promises. The main thread pulls jobs of a NATS JetStream stream.
  * Workers take them from mailboxes and run them. One more thread tells the server what is in progress. */
 #include "../hazbultra.h"
-
 #include <errno.h>
 #include <fcntl.h>
 #include <inttypes.h>
@@ -15,7 +14,7 @@
 #include <unistd.h>
 
 #define CONSUMER "fleet"
-enum { MOST_WORKERS = 64, MOST_BATCH = 1024 };
+enum { MOST_WORKERS = 64, MOST_BATCH = 1024, PLACES = 65536 };
 enum { SECOND = 1000, FETCH = 500, MILLISECOND = 1000000 }; /* in milliseconds, the last in nanoseconds */
 
 static const char *server = "nats://127.0.0.1:4222", *stream = "JOBS", *effects = "effects";
@@ -40,9 +39,9 @@ static const struct option {
  * later. A bad one can never be done, and is ended. One that is left is given back since no worker took it. */
 enum outcome { DONE, FAILED, BAD, LEFT, OUTCOMES };
 
-/* A message that is in this process. The server hands it out with the same two numbers each time. */
+/* A place for a message. The server hands a message out with the same two numbers each time. */
 struct job {
-    natsMsg *message; /* NULL: this place is free */
+    natsMsg *message; /* NULL: the place is free, and the numbers are those of a job that ran, or 0 */
     uint64_t sequence;
     int64_t stored;   /* (a stream that is made anew begins again with the same sequences) */
     bool is_settling; /* from now on its worker alone touches the message */
@@ -52,7 +51,7 @@ struct job {
 static pthread_mutex_t lock = PTHREAD_MUTEX_INITIALIZER;
 static pthread_cond_t came = PTHREAD_COND_INITIALIZER, room = PTHREAD_COND_INITIALIZER;
 static struct {
-    struct job jobs[MOST_BATCH + MOST_WORKERS];
+    struct job places[PLACES]; /* each sequence has one */
     struct mailbox *oldest;
     uint64_t waiting; /* how many jobs no worker has taken yet */
     uint64_t events;  /* how often jobs came */
@@ -65,7 +64,6 @@ static jsCtx *jets;
 static natsSubscription *subscription;
 static int file; /* of effects */
 static atomic_bool has_fault;
-
 /* One line. After FAIL the process stops. (All threads block the signal, and one waits for it.) */
 #define SAY(...) fprintf(stderr, "fleet: " __VA_ARGS__)
 #define FAIL(...) (SAY(__VA_ARGS__), atomic_store(&has_fault, true), kill(getpid(), SIGTERM))
@@ -95,31 +93,31 @@ static enum outcome run(const char *text, uint64_t worker) {
     return FAILED;
 }
 
-/* Finds a place for a message. Returns its job, or NULL: a message that the process has already is dropped. */
+/* Holds a message in its place, and returns its job. Returns NULL if this process has the message or has run it. If it
+ * ran, the server does not know it, and is told again. (If another has the place, the message comes again later.) */
 static struct job *admit(natsMsg *message) {
-    struct job *place = NULL;
     jsMsgMetaData *about = NULL;
-    bool is_held = false;
-    if (natsMsg_GetMetaData(&about, message) != NATS_OK)
-        FAIL("a message is not read\n");
-    pthread_mutex_lock(&lock);
-    for (struct job *job = shared.jobs; about && job < shared.jobs + batch + workers; job++) {
-        if (!job->message)
-            place = job;
-        else if (job->sequence == about->Sequence.Stream && job->stored == about->Timestamp)
-            is_held = true;
-    }
-    if (place && !is_held) {
-        *place = (struct job){message, about->Sequence.Stream, about->Timestamp, false};
-        shared.waiting++;
-    } else {
-        place = NULL;
-        shared.dropped++;
+    if (natsMsg_GetMetaData(&about, message) != NATS_OK) {
+        FAIL("no memory for a message\n");
+        natsMsg_Nak(message, NULL);
         natsMsg_Destroy(message);
+        return NULL;
     }
+    struct job *place = &shared.places[about->Sequence.Stream % PLACES];
+    pthread_mutex_lock(&lock);
+    bool is_known = place->sequence == about->Sequence.Stream && place->stored == about->Timestamp;
+    bool is_held = place->message != NULL, is_new = !is_known && !is_held;
+    if (is_new)
+        *place = (struct job){message, about->Sequence.Stream, about->Timestamp, false};
+    shared.waiting += is_new;
+    shared.dropped += !is_new;
     pthread_mutex_unlock(&lock);
     jsMsgMetaData_Destroy(about);
-    return place;
+    if (is_known && !is_held)
+        natsMsg_Ack(message, NULL);
+    if (!is_new)
+        natsMsg_Destroy(message);
+    return is_new ? place : NULL;
 }
 
 /* Tells the server what became of a job. An acknowledgement is sent again and again, until the server says that it
@@ -142,7 +140,7 @@ static void settle(struct job *job, enum outcome outcome) {
     pthread_mutex_lock(&lock);
     shared.outcomes[outcome]++;
     natsMsg_Destroy(job->message);
-    job->message = NULL;
+    *job = (struct job){NULL, outcome == DONE ? job->sequence : 0, job->stored, false};
     pthread_mutex_unlock(&lock);
 }
 
@@ -313,10 +311,12 @@ static void *watch(void *signals) {
         jsConsumerInfo *info = NULL;
         jsErrCode error = 0;
         pthread_mutex_lock(&lock);
-        shared.is_stopping = shared.is_stopping || is_stop;
-        pthread_cond_broadcast(&came);
-        pthread_cond_broadcast(&room);
-        for (struct job *job = shared.jobs; job < shared.jobs + batch + workers; job++)
+        if (is_stop) {
+            shared.is_stopping = true;
+            pthread_cond_broadcast(&came);
+            pthread_cond_broadcast(&room);
+        }
+        for (struct job *job = shared.places; job < shared.places + PLACES; job++)
             if (job->message && !job->is_settling)
                 natsMsg_InProgress(job->message, NULL); /* (if it fails, the next one makes up for it) */
         pthread_mutex_unlock(&lock);
