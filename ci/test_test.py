@@ -9,8 +9,8 @@ from rooms import Room
 TOP = os.path.dirname(os.path.dirname(os.path.abspath(__file__)))
 OWN = "sh env sed grep tee mktemp date dirname rm cat tail".split()
 FILES = "mailbox examples/script bindings/rust/tests/packing.sh bindings/c/Makefile ci/prebuilt.sh".split()
-# A program that is refused a thread, as it should be.
-REFUSED = 'echo "run 0 of seed $1: Work(NoThread, 2), Plan { cells: 3 }"; exit 1'
+# A program that is refused a thread, as each should be.
+REFUSED = 'echo "run 0 of seed $1: Work(NoThread, 2), Plan { cells: 3 }"; echo Error: a thread could not be started; exit 1'
 TOOLS = "python3 cargo rustfmt cargo-clippy make cc c++ gcc clang valgrind pkg-config git rt sha256sum nats-server".split()
 
 
@@ -26,8 +26,8 @@ class Test(Room):
             self.tool(name, f'while [ "$1" != -o ]; do shift; done; echo exit >"$2"; {shutil.which("chmod")} +x "$2"')
         for path in FILES:
             self.write(path)
-        for ending in ("", ".by-rattle"):
-            self.tool(f"../crates/test_stress/out/test_stress{ending}", REFUSED)
+        for it in ("test_stress", "test_stress.by-rattle", "example_scheduler", "example_scheduler.by-rattle"):
+            self.tool(f"../crates/{it.partition('.')[0]}/out/{it}", REFUSED)
         shutil.copy(f"{TOP}/test", self.top)
 
     def tool(self, name, text):
