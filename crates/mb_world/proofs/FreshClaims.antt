@@ -1,5 +1,6 @@
 -- A claim on some objects goes on before its first access.
-use Rattle.std.proofs.Common.{◌≢◌, ℕ, zero, suc, ◌<◌, ◌≤◌, Bool, true, false, List, [], ◌∷◌, ◌++◌, ◌+◌, length, refl, inl, arith}
+use Rattle.std.proofs.Common.{◌≢◌, ℕ, zero, suc, ◌<◌, ◌≤◌, Bool, true, false, List, [], ◌∷◌, ◌++◌, ◌≡◌, refl, inl, arith}
+use Rattle.std.proofs.lemmas.Bool.{false≢true}
 use Rattle.mb_quorum.specs.Quorum.{IsQuorumTable, QuorumTable}
 use Rattle.mb_deciding.specs.Deciding.{IsDeciding}
 use Rattle.mb_deciding.specs.Objects.{IsOpen}
@@ -28,13 +29,13 @@ some_with : (fast : Bool) (rest : List Kind) → rest ≢ [] → fast_row fast +
 some_with true rest some e = cc
 some_with false rest some e = some e
 
--- pairs and a last object are not nothing, if there is one of them
-some_pairs : (s n : ℕ) (b : Bool) → 1 ≤ n + length (last_row b) → pairs_of s n ++ last_row b ≢ []
+-- pairs and a last object are not nothing, if without pairs there is a last object
+some_pairs : (s n : ℕ) (b : Bool) → (n ≡ 0 → b ≡ true) → pairs_of s n ++ last_row b ≢ []
 some_pairs s (suc n) b some e = cc
 some_pairs s zero true some e = cc
-some_pairs s zero false some e = omega (arith, some)
+some_pairs s zero false some e = absurd (false≢true (some refl))
 
--- so the row of a shape with a pair or a last object is not empty
-pub some_row : (shape : Shape) (s n : ℕ) → 1 ≤ n + length (last_row shape.last) → row_of shape s n ≢ []
+-- so the row of such a shape is not empty
+pub some_row : (shape : Shape) (s n : ℕ) → (n ≡ 0 → shape.last ≡ true) → row_of shape s n ≢ []
 some_row shape s n some =
     some_with shape.fast (pairs_of s n ++ last_row shape.last) (some_pairs s n shape.last some)

@@ -59,11 +59,3 @@ setup_refusal = refusal_above MAX_CELLS
 -- the first reason to refuse a large setup, if there is one
 abbrev pub large_refusal : ℕ → ℕ → ℕ → ℕ → Option SetupFault
 large_refusal = refusal_above MAX_LARGE_CELLS
-
--- the first reason to refuse a setup of last objects alone, if there is one
-abbrev pub exchange_refusal : ℕ → ℕ → ℕ → Option SetupFault
-exchange_refusal producers consumers cells =
-    if nat_lt producers 1 || nat_lt MAX_PRODUCERS producers then Some BadProducers
-    else if nat_lt consumers 1 || nat_lt MAX_VALUES consumers then Some BadConsumers
-    else if nat_lt MAX_LARGE_CELLS cells then Some BadCells
-    else None

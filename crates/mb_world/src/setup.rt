@@ -49,16 +49,16 @@ impl fmt::Display for SetupFault {
 impl Error for SetupFault {}
 
 impl Setup {
-    ghost use Rattle.std.specs.Prelude.{◌≡◌, ◌≤◌, IsOk, IfOk, Err, MatchOption};
+    ghost use Rattle.std.specs.Prelude.{◌≡◌, ◌≤◌, true, IsOk, IfOk, Err, MatchOption};
     ghost use Rattle.std.specs.Prelude.{ℕ};
     ghost use Rattle.mb_quorum.specs.declared.table.TableName.{TableName};
-    ghost use Rattle.mb_claim.specs.Layouts.{plain, alone};
+    ghost use Rattle.mb_claim.specs.Layouts.{plain, with_last};
     ghost use Rattle.mb_quorum.specs.declared.table.TableName.TheVariants.{Bits};
     ghost use Rattle.mb_claim.specs.declared.layout.TheConstants.{MAX_LARGE_CELLS};
     ghost use Rattle.mb_claim.specs.declared.shape.Shape.{Shape};
     ghost use Rattle.mb_world.specs.Plan.{consumers_of};
     ghost use Rattle.mb_world.specs.Setups.{layout_of, pairs_in, plan_in, plan_of, shape_in, shaped_plan};
-    ghost use Rattle.mb_world.specs.Setups.{exchange_refusal, large_refusal, refusal_above, setup_refusal};
+    ghost use Rattle.mb_world.specs.Setups.{large_refusal, refusal_above, setup_refusal};
 
     /// The setup of `producers` (1 to 16), `consumers` (1 to 64) and `cells` (0 to 256). Each cell has `pairs` pairs of
     /// deciding objects (1 to 8) over the quorum table `name`, and nothing beside them. If several numbers are out of
@@ -102,14 +102,14 @@ impl Setup {
     }
 
     /// The setup of `producers` (1 to 16), `consumers` (1 to 64) and `cells` (0 to 2^24) whose cells have a last object
-    /// alone: a claim is one exchange. The faults have the order of [`Setup::new`], and the last one never comes.
+    /// alone. So a claim is one exchange. The fault is that of [`Setup::large`] with one pair.
     pub fn exchange(producers: u64, consumers: u64, cells: u64) -> Result<Setup, SetupFault>
-        ensures refused { MatchOption (exchange_refusal producers consumers cells) (IsOk result)
+        ensures refused { MatchOption (large_refusal producers consumers cells 1) (IsOk result)
             (λ fault. result ≡ Err fault) }
         ensures made { IfOk result
-            (λ setup. plan_in setup ≡ shaped_plan alone producers consumers cells 0 Bits) }
+            (λ setup. plan_in setup ≡ shaped_plan with_last producers consumers cells 0 Bits) }
         ensures pairs { IfOk result (λ setup. pairs_in setup ≡ 0) }
-        ensures shape { IfOk result (λ setup. shape_in setup ≡ alone) }
+        ensures shape { IfOk result (λ setup. shape_in setup ≡ with_last) }
     {
         if !(1..=MAX_PRODUCERS).contains(&producers) {
             return Err(SetupFault::BadProducers);
@@ -166,7 +166,7 @@ impl Setup {
     }
 
     /// This setup, but with this shape for each cell. The shape that the cells had before makes no difference. Without
-    /// pairs the cells keep their last object.
+    /// pairs the cells keep their last object, since they have no other.
     pub fn shaped(&self, shape: Shape) -> Setup
         ensures table { (plan_in result).claims.table ≡ (plan_in self.now).claims.table }
         ensures cells { (plan_in result).claims.cells ≡ (plan_in self.now).claims.cells }
@@ -176,6 +176,8 @@ impl Setup {
             → plan_in result ≡ shaped_plan shape p c m k t }
         ensures pairs { pairs_in result ≡ pairs_in self.now }
         ensures shape { 1 ≤ pairs_in self.now → shape_in result ≡ shape }
+        ensures alone { pairs_in self.now ≡ 0
+            → shape_in result ≡ record { fast = shape.fast; last = true } }
     {
         Setup {
             producers: self.producers,

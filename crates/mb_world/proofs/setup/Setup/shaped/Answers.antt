@@ -33,6 +33,6 @@ returns-clause-plan c s p d m k t same pairs some =
     let table : quorums_of c.args.self.now.layout ≡ table_of t d = ap (λ plan. plan.claims.table) same in
     let made = c.shaped.ensures in
     same_plan _ _ _ _ _ _ _ _ (made.quorums ∙ table)
-    (same_row _ _ _ _ _ _ (made.shape (omega (arith, pairs, some))) (ap (λ q. q.values) (made.quorums ∙ table) ∙ named_values t d)
-    (made.pairs ∙ pairs))
+    (same_row _ _ _ _ _ _ (made.shape (omega (arith, pairs, some)))
+    (ap (λ q. q.values) (made.quorums ∙ table) ∙ named_values t d) (made.pairs ∙ pairs))
     (ap (λ plan. plan.claims.cells) same) (ap (λ plan. plan.lanes) same)
