@@ -19,6 +19,10 @@ pub struct Handle {
 }
 
 impl Handle {
+    ghost use Rattle.std.specs.Prelude.{IsSome};
+    ghost use types.Logic.{sem};
+    ghost use Rattle.hazbultra.specs.Lending.{HandleLends};
+
     /// A handle that leads to nothing.
     pub fn none(alloc: Global) -> Handle
         ensures { result.block.thing ≡ None }
@@ -53,6 +57,16 @@ impl Handle {
         ensures { result ≡ not (is_some self.now.block.thing) }
     {
         !self.full
+    }
+
+    /// Lends what the handle leads to. Once the borrow ends, the handle leads to what was left there.
+    #[inline(always)]
+    pub fn lend(&mut self) -> &mut Thing
+        requires { IsSome self.old.block.thing }
+        ensures* writes_back { sem 𝓛 (HandleLends self.entry result) }
+        ensures value { self.old.block.thing ≡ Some result.now }
+    {
+        self.block.lend()
     }
 
     /// The box that the handle leads to, if any. The box is the caller's then, and the handle leads to nothing.
