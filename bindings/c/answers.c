@@ -103,8 +103,8 @@ static void kinds(hz_handle *part, bool is_hub, bool is_producer, bool is_consum
     if (part->full)
         EXPECT(COMES_TO(HZ_BAD_HANDLE, hz_mailbox_new(9, &setup, part)));
     if (!is_hub) {
-        EXPECT(COMES_TO(HZ_BAD_HANDLE, hz_producer_new(part, &none)));
-        EXPECT(COMES_TO(HZ_BAD_HANDLE, hz_consumer_new(part, SEED, 0, &none)));
+        EXPECT(COMES_TO(HZ_BAD_HANDLE, hz_producer_new(part, &none, &word)));
+        EXPECT(COMES_TO(HZ_BAD_HANDLE, hz_consumer_new(part, SEED, &none, &word)));
         EXPECT(hz_take_back(part, &none) == HZ_BAD_HANDLE);
         EXPECT(hz_gather(part, &none, &missing) == HZ_BAD_HANDLE);
     }
@@ -121,7 +121,7 @@ static void kinds(hz_handle *part, bool is_hub, bool is_producer, bool is_consum
         EXPECT(hz_report_items(part, 0, false, 0, &word, 1, &other) == HZ_BAD_HANDLE);
         EXPECT(hz_report_notes(part, 0, 0, 0, &note, 1, &other) == HZ_BAD_HANDLE);
     }
-    EXPECT(!none.full && missing.producers == 7 && missing.consumers == 7);
+    EXPECT(!none.full && missing.producers == 7 && missing.consumers == 7 && word == 7 && other == 7);
 }
 
 static void report_of_one(hz_handle *report) {
@@ -163,14 +163,14 @@ static void life(void) {
     hz_handle hub = HZ_NONE, other = HZ_NONE, one = HZ_NONE, two = HZ_NONE, three = HZ_NONE, report = HZ_NONE;
     hz_handle stranger = HZ_NONE;
     hz_missing missing = {7, 7};
-    uint64_t value = 7;
+    uint64_t value = 7, number = 7;
     EXPECT(COMES_TO(HZ_DONE, hz_mailbox_new(1, &setup, &hub)));
     EXPECT(COMES_TO(HZ_DONE, hz_mailbox_new(2, &setup, &other)));
-    EXPECT(COMES_TO(HZ_DONE, hz_producer_new(&hub, &one)));
-    EXPECT(COMES_TO(HZ_DONE, hz_consumer_new(&hub, SEED, 0, &two)));
-    EXPECT(COMES_TO(HZ_DONE, hz_consumer_new(&hub, SEED, 1, &three)));
-    EXPECT(COMES_TO(HZ_ALL_GIVEN, hz_consumer_new(&hub, SEED, 2, &stranger)) && !stranger.full);
-    EXPECT(COMES_TO(HZ_BAD_HANDLE, hz_producer_new(&hub, &one)));
+    EXPECT(COMES_TO(HZ_DONE, hz_producer_new(&hub, &one, &number)) && number == 0);
+    EXPECT(COMES_TO(HZ_DONE, hz_consumer_new(&hub, SEED, &two, &number)) && number == 0);
+    EXPECT(COMES_TO(HZ_DONE, hz_consumer_new(&hub, SEED, &three, &number)) && number == 1);
+    EXPECT(COMES_TO(HZ_ALL_GIVEN, hz_consumer_new(&hub, SEED, &stranger, &number)) && !stranger.full);
+    EXPECT(COMES_TO(HZ_BAD_HANDLE, hz_producer_new(&hub, &one, &number)) && number == 1);
     kinds(&hub, true, false, false, false);
     kinds(&one, false, true, false, false);
     kinds(&two, false, false, true, false);
@@ -184,7 +184,7 @@ static void life(void) {
     EXPECT(hz_poll(&three, 0, UINT64_MAX, &value) == HZ_LOST && value == 0);
     EXPECT(hz_poll(&two, 0, 2, &value) == HZ_SPENT);
 
-    EXPECT(COMES_TO(HZ_DONE, hz_producer_new(&other, &stranger)));
+    EXPECT(COMES_TO(HZ_DONE, hz_producer_new(&other, &stranger, &number)) && number == 0);
     EXPECT(hz_take_back(&hub, &stranger) == HZ_OTHER_MAILBOX && stranger.full);
     EXPECT(hz_take_back(&hub, &other) == HZ_BAD_HANDLE && other.full);
     EXPECT(hz_take_back(&other, &stranger) == HZ_DONE && !stranger.full);
@@ -205,10 +205,14 @@ static void numbers(void) {
     hz_setup setup = setup_of(16, 64, 1, 1, HZ_BITS);
     hz_handle hub = HZ_NONE, report = HZ_NONE, more = HZ_NONE, parts[80] = {HZ_NONE};
     hz_missing missing = {7, 7};
+    uint64_t number = 7;
     EXPECT(hz_mailbox_new(1, &setup, &hub) == HZ_DONE);
-    for (uint64_t i = 0; i < 80; i++)
-        EXPECT((i < 16 ? hz_producer_new(&hub, &parts[i]) : hz_consumer_new(&hub, SEED, i, &parts[i])) == HZ_DONE);
-    EXPECT(hz_producer_new(&hub, &more) == HZ_ALL_GIVEN && hz_consumer_new(&hub, SEED, 80, &more) == HZ_ALL_GIVEN);
+    for (uint64_t i = 0; i < 16; i++)
+        EXPECT(hz_producer_new(&hub, &parts[i], &number) == HZ_DONE && number == i);
+    for (uint64_t i = 0; i < 64; i++)
+        EXPECT(hz_consumer_new(&hub, SEED, &parts[16 + i], &number) == HZ_DONE && number == i);
+    EXPECT(hz_producer_new(&hub, &more, &number) == HZ_ALL_GIVEN);
+    EXPECT(hz_consumer_new(&hub, SEED, &more, &number) == HZ_ALL_GIVEN && number == 63);
     EXPECT(hz_gather(&hub, &report, &missing) == HZ_MISSING && missing.producers == 16 && missing.consumers == 64);
     for (int i = 0; i < 80; i++)
         EXPECT(hz_take_back(&hub, &parts[i]) == HZ_DONE);

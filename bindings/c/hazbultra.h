@@ -11,7 +11,8 @@
  *     only one of the two may be used. It may be moved, as a struct is moved by memcpy.
  *  2. No pointer is null, not even that of hz_free, or items or notes if room is 0. Each leads to an object of its type,
  *     or to as many as the length beside it says. A handle, a setup and a seed are initialised. What a call is to write
- *     need not be: a call never reads value, missing, lanes, consumers, out, items, notes or copied. A bool is 0 or 1.
+ *     need not be: a call never reads lane, number, value, missing, lanes, consumers, out, items, notes or copied, if
+ *     it takes it by a pointer. A bool is 0 or 1.
  *     Two pointers of one call lead to different objects.
  *  3. A handle is in one call at a time. From call to call it may go from thread to thread, if the one call happens
  *     before the other: by a lock, the start or the join of a thread, an atomic, or whatever else orders them. Handles
@@ -171,16 +172,17 @@ HZ_CHECKED HZ_NONNULL
 uint32_t hz_mailbox_new(uint64_t id, const hz_setup *setup, hz_handle *hub);
 
 /* The producer of the next lane. Lanes are given in order, from 0 on.
- * HZ_DONE: producer leads to it. HZ_BAD_HANDLE. HZ_ALL_GIVEN: every lane was given. HZ_NO_MEMORY. */
+ * HZ_DONE: producer leads to it, and lane is its lane. HZ_BAD_HANDLE. HZ_ALL_GIVEN: every lane was given. HZ_NO_MEMORY.
+ * lane is written at HZ_DONE only. */
 HZ_CHECKED HZ_NONNULL
-uint32_t hz_producer_new(hz_handle *hub, hz_handle *producer);
+uint32_t hz_producer_new(hz_handle *hub, hz_handle *producer, uint64_t *lane);
 
 /* The consumer of the next number. Numbers are given in order, from 0 on. Its random words are those of ChaCha8 from this
- * seed and stream: give each consumer of a mailbox another seed or another stream. Equal words make polls longer, and
- * never wrong.
- * HZ_DONE: consumer leads to it. HZ_BAD_HANDLE. HZ_ALL_GIVEN: every number was given. HZ_NO_MEMORY. */
+ * seed, of the stream of its number. So all consumers of a mailbox may have one seed.
+ * HZ_DONE: consumer leads to it, and number is its number. HZ_BAD_HANDLE. HZ_ALL_GIVEN: every number was given.
+ * HZ_NO_MEMORY. number is written at HZ_DONE only. */
 HZ_CHECKED HZ_NONNULL
-uint32_t hz_consumer_new(hz_handle *hub, const uint8_t seed[32], uint64_t stream, hz_handle *consumer);
+uint32_t hz_consumer_new(hz_handle *hub, const uint8_t seed[32], hz_handle *consumer, uint64_t *number);
 
 /* Puts an item, any number, at the end of the producer's lane. It makes three accesses at most and takes no memory.
  * HZ_LINKED: it is there. HZ_FULL: no cell is left, the item is still the caller's, and each further put

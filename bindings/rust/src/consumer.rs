@@ -214,7 +214,7 @@ impl<T> Consumer<T> {
 
 impl<T> Drop for Consumer<T> {
     fn drop(&mut self) {
-        self.home.desk().hub.take_consumer(&mut self.part);
+        self.home.hub().take_consumer(&mut self.part);
     }
 }
 

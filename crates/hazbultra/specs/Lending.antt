@@ -1,8 +1,8 @@
 -- What a block and a handle end as, once what they lend comes back.
 use base.Fml.{Fml}
 use mathlib.Core.Path.{refl}
-use Rattle.std.specs.Prelude.{Some, true}
-use Rattle.std.specs.Borrow.{Lends, MutBor}
+use Rattle.std.specs.Prelude.{Option, Some, true}
+use Rattle.std.specs.Borrow.{Lends, LendsIf, MutBor}
 use Rattle.hazbultra.specs.declared.handle.Handle.{Handle}
 use Rattle.hazbultra.specs.declared.handle.block.Block.{Block}
 use Rattle.hazbultra.specs.declared.thing.Thing.{Thing}
@@ -22,6 +22,6 @@ handle_to h x = record { full = true; alloc = h.alloc; block = leading_to h.bloc
 abbrev pub BlockLends : MutBor Block → MutBor Thing → Fml
 BlockLends b r = Lends block_row thing_row b r (leading_to b.now)
 
--- the handle ends leading to the last value behind r
-abbrev pub HandleLends : MutBor Handle → MutBor Thing → Fml
-HandleLends h r = Lends handle_row thing_row h r (handle_to h.now)
+-- the handle ends leading to the last value behind r, or as it was
+abbrev pub HandleLends : MutBor Handle → Option (MutBor Thing) → Fml
+HandleLends h r = LendsIf handle_row thing_row h r (handle_to h.now) h.now

@@ -42,19 +42,17 @@ pub extern "C" fn hz_put(producer: &mut Handle, item: u64) -> u32
     ensures codes { (result ≡ LINKED) ⊎ (result ≡ FULL) ⊎ (result ≡ CLOSED)
         ⊎ (result ≡ BAD_HANDLE) }
 {
-    let Some(mut opened) = producer.take() else {
+    let Some(opened) = producer.lend() else {
         return BAD_HANDLE;
     };
-    let code = match &mut *opened {
+    match opened {
         Thing::OfProducer(bound) => match bound.put(item) {
             Put::Linked => LINKED,
             Put::Full => FULL,
             Put::Closed => CLOSED,
         },
         _ => BAD_HANDLE,
-    };
-    producer.give(opened);
-    code
+    }
 }
 
 /// Ends the lane. The call returns `DONE`, `CLOSED` if the lane has ended before, and `BAD_HANDLE` if the handle leads
@@ -72,19 +70,17 @@ pub extern "C" fn hz_finish(producer: &mut Handle) -> u32
     ensures same { result ≡ BAD_HANDLE → producer.new.block.thing ≡ producer.old.block.thing }
     ensures codes { (result ≡ DONE) ⊎ (result ≡ CLOSED) ⊎ (result ≡ BAD_HANDLE) }
 {
-    let Some(mut opened) = producer.take() else {
+    let Some(opened) = producer.lend() else {
         return BAD_HANDLE;
     };
-    let code = match &mut *opened {
+    match opened {
         Thing::OfProducer(bound) => match bound.finish() {
             Finish::Ended => DONE,
             Finish::Closed => CLOSED,
             Finish::Busy => unreachable!(),
         },
         _ => BAD_HANDLE,
-    };
-    producer.give(opened);
-    code
+    }
 }
 
 /// Polls a lane, with at most `budget` accesses. `value` becomes the item taken, or the number of the consumer to which
@@ -120,18 +116,16 @@ pub extern "C" fn hz_poll(consumer: &mut Handle, lane: u64, budget: u64, value: 
     ensures codes { (result ≡ BAD_HANDLE)
         ⊎ ((answer : Poll) × (answer_told result value.new ≡ Some answer)) }
 {
-    let Some(mut opened) = consumer.take() else {
+    let Some(opened) = consumer.lend() else {
         return BAD_HANDLE;
     };
-    let code = match &mut *opened {
+    match opened {
         Thing::OfConsumer(seeded) => {
             let answer = seeded.consumer.poll(lane, budget, &mut seeded.source);
             tell(answer, value)
         }
         _ => BAD_HANDLE,
-    };
-    consumer.give(opened);
-    code
+    }
 }
 
 /// Writes the value of an answer, if it has one, and returns its code.

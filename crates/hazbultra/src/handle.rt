@@ -19,7 +19,7 @@ pub struct Handle {
 }
 
 impl Handle {
-    ghost use Rattle.std.specs.Prelude.{IsSome};
+    ghost use Rattle.std.specs.Prelude.{MatchOption};
     ghost use types.Logic.{sem};
     ghost use Rattle.hazbultra.specs.Lending.{HandleLends};
 
@@ -59,14 +59,19 @@ impl Handle {
         !self.full
     }
 
-    /// Lends what the handle leads to. Once the borrow ends, the handle leads to what was left there.
+    /// Lends what the handle leads to, if it leads to something. Once the borrow ends, the handle leads to what was
+    /// left there.
     #[inline(always)]
-    pub fn lend(&mut self) -> &mut Thing
-        requires { IsSome self.old.block.thing }
+    pub fn lend(&mut self) -> Option<&mut Thing>
         ensures* writes_back { sem 𝓛 (HandleLends self.entry result) }
-        ensures value { self.old.block.thing ≡ Some result.now }
+        ensures value { MatchOption result (self.old.block.thing ≡ None)
+            (λ x. self.old.block.thing ≡ Some x.now) }
     {
-        self.block.lend()
+        if self.full {
+            Some(self.block.lend())
+        } else {
+            None
+        }
     }
 
     /// The box that the handle leads to, if any. The box is the caller's then, and the handle leads to nothing.

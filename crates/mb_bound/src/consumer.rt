@@ -44,6 +44,13 @@ impl<A: Allocator + Drop> BoundConsumer<A> {
         self.id
     }
 
+    /// The consumer's own number, from 0 on.
+    pub fn number(&self) -> u32
+        ensures { result ≡ self.now.consumer.seat.consumer }
+    {
+        self.consumer.number()
+    }
+
     /// A law: the consumer is one of the mailbox that it is kept with.
     pub fn is_bound(&self)
         ensures { IsConsumerOf self.now.mailbox self.now.consumer }

@@ -89,12 +89,12 @@ const _: () = {
 
 unsafe extern "C" {
     pub(super) fn hz_mailbox_new(id: u64, setup: &Setup, hub: &mut Handle) -> u32;
-    pub(super) fn hz_producer_new(hub: &mut Handle, producer: &mut Handle) -> u32;
+    pub(super) fn hz_producer_new(hub: &mut Handle, producer: &mut Handle, lane: &mut u64) -> u32;
     pub(super) fn hz_consumer_new(
         hub: &mut Handle,
         seed: &[u8; 32],
-        stream: u64,
         consumer: &mut Handle,
+        number: &mut u64,
     ) -> u32;
     pub(super) fn hz_put(producer: &mut Handle, item: u64) -> u32;
     pub(super) fn hz_finish(producer: &mut Handle) -> u32;
