@@ -5,6 +5,7 @@ mod places;
 mod polls;
 mod pursuit;
 mod standing;
+mod takes;
 
 use crate::notes::Notes;
 use arrayvec::ArrayVec;
