@@ -30,7 +30,7 @@
  *
  * WHAT A CALL CHECKS ITSELF. A handle that leads to nothing (HZ_NONE), or to another kind of thing than the call wants, is
  * HZ_BAD_HANDLE. So is a handle that the call is to fill and that leads to something. After each code but HZ_DONE,
- * HZ_LINKED, HZ_FULL and those of a poll nothing has changed, if no line below says otherwise. No call loses what a
+ * HZ_LINKED, HZ_FULL and those of a poll or a take nothing has changed, if no line below says otherwise. No call loses what a
  * handle leads to, also if memory is refused.
  *
  * STACK. hz_mailbox_new takes up to 13 kB of it, and no other call takes more than 8 kB. A backtrace ends at the library's
@@ -86,7 +86,7 @@ typedef struct {
 typedef enum {
     HZ_DONE = 0,
 
-    /* of hz_poll, and the kind of a note (the first three) */
+    /* of hz_poll and hz_take, and the kind of a note (the first three) */
     HZ_TOOK = 1,
     HZ_LOST = 2,
     HZ_UNDECIDED = 3,
@@ -123,14 +123,15 @@ typedef enum {
     HZ_MIDDLE = 2
 } hz_table;
 
-/* How large a mailbox is, and what stands in each cell. If nothing speaks against it: 4 pairs, and last true. Set
+/* How large a mailbox is, and what stands in each cell. The fastest have 0 pairs, last true and fast false: each claim on an
+ * item is one exchange then, and table does not count. Else, if nothing speaks against it: 4 pairs, and last true. Set
  * fast too if mostly one consumer comes to an item.
  * docs/GUIDE.md tells which setup does what, and how much memory it takes. */
 typedef struct {
     uint64_t producers; /* 1 to 16: each has a lane of its own, from 0 on */
     uint64_t consumers; /* 1 to 64 */
     uint64_t cells;     /* 0 to 2^24: so many items can be put in all */
-    uint64_t pairs;     /* 1 to 8 pairs of deciding objects for each cell */
+    uint64_t pairs;     /* 1 to 8 pairs of deciding objects for each cell, or 0 if last is true and fast is not */
     uint32_t table;     /* an hz_table */
     bool fast;          /* two ratifiers before the pairs: faster if one consumer is alone */
     bool last;          /* an object that always decides after the pairs: no poll is HZ_UNDECIDED then */
@@ -178,7 +179,8 @@ HZ_CHECKED HZ_NONNULL
 uint32_t hz_producer_new(hz_handle *hub, hz_handle *producer, uint64_t *lane);
 
 /* The consumer of the next number. Numbers are given in order, from 0 on. Its random words are those of ChaCha8 from this
- * seed, of the stream of its number. So all consumers of a mailbox may have one seed.
+ * seed, of the stream of its number. So all consumers of a mailbox may have one seed. It does not count if each claim is one
+ * exchange.
  * HZ_DONE: consumer leads to it, and number is its number. HZ_BAD_HANDLE. HZ_ALL_GIVEN: every number was given.
  * HZ_NO_MEMORY. number is written at HZ_DONE only. */
 HZ_CHECKED HZ_NONNULL
@@ -204,6 +206,15 @@ uint32_t hz_finish(hz_handle *producer);
  * such lane. HZ_BAD_HANDLE. value is written at HZ_TOOK and HZ_LOST only. */
 HZ_CHECKED HZ_NONNULL
 uint32_t hz_poll(hz_handle *consumer, uint64_t lane, uint64_t budget, uint64_t *value);
+
+/* Makes accesses on a lane until this consumer takes an item, or most of them were made. It goes on past items that it
+ * loses: it does what calls of hz_poll do one after another, as long as they are HZ_LOST, each with what is left of most. It
+ * takes no memory.
+ * HZ_TOOK: the item is this consumer's alone, and value is the item. HZ_UNDECIDED, HZ_NOTHING, HZ_ENDED, HZ_NO_LANE,
+ * HZ_BAD_HANDLE: as hz_poll. HZ_SPENT: most is used up, and the next call for the lane goes on from there. value is written
+ * at HZ_TOOK only. */
+HZ_CHECKED HZ_NONNULL
+uint32_t hz_take(hz_handle *consumer, uint64_t lane, uint64_t most, uint64_t *value);
 
 /* Takes a producer or a consumer back, also before its lane has ended or while it holds a claim. What it did is kept for
  * the report, and its number is not given again.

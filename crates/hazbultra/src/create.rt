@@ -1,12 +1,11 @@
 //! The calls that make a mailbox, its producers and its consumers.
 ghost use Rattle.std.specs.Prelude.{ℕ, ◌≡◌, ◌≢◌, ◌↔◌, ◌⊎◌, ◌≤◌, IfErr, IfOk, None, Some, length};
-ghost use Rattle.rand_chacha.specs.ChaCha.{of_seed};
 ghost use Rattle.mb_quorum.specs.declared.table.TableName.{TableName};
-ghost use Rattle.mb_world.specs.Vocabulary.{plan_in, shaped_plan};
+ghost use Rattle.mb_world.specs.Vocabulary.{plan_in};
 ghost use Rattle.mb_mailbox.specs.Vocabulary.{consumer_count, new_producer, plan_at};
 ghost use Rattle.mb_mailbox.specs.Hubs.{IsNewConsumer, hub_empty, with_consumer, with_producer};
-ghost use Rattle.hazbultra.specs.Calls.{ConsumerMade, HubGave, HubGaveConsumer, HubMade, HubWent, IsHub, ProducerMade, table_numbered};
-ghost use Rattle.hazbultra.specs.Refusals.{refusal_of};
+ghost use Rattle.hazbultra.specs.Calls.{ConsumerMade, HubGave, HubGaveConsumer, HubMade, HubWent, IsHub, ProducerMade, source_of, table_numbered};
+ghost use Rattle.hazbultra.specs.Refusals.{plan_asked, refusal_of};
 ghost use Rattle.hazbultra.specs.declared.codes.TheConstants.{ALL_GIVEN, BAD_HANDLE, DONE, NO_MEMORY};
 
 use crate::boundary::SetupIn;
@@ -26,9 +25,7 @@ use std::alloc::Global;
 fn setup_of(wanted: &SetupIn) -> Result<Setup, u32>
     ensures made { IfOk result (λ setup. (name : TableName)
         → table_numbered wanted.now.table ≡ Some name
-        → plan_in setup ≡ shaped_plan
-        (record { fast = wanted.now.fast; last = wanted.now.last })
-        wanted.now.producers wanted.now.consumers wanted.now.cells wanted.now.pairs name) }
+        → plan_in setup ≡ plan_asked wanted.now name) }
     ensures accepted { IfOk result (λ _. refusal_of wanted.now ≡ None) }
     ensures refused { IfErr result (λ code. (refusal_of wanted.now ≡ Some code)
         × (code ≢ DONE) × (code ≢ BAD_HANDLE)) }
@@ -40,14 +37,17 @@ fn setup_of(wanted: &SetupIn) -> Result<Setup, u32>
         fast: wanted.fast,
         last: wanted.last,
     };
-    match Setup::large(
-        wanted.producers,
-        wanted.consumers,
-        wanted.cells,
-        wanted.pairs,
-        table,
-    ) {
-        Ok(setup) => Ok(setup.shaped(shape)),
+    let (producers, consumers, cells) = (wanted.producers, wanted.consumers, wanted.cells);
+    let made = if wanted.pairs == 0 && wanted.last && !wanted.fast {
+        Setup::exchange(producers, consumers, cells)
+    } else {
+        match Setup::large(producers, consumers, cells, wanted.pairs, table) {
+            Ok(setup) => Ok(setup.shaped(shape)),
+            Err(why) => Err(why),
+        }
+    };
+    match made {
+        Ok(setup) => Ok(setup),
         Err(why) => Err(code_of_setup(why)),
     }
 }
@@ -58,9 +58,7 @@ fn setup_of(wanted: &SetupIn) -> Result<Setup, u32>
 #[unsafe(no_mangle)]
 pub extern "C" fn hz_mailbox_new(alloc: Global, id: u64, setup: &SetupIn, hub: &mut Handle) -> u32
     ensures made { result ≡ DONE → (name : TableName) → table_numbered setup.now.table ≡ Some name
-        → HubMade (λ h. (h.id ≡ id) × (plan_at h.mailbox ≡ shaped_plan
-        (record { fast = setup.now.fast; last = setup.now.last })
-        setup.now.producers setup.now.consumers setup.now.cells setup.now.pairs name)
+        → HubMade (λ h. (h.id ≡ id) × (plan_at h.mailbox ≡ plan_asked setup.now name)
         × (h.hub ≡ hub_empty h.mailbox)) hub.new.block.thing }
     ensures bad { (result ≡ BAD_HANDLE) ↔ (hub.old.block.thing ≢ None) }
     ensures refused { hub.old.block.thing ≡ None → (code : ℕ) → refusal_of setup.now ≡ Some code
@@ -170,9 +168,9 @@ fn give_producer(
 }
 
 /// Makes the consumer of the next number, and writes that number. Its random words are those of ChaCha8 from this seed,
-/// of the stream of its number. The call returns `BAD_HANDLE` if `hub` leads to no hub or `consumer` to something
-/// already, `ALL_GIVEN` if all consumers were given, and `NO_MEMORY` if memory ran out. After each of these nothing has
-/// changed.
+/// of the stream of its number. If each claim is one exchange, they are 0. The call returns `BAD_HANDLE` if `hub` leads to
+/// no hub or `consumer` to something already, `ALL_GIVEN` if all consumers were given, and `NO_MEMORY` if memory ran
+/// out. After each of these nothing has changed.
 #[unsafe(no_mangle)]
 pub extern "C" fn hz_consumer_new(
     alloc: Global,
@@ -183,7 +181,7 @@ pub extern "C" fn hz_consumer_new(
 ) -> u32
     ensures given { result ≡ DONE
         → HubGaveConsumer (λ h c. (c.consumer.id ≡ h.id) × (c.consumer.mailbox ≡ h.mailbox)
-        × (c.source ≡ record (of_seed seed.now) { stream = length h.hub.ledgers })
+        × (c.source ≡ source_of h.mailbox.claims.layout seed.now (length h.hub.ledgers))
         × IsNewConsumer h.mailbox h.hub c.consumer.consumer)
         hub.old.block.thing consumer.new.block.thing }
     ensures number { result ≡ DONE
@@ -225,7 +223,7 @@ fn give_consumer(
 ) -> u32
     ensures given { result ≡ DONE → ConsumerMade (λ c. (c.consumer.id ≡ hub.old.id)
         × (c.consumer.mailbox ≡ hub.old.mailbox)
-        × (c.source ≡ record (of_seed seed.now) { stream = length hub.old.hub.ledgers })
+        × (c.source ≡ source_of hub.old.mailbox.claims.layout seed.now (length hub.old.hub.ledgers))
         × IsNewConsumer hub.old.mailbox hub.old.hub c.consumer.consumer)
         consumer.new.block.thing }
     ensures number { result ≡ DONE → number.new ≡ length hub.old.hub.ledgers }
@@ -245,10 +243,8 @@ fn give_consumer(
     };
     match hub.consumer(alloc) {
         Ok(made) => {
-            let given = u64::from(made.number());
-            let mut source = ChaCha8Rng::from_seed(*seed);
-            source.set_stream(given);
-            *number = given;
+            *number = u64::from(made.number());
+            let source = source_for(hub, seed, made.number());
             *room = Thing::OfConsumer(SeededConsumer {
                 consumer: made,
                 source,
@@ -258,4 +254,16 @@ fn give_consumer(
         }
         Err(why) => code_of_hub(why),
     }
+}
+
+/// The source of words for the consumer of this number, if its claims look at any.
+fn source_for(hub: &BoundHub<Global>, seed: &[u8; 32], number: u32) -> Option<ChaCha8Rng>
+    ensures { result ≡ source_of hub.now.mailbox.claims.layout seed.now number }
+{
+    if hub.max_steps() == 1 {
+        return None;
+    }
+    let mut source = ChaCha8Rng::from_seed(*seed);
+    source.set_stream(u64::from(number));
+    Some(source)
 }

@@ -1,5 +1,5 @@
 -- `lend`: what the block owns is that of a box, so the thing is lent, and the rest of the box stays behind.
-use Rattle.hazbultra.proofs.Steps.{◌≡◌, refl, List, [], ◌∷◌, Ura, Val, SProp, ent, id⊢}
+use Rattle.hazbultra.proofs.Steps.{◌≡◌, refl, List, [], ◌∷◌, Ura, Val, SProp, ent, id⊢, vptr}
 use Rattle.hazbultra.proofs.Steps.{flft, fsep, ftrue, Fun, fact, tables, tables_of, Memory, Routine, bare}
 use Rattle.hazbultra.proofs.Steps.{Tables, WpFn, WpFn-mono, Logic, sem, ‵, raw, ◌⊛◌, some, later, at_ret, ◌$◌, ◌∵◌}
 use Rattle.hazbultra.proofs.Steps.{ !, qed, move, drop, use1, join, split, pick, rewrite, fsplit, fpack}
@@ -7,24 +7,9 @@ use Rattle.hazbultra.proofs.Steps.{fjoin, suffices, await, done, sub, whole, ent
 use Rattle.hazbultra.proofs.Steps.{of_opd, returns, stop, alloc_all, env, free_all, get, look_at, pass_all, sets}
 use Rattle.hazbultra.proofs.Steps.{no, heard, nothing, block_ptr, token, plain, triple_of, entered, Stays, ends_at, says}
 use Rattle.hazbultra.proofs.Steps.{stay_dropped, walk_Meets, walk_of, B, D, R, τ, word, box_in, box_out}
-use base.Fml.{Fml, GName}
-use base.Logic.{sep}
-use base.Fraction.{full_share}
-use mir.Syntax.{named}
-use mir.Val.{vptr}
-use prog.Wp.{Env}
-use types.Kit.{fsplit3, group, keep, frame}
-use types.Part.{look_in}
-use types.Run.{addr, load}
-use types.ByLocal.{sets_last, through}
-use denote.Follow.{follows, Part, lends_Part}
-use denote.Memory.{cell_at, mem, part_at, part_of}
-use denote.RattleType.{owns}
-use denote.Ref.{MutRef, mut_Tells, mut_vals}
-use denote.Signature.{mut_ref_to}
-use denote.Steps.{opens}
-use denote.Triple.Walked.{Goes-spent_ref, walked}
-use Rattle.std_alloc.proofs.BoxSteps.Form.{handle}
+use Rattle.hazbultra.proofs.Steps.{Env, Fml, GName, MutRef, Part, addr, cell_at, follows, frame, fsplit3, full_share}
+use Rattle.hazbultra.proofs.Steps.{group, handle, keep, lends_Part, load, look_in, mem, mut_Tells, mut_ref_to, mut_vals}
+use Rattle.hazbultra.proofs.Steps.{named, opens, owns, part_at, part_of, sep, sets_last, through, walked, Goes-spent_ref}
 use Rattle.std.specs.Prelude.{ℕ, IsSome, Option}
 use Rattle.hazbultra.specs.Lending.{leading_to}
 use Rattle.hazbultra.specs.contracts.handle.block.Block.{the_row as Block}
@@ -96,18 +81,26 @@ module _ {M : Type 1} {𝓤 : Ura M} (𝓛 : Logic 𝓤) (heap : Memory → SPro
       move ! (1 ∷ 2 ∷ []) $ fjoin ! $ move ! (1 ∷ []) $
       rewrite ! 2 (λ (us : List Val). ‵ (cell_at full_share Block.mir us rb ro)) is_word refl $
       first ! $ blocks ! $
-      sets ! (of_opd ! (load ! (through ! refl (fld ! refl (stop !))) (look_in ! 2 (sub ! 0 refl (whole !))))) refl (tt, tt) $
+      sets ! (of_opd ! (load ! (through ! refl (fld ! refl (stop !)))
+      (look_in ! 2 (sub ! 0 refl (whole !))))) refl (tt, tt) $
       sets ! (of_opd ! (get ! refl)) refl (tt, tt) $
       sets_last ! (addr ! (through ! refl (stop !))) refl (tt, tt) $
       exec ! 𝓣.C 𝓣.Λ En code.Mir.t-2 (at_ret En end) $
       sets ! (of_opd ! (get ! refl)) refl (tt, tt) $
       move ! (1 ∷ 2 ∷ []) $ fjoin ! $ move ! (2 ∷ 3 ∷ 4 ∷ 1 ∷ 0 ∷ []) $ group ! 5 $
-      use1 𝓛 (later (some (λ (γ' : GName). raw (Part 𝓛 Block Thing (leading_to it) (named 0) κ q rb ro b o γ (sem 𝓛 (Rest 𝓛 it b o hv rb ro)) (back 𝓛 it b o hv rb ro is_block) x γ'))))
-      (lends_Part 𝓛 Block Thing (leading_to it) (named 0) κ q rb ro b o γ (sem 𝓛 (Rest 𝓛 it b o hv rb ro)) (back 𝓛 it b o hv rb ro is_block) c c x) $ await ! tt $ pick ! (λ γ'.
+      let rest = sem 𝓛 (Rest 𝓛 it b o hv rb ro) in let home = back 𝓛 it b o hv rb ro is_block in
+      use1 𝓛 (later (some (λ (γ' : GName).
+      raw (Part 𝓛 Block Thing (leading_to it) (named 0) κ q rb ro b o γ rest home x γ'))))
+      (lends_Part 𝓛 Block Thing (leading_to it) (named 0) κ q rb ro b o γ rest home c c x) $
+      await ! tt $ pick ! (λ γ'.
+      let lent = record { ref_ptr = (b, o); ghost_name = γ'; now = x } in
       returns ! (look_at ! 0 refl) $ free_all ! refl $ keep ! (0 ∷ []) $
-      use1 𝓛 (‵ ((MutRef (named 0) κ Thing).own_val (record { ref_ptr = (b, o); ghost_name = γ'; now = x }) (vptr b o ∷ [])) ⊛ ‵ (flft κ q) ⊛ ‵ (follows Block Thing γ γ' (leading_to it))) (id⊢ 𝓤 _) $ split ! $ move ! (1 ∷ []) $ split ! $ move ! (2 ∷ 0 ∷ 1 ∷ []) $
-      suffices ! _ (ends_at 𝓛 f.ended stayed (f.clauses 𝓛 heap run) y (vptr b o) (record { ref_ptr = (b, o); ghost_name = γ'; now = x }) (tt, tt) (tt, tt)) $
-      nothing ! $ nothing ! $ fjoin ! $ join ! $ nothing ! $ move ! (2 ∷ 0 ∷ []) $ join ! $ join ! $ frame ! $ says ! found.1 $ done !)))))
+      use1 𝓛 (‵ ((MutRef (named 0) κ Thing).own_val lent (vptr b o ∷ [])) ⊛ ‵ (flft κ q)
+      ⊛ ‵ (follows Block Thing γ γ' (leading_to it))) (id⊢ 𝓤 _) $
+      split ! $ move ! (1 ∷ []) $ split ! $ move ! (2 ∷ 0 ∷ 1 ∷ []) $
+      suffices ! _ (ends_at 𝓛 f.ended stayed (f.clauses 𝓛 heap run) y (vptr b o) lent (tt, tt) (tt, tt)) $
+      nothing ! $ nothing ! $ fjoin ! $ join ! $ nothing ! $ move ! (2 ∷ 0 ∷ []) $ join ! $ join ! $
+      frame ! $ says ! found.1 $ done !)))))
 
 -- so the compiled function meets its statement
 pub lend_spec : {M : Type 1} → statement M
