@@ -5,7 +5,7 @@ use Rattle.rand_core.specs.Stream.{Stream}
 use Rattle.rand_chacha.specs.ChaCha.{ChaCha, next_word}
 use Rattle.mb_quorum.specs.declared.table.TableName.{TableName}
 use Rattle.mb_quorum.specs.declared.table.TableName.TheVariants.{Bits, Middle, Unary}
-use Rattle.mb_world.specs.Report.{ReportView}
+use Rattle.mb_world.specs.Theorem.{ReportView}
 use Rattle.mb_bound.specs.Bound.{BoundHubView, BoundProducerView}
 use Rattle.mb_mailbox.specs.Hubs.{with_taken_consumer, with_taken_producer}
 use Rattle.mb_mailbox.specs.declared.consumer.Poll.{Poll}
