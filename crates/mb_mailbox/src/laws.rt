@@ -11,7 +11,7 @@ ghost use Rattle.mb_mailbox.specs.Gathering.{IsGathered, IsReportIn, items_in, n
 ghost use Rattle.mb_mailbox.specs.Mailboxes.{MailboxView};
 ghost use Rattle.mb_mailbox.specs.Steps.{AreDrawn, HasNoteOnEach};
 ghost use Rattle.mb_world.specs.Agreement.{AreAllTaken, IsLeftBesideBegun};
-ghost use Rattle.mb_world.specs.Report.{ReportView, note};
+ghost use Rattle.mb_world.specs.Theorem.{ReportView, note};
 ghost use Rattle.mb_mailbox.specs.GatheringExamples.{alone_undecided, two_undecided};
 ghost use Rattle.mb_mailbox.specs.Hubs.{HubView, with_taken_consumer, with_taken_producer};
 ghost use Rattle.mb_mailbox.specs.Producers.{ProducerView};
