@@ -8,8 +8,10 @@
 use super::audit::{Ledger, Logs};
 use super::system::lock;
 use crate::{Builder, Consumer, Mailbox, Poll, Producer, Shape};
+use std::panic::{catch_unwind, resume_unwind, AssertUnwindSafe};
 use std::sync::atomic::{AtomicBool, Ordering::SeqCst};
 use std::sync::{Arc, Mutex, OnceLock};
+use std::thread;
 
 /// There is not enough memory.
 pub(super) struct NoMemory;
@@ -223,18 +225,32 @@ impl<T> Drop for Reader<T> {
 }
 
 /// The account is made as soon as nobody stands in the segment any more. A long chain goes by a loop, and not by a call in
-/// a call.
+/// a call. If the drop of a value panics, the other values are dropped too.
 impl<T> Drop for Segment<T> {
     fn drop(&mut self) {
-        if let (Some(mailbox), Some((ledger, logs))) = (self.mailbox.take(), self.audit.take()) {
-            let logs = logs.into_inner().unwrap_or_default();
-            let values = self.slots.iter_mut();
-            let left = values.filter_map(|slot| slot.get_mut().ok()?.take());
-            ledger.close(mailbox, &logs, left.collect());
+        let mut panic = None;
+        let slots = if self.is_over() {
+            &mut []
+        } else {
+            &mut self.slots[..]
+        };
+        let left = slots.iter_mut().filter_map(|it| it.get_mut().ok()?.take());
+        match (self.audit.take(), self.mailbox.take()) {
+            (Some((ledger, logs)), Some(mailbox)) => {
+                let logs = logs.into_inner().unwrap_or_default();
+                ledger.close(mailbox, &logs, left.collect());
+            }
+            _ => left.for_each(|value| {
+                let dropped = catch_unwind(AssertUnwindSafe(|| drop(value)));
+                panic = panic.take().or(dropped.err());
+            }),
         }
         let mut next = self.next.take();
         while let Some(mut segment) = next.and_then(Arc::into_inner) {
             next = segment.next.take();
+        }
+        if let Some(why) = panic.filter(|_| !thread::panicking()) {
+            resume_unwind(why);
         }
     }
 }

@@ -5,13 +5,13 @@
 //! two sees the other.
 //!
 //! To wake a sleeper is to take it out of the list. It has a *token* then, and owes a look. If it leaves without a look
-//! after that, it wakes the next one in its place.
+//! after that, it wakes the next one in its place. If a waker panics, that ends there, and the next one is woken: no sender or
+//! receiver panics by the waker of another.
 //!
 //! This file names no lock, atomic or thread of the standard library, but those of a [`System`]. `tests/wait_orders.rs`
 //! runs this very file over another one, in each order of their steps.
-use std::any::Any;
 use std::collections::VecDeque;
-use std::panic::{catch_unwind, resume_unwind, AssertUnwindSafe};
+use std::panic::{catch_unwind, AssertUnwindSafe};
 use std::sync::Arc;
 use std::task::{Poll, Waker};
 use std::time::Instant;
@@ -73,18 +73,16 @@ struct Bed<S: System> {
     is_woken: S::Word,
 }
 
-type Panic = Box<dyn Any + Send>;
-
 impl<S: System> Sleeper<S> {
-    /// Wakes it. A task's waker may panic.
-    fn wake(self) -> Result<(), Panic> {
+    /// Wakes it. It is false if a task's waker panicked, so that perhaps nobody looks.
+    fn wake(self) -> bool {
         match self {
             Sleeper::Thread(bed) => {
                 bed.is_woken.store(1);
                 S::unpark(&bed.thread);
-                Ok(())
+                true
             }
-            Sleeper::Task(waker) => catch_unwind(AssertUnwindSafe(|| waker.wake())),
+            Sleeper::Task(waker) => catch_unwind(AssertUnwindSafe(|| waker.wake())).is_ok(),
         }
     }
 }
@@ -108,27 +106,19 @@ impl<S: System> WaitList<S> {
         }
     }
 
-    /// Whoever panics as it is woken does not look. So the next one is woken too.
     #[cold]
     fn wake_first(&self) {
-        let mut panic = None;
-        while let Some(sleeper) = self.change(VecDeque::pop_front) {
-            match sleeper.1.wake() {
-                Ok(()) => break,
-                Err(why) => panic = Some(why),
+        while let Some((_, sleeper)) = self.change(VecDeque::pop_front) {
+            if sleeper.wake() {
+                break;
             }
-        }
-        if let Some(why) = panic {
-            resume_unwind(why)
         }
     }
 
     /// Wakes all.
     pub fn wake_all(&self) {
-        let woken = self.change(std::mem::take);
-        let panics = woken.into_iter().filter_map(|it| it.1.wake().err());
-        if let Some(why) = panics.last() {
-            resume_unwind(why)
+        for (_, sleeper) in self.change(std::mem::take) {
+            sleeper.wake();
         }
     }
 
