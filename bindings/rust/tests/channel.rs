@@ -12,7 +12,7 @@ use std::time::{Duration, Instant};
 
 const SHORT: Duration = Duration::from_millis(20);
 /// After so long a test has failed that waits for something.
-const LONG: Duration = Duration::from_secs(30);
+const LONG: Duration = Duration::from_secs(10);
 
 fn small<T>() -> (Sender<T>, Receiver<T>) {
     Builder::new().cells(3).build()

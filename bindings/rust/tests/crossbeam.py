@@ -79,12 +79,12 @@ def kept(name, text):
         body = text[test.start() : end]
         inside = [it for it in modules if it[1] < test.start() < it[2]]
         label = "::".join([name, *(it[0] for it in inside), test.group(1)])
-        called = {it for it in re.findall(r"\b(\w+)(?:::<[^;]*?>)?\(", body)}
-        for module in inside:
-            for helper in re.finditer(r"^ *fn (\w+)", text[module[1] : module[2]], re.M):
-                at = module[1] + helper.start()
-                if helper.group(1) in called and helper.group(1) != test.group(1):
-                    body += text[at : end_of(text, at)]
+        # (with what it calls of its module, and what that calls)
+        for _, begin, stop in inside:
+            helpers = [(it.group(1), begin + it.start()) for it in re.finditer(r"^ *fn (\w+)", text[begin:stop], re.M)]
+            while found := next((it for it in helpers if it[1] > test.end() or it[1] < test.start() if re.search(rf"\b{it[0]}\b", body)), None):
+                helpers.remove(found)
+                body += text[found[1] : end_of(text, found[1])]
         reason = next((why for why, word in NEEDS.items() if re.search(word, body)), OTHERS.get(label))
         if reason:
             left.append((label, reason))
