@@ -4,7 +4,8 @@
 //!   time, and workers panic. None is lost, none comes twice, the order of each sender is kept, and each audit agrees.
 //! - `idle`: 64 receivers sleep, and take next to no processor time.
 //! - `memory`: values flow beside an idle sender and an idle receiver, with and without an audit. Memory does not grow.
-use hazbultra::channel::{channel, Builder, Receiver, RecvError, Sender};
+//! - `full`: a send that gets no memory returns its value, and all others are received. It wants a limit: `ulimit -v 200000`.
+use hazbultra::channel::{channel, Builder, Receiver, RecvError, SendError, Sender};
 use std::collections::BTreeMap;
 use std::panic::{catch_unwind, resume_unwind, AssertUnwindSafe};
 use std::sync::{Mutex, MutexGuard};
@@ -232,13 +233,34 @@ fn memory(seconds: u64) -> String {
         };
         // These two have stood in a segment, and do nothing more.
         let (idle_sender, idle_receiver) = ends.clone();
-        idle_sender.send(1_u64).expect("a receiver is there");
-        idle_receiver.recv().expect("it was sent");
+        for sender in [&idle_sender, &ends.0] {
+            sender.send(1_u64).expect("a receiver is there");
+            idle_receiver.recv().expect("it was sent");
+        }
         let (count, grown) = flow(&ends.0, &ends.1, 1, seconds);
         assert!(grown < 1 << 20, "memory grew by {grown} bytes");
         format!("{count} values, audited: {is_audited}, memory grew by {grown} bytes")
     });
     said.join("\n")
+}
+
+/// Sends until there is no memory.
+fn full() -> String {
+    let (sender, receiver) = channel();
+    // (the receiver has its place before memory ends)
+    sender.send(0_u64).expect("a receiver is there");
+    receiver.recv().expect("it was sent");
+    let refused = (1..).find_map(|it| sender.send(it).err());
+    let SendError(count) = refused.expect("memory ends");
+    drop(sender);
+    assert!(
+        receiver.iter().eq(1..count),
+        "each value that was sent comes"
+    );
+    format!(
+        "{} values were sent until memory ended, and each came",
+        count - 1
+    )
 }
 
 fn main() {
@@ -247,6 +269,7 @@ fn main() {
     let said = match words.first().map(String::as_str) {
         Some("idle") => idle(seconds),
         Some("memory") => memory(seconds),
+        Some("full") => full(),
         _ => ends(seconds),
     };
     println!("{said}");

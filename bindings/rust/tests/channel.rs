@@ -86,7 +86,7 @@ fn a_receiver_finds_what_was_sent_before() {
         for _ in 0..4 {
             let (sender, receiver) = (sender.clone(), receiver.clone());
             scope.spawn(move || {
-                for it in 0..20_000 {
+                for it in 0..100_000 {
                     sender.send(it).unwrap();
                     receiver.try_recv().unwrap();
                 }
@@ -269,6 +269,9 @@ fn no_round_sleeps_for_ever() {
     }
     let quick = receiver.clone();
     for round in 0..20_000_u32 {
+        if round % 100 == 0 {
+            thread::sleep(Duration::from_millis(1)); // (so that all sleep)
+        }
         (0..=round % 3).for_each(|it| sender.send(it).unwrap());
         let own = u32::from(quick.recv_timeout(Duration::from_nanos(1)).is_ok());
         for _ in own..=round % 3 {
@@ -330,12 +333,16 @@ fn the_last_job_ends_the_channel() {
     let (sender, receiver) = small();
     sender.send(1).unwrap();
     drop(sender);
-    let sleepers: Vec<_> = (0..8)
-        .map(|_| receiver.clone())
-        .map(|it| thread::spawn(move || it.recv_job().map(hazbultra::channel::Job::done)))
-        .collect();
-    let ended = sleepers.into_iter().map(|it| it.join().unwrap().is_ok());
-    assert_eq!(ended.filter(|it| *it).count(), 1);
+    let work = |receiver: Receiver<u8>| {
+        receiver.recv_job().map(|job| {
+            thread::sleep(SHORT * 5); // (so that the others sleep)
+            job.done()
+        })
+    };
+    let workers = [(); 8].map(|()| receiver.clone());
+    let workers = workers.map(|it| thread::spawn(move || work(it)));
+    let done = workers.map(|it| it.join().unwrap());
+    assert_eq!(done.iter().filter(|it| it.is_ok()).count(), 1);
 }
 
 #[test]

@@ -20,7 +20,8 @@ use std::time::{Duration, Instant};
 /// few steps in which somebody moves its seat on. Nobody waits for the seat of another: whoever finds a segment over only
 /// tries the locks of other seats. A receive that comes to a new segment takes the lock under which its chain keeps the
 /// first segment, and that under which the mailbox issues consumers. A receive that sleeps takes the lock of the list of
-/// sleepers. A clone and a drop take the lock of the list of ends.
+/// sleepers. The slot of a value has a lock that nobody waits for. A clone and a drop take the lock of the list of ends. The
+/// drop of the last receiver takes those of all lanes and seats, one after the other. No other call takes one.
 pub struct Receiver<T> {
     shared: Arc<Shared<T>>,
     seat: Arc<Seat<T>>,
@@ -56,7 +57,7 @@ impl<T> Receiver<T> {
         }
     }
 
-    /// Receives a value if one is there now. It never sleeps.
+    /// Receives a value if one is there now. It holds the lock of its seat, for which it waits, and never sleeps else.
     ///
     /// # Errors
     /// Nothing is there, or nothing comes any more.
@@ -65,7 +66,7 @@ impl<T> Receiver<T> {
         now(self.take())
     }
 
-    /// Receives a value. It sleeps until one comes. If there is no memory for its place in a segment, it tries again each
+    /// Receives a value. It sleeps until one comes, and holds the lock of its seat while it looks. If there is no memory for its place in a segment, it tries again each
     /// millisecond.
     ///
     /// # Errors
@@ -167,7 +168,7 @@ impl<T> Receiver<T> {
         self.number
     }
 
-    /// How many values wait. While ends work it may be out of date at once.
+    /// How many values wait. While ends work it may be out of date at once. It takes no lock.
     #[must_use]
     pub fn len(&self) -> usize {
         self.shared.len()

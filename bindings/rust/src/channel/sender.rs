@@ -16,9 +16,10 @@ use std::time::{Duration, Instant};
 /// other.
 ///
 /// **Locks.** Each of the first 16 senders has a lane of its own. A send holds the lock of its lane for one put. So it
-/// waits only for another thread that shares this sender by `&`, or for one of the senders beyond 16, which share lanes. A
-/// send that begins a segment takes memory under that lock. It wakes a sleeping receiver, if there is one, under the lock
-/// of the list of sleepers. A clone and a drop take the lock of the list of ends.
+/// waits only for another thread that shares this sender by `&`, for one of the senders beyond 16, which share lanes, or
+/// for a job that comes back. A send that begins a segment takes memory under that lock. If a receiver sleeps, or this
+/// sender has to, the send takes the lock of the list of sleepers too. The slot of a value has a lock that nobody waits for.
+/// A clone and a drop take the lock of the list of ends. No other call takes one.
 pub struct Sender<T> {
     shared: Arc<Shared<T>>,
     number: u64,
@@ -35,7 +36,7 @@ impl<T> Sender<T> {
         }
     }
 
-    /// Sends a value. If the channel is full, it sleeps until there is room.
+    /// Sends a value. If the channel is full, it sleeps until there is room. It holds the lock of its lane for one put.
     ///
     /// # Errors
     /// All receivers are gone, or there is no memory for a segment. The value is in the error.
@@ -45,7 +46,7 @@ impl<T> Sender<T> {
             .map_err(|why| SendError(why.into_inner()))
     }
 
-    /// Sends a value if there is room now. It never sleeps.
+    /// Sends a value if there is room now. It never sleeps, but for the lock of its lane.
     ///
     /// # Errors
     /// The channel is full, all receivers are gone, or there is no memory for a segment. The value is in the error.
@@ -126,7 +127,7 @@ impl<T> Sender<T> {
         self.number
     }
 
-    /// How many values wait. While ends work it may be out of date at once.
+    /// How many values wait. While ends work it may be out of date at once. It takes no lock.
     #[must_use]
     pub fn len(&self) -> usize {
         self.shared.len()
