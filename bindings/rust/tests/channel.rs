@@ -130,6 +130,7 @@ fn an_end_ends_the_other_side() {
     drop(receiver);
     assert_eq!(sender.send(7), Err(SendError(7)));
     assert_eq!(sender.try_send(8), Err(TrySendError::Disconnected(8)));
+    assert!(sender.is_empty());
 }
 
 #[test]

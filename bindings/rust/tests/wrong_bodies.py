@@ -28,7 +28,7 @@ BODIES = [
     ("a send wakes nobody", "shared", "            Ok(()) => self.empty.wake_one(),", "            Ok(()) => (),", TEST + "no_round_sleeps_for_ever"),
     ("a value is counted before it is put", "chain", "            let has_more = writer.put(value, who);\n", "            self.sent.store(lane.sent + 1, SeqCst);\n            std::thread::yield_now();\n            let has_more = writer.put(value, who);\n", TEST + "no_round_sleeps_for_ever"),
     ("a lane does not end before the next segment", "segment", "        self.producer.finish();\n", "        std::mem::forget(self.producer);\n", TEST + "a_receiver_finds"),
-    ("idle seats are not moved on", "shared", "            self.seats().for_each(|it| drop(it.tidy()));\n", "", MEMORY),
+    ("idle seats are not moved on", "shared", "            self.tidy();\n", "", MEMORY),
     ("the head of a chain is not moved on", "chain", "            self.pass(reader.segment(), &next);\n", "", MEMORY),
     ("one round is enough", "seat", "if is_quiet || chains().len() == 1 {", "if is_quiet || chains().len() > 0 {", TEST + "a_receiver_finds"),
     ("what is left stays", "shared", "            self.chains().iter().map(Chain::close).for_each(drop);\n", "", TEST + "what_is_left"),

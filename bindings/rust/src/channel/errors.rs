@@ -119,6 +119,30 @@ impl RecvTimeoutError {
     }
 }
 
+impl<T> From<SendError<T>> for TrySendError<T> {
+    fn from(why: SendError<T>) -> Self {
+        TrySendError::Disconnected(why.0)
+    }
+}
+
+impl<T> From<SendError<T>> for SendTimeoutError<T> {
+    fn from(why: SendError<T>) -> Self {
+        SendTimeoutError::Disconnected(why.0)
+    }
+}
+
+impl From<RecvError> for TryRecvError {
+    fn from(_: RecvError) -> Self {
+        TryRecvError::Disconnected
+    }
+}
+
+impl From<RecvError> for RecvTimeoutError {
+    fn from(_: RecvError) -> Self {
+        RecvTimeoutError::Disconnected
+    }
+}
+
 const SEND_CLOSED: &str = "sending on a disconnected channel";
 const SEND_FULL: &str = "sending on a full channel";
 const SEND_LATE: &str = "timed out waiting on send operation";

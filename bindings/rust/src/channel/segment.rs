@@ -34,6 +34,7 @@ fn mailbox(cells: usize, readers: usize) -> Builder<u64> {
 }
 
 /// The next number that this consumer takes: it goes past those that it loses. `Err` says whether no more comes.
+#[inline]
 fn next_of(consumer: &mut Consumer<u64>) -> Result<u64, bool> {
     loop {
         match consumer.poll(0) {

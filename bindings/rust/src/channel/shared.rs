@@ -185,6 +185,7 @@ impl<T> Shared<T> {
     }
 
     /// Gives room back.
+    #[inline]
     fn free(&self) {
         if self.plan.bound.is_some() {
             self.waiting.fetch_sub(1, SeqCst);
@@ -268,7 +269,7 @@ impl<T> Shared<T> {
         let mut is_end = false;
         let look = seat.take(|| self.chains(), who, &mut is_end);
         if is_end {
-            self.seats().for_each(|it| drop(it.tidy()));
+            self.tidy();
         }
         if let Look::Took(_) = look {
             self.free();
@@ -276,7 +277,16 @@ impl<T> Shared<T> {
         look
     }
 
+    /// Moves all idle seats on.
+    #[cold]
+    fn tidy(&self) {
+        self.seats().for_each(|it| drop(it.tidy()));
+    }
+
     pub(super) fn len(&self) -> usize {
+        if self.receivers.load(SeqCst) == 0 {
+            return 0;
+        }
         if self.plan.bound.is_some() {
             return self.waiting.load(SeqCst);
         }

@@ -50,6 +50,7 @@ impl Word for AtomicUsize {
         AtomicUsize::new(value)
     }
 
+    #[inline]
     fn load(&self) -> usize {
         self.load(SeqCst)
     }
@@ -60,6 +61,7 @@ impl Word for AtomicUsize {
 }
 
 /// Locks it, also if somebody panicked under the lock: no value is half changed there.
+#[inline]
 pub(super) fn lock<T>(of: &Mutex<T>) -> MutexGuard<'_, T> {
     of.lock().unwrap_or_else(PoisonError::into_inner)
 }
