@@ -86,7 +86,7 @@ fn a_receiver_finds_what_was_sent_before() {
         for _ in 0..4 {
             let (sender, receiver) = (sender.clone(), receiver.clone());
             scope.spawn(move || {
-                for it in 0..100_000 {
+                for it in 0..30_000 {
                     sender.send(it).unwrap();
                     receiver.try_recv().unwrap();
                 }
@@ -269,7 +269,7 @@ fn no_round_sleeps_for_ever() {
         thread::spawn(move || receiver.iter().for_each(|it| back.send(it).unwrap()));
     }
     let quick = receiver.clone();
-    for round in 0..20_000_u32 {
+    for round in 0..5_000_u32 {
         if round % 100 == 0 {
             thread::sleep(Duration::from_millis(1)); // (so that all sleep)
         }
@@ -288,7 +288,7 @@ fn no_sender_that_waits_for_room_sleeps_for_ever() {
         let sender = sender.clone();
         thread::spawn(move || while sender.send(number).is_ok() {});
     }
-    assert!((0..20_000).all(|_| receiver.recv_timeout(LONG).is_ok()));
+    assert!((0..5_000).all(|_| receiver.recv_timeout(LONG).is_ok()));
 }
 
 #[test]

@@ -30,6 +30,7 @@ BODIES = [
     ("a lane does not end before the next segment", "segment", "        self.producer.finish();\n", "        std::mem::forget(self.producer);\n", TEST + "a_receiver_finds"),
     ("idle seats are not moved on", "shared", "            self.tidy();\n", "", MEMORY),
     ("the head of a chain is not moved on", "chain", "            self.pass(reader.segment(), &next);\n", "", MEMORY),
+    ("a slot counts as taken before it is", "segment", "self.first + self.taken.0.load(Acquire)", "self.first + 1 + self.taken.0.load(Acquire)", TEST + "values_of_a_sender"),
     ("one round is enough", "seat", "if is_quiet || chains().len() == 1 {", "if is_quiet || chains().len() > 0 {", TEST + "a_receiver_finds"),
     ("what is left stays", "shared", "            self.chains().iter().map(Chain::close).for_each(drop);\n", "", TEST + "what_is_left"),
     ("a job that is open is no reason to wait", "shared", " || jobs % BEGUN != 0 {", " {", TEST + "receivers_wait"),
@@ -39,7 +40,7 @@ BODIES = [
     ("who waits for room is not woken", "shared", "            self.full.wake_one();\n", "", TEST + "no_sender_that_waits"),
     ("the last sender wakes nobody", "shared", "        if self.senders.fetch_sub(1, SeqCst) == 1 {", "        if self.senders.fetch_sub(1, SeqCst) == 0 {", TEST + "the_end_wakes"),
     ("a chain is dropped by a call in a call", "segment", "        while let Some(mut segment) = next.and_then(Arc::into_inner) {\n            next = segment.next.take();\n        }\n", "        drop(next.take());\n", TEST + "ten_million"),
-    ("a taker is not written down", "segment", "                    self.log.push(who);\n                }\n                // Those", "                }\n                // Those", TEST + "an_account"),
+    ("a taker is not written down", "segment", "                    self.log.push(who);\n                }\n                if number", "                }\n                if number", TEST + "an_account"),
 ]
 
 

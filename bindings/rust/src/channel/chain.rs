@@ -3,7 +3,6 @@
 use super::segment::{Look, NoMemory, Reader, Segment, Writer};
 use super::shared::Plan;
 use super::system::lock;
-use super::SEATS;
 use std::sync::atomic::{AtomicU64, Ordering::SeqCst};
 use std::sync::{Arc, Mutex};
 
@@ -83,7 +82,7 @@ impl<T> Chain<T> {
     /// Begins the next segment.
     #[cold]
     fn begin(&self, lane: &mut Lane<T>, plan: &Plan<T>) -> Result<(), NoMemory> {
-        let writer = Writer::new(plan.cells_after(lane.sent), SEATS, plan.audit.clone())?;
+        let writer = Writer::new(lane.sent, plan.cells_after(lane.sent), plan.audit.clone())?;
         let segment = Arc::clone(writer.segment());
         match lane.full.take() {
             Some(full) => full.follow_with(segment),
@@ -93,9 +92,10 @@ impl<T> Chain<T> {
         Ok(())
     }
 
-    /// Takes the first value that nobody else takes. If it finds a segment over, as the first of all, it sets `is_end`.
+    /// Takes the first value that nobody else takes, of so many at least that were sent. If it finds a segment over, as the first of all, it sets `is_end`.
     pub(super) fn take(
         &self,
+        sent: u64,
         place: &mut Option<Reader<T>>,
         who: u64,
         is_end: &mut bool,
@@ -108,6 +108,9 @@ impl<T> Chain<T> {
                     None => return Look::Nothing,
                 },
             };
+            if reader.segment().has_only_taken(sent) {
+                return Look::Nothing;
+            }
             match reader.take(who, is_end) {
                 Look::Over => {}
                 look => return look,

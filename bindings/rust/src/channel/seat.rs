@@ -137,7 +137,7 @@ impl<T> Desk<T> {
                 if self.seen[at] == sent {
                     continue;
                 }
-                match round[at].take(&mut self.places[at], who, is_end) {
+                match round[at].take(sent, &mut self.places[at], who, is_end) {
                     Look::Nothing | Look::Over => self.seen[at] = sent,
                     look => {
                         self.at = at;

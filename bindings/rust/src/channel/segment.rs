@@ -7,9 +7,11 @@
 //! This file alone of the channel calls the mailbox.
 use super::audit::{Ledger, Logs};
 use super::system::lock;
+use super::SEATS;
 use crate::{Builder, Consumer, Mailbox, Poll, Producer, Shape};
 use std::panic::{catch_unwind, resume_unwind, AssertUnwindSafe};
-use std::sync::atomic::{AtomicBool, Ordering::SeqCst};
+use std::sync::atomic::Ordering::{Acquire, Release, SeqCst};
+use std::sync::atomic::{AtomicBool, AtomicU64};
 use std::sync::{Arc, Mutex, OnceLock};
 use std::thread;
 
@@ -26,9 +28,9 @@ pub(super) enum Look<T> {
     NoMemory,
 }
 
-/// How a mailbox of so many cells is built for at most so many readers.
-fn mailbox(cells: usize, readers: usize) -> Builder<u64> {
-    let builder = Mailbox::numbers().cells(cells).consumers(readers);
+/// How a mailbox of so many cells is built.
+fn mailbox(cells: usize) -> Builder<u64> {
+    let builder = Mailbox::numbers().cells(cells).consumers(SEATS);
     // (it draws no random words of worth, so one seed does)
     builder.shape(Shape::Last).pairs(1).seed([0; 32])
 }
@@ -46,13 +48,23 @@ fn next_of(consumer: &mut Consumer<u64>) -> Result<u64, bool> {
     }
 }
 
+/// So many slots, counted from the first, are known to be taken. It may lag behind. Who reads it need not go past them, only
+/// to find nothing.
+///
+/// (on lines of memory of its own, since the sender reads what stands beside it)
+#[repr(align(128))]
+struct Taken(AtomicU64);
+
 pub(super) struct Segment<T> {
+    /// How many values were sent on its chain before.
+    first: u64,
     slots: Box<[Mutex<Option<T>>]>,
     /// (there until the drop)
     mailbox: Option<Mailbox<u64>>,
     /// Whether all slots are known to be taken. A seat that has no consumer here makes none after that.
     is_over: AtomicBool,
     next: OnceLock<Arc<Segment<T>>>,
+    taken: Taken,
     audit: Option<(Arc<Ledger<T>>, Mutex<Logs>)>,
 }
 
@@ -80,6 +92,11 @@ impl<T> Segment<T> {
         self.is_over.load(SeqCst)
     }
 
+    /// Whether all values are known to be taken that were sent on the chain before these.
+    pub(super) fn has_only_taken(&self, sent: u64) -> bool {
+        sent <= self.first + self.taken.0.load(Acquire)
+    }
+
     pub(super) fn next(&self) -> Option<&Arc<Segment<T>>> {
         self.next.get()
     }
@@ -94,20 +111,22 @@ impl<T> Segment<T> {
 impl<T> Writer<T> {
     /// A new segment, and its writer.
     pub(super) fn new(
+        first: u64,
         cells: usize,
-        readers: usize,
         audit: Option<Arc<Ledger<T>>>,
     ) -> Result<Writer<T>, NoMemory> {
         let mut slots = Vec::new();
         slots.try_reserve_exact(cells).map_err(|_| NoMemory)?;
         slots.extend((0..cells).map(|_| Mutex::new(None)));
-        let mailbox = mailbox(cells, readers).build().map_err(|_| NoMemory)?;
+        let mailbox = mailbox(cells).build().map_err(|_| NoMemory)?;
         let producer = mailbox.producer().map_err(|_| NoMemory)?;
         let segment = Arc::new(Segment {
+            first,
             slots: slots.into_boxed_slice(),
             mailbox: Some(mailbox),
             is_over: AtomicBool::new(false),
             next: OnceLock::new(),
+            taken: Taken(AtomicU64::new(0)),
             audit: audit.map(|ledger| (ledger, Mutex::default())),
         });
         Ok(Writer {
@@ -166,6 +185,8 @@ impl<T> Reader<T> {
         };
         match next_of(consumer) {
             Ok(number) => {
+                // Those before it were decided before it.
+                self.segment.taken.0.store(number + 1, Release);
                 // (an item is put as the number of a slot, so it fits)
                 #[allow(clippy::cast_possible_truncation, reason = "as it says")]
                 let number = number as usize;
@@ -173,7 +194,6 @@ impl<T> Reader<T> {
                 if self.segment.audit.is_some() {
                     self.log.push(who);
                 }
-                // Those before it were decided before it.
                 if number + 1 == self.segment.slots.len() {
                     self.end(is_end);
                 }
