@@ -12,6 +12,7 @@ import tempfile
 CRATE = os.path.dirname(os.path.dirname(os.path.abspath(__file__)))
 SEARCH = "test -q --test wait_orders"
 TEST = "test -q --test channel "
+JOBS = "test -q --test channel_jobs "
 MEMORY = "run -q --release --example soak -- memory 1"
 # What is wrong, the file, the right text, the wrong one, and what catches it.
 BODIES = [
@@ -33,14 +34,14 @@ BODIES = [
     ("a slot counts as taken before it is", "segment", "self.first + self.taken.0.load(Acquire)", "self.first + 1 + self.taken.0.load(Acquire)", TEST + "values_of_a_sender"),
     ("one round is enough", "seat", "if is_quiet || chains().len() == 1 {", "if is_quiet || chains().len() > 0 {", TEST + "a_receiver_finds"),
     ("what is left stays", "shared", "            self.chains().iter().map(Chain::close).for_each(drop);\n", "", TEST + "what_is_left"),
-    ("a job that is open is no reason to wait", "shared", " || jobs % BEGUN != 0 {", " {", TEST + "receivers_wait"),
-    ("the end of the last job wakes nobody", "shared", "        if jobs % BEGUN == 1 && self.senders.load(SeqCst) == 0 {", "        if jobs % BEGUN == 1 && self.senders.load(SeqCst) == 7 {", TEST + "the_last_job"),
-    ("a job that comes back stays out", "job", "            self.shared.put_again(value);", "            drop(value);", TEST + "a_job_comes_back"),
+    ("a job that is open is no reason to wait", "shared", " || jobs % BEGUN != 0 {", " {", JOBS + "receivers_wait"),
+    ("the end of the last job wakes nobody", "shared", "        if jobs % BEGUN == 1 && self.senders.load(SeqCst) == 0 {", "        if jobs % BEGUN == 1 && self.senders.load(SeqCst) == 7 {", JOBS + "the_last_job"),
+    ("a job that comes back stays out", "job", "            self.shared.put_again(value);", "            drop(value);", JOBS + "a_job_comes_back"),
     ("room is not given back", "shared", "            self.waiting.fetch_sub(1, SeqCst);\n", "", TEST + "a_bound_holds"),
     ("who waits for room is not woken", "shared", "            self.full.wake_one();\n", "", TEST + "no_sender_that_waits"),
     ("the last sender wakes nobody", "shared", "        if self.senders.fetch_sub(1, SeqCst) == 1 {", "        if self.senders.fetch_sub(1, SeqCst) == 0 {", TEST + "the_end_wakes"),
     ("a chain is dropped by a call in a call", "segment", "        while let Some(mut segment) = next.and_then(Arc::into_inner) {\n            next = segment.next.take();\n        }\n", "        drop(next.take());\n", TEST + "ten_million"),
-    ("a taker is not written down", "segment", "                    self.log.push(who);\n                }\n                if number", "                }\n                if number", TEST + "an_account"),
+    ("a taker is not written down", "segment", "                    self.log.push(who);\n                }\n                if number", "                }\n                if number", JOBS + "an_account"),
 ]
 
 
