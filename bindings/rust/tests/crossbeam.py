@@ -75,7 +75,7 @@ def kept(name, text):
     left, edits, modules = [], [], []
     for module in re.finditer(r"^mod (\w+) \{", text, re.M):
         modules.append((module.group(1), module.start(), end_of(text, module.start())))
-    for test in re.finditer(r"^ *(?:#\[.*\]\n *)*#\[test\]\n(?: *#\[.*\]\n)* *fn (\w+)\(\)", text, re.M):
+    for test in re.finditer(r"^ *(?:#\[.*\n *)*#\[test\]\n(?: *#\[.*\n)* *fn (\w+)\(\)", text, re.M):
         end = end_of(text, test.end())
         body = text[test.start() : end]
         inside = [it for it in modules if it[1] < test.start() < it[2]]
