@@ -76,7 +76,7 @@ class Test(Room):
         few, passed = self.run_it()[1][0], self.run_it("--all")[1][0]
         os.remove(f"{self.top}/bin/valgrind")
         status, counts, said = self.run_it("--all")
-        self.assertEqual((status, counts), (0, (passed - 2, 0, 2)))
+        self.assertEqual((status, counts), (0, (passed - 3, 0, 3)))
         self.assertIn("C, memory: SKIPPED: there is no valgrind\n", said)
         self.assertEqual(self.run_it("--all", "--may-skip", "Miri")[0], 1)
         self.tool("valgrind", "exit 0")

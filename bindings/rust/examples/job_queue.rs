@@ -1,59 +1,62 @@
-//! Jobs are closures. Four workers run them, each job once. A job that panics ends its worker alone: the others go on, and
-//! the report still comes.
-use hazbultra::Mailbox;
-use std::error::Error;
+//! Workers sleep until a job comes. A job whose worker panics is tried again, by another worker perhaps. A stop ends them all.
+use hazbultra::channel::{channel, Receiver};
+use std::panic;
 use std::sync::atomic::{AtomicUsize, Ordering};
 use std::thread;
-
-type Job = Box<dyn FnOnce() + Send>;
+use std::time::Duration;
 
 const JOBS: usize = 500;
-const BAD_JOB: usize = 250;
 const WORKERS: usize = 4;
 
 static SUM: AtomicUsize = AtomicUsize::new(0);
 
-fn job(number: usize) -> Job {
-    Box::new(move || {
-        assert!(number != BAD_JOB, "job {number}, as it should");
-        SUM.fetch_add(number, Ordering::Relaxed);
-    })
+struct Work {
+    number: usize,
+    tries: usize,
 }
 
-fn main() -> Result<(), Box<dyn Error>> {
-    let mailbox = Mailbox::<Job>::builder()
-        .consumers(WORKERS)
-        .cells(JOBS)
-        .build()?;
-    let mut producer = mailbox.producer()?;
-    for number in 1..=JOBS {
-        producer.put(job(number))?;
+impl Work {
+    /// Each fiftieth fails at its first try.
+    fn run(&self) {
+        assert!(
+            self.number % 50 != 0 || self.tries > 1,
+            "job {}",
+            self.number
+        );
+        SUM.fetch_add(self.number, Ordering::Relaxed);
     }
-    producer.finish();
+}
 
-    let consumers = (0..WORKERS)
-        .map(|_| mailbox.consumer())
-        .collect::<Result<Vec<_>, _>>()?;
-    let workers: Vec<_> = consumers
-        .into_iter()
-        .map(|mut consumer| {
-            thread::spawn(move || consumer.values(thread::yield_now).for_each(|job| job()))
-        })
-        .collect();
-    // What a worker panicked with is told by `join`: it names the job.
-    let panics: Vec<_> = workers
-        .into_iter()
-        .filter_map(|worker| worker.join().err())
-        .map(|why| {
-            why.downcast::<String>()
-                .map_or_else(|_| "an unknown job".into(), |it| *it)
-        })
-        .collect();
+/// Works until nothing comes any more. It returns how often it failed.
+fn worker(jobs: &Receiver<Work>) -> usize {
+    let mut failures = 0;
+    while let Ok(mut job) = jobs.recv_job() {
+        job.tries += 1;
+        // A panic drops the job, which goes back to the channel.
+        let worked = panic::catch_unwind(move || {
+            job.run();
+            job.done();
+        });
+        failures += usize::from(worked.is_err());
+    }
+    failures
+}
 
-    // What is left is run here: nobody else can have it.
-    mailbox.gather()?.into_left().for_each(|job| job());
-    assert_eq!(panics.len(), 1);
-    assert_eq!(SUM.load(Ordering::Relaxed), JOBS * (JOBS + 1) / 2 - BAD_JOB);
-    println!("{JOBS} jobs ran, each once; one panicked: {}", panics[0]);
-    Ok(())
+fn main() {
+    panic::set_hook(Box::new(|_| ())); // (these panics are meant)
+    let (sender, receiver) = channel();
+    let workers: Vec<_> = (0..WORKERS)
+        .map(|_| receiver.clone())
+        .map(|jobs| thread::spawn(move || worker(&jobs)))
+        .collect();
+    thread::sleep(Duration::from_millis(10)); // (the workers sleep, too)
+    for number in 1..=JOBS {
+        let work = Work { number, tries: 0 };
+        assert!(sender.send(work).is_ok(), "the receivers are there");
+    }
+    drop(sender); // the stop: they end after the last job is done
+    let failures: usize = workers.into_iter().filter_map(|it| it.join().ok()).sum();
+    assert_eq!(failures, JOBS / 50);
+    assert_eq!(SUM.load(Ordering::Relaxed), JOBS * (JOBS + 1) / 2);
+    println!("{JOBS} jobs are done, each once; {failures} were tried again");
 }

@@ -59,6 +59,8 @@
 #[forbid(unsafe_code)]
 mod builder;
 #[forbid(unsafe_code)]
+pub mod channel;
+#[forbid(unsafe_code)]
 mod consumer;
 #[forbid(unsafe_code)]
 mod errors;

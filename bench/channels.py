@@ -1,0 +1,62 @@
+#!/usr/bin/env python3
+"""The channel beside those that people know: nanoseconds and instructions a value.
+
+usage: bench/channels.py [--rounds 11] [--values 200000] [--counts]
+
+Nanoseconds are medians of interleaved rounds, in so many threads that send x that receive, without making. With 4 x 16 there is
+also the 99th percentile of the time that a value was on its way. Instructions are callgrind's, of a send and a receive, in one
+thread. With --counts there are no nanoseconds. It wants cargo, valgrind, and crossbeam-channel and flume of Debian.
+"""
+import argparse
+
+import measuring
+
+PROGRAM = measuring.ROOM / "release" / "beside_channels"
+CHANNELS = {"hazbultra": "`hazbultra::channel`", "crossbeam": "`crossbeam-channel`", "flume": "`flume`", "std": "`std::sync::mpsc`, a lock"}
+THREADS = ((1, 1), (2, 2), (4, 4), (1, 4), (4, 1), (4, 16))
+COUNTED = (2000, 12000)
+
+
+def told(*words):
+    return [int(it) for it in measuring.used((PROGRAM, *words))[2].split()]
+
+
+def counts(what, form):
+    """Instructions of a value that is received before the next is sent, and of one of many that wait."""
+    for way in ("relay", "turns"):
+        yield measuring.by_item(*COUNTED, lambda values: measuring.instructions((PROGRAM, what, form, way, 1, 1, values)))
+
+
+def main():
+    parser = argparse.ArgumentParser()
+    parser.add_argument("--rounds", type=int, default=11)
+    parser.add_argument("--values", type=int, default=200_000)
+    parser.add_argument("--counts", action="store_true")
+    options = parser.parse_args()
+    measuring.cargo("bench/beside_channels")
+    print(measuring.machine(), end="\n\n")
+    runs, late = {}, {}
+    for what in CHANNELS if not options.counts else ():
+        for form in ("u64", "box"):
+            for threads in THREADS:
+                def run(what=what, form=form, threads=threads):
+                    took, way = told(what, form, "threads", *threads, options.values)
+                    late.setdefault((what, form, threads), []).append(way)
+                    return took / options.values
+                runs[what, form, threads] = run
+    took = measuring.medians(options.rounds, runs)
+    head = ["A value", "instructions: one at a time", "many that wait"]
+    head += [] if options.counts else ["ns: " * (it == THREADS[0]) + f"{it[0]} x {it[1]}" for it in THREADS] + ["4 x 16, 99 in 100, µs"]
+    rows = []
+    for form in ("u64", "box"):
+        for what, name in CHANNELS.items():
+            row = [f"{name}, {form}", *counts(what, form)]
+            if not options.counts:
+                row += [took[what, form, it] for it in THREADS]
+                row.append(sorted(late[what, form, THREADS[-1]])[options.rounds // 2] / 1000)
+            rows.append(row)
+    print(measuring.table(head, rows))
+
+
+if __name__ == "__main__":
+    main()

@@ -1,0 +1,183 @@
+//! Who sent what, who took it, and what is left.
+use super::system::lock;
+use crate::{Mailbox, Note, Report};
+use std::collections::{BTreeMap, VecDeque};
+use std::fmt;
+use std::sync::{Arc, Mutex};
+
+/// So many accounts wait for somebody to ask for them.
+const KEPT: usize = 16;
+
+/// In place of a sender's number: a job gave the value back.
+pub(super) const GIVEN_BACK: u64 = u64::MAX;
+
+/// Who put what into a segment, and who took what from it. The rest is in the report of its mailbox.
+#[derive(Default)]
+pub(super) struct Logs {
+    /// The sender of each place.
+    pub(super) senders: Vec<u64>,
+    /// Of each consumer the receiver of each place that it took.
+    pub(super) takers: Vec<(usize, Vec<u64>)>,
+}
+
+/// What became of the values of one segment. [`Audit::accounts`] hands it out. Its `Debug` shows how many values are left,
+/// so that it is there for each `T`.
+#[derive(Clone, PartialEq, Eq)]
+#[non_exhaustive]
+pub struct Account<T> {
+    /// What became of each value, in the order sent.
+    pub fates: Vec<Fate>,
+    /// The values that nobody took, in the order sent. There are some only after all receivers were dropped.
+    pub left: Vec<T>,
+}
+
+/// What became of one value.
+#[derive(Clone, Copy, PartialEq, Eq, Hash, Debug)]
+#[non_exhaustive]
+pub struct Fate {
+    /// The [number](super::Sender::number) of the sender. It is `None` if a [`Job`](super::Job) gave the value back.
+    pub sender: Option<u64>,
+    /// The [number](super::Receiver::number) of the receiver that took it. It is `None` if the value is left.
+    pub receiver: Option<u64>,
+}
+
+/// The counts of all finished segments, also of those whose accounts were handed out. There is an entry for each end that
+/// ever sent or took something.
+#[derive(Clone, PartialEq, Eq, Default, Debug)]
+#[non_exhaustive]
+pub struct Totals {
+    /// How many values each sender sent.
+    pub sent: BTreeMap<u64, u64>,
+    /// How many values jobs gave back.
+    pub given_back: u64,
+    /// How many values each receiver took.
+    pub taken: BTreeMap<u64, u64>,
+    /// How many values nobody took.
+    pub left: u64,
+    /// How many segments have no account, for lack of memory. What was in them is in none of the counts.
+    pub unknown: u64,
+}
+
+/// The accounts of a channel. [`Builder::audited`](super::Builder::audited) makes it.
+///
+/// An account is made when a segment is over and no end stands in it any more, and of the last segments when the last
+/// receiver is dropped. Those of one chain come in the order of their values. The newest 16 accounts wait. Older ones that
+/// nobody asked for go, and are in the [totals](Audit::totals) alone.
+pub struct Audit<T> {
+    ledger: Arc<Ledger<T>>,
+}
+
+pub(super) struct Ledger<T> {
+    book: Mutex<Book<T>>,
+}
+
+struct Book<T> {
+    accounts: VecDeque<Account<T>>,
+    /// How many accounts are kept. After the audit was dropped it is none.
+    kept: usize,
+    totals: Totals,
+}
+
+impl<T> Audit<T> {
+    pub(super) fn new() -> (Audit<T>, Arc<Ledger<T>>) {
+        let book = Mutex::new(Book {
+            accounts: VecDeque::new(),
+            kept: KEPT,
+            totals: Totals::default(),
+        });
+        let ledger = Arc::new(Ledger { book });
+        let audit = Audit {
+            ledger: Arc::clone(&ledger),
+        };
+        (audit, ledger)
+    }
+
+    /// The accounts since the last call, each once.
+    #[must_use = "each account is handed out once"]
+    pub fn accounts(&self) -> Vec<Account<T>> {
+        std::mem::take(&mut lock(&self.ledger.book).accounts).into()
+    }
+
+    /// The counts so far.
+    #[must_use]
+    pub fn totals(&self) -> Totals {
+        lock(&self.ledger.book).totals.clone()
+    }
+}
+
+impl<T> Drop for Audit<T> {
+    fn drop(&mut self) {
+        lock(&self.ledger.book).kept = 0;
+        // (the values that are left in them are dropped under no lock)
+        drop(self.accounts());
+    }
+}
+
+impl<T> Ledger<T> {
+    /// Makes the account of a mailbox to which all parts went home.
+    pub(super) fn close(&self, mailbox: Mailbox<u64>, logs: &Logs, left: Vec<T>) {
+        let account = mailbox.gather().ok().map(|report| Account {
+            fates: fates(&report, logs),
+            left,
+        });
+        let mut book = lock(&self.book);
+        let Some(account) = account else {
+            book.totals.unknown += 1;
+            return;
+        };
+        book.totals.add(&account);
+        book.accounts.push_back(account);
+        let is_over = book.accounts.len() > book.kept;
+        let oldest = is_over.then(|| book.accounts.pop_front());
+        drop(book);
+        drop(oldest);
+    }
+}
+
+/// The report says which consumer took which place, and the logs who that was.
+fn fates(report: &Report<u64>, logs: &Logs) -> Vec<Fate> {
+    let senders = logs.senders.iter().map(|sender| Fate {
+        sender: (*sender != GIVEN_BACK).then_some(*sender),
+        receiver: None,
+    });
+    let mut fates: Vec<_> = senders.collect();
+    for (consumer, takers) in &logs.takers {
+        let notes = report.diary(*consumer, 0).map(|it| it.notes.iter());
+        let places = (0..).zip(notes.unwrap_or_default());
+        let taken = places.filter(|(_, note)| **note == Note::Took);
+        for ((place, _), taker) in taken.zip(takers) {
+            fates[place].receiver = Some(*taker);
+        }
+    }
+    fates
+}
+
+impl Totals {
+    fn add<T>(&mut self, account: &Account<T>) {
+        for fate in &account.fates {
+            match fate.sender {
+                Some(sender) => *self.sent.entry(sender).or_default() += 1,
+                None => self.given_back += 1,
+            }
+            match fate.receiver {
+                Some(receiver) => *self.taken.entry(receiver).or_default() += 1,
+                None => self.left += 1,
+            }
+        }
+    }
+}
+
+impl<T> fmt::Debug for Account<T> {
+    fn fmt(&self, f: &mut fmt::Formatter<'_>) -> fmt::Result {
+        f.debug_struct("Account")
+            .field("fates", &self.fates)
+            .field("left", &format_args!("[..; {}]", self.left.len()))
+            .finish()
+    }
+}
+
+impl<T> fmt::Debug for Audit<T> {
+    fn fmt(&self, f: &mut fmt::Formatter<'_>) -> fmt::Result {
+        f.write_str("Audit { .. }")
+    }
+}

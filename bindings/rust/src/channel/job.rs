@@ -1,0 +1,64 @@
+//! A value that comes back unless its work was done.
+use super::shared::Shared;
+use std::fmt;
+use std::ops::{Deref, DerefMut};
+use std::sync::Arc;
+
+/// A received value, which goes back to the channel when this is dropped, also by a panic, unless [`done`](Job::done) was
+/// called. [`Receiver::recv_job`](super::Receiver::recv_job) makes it.
+///
+/// While a job is open the channel does not end: receivers sleep, since the value may come back. So a thread that holds a
+/// job, and waits on the same channel for its end, waits for ever.
+///
+/// The value comes back as the last one of the first chain, also if the channel is full. Its order is lost. If there is no
+/// memory for a segment, or no receiver is left, it is dropped.
+#[must_use = "its drop gives the value back"]
+pub struct Job<T> {
+    /// (there until it is done)
+    value: Option<T>,
+    shared: Arc<Shared<T>>,
+}
+
+impl<T> Job<T> {
+    pub(super) fn new(value: T, shared: Arc<Shared<T>>) -> Job<T> {
+        Job {
+            value: Some(value),
+            shared,
+        }
+    }
+
+    /// Ends the job, and returns the value, which does not come back.
+    #[allow(clippy::missing_panics_doc, reason = "the value is there until then")]
+    pub fn done(mut self) -> T {
+        self.value.take().expect("it is done once")
+    }
+}
+
+impl<T> Deref for Job<T> {
+    type Target = T;
+
+    fn deref(&self) -> &T {
+        self.value.as_ref().expect("it is there until it is done")
+    }
+}
+
+impl<T> DerefMut for Job<T> {
+    fn deref_mut(&mut self) -> &mut T {
+        self.value.as_mut().expect("it is there until it is done")
+    }
+}
+
+impl<T> Drop for Job<T> {
+    fn drop(&mut self) {
+        if let Some(value) = self.value.take() {
+            self.shared.put_again(value);
+        }
+        self.shared.end_job();
+    }
+}
+
+impl<T> fmt::Debug for Job<T> {
+    fn fmt(&self, f: &mut fmt::Formatter<'_>) -> fmt::Result {
+        f.write_str("Job(..)")
+    }
+}

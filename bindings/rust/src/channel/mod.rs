@@ -1,0 +1,166 @@
+//! A channel that has no end, and whose receivers sleep until something comes.
+//!
+//! Each value goes to at most one receiver, by the proved claims of the mailbox. Its calls have the names and habits of
+//! `crossbeam-channel`.
+//!
+//! ```
+//! use hazbultra::channel;
+//! use std::thread;
+//!
+//! let (sender, receiver) = channel::channel();
+//! let workers: Vec<_> = (0..4)
+//!     .map(|_| receiver.clone())
+//!     .map(|receiver| thread::spawn(move || receiver.iter().sum::<u64>()))
+//!     .collect();
+//! (1..=100).for_each(|number| sender.send(number).unwrap());
+//! drop(sender); // the workers end when nothing is left
+//! let sum: u64 = workers.into_iter().map(|it| it.join().unwrap()).sum();
+//! assert_eq!(sum, 5050);
+//! ```
+//!
+//! # What is promised
+//!
+//! - At most one receiver gets a value, and none is lost while ends are there for it. When all senders are dropped,
+//!   receivers get what is left, and then an error. When all receivers are dropped, what is left is dropped, and senders
+//!   get their values back.
+//! - The values of one [`Sender`] are received in the order sent. Those of two senders may overtake each other.
+//! - A receiver finds nothing only if there was a moment, during its call, at which nothing was left of what was sent
+//!   before.
+//! - No value waits while a receiver sleeps. A wake-up that its receiver does not use goes to the next one: after a
+//!   timeout, a dropped future, or a waker that panics.
+//! - Memory is in proportion to the values that wait. An end that does nothing holds one segment of a chain at most, but
+//!   for moments.
+//! - What takes a lock is said at [`Sender`] and [`Receiver`].
+//!
+//! # How it is built
+//!
+//! Each of the first 16 senders writes a *chain* of its own: segment after segment, each a [`Mailbox`](crate::Mailbox) with
+//! one lane. Each of the first 64 receivers has a consumer of its own in the segment that it stands in. It goes first to
+//! one chain, and if nothing is there to the others. The items are the numbers of slots, so no value is boxed.
+//!
+//! | | by |
+//! |---|---|
+//! | at most one receiver takes a value's number | proof: the main theorem, for the mailbox of each segment |
+//! | at most one receiver has a value | that, and safe Rust: this module has no `unsafe` code |
+//! | no wake-up is lost | a search of the orders of the very source, with wrong bodies that it finds (`tests/wait_orders.rs`) |
+//! | no value is lost over segments and ends | tests, the tests of `crossbeam-channel`, and a soak (`examples/soak.rs`) |
+//!
+//! It has no `select!`, no channel without room (`bounded(0)`), and ends with the process.
+mod audit;
+mod chain;
+mod errors;
+mod job;
+mod receiver;
+mod seat;
+mod segment;
+mod sender;
+mod shared;
+mod system;
+mod wait;
+
+pub use audit::{Account, Audit, Fate, Totals};
+pub use errors::{
+    RecvError, RecvTimeoutError, SendError, SendTimeoutError, TryRecvError, TrySendError,
+};
+pub use job::Job;
+pub use receiver::{IntoIter, Iter, Receiver, RecvFuture, TryIter};
+pub use sender::{SendFuture, Sender};
+
+use shared::{Plan, Shared};
+use std::sync::Arc;
+
+/// So many chains, each for one sender. It is the most producers that a mailbox may have.
+const CHAINS: usize = 16;
+/// So many seats, each for one receiver. It is the most consumers that a mailbox may have.
+const SEATS: usize = 64;
+
+/// A channel without a bound: a send never waits for room.
+#[must_use]
+pub fn channel<T>() -> (Sender<T>, Receiver<T>) {
+    Builder::new().build()
+}
+
+/// A channel in which at most so many values wait. A send waits for room.
+///
+/// # Panics
+/// The bound is 0.
+#[must_use]
+pub fn bounded<T>(bound: usize) -> (Sender<T>, Receiver<T>) {
+    Builder::new().bound(bound).build()
+}
+
+/// How a channel is to be.
+///
+/// ```
+/// use hazbultra::channel::Builder;
+///
+/// let (sender, receiver, audit) = Builder::new().bound(10).audited();
+/// sender.send("a letter").unwrap();
+/// assert_eq!(receiver.recv(), Ok("a letter"));
+/// drop(receiver);
+///
+/// let [account] = &audit.accounts()[..] else { panic!("one segment was begun") };
+/// assert_eq!(account.fates[0].sender, Some(sender.number()));
+/// assert_eq!(audit.totals().taken.values().sum::<u64>(), 1);
+/// ```
+#[derive(Clone, Copy, Debug, Default)]
+#[must_use = "it makes no channel until `build` or `audited` is called"]
+pub struct Builder {
+    bound: Option<usize>,
+    cells: Option<usize>,
+}
+
+impl Builder {
+    /// A channel without a bound.
+    pub fn new() -> Builder {
+        Builder::default()
+    }
+
+    /// At most so many values wait.
+    ///
+    /// # Panics
+    /// The bound is 0: a channel without room is not offered.
+    pub fn bound(self, bound: usize) -> Builder {
+        assert!(bound > 0, "a channel has room for one value at least");
+        Builder {
+            bound: Some(bound),
+            ..self
+        }
+    }
+
+    /// So many values go into each segment, 1 to 2^24. If it is not said, a chain begins with 32, and grows to 1,024. Large
+    /// values get smaller segments.
+    ///
+    /// # Panics
+    /// The number is out of range.
+    pub fn cells(self, cells: usize) -> Builder {
+        assert!((1..=1 << 24).contains(&cells), "1 to 2^24 cells");
+        Builder {
+            cells: Some(cells),
+            ..self
+        }
+    }
+
+    /// Makes the channel.
+    #[must_use]
+    pub fn build<T>(self) -> (Sender<T>, Receiver<T>) {
+        self.make(None)
+    }
+
+    /// Makes the channel, and what hands out its accounts. It costs some 24 bytes more for each value of a segment.
+    #[must_use]
+    pub fn audited<T>(self) -> (Sender<T>, Receiver<T>, Audit<T>) {
+        let (audit, ledger) = Audit::new();
+        let (sender, receiver) = self.make(Some(ledger));
+        (sender, receiver, audit)
+    }
+
+    fn make<T>(self, audit: Option<Arc<audit::Ledger<T>>>) -> (Sender<T>, Receiver<T>) {
+        let shared = Arc::new(Shared::new(Plan {
+            bound: self.bound,
+            cells: self.cells,
+            audit,
+        }));
+        (Sender::new(Arc::clone(&shared)), Receiver::new(shared))
+    }
+}

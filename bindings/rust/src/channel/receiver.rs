@@ -1,0 +1,336 @@
+//! A receiver.
+use super::errors::{RecvError, RecvTimeoutError, TryRecvError};
+use super::job::Job;
+use super::seat::Seat;
+use super::shared::{Got, Shared};
+use std::fmt;
+use std::future::Future;
+use std::iter::FusedIterator;
+use std::panic::{RefUnwindSafe, UnwindSafe};
+use std::pin::Pin;
+use std::sync::Arc;
+use std::task::{Context, Poll};
+use std::thread;
+use std::time::{Duration, Instant};
+
+/// Receives values. A clone of it is another receiver, and each value goes to one of them.
+///
+/// **Locks.** Each of the first 64 receivers has a seat of its own. A receive holds the lock of its seat. So it waits only
+/// for another thread that shares this receiver by `&`, for one of the receivers beyond 64, which share seats, or for the
+/// few steps in which somebody moves its seat on. Nobody waits for the seat of another: whoever finds a segment over only
+/// tries the locks of other seats. A receive that comes to a new segment takes the lock under which its chain keeps the
+/// first segment, and that under which the mailbox issues consumers. A receive that sleeps takes the lock of the list of
+/// sleepers. The slot of a value has a lock that nobody waits for. A clone and a drop take the lock of the list of ends. The
+/// drop of the last receiver takes those of all lanes and seats, one after the other. No other call takes one.
+pub struct Receiver<T> {
+    shared: Arc<Shared<T>>,
+    seat: Arc<Seat<T>>,
+    number: u64,
+    place: usize,
+}
+
+/// How long a receiver that got no memory sleeps before it tries again.
+const PAUSE: Duration = Duration::from_millis(1);
+
+impl<T> Receiver<T> {
+    pub(super) fn new(shared: Arc<Shared<T>>) -> Receiver<T> {
+        let (number, seat, place) = shared.add_receiver();
+        Receiver {
+            shared,
+            seat,
+            number,
+            place,
+        }
+    }
+
+    #[inline]
+    fn take(&self) -> Got<T> {
+        self.shared.take(&self.seat, self.number)
+    }
+
+    fn take_job(&self) -> Got<Job<T>> {
+        match self.shared.take_job(&self.seat, self.number) {
+            Got::Took(value) => Got::Took(Job::new(value, Arc::clone(&self.shared))),
+            Got::Nothing => Got::Nothing,
+            Got::Closed => Got::Closed,
+            Got::NoMemory => Got::NoMemory,
+        }
+    }
+
+    /// Receives a value if one is there now. It holds the lock of its seat, for which it waits, and never sleeps else.
+    ///
+    /// # Errors
+    /// Nothing is there, or nothing comes any more.
+    #[inline]
+    pub fn try_recv(&self) -> Result<T, TryRecvError> {
+        now(self.take())
+    }
+
+    /// Receives a value. It sleeps until one comes, and holds the lock of its seat while it looks. If there is no memory for its place in a segment, it tries again each
+    /// millisecond.
+    ///
+    /// # Errors
+    /// Nothing is left, and nothing comes any more.
+    #[inline]
+    pub fn recv(&self) -> Result<T, RecvError> {
+        self.recv_until(None).map_err(|_| RecvError)
+    }
+
+    /// Receives a value. It sleeps until one comes, but not longer than this.
+    ///
+    /// # Errors
+    /// Nothing came until then, or nothing comes any more.
+    pub fn recv_timeout(&self, timeout: Duration) -> Result<T, RecvTimeoutError> {
+        self.recv_until(Instant::now().checked_add(timeout))
+    }
+
+    /// The same until a time.
+    ///
+    /// # Errors
+    /// As [`recv_timeout`](Receiver::recv_timeout).
+    pub fn recv_deadline(&self, deadline: Instant) -> Result<T, RecvTimeoutError> {
+        self.recv_until(Some(deadline))
+    }
+
+    /// Receives a value as a job, which gives the value back to the channel unless it is [done](Job::done). It sleeps until
+    /// one comes.
+    ///
+    /// # Errors
+    /// Nothing is left, nothing comes any more, and no other job is open.
+    pub fn recv_job(&self) -> Result<Job<T>, RecvError> {
+        self.wait(None, || self.take_job()).map_err(|_| RecvError)
+    }
+
+    /// Receives a value as a job if one is there now. It never sleeps.
+    ///
+    /// # Errors
+    /// Nothing is there, or nothing comes any more.
+    pub fn try_recv_job(&self) -> Result<Job<T>, TryRecvError> {
+        now(self.take_job())
+    }
+
+    /// Receives a value. The task waits until one comes, and no thread sleeps. It is for any executor. A future that is
+    /// dropped receives nothing.
+    pub fn recv_async(&self) -> RecvFuture<'_, T> {
+        RecvFuture {
+            receiver: self,
+            place: None,
+        }
+    }
+
+    #[inline]
+    fn recv_until(&self, until: Option<Instant>) -> Result<T, RecvTimeoutError> {
+        match self.take() {
+            Got::Took(value) => Ok(value),
+            _ => self.wait(until, || self.take()),
+        }
+    }
+
+    #[cold]
+    fn wait<G>(
+        &self,
+        until: Option<Instant>,
+        take: impl Fn() -> Got<G>,
+    ) -> Result<G, RecvTimeoutError> {
+        let look = || match take() {
+            Got::Nothing => None,
+            got => Some(got),
+        };
+        loop {
+            match self.shared.empty.wait(until, look) {
+                Some(Got::Took(value)) => return Ok(value),
+                Some(Got::Closed) => return Err(RecvTimeoutError::Disconnected),
+                None => return Err(RecvTimeoutError::Timeout),
+                Some(Got::NoMemory | Got::Nothing) => {}
+            }
+            if until.is_some_and(|until| Instant::now() >= until) {
+                // (there is a value for somebody else)
+                self.shared.empty.wake_one();
+                return Err(RecvTimeoutError::Timeout);
+            }
+            thread::sleep(PAUSE);
+        }
+    }
+
+    /// Iterates over the values that it receives, until nothing comes any more. It sleeps between.
+    pub fn iter(&self) -> Iter<'_, T> {
+        Iter { receiver: self }
+    }
+
+    /// Iterates over the values that it receives, until nothing is there. It never sleeps.
+    pub fn try_iter(&self) -> TryIter<'_, T> {
+        TryIter { receiver: self }
+    }
+
+    /// Its number in the channel's [audit](super::Audit). No other receiver has it.
+    #[must_use]
+    pub fn number(&self) -> u64 {
+        self.number
+    }
+
+    /// How many values wait. While ends work it may be out of date at once. It takes no lock.
+    #[must_use]
+    pub fn len(&self) -> usize {
+        self.shared.len()
+    }
+
+    /// Whether no value waits.
+    #[must_use]
+    pub fn is_empty(&self) -> bool {
+        self.len() == 0
+    }
+
+    /// Whether as many values wait as the bound allows. Without a bound it is false.
+    #[must_use]
+    pub fn is_full(&self) -> bool {
+        self.shared.is_full()
+    }
+
+    /// The bound, if there is one.
+    #[must_use]
+    pub fn capacity(&self) -> Option<usize> {
+        self.shared.plan.bound
+    }
+
+    /// Whether the other one receives from the same channel.
+    #[must_use]
+    pub fn same_channel(&self, other: &Receiver<T>) -> bool {
+        Arc::ptr_eq(&self.shared, &other.shared)
+    }
+}
+
+fn now<G>(got: Got<G>) -> Result<G, TryRecvError> {
+    match got {
+        Got::Took(value) => Ok(value),
+        Got::Closed => Err(TryRecvError::Disconnected),
+        Got::Nothing | Got::NoMemory => Err(TryRecvError::Empty),
+    }
+}
+
+impl<T> Clone for Receiver<T> {
+    fn clone(&self) -> Self {
+        Receiver::new(Arc::clone(&self.shared))
+    }
+}
+
+impl<T> Drop for Receiver<T> {
+    fn drop(&mut self) {
+        self.shared.drop_receiver(self.place);
+    }
+}
+
+impl<T> UnwindSafe for Receiver<T> {}
+impl<T> RefUnwindSafe for Receiver<T> {}
+
+impl<T> fmt::Debug for Receiver<T> {
+    fn fmt(&self, f: &mut fmt::Formatter<'_>) -> fmt::Result {
+        f.write_str("Receiver { .. }")
+    }
+}
+
+/// A value that is to be received. [`Receiver::recv_async`] makes it.
+#[must_use = "it receives nothing until it is polled"]
+pub struct RecvFuture<'a, T> {
+    receiver: &'a Receiver<T>,
+    place: Option<u64>,
+}
+
+impl<T> Future for RecvFuture<'_, T> {
+    type Output = Result<T, RecvError>;
+
+    fn poll(self: Pin<&mut Self>, context: &mut Context<'_>) -> Poll<Self::Output> {
+        let this = self.get_mut();
+        let receiver = this.receiver;
+        let waker = context.waker();
+        let look = || match receiver.take() {
+            Got::Took(value) => Some(Ok(value)),
+            Got::Closed => Some(Err(RecvError)),
+            Got::Nothing => None,
+            Got::NoMemory => {
+                waker.wake_by_ref(); // (it tries again)
+                None
+            }
+        };
+        receiver.shared.empty.poll(&mut this.place, waker, look)
+    }
+}
+
+impl<T> Drop for RecvFuture<'_, T> {
+    fn drop(&mut self) {
+        if let Some(place) = self.place {
+            self.receiver.shared.empty.leave(place);
+        }
+    }
+}
+
+impl<T> fmt::Debug for RecvFuture<'_, T> {
+    fn fmt(&self, f: &mut fmt::Formatter<'_>) -> fmt::Result {
+        f.write_str("RecvFuture { .. }")
+    }
+}
+
+/// The values that a receiver receives. [`Receiver::iter`] makes it.
+#[must_use = "it does nothing until it is iterated over"]
+#[derive(Debug)]
+pub struct Iter<'a, T> {
+    receiver: &'a Receiver<T>,
+}
+
+/// The values that are there now. [`Receiver::try_iter`] makes it.
+#[must_use = "it does nothing until it is iterated over"]
+#[derive(Debug)]
+pub struct TryIter<'a, T> {
+    receiver: &'a Receiver<T>,
+}
+
+/// The values that a receiver receives. [`Receiver::into_iter`] makes it, and owns the receiver.
+#[must_use = "it does nothing until it is iterated over"]
+#[derive(Debug)]
+pub struct IntoIter<T> {
+    receiver: Receiver<T>,
+}
+
+impl<T> Iterator for Iter<'_, T> {
+    type Item = T;
+
+    fn next(&mut self) -> Option<T> {
+        self.receiver.recv().ok()
+    }
+}
+
+impl<T> Iterator for TryIter<'_, T> {
+    type Item = T;
+
+    fn next(&mut self) -> Option<T> {
+        self.receiver.try_recv().ok()
+    }
+}
+
+impl<T> Iterator for IntoIter<T> {
+    type Item = T;
+
+    fn next(&mut self) -> Option<T> {
+        self.receiver.recv().ok()
+    }
+}
+
+impl<T> FusedIterator for Iter<'_, T> {}
+impl<T> FusedIterator for IntoIter<T> {}
+
+impl<T> IntoIterator for Receiver<T> {
+    type Item = T;
+    type IntoIter = IntoIter<T>;
+
+    fn into_iter(self) -> IntoIter<T> {
+        IntoIter { receiver: self }
+    }
+}
+
+impl<'a, T> IntoIterator for &'a Receiver<T> {
+    type Item = T;
+    type IntoIter = Iter<'a, T>;
+
+    fn into_iter(self) -> Iter<'a, T> {
+        self.iter()
+    }
+}

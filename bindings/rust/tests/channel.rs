@@ -1,0 +1,319 @@
+//! The channel: what no clause says. Segments are small, so that each test crosses many.
+use hazbultra::channel::{bounded, channel, Builder, Receiver, Sender};
+use hazbultra::channel::{RecvError, RecvTimeoutError, SendError, TryRecvError, TrySendError};
+use std::collections::BTreeMap;
+use std::future::Future;
+use std::pin::pin;
+use std::sync::atomic::{AtomicUsize, Ordering::SeqCst};
+use std::sync::{Arc, Barrier};
+use std::task::{Context, Poll, Wake, Waker};
+use std::thread;
+use std::time::{Duration, Instant};
+
+const SHORT: Duration = Duration::from_millis(20);
+/// After so long a test has failed that waits for something.
+const LONG: Duration = Duration::from_secs(10);
+
+fn small<T>() -> (Sender<T>, Receiver<T>) {
+    Builder::new().cells(3).build()
+}
+
+/// A value that counts its drops.
+#[derive(Clone)]
+struct Counted(Arc<AtomicUsize>);
+
+impl Drop for Counted {
+    fn drop(&mut self) {
+        self.0.fetch_add(1, SeqCst);
+    }
+}
+
+#[test]
+fn values_of_a_sender_keep_their_order() {
+    let (sender, receiver) = small();
+    (0..100).for_each(|it| sender.send(it).unwrap());
+    assert_eq!(receiver.len(), 100);
+    drop(sender);
+    assert!(receiver.into_iter().eq(0..100));
+}
+
+#[test]
+fn a_clone_of_a_receiver_begins_where_values_are_left() {
+    let (sender, receiver) = small();
+    (0..10).for_each(|it| sender.send(it).unwrap());
+    assert_eq!(receiver.try_iter().take(7).count(), 7);
+    assert!(receiver.clone().try_iter().eq(7..10));
+}
+
+#[test]
+fn each_value_goes_to_one_of_many_ends() {
+    // (more than there are chains and seats)
+    let (sender, receiver) = Builder::new().cells(16).build();
+    let takers: Vec<_> = (0..70)
+        .map(|_| receiver.clone())
+        .map(|it| thread::spawn(move || it.iter().collect::<Vec<(usize, usize)>>()))
+        .collect();
+    let senders: Vec<_> = (0..20).map(|it| (it, sender.clone())).collect();
+    drop((sender, receiver));
+    thread::scope(|scope| {
+        for (number, sender) in senders {
+            scope.spawn(move || (0..500).for_each(|it| sender.send((number, it)).unwrap()));
+        }
+    });
+    let mut all = Vec::new();
+    for taker in takers {
+        let taken = taker.join().unwrap();
+        let mut last = BTreeMap::new();
+        for (sender, it) in &taken {
+            assert!(
+                last.insert(*sender, *it) < Some(*it),
+                "the order of each sender"
+            );
+        }
+        all.extend(taken);
+    }
+    all.sort_unstable();
+    assert!(all
+        .into_iter()
+        .eq((0..20).flat_map(|s| (0..500).map(move |it| (s, it)))));
+}
+
+/// A value that was sent is there for whoever comes after that, also if others send and receive meanwhile. (There are many
+/// chains, so that values come behind the one who looks.)
+#[test]
+fn a_receiver_finds_what_was_sent_before() {
+    let (sender, receiver) = Builder::new().cells(64).build();
+    let threads: [_; 4] =
+        std::array::from_fn(|_| ([(); 4].map(|()| sender.clone()), receiver.clone()));
+    thread::scope(|scope| {
+        for (senders, receiver) in threads {
+            scope.spawn(move || {
+                for it in 0..200_000 {
+                    senders[it % 4].send(it).unwrap();
+                    receiver.try_recv().unwrap();
+                }
+            });
+        }
+    });
+}
+
+#[test]
+fn a_bound_holds() {
+    let (sender, receiver) = bounded(2);
+    assert_eq!((sender.capacity(), receiver.is_empty()), (Some(2), true));
+    sender.send(1).unwrap();
+    sender.try_send(2).unwrap();
+    assert!(sender.is_full());
+    assert_eq!(sender.try_send(3), Err(TrySendError::Full(3)));
+    assert!(sender.send_timeout(4, SHORT).unwrap_err().is_timeout());
+    assert_eq!(receiver.recv(), Ok(1));
+    let sent = thread::spawn(move || [5, 6].map(|it| sender.send(it).is_ok()));
+    assert!(receiver.iter().eq([2, 5, 6]));
+    assert_eq!(sent.join().unwrap(), [true; 2]);
+}
+
+#[test]
+fn an_end_ends_the_other_side() {
+    let (sender, receiver) = small::<u8>();
+    assert_eq!(receiver.try_recv(), Err(TryRecvError::Empty));
+    assert_eq!(receiver.recv_timeout(SHORT), Err(RecvTimeoutError::Timeout));
+    assert_eq!(
+        receiver.recv_deadline(Instant::now()),
+        Err(RecvTimeoutError::Timeout)
+    );
+    sender.send(1).unwrap();
+    drop(sender);
+    assert_eq!(receiver.recv(), Ok(1));
+    assert_eq!(receiver.recv(), Err(RecvError));
+    assert_eq!(receiver.try_recv(), Err(TryRecvError::Disconnected));
+
+    let (sender, receiver) = small();
+    drop(receiver.clone());
+    drop(receiver);
+    assert_eq!(sender.send(7), Err(SendError(7)));
+    assert_eq!(sender.try_send(8), Err(TrySendError::Disconnected(8)));
+    assert!(sender.is_empty());
+}
+
+#[test]
+fn the_end_wakes_sleepers() {
+    let (sender, receiver) = channel::<u8>();
+    let sleeper = thread::spawn(move || receiver.recv());
+    thread::sleep(SHORT);
+    drop(sender);
+    assert_eq!(sleeper.join().unwrap(), Err(RecvError));
+
+    let (sender, receiver) = bounded(1);
+    sender.send(1).unwrap();
+    let sleeper = thread::spawn(move || sender.send(2));
+    thread::sleep(SHORT);
+    drop(receiver);
+    assert_eq!(sleeper.join().unwrap(), Err(SendError(2)));
+}
+
+#[test]
+fn what_is_left_is_dropped_once_with_the_last_receiver() {
+    let drops = Arc::new(AtomicUsize::new(0));
+    let (sender, receiver) = small();
+    (0..20).for_each(|_| sender.send(Counted(Arc::clone(&drops))).unwrap());
+    drop((receiver.recv().unwrap(), receiver.clone()));
+    assert_eq!(drops.load(SeqCst), 1);
+    drop(receiver);
+    assert_eq!(drops.load(SeqCst), 20);
+    drop(sender);
+    assert_eq!(drops.load(SeqCst), 20);
+}
+
+#[test]
+fn values_may_hold_ends_of_their_own_channel() {
+    struct Knot(
+        #[allow(dead_code)] Sender<Knot>,
+        #[allow(dead_code)] Counted,
+    );
+    let drops = Arc::new(AtomicUsize::new(0));
+    let (sender, receiver) = small();
+    for _ in 0..10 {
+        let knot = Knot(sender.clone(), Counted(Arc::clone(&drops)));
+        assert!(sender.send(knot).is_ok());
+    }
+    drop(receiver.recv());
+    drop((sender, receiver));
+    assert_eq!(drops.load(SeqCst), 10);
+}
+
+#[test]
+fn ten_million_values_that_wait_are_dropped() {
+    let (sender, receiver) = channel();
+    (0..10_000_000_u32).for_each(|it| sender.send(it).unwrap());
+    drop(receiver);
+    assert_eq!(sender.send(1), Err(SendError(1)));
+}
+
+/// Runs a future in this thread.
+fn run<F: Future>(future: F) -> F::Output {
+    struct Unpark(thread::Thread);
+    impl Wake for Unpark {
+        fn wake(self: Arc<Self>) {
+            self.0.unpark();
+        }
+    }
+    let waker = Waker::from(Arc::new(Unpark(thread::current())));
+    let mut future = pin!(future);
+    loop {
+        match future.as_mut().poll(&mut Context::from_waker(&waker)) {
+            Poll::Ready(result) => return result,
+            Poll::Pending => thread::park(),
+        }
+    }
+}
+
+fn poll_once<F: Future + Unpin>(future: &mut F, waker: &Waker) -> Poll<F::Output> {
+    pin!(future).poll(&mut Context::from_waker(waker))
+}
+
+#[test]
+fn tasks_send_and_receive() {
+    let (sender, receiver) = Builder::new().bound(2).cells(3).build();
+    let sending = thread::spawn(move || {
+        (0..1000).for_each(|it| run(sender.send_async(it)).unwrap());
+    });
+    let taken: Vec<_> = (0..1000)
+        .map(|_| run(receiver.recv_async()).unwrap())
+        .collect();
+    assert!(taken.into_iter().eq(0..1000));
+    sending.join().unwrap();
+    assert_eq!(run(receiver.recv_async()), Err(RecvError));
+}
+
+#[test]
+fn a_future_that_is_dropped_passes_its_wake_up_on() {
+    let (sender, receiver) = small();
+    let other = receiver.clone();
+    let mut first = receiver.recv_async();
+    assert!(poll_once(&mut first, Waker::noop()).is_pending());
+    let sleeper = thread::spawn(move || other.recv_timeout(LONG));
+    thread::sleep(SHORT * 5);
+    sender.send(1).unwrap(); // (it wakes the first)
+    drop(first);
+    assert_eq!(sleeper.join().unwrap(), Ok(1));
+}
+
+#[test]
+fn a_future_that_is_dropped_leaves_the_list() {
+    let (sender, receiver) = small();
+    let mut first = receiver.recv_async();
+    assert!(poll_once(&mut first, Waker::noop()).is_pending());
+    drop(first);
+    let sleeper = thread::spawn(move || receiver.recv_timeout(LONG));
+    thread::sleep(SHORT * 5);
+    sender.send(1).unwrap();
+    assert_eq!(sleeper.join().unwrap(), Ok(1));
+}
+
+#[test]
+fn a_send_that_is_dropped_sends_nothing() {
+    let (sender, receiver) = bounded(1);
+    sender.send(1).unwrap();
+    let mut future = sender.send_async(2);
+    assert!(poll_once(&mut future, Waker::noop()).is_pending());
+    drop(future);
+    drop(sender);
+    assert!(receiver.iter().eq([1]));
+}
+
+/// A few values at a time, and no end: so a wake-up that is lost is one that nobody makes up for.
+#[test]
+fn no_round_sleeps_for_ever() {
+    let (sender, receiver) = Builder::new().cells(3).build();
+    let (back, rounds) = channel();
+    for _ in 0..3 {
+        let (receiver, back) = (receiver.clone(), back.clone());
+        thread::spawn(move || receiver.iter().for_each(|it| back.send(it).unwrap()));
+    }
+    let quick = receiver.clone();
+    for round in 0..5_000_u32 {
+        if round % 100 == 0 {
+            thread::sleep(Duration::from_millis(1)); // (so that all sleep)
+        }
+        (0..=round % 3).for_each(|it| sender.send(it).unwrap());
+        let own = u32::from(quick.recv_timeout(Duration::from_nanos(1)).is_ok());
+        for _ in own..=round % 3 {
+            rounds.recv_timeout(LONG).unwrap();
+        }
+    }
+}
+
+#[test]
+fn no_sender_that_waits_for_room_sleeps_for_ever() {
+    let (sender, receiver) = Builder::new().bound(1).cells(3).build();
+    for number in 0..4_u32 {
+        let sender = sender.clone();
+        thread::spawn(move || while sender.send(number).is_ok() {});
+    }
+    assert!((0..5_000).all(|_| receiver.recv_timeout(LONG).is_ok()));
+}
+
+#[test]
+fn one_sender_is_shared_by_threads() {
+    let (sender, receiver) = small();
+    let barrier = Barrier::new(4);
+    let taken: usize = thread::scope(|scope| {
+        for _ in 0..4 {
+            scope.spawn(|| {
+                barrier.wait();
+                (0..1000).for_each(|it| sender.send(it).unwrap());
+            });
+        }
+        let takers =
+            [(); 4].map(|()| scope.spawn(|| (0..1000).flat_map(|_| receiver.recv()).count()));
+        takers.map(|it| it.join().unwrap()).iter().sum()
+    });
+    assert_eq!((taken, receiver.len()), (4000, 0));
+}
+
+#[test]
+fn ends_of_one_channel() {
+    let ((sender, receiver), (other, others)) = (small::<u8>(), small());
+    assert!(sender.same_channel(&sender.clone()) && receiver.same_channel(&receiver.clone()));
+    assert!(!sender.same_channel(&other) && !receiver.same_channel(&others));
+}

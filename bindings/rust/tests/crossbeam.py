@@ -1,0 +1,144 @@
+#!/usr/bin/env python3
+"""Runs the tests of crossbeam-channel 0.5 over this crate's channel, in four sizes of segments.
+
+They come from Debian's package librust-crossbeam-channel-dev. A shim stands in the place of their crate, and its build counts as a
+test. A test is left out if it needs what this channel does not offer. Each is listed with its reason. The last line is `N passed, N
+failed`.
+"""
+import glob
+import os
+import re
+import subprocess
+import sys
+import tempfile
+
+CRATE = os.path.dirname(os.path.dirname(os.path.abspath(__file__)))
+REGISTRY = "/usr/share/cargo/registry"
+CELLS = ("1", "3", "64", "")
+FILES = "array list iter mpsc golang same_channel thread_locals".split()
+# What a test may need that this channel does not offer.
+NEEDS = {
+    "select": r"\bselect!|\bSelect\b",
+    "after, tick or never": r"\b(after|tick|never)(::<[^>]*>)?\(",
+    "a channel of no capacity": r"\bbounded(::<[^>]*>)?\(0\)|\bsync_channel(::<[^;]*>)?\(0\)|\bmake(::<[^;]*>)?\(0\)|cap in 0\.\.",
+}
+# Tests that need something else.
+OTHERS = {"array::panic_on_drop": "values that leak after a panic: here each is dropped"}
+
+SHIM = """
+pub use hazbultra::channel::*;
+fn builder() -> Builder {
+    match std::env::var("CELLS") {
+        Ok(cells) if !cells.is_empty() => Builder::new().cells(cells.parse().unwrap()),
+        _ => Builder::new(),
+    }
+}
+pub fn unbounded<T>() -> (Sender<T>, Receiver<T>) { builder().build() }
+// (the tests of golang.rs make these two with each channel, and those that are kept do not use them)
+pub fn bounded<T>(bound: usize) -> (Sender<T>, Receiver<T>) { builder().bound(bound.max(1)).build() }
+pub fn never<T>() -> Receiver<T> { unbounded().1 }
+pub fn tick(_: std::time::Duration) -> Receiver<std::time::Instant> { unreachable!() }
+pub use tick as after;
+pub struct Select;
+#[macro_export]
+macro_rules! select { ($($any:tt)*) => { unreachable!() }; }
+"""
+RAND = """
+use std::hash::{BuildHasher, Hasher, RandomState};
+pub struct ThreadRng;
+pub trait Rng { fn gen_range(&mut self, range: std::ops::Range<usize>) -> usize; }
+impl Rng for ThreadRng {
+    fn gen_range(&mut self, range: std::ops::Range<usize>) -> usize {
+        range.start + RandomState::new().build_hasher().finish() as usize % (range.end - range.start)
+    }
+}
+pub fn thread_rng() -> ThreadRng { ThreadRng }
+"""
+
+
+def manifest(name, *dependencies):
+    lines = ['[package]', f'name = "{name}"', 'version = "0.5.0"', 'edition = "2021"', '[workspace]', '[dependencies]']
+    return "\n".join([*lines, *(f'{it} = {{ path = "{path}" }}' for it, path in dependencies)])
+
+
+def end_of(text, at):
+    """Where the block ends that opens first after `at`."""
+    depth = 0
+    for place in range(text.index("{", at), len(text)):
+        depth += {"{": 1, "}": -1}.get(text[place], 0)
+        if not depth:
+            return place + 1
+
+
+def kept(name, text):
+    """The text without the tests that are left out, and these, each with its reason."""
+    left, edits, modules = [], [], []
+    for module in re.finditer(r"^mod (\w+) \{", text, re.M):
+        modules.append((module.group(1), module.start(), end_of(text, module.start())))
+    for test in re.finditer(r"^ *(?:#\[.*\n *)*#\[test\]\n(?: *#\[.*\n)* *fn (\w+)\(\)", text, re.M):
+        end = end_of(text, test.end())
+        body = text[test.start() : end]
+        inside = [it for it in modules if it[1] < test.start() < it[2]]
+        label = "::".join([name, *(it[0] for it in inside), test.group(1)])
+        # (with what it calls of its module, and what that calls)
+        for _, begin, stop in inside:
+            helpers = [(it.group(1), begin + it.start()) for it in re.finditer(r"^ *fn (\w+)", text[begin:stop], re.M)]
+            while found := next((it for it in helpers if it[1] > test.end() or it[1] < test.start() if re.search(rf"\b{it[0]}\b", body)), None):
+                helpers.remove(found)
+                body += text[found[1] : end_of(text, found[1])]
+        reason = next((why for why, word in NEEDS.items() if re.search(word, body)), OTHERS.get(label))
+        if reason:
+            left.append((label, reason))
+            edits.append((test.start(), end))
+    for start, end in reversed(edits):
+        text = text[:start] + text[end:]
+    return text, left
+
+
+def write(path, text):
+    os.makedirs(os.path.dirname(path), exist_ok=True)
+    with open(path, "w", encoding="utf-8") as file:
+        file.write(text)
+
+
+def main():
+    source = glob.glob(f"{REGISTRY}/crossbeam-channel-0.5.*")
+    utils = glob.glob(f"{REGISTRY}/crossbeam-utils-0.8.*")
+    failed = 0
+    with tempfile.TemporaryDirectory() as room:
+        write(f"{room}/shim/Cargo.toml", manifest("crossbeam-channel", ("hazbultra", CRATE)))
+        write(f"{room}/shim/src/lib.rs", SHIM)
+        passed = int(subprocess.run(["cargo", "build", "--offline", "--quiet"], cwd=f"{room}/shim", check=False).returncode == 0)
+        if not source or not utils:
+            print("crossbeam-channel: SKIPPED: there is no librust-crossbeam-channel-dev")
+            print(f"{passed} passed, {1 - passed} failed")
+            return not passed
+        write(f"{room}/rand/Cargo.toml", manifest("rand"))
+        write(f"{room}/rand/src/lib.rs", RAND)
+        uses = [("crossbeam-channel", "../shim"), ("rand", "../rand"), ("crossbeam-utils", utils[0])]
+        patch = f'\n[features]\ndefault = ["std"]\nstd = []\n[patch.crates-io]\ncfg-if = {{ path = "{REGISTRY}/cfg-if-1.0.0" }}\n'
+        write(f"{room}/tests/Cargo.toml", manifest("tests", *uses) + patch)
+        write(f"{room}/tests/src/lib.rs", "")
+        for name in FILES:
+            with open(f"{source[0]}/tests/{name}.rs", encoding="utf-8") as file:
+                text, left = kept(name, file.read())
+            write(f"{room}/tests/tests/{name}.rs", "#![allow(warnings)]\n" + text)
+            for label, reason in left:
+                print(f"left out: {label}: {reason}")
+        run = ["cargo", "test", "--offline", "--quiet", "--release", "--no-fail-fast", "--tests", *sys.argv[1:]]
+        for cells in CELLS:
+            env = {**os.environ, "CELLS": cells, "RUSTFLAGS": "--cap-lints allow"}
+            done = subprocess.run(run, cwd=f"{room}/tests", env=env, text=True, capture_output=True)
+            counts = re.findall(r"test result: .*? (\d+) passed; (\d+) failed", done.stdout)
+            some, bad = (sum(int(it[at]) for it in counts) for at in (0, 1))
+            bad += done.returncode != 0 and not bad
+            print(f"segments of {cells or 'the default size'}: {some} passed, {bad} failed")
+            if bad:
+                print(done.stdout, done.stderr)
+            passed, failed = passed + some, failed + bad
+    print(f"{passed} passed, {failed} failed")
+    return failed > 0 or not passed
+
+
+if __name__ == "__main__":
+    sys.exit(main())

@@ -1,0 +1,243 @@
+//! No wake-up is lost: the very source of the channel's wait list, in each order of its steps.
+//!
+//! Senders put one value each, and receivers take one each. A receiver waits as a thread or as a task. It may give up at any
+//! time, and a task may be dropped at any time, also after it was woken. In no order does a value wait while a receiver
+//! sleeps. `tests/wrong_bodies.py` has wrong bodies of the source, which this search refuses.
+mod orders;
+#[allow(
+    dead_code,
+    clippy::new_without_default,
+    reason = "it is a file of the crate"
+)]
+#[path = "../src/channel/wait.rs"]
+mod wait;
+
+use orders::{either, me, rest_until, search, step, step_when, Bodies};
+use std::panic::resume_unwind;
+use std::sync::atomic::{AtomicBool, AtomicUsize, Ordering::SeqCst};
+use std::sync::{Arc, Mutex};
+use std::task::{Poll, Wake, Waker};
+use std::time::Instant;
+use wait::{Lock, System, WaitList, Word};
+
+/// The system in which each access of a shared word, and each lock, is a step.
+struct Model;
+
+struct Stepped(AtomicUsize);
+
+impl Word for Stepped {
+    fn new(value: usize) -> Self {
+        Stepped(AtomicUsize::new(value))
+    }
+
+    fn load(&self) -> usize {
+        step();
+        self.0.load(SeqCst)
+    }
+
+    fn store(&self, value: usize) {
+        step();
+        self.0.store(value, SeqCst);
+    }
+}
+
+struct Locked<T> {
+    value: Mutex<T>,
+    is_held: Arc<AtomicBool>,
+}
+
+impl<T> Lock<T> for Locked<T> {
+    fn new(value: T) -> Self {
+        Locked {
+            value: Mutex::new(value),
+            is_held: Arc::default(),
+        }
+    }
+
+    fn hold<R>(&self, work: impl FnOnce(&mut T) -> R) -> R {
+        let is_held = Arc::clone(&self.is_held);
+        step_when(move || !is_held.load(SeqCst));
+        self.is_held.store(true, SeqCst);
+        let result = work(&mut self.value.lock().unwrap());
+        self.is_held.store(false, SeqCst);
+        result
+    }
+}
+
+/// What `unpark` leaves for each thread, and whether the time of each is over.
+static TOKENS: [AtomicBool; 8] = [const { AtomicBool::new(false) }; 8];
+static IS_PAST: [AtomicBool; 8] = [const { AtomicBool::new(false) }; 8];
+
+impl System for Model {
+    type Word = Stepped;
+    type Lock<T> = Locked<T>;
+    type Thread = usize;
+
+    const LOOKS: u32 = 1;
+
+    fn pause(_: u32) {}
+
+    fn current() -> usize {
+        me()
+    }
+
+    fn unpark(thread: &usize) {
+        step();
+        TOKENS[*thread].store(true, SeqCst);
+    }
+
+    /// A thread that has a time may go on without a token. Then its time is over.
+    fn park(until: Option<Instant>) {
+        let me = me();
+        let has_time = until.is_some();
+        rest_until(move || has_time || TOKENS[me].load(SeqCst));
+        if !TOKENS[me].swap(false, SeqCst) {
+            IS_PAST[me].store(true, SeqCst);
+        }
+    }
+
+    fn is_past(until: Option<Instant>) -> bool {
+        let past = &IS_PAST[me()];
+        until.is_some() && (past.load(SeqCst) || (either() && !past.swap(true, SeqCst)))
+    }
+}
+
+/// A channel that counts its values.
+struct Channel {
+    values: AtomicUsize,
+    is_closed: AtomicBool,
+    list: WaitList<Model>,
+}
+
+impl Channel {
+    fn send(&self) {
+        step();
+        self.values.fetch_add(1, SeqCst);
+        self.list.wake_one();
+    }
+
+    fn close(&self) {
+        self.is_closed.store(true, SeqCst);
+        self.list.wake_all();
+    }
+
+    fn look(&self) -> Option<()> {
+        step();
+        let less = |values: usize| values.checked_sub(1);
+        let is_taken = self.values.fetch_update(SeqCst, SeqCst, less).is_ok();
+        (is_taken || self.is_closed.load(SeqCst)).then_some(())
+    }
+}
+
+/// Who receives.
+#[derive(Clone, Copy, PartialEq, Debug)]
+enum Kind {
+    /// A thread, for ever.
+    Thread,
+    /// A thread, for some time.
+    Timed,
+    /// A task, for ever.
+    Task,
+    /// A task that may be dropped.
+    Dropped,
+    /// A task whose waker panics, and which then ends.
+    Panicking,
+}
+
+struct Bell {
+    is_rung: AtomicBool,
+    panics: bool,
+}
+
+impl Wake for Bell {
+    fn wake(self: Arc<Self>) {
+        step();
+        self.is_rung.store(true, SeqCst);
+        if self.panics {
+            resume_unwind(Box::new("a waker"));
+        }
+    }
+}
+
+fn receive(channel: &Channel, kind: Kind) {
+    match kind {
+        Kind::Thread => channel.list.wait(None, || channel.look()).unwrap(),
+        Kind::Timed => drop(channel.list.wait(Some(Instant::now()), || channel.look())),
+        _ => receive_as_task(channel, kind),
+    }
+}
+
+fn receive_as_task(channel: &Channel, kind: Kind) {
+    let mut place = None;
+    loop {
+        let bell = Arc::new(Bell {
+            is_rung: AtomicBool::new(false),
+            panics: kind == Kind::Panicking,
+        });
+        let waker = Waker::from(Arc::clone(&bell));
+        let polled = channel.list.poll(&mut place, &waker, || channel.look());
+        if polled == Poll::Ready(()) {
+            return;
+        }
+        let may_drop = kind == Kind::Dropped;
+        let is_dropped = may_drop && either();
+        if !is_dropped {
+            step_when(move || bell.is_rung.load(SeqCst));
+        }
+        if kind == Kind::Panicking {
+            return; // (it was woken, and does not even leave)
+        }
+        if is_dropped || (may_drop && either()) {
+            return place.map_or((), |place| channel.list.leave(place));
+        }
+    }
+}
+
+#[test]
+fn no_wake_up_is_lost() {
+    use Kind::{Dropped, Panicking, Task, Thread, Timed};
+    search_case(3, 0, &[Thread, Task]);
+    search_case(3, 1, &[Thread]);
+    search_case(2, 2, &[Thread, Thread]);
+    search_case(2, 2, &[Thread, Timed]);
+    search_case(2, 2, &[Thread, Dropped]);
+    search_case(2, 2, &[Task, Task]);
+    search_case(2, 1, &[Panicking, Thread]);
+    search_case(1, 2, &[Thread, Thread, Timed]);
+    search_case(1, 2, &[Thread, Task, Dropped]);
+}
+
+/// Searches all orders. The last thread comes after no other can go on. It ends the channel, if no value waits.
+fn search_case(preemptions: usize, senders: usize, kinds: &'static [Kind]) {
+    let found = search(preemptions, || {
+        TOKENS
+            .iter()
+            .chain(&IS_PAST)
+            .for_each(|it| it.store(false, SeqCst));
+        let channel = Arc::new(Channel {
+            values: AtomicUsize::new(0),
+            is_closed: AtomicBool::new(false),
+            list: WaitList::new(),
+        });
+        let body = |name: String, work: fn(&Channel, Kind), kind| {
+            let channel = Arc::clone(&channel);
+            let work: Box<dyn FnOnce() + Send> = Box::new(move || work(&channel, kind));
+            (name, work)
+        };
+        let senders = (0..senders).map(|_| body("sender".into(), |it, _| it.send(), Kind::Thread));
+        let receivers = kinds
+            .iter()
+            .map(|kind| body(format!("{kind:?}"), receive, *kind));
+        let threads = senders.chain(receivers).collect();
+        let is_empty = Arc::clone(&channel);
+        let last = Arc::clone(&channel);
+        Bodies {
+            threads,
+            last: (
+                Box::new(move || is_empty.values.load(SeqCst) == 0),
+                Box::new(move || last.close()),
+            ),
+        }
+    });
+    println!("{senders} {kinds:?}: {} orders", found.unwrap());
+}
