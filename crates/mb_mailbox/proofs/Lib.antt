@@ -28,6 +28,7 @@ pub mod Ending
 pub mod Beginnings
 pub mod Straight
 pub mod Taking
+pub mod ShortPolls
 -- A consumer at the end of a lane
 pub mod Endings
 pub mod EndsMet
