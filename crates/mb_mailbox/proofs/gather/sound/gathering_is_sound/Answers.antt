@@ -1,4 +1,4 @@
-use Rattle.std.proofs.Common.{◌≡◌, ◌≢◌, ℕ, zero, suc, ◌<◌, ◌≤◌, Bool, true, false, List, [], ◌∷◌, ◌++◌, refl, sym, ◌∙◌, subst, inl, arith, Some, reverse, slice_get, length, ◌+◌}
+use Rattle.std.proofs.Common.{◌≡◌, ◌≢◌, ℕ, zero, suc, ◌<◌, ◌≤◌, Bool, true, false, List, [], ◌∷◌, ◌++◌, refl, sym, ◌∙◌, subst, inl, arith, Some, reverse, slice_get}
 use Rattle.std.proofs.lemmas.Option.{slice_get_within}
 use Rattle.mb_claim.specs.Rows.{fast_row, last_row, pairs_of, row_of}
 use Rattle.mb_claim.specs.Vocabulary.{pair_count, shape_of}
@@ -92,11 +92,10 @@ second_of false s (suc n) rest some = refl
 ratifier : (shape : Shape) (s n : ℕ) → 1 ≤ n → slice_get (row_of shape s n) 1 ≡ Some Ratifier
 ratifier shape s n some = second_of shape.fast s n (last_row shape.last) some
 
--- a row without a last object has a pair
-by_pairs : (n : ℕ) (b : Bool) → 1 ≤ n + length (last_row b) → (b ≡ true → ⊥) → 1 ≤ n
+-- a row without a last object has a pair, if without pairs there is a last object
+by_pairs : (n : ℕ) (b : Bool) → (n ≡ 0 → b ≡ true) → (b ≡ true → ⊥) → 1 ≤ n
 by_pairs (suc n) b some never = omega arith
-by_pairs zero true some never = absurd (never refl)
-by_pairs zero false some never = absurd (omega (arith, some))
+by_pairs zero b some never = absurd (never (some refl))
 
 -- a cell with a second object has objects
 some_kinds : (kinds : List Kind) → slice_get kinds 1 ≡ Some Ratifier → kinds ≢ []
@@ -119,8 +118,9 @@ returns-clause-undecided c m h r g d p j e =
     ≡ Some k = at_start t.2.cells (linked_cells p hs.pool) j k start end.1 in
     let layout = m.claims.layout in
     let never : (shape_of layout).last ≡ true → ⊥ =
-    (λ last. c.last_objects_decide_claims.ensures.stages layout m.claims.cells d k hs.claims last (at.consumer, end.2)) in
-    let pair = by_pairs (pair_count layout) (shape_of layout).last (c.layouts_are_sound.ensures.pairs layout).0 never in
+    (λ last. c.last_objects_decide_claims.ensures.stages layout m.claims.cells d k hs.claims last
+    (at.consumer, end.2)) in
+    let pair = by_pairs (pair_count layout) (shape_of layout).last (c.layouts_are_sound.ensures.some layout) never in
     let second : slice_get plan.claims.kinds 1 ≡ Some Ratifier =
     ratifier (shape_of layout) (spread (consumer_count layout)) (pair_count layout) pair in
     let winner = c.claims_have_one_winner.ensures plan.claims hs.claims k table g.sound.claims_lawful in
