@@ -28,7 +28,7 @@
 //!   before.
 //! - No value waits while a receiver sleeps. A wake-up that its receiver does not use goes to the next one: after a
 //!   timeout, a dropped future, or a waker that panics.
-//! - Memory is in proportion to the values that wait. An end that does nothing holds one segment of a chain at most, but
+//! - Memory is in proportion to the values that wait. An end that does nothing holds at most one segment of each chain, but
 //!   for moments.
 //! - What takes a lock is said at [`Sender`] and [`Receiver`].
 //!
