@@ -256,6 +256,27 @@ fn a_future_that_is_dropped_leaves_the_list() {
 }
 
 #[test]
+fn a_waker_that_panics_is_passed_over() {
+    struct Panicking;
+    impl Wake for Panicking {
+        fn wake(self: Arc<Self>) {
+            std::panic::resume_unwind(Box::new("a waker"));
+        }
+    }
+    let (sender, receiver) = small();
+    let mut first = receiver.recv_async();
+    let waker = Waker::from(Arc::new(Panicking));
+    assert!(pin!(&mut first)
+        .poll(&mut Context::from_waker(&waker))
+        .is_pending());
+    let other = receiver.clone();
+    let sleeper = thread::spawn(move || other.recv_timeout(LONG));
+    thread::sleep(SHORT * 5);
+    assert_eq!(sender.send(1), Ok(()));
+    assert_eq!(sleeper.join().unwrap(), Ok(1));
+}
+
+#[test]
 fn a_send_that_is_dropped_sends_nothing() {
     let (sender, receiver) = bounded(1);
     sender.send(1).unwrap();
