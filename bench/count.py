@@ -1,12 +1,12 @@
 #!/usr/bin/env python3
 """Counts the instructions of the libraries' loops and of the same loops by hand, and prints a table of them all.
 
-usage: bench/count.py [--loops mailbox,polled,puts] [--shapes plain,fast,last,fastlast] [--tables bits,unary,middle]
+usage: bench/count.py [--loops mailbox,polled,puts] [--shapes plain,fast,last,fastlast,exchange] [--tables bits,unary,middle]
                       [--consumers 1,2,4,16,64] [--keep]
 
 Both programs are built first: `bench_loops` by `rt run`, which proves it, and `by_hand` by rustc. Then callgrind counts the
 instructions of each at two sizes, so that the start of the program falls out; the counts repeat exactly. Both have to print
-the same lines. The loops `chacha` and `taken` are not there by hand. With --keep the programs of the last run are taken as they are. It
+the same lines. The loop `chacha` and the shape `exchange` are not there by hand. With --keep the programs of the last run are taken as they are. It
 wants rt, rustc and valgrind.
 """
 import argparse
@@ -47,7 +47,7 @@ def difference(program, loop, what):
 def row(loop, what):
     """What a unit of the loop takes by the libraries and, if there is such a loop, by hand."""
     taken, lines = [], set()
-    for program in (measuring.LOOPS, BY_HAND)[: 1 if loop in ALONE else 2]:
+    for program in (measuring.LOOPS, BY_HAND)[: 1 if loop == "chacha" or what[2] == "exchange" else 2]:
         instructions, items, said = difference(program, SAME.get(loop, loop), what)
         if loop in ("polled", "puts", "taken"):
             instructions -= difference(program, "mailboxes", what)[0]

@@ -40,30 +40,26 @@ const TABLES: [(&str, TableName); 3] = [
     ("middle", TableName::Middle),
 ];
 
-/// All shapes of the cells with their names. If none is named, the loops run over each.
-pub const SHAPES: [(&str, Shape); 4] = [
-    ("plain", Shape::PLAIN),
+/// All shapes of the cells with their names. If none is named, the loops run over each. Cells of the last one have no
+/// pairs, but a last object alone.
+pub const SHAPES: [(&str, Option<Shape>); 5] = [
+    ("plain", Some(Shape::PLAIN)),
     (
         "fast",
-        Shape {
+        Some(Shape {
             fast: true,
             last: false,
-        },
+        }),
     ),
-    (
-        "last",
-        Shape {
-            fast: false,
-            last: true,
-        },
-    ),
+    ("last", Some(Shape::LAST)),
     (
         "fastlast",
-        Shape {
+        Some(Shape {
             fast: true,
             last: true,
-        },
+        }),
     ),
+    ("exchange", None),
 ];
 
 /// A loop with the setup of its mailboxes, and how often it runs.
@@ -91,22 +87,32 @@ impl Choice {
             _ => return None,
         };
         let table = named(&TABLES, table.as_str())?;
-        let setup = Setup::large(1, consumers.parse::<u64>().ok()?, cells, PAIRS, table).ok()?;
+        let shape = named(&SHAPES, shape)?;
         Some(Choice {
             what: named(&LOOPS, what.as_str())?,
-            setup: setup.shaped(named(&SHAPES, shape)?),
+            setup: setup_of(shape, consumers.parse::<u64>().ok()?, cells, table)?,
             times: times.parse::<u64>().ok()?,
         })
     }
 
     /// A short run of this loop, over cells of this shape.
-    pub fn short(what: Loop, shape: Shape) -> Option<Choice> {
-        let setup = Setup::large(1, 3, u64::from(MAX_CELLS), PAIRS, TableName::Bits).ok()?;
+    pub fn short(what: Loop, shape: Option<Shape>) -> Option<Choice> {
         Some(Choice {
             what,
-            setup: setup.shaped(shape),
+            setup: setup_of(shape, 3, u64::from(MAX_CELLS), TableName::Bits)?,
             times: 1,
         })
+    }
+}
+
+/// The setup with one producer and cells of this shape. With none it has last objects alone, and no table.
+fn setup_of(shape: Option<Shape>, consumers: u64, cells: u64, table: TableName) -> Option<Setup> {
+    match shape {
+        Some(shape) => {
+            let setup = Setup::large(1, consumers, cells, PAIRS, table).ok()?;
+            Some(setup.shaped(shape))
+        }
+        None => Setup::exchange(1, consumers, cells).ok(),
     }
 }
 

@@ -2,6 +2,7 @@
 
 use crate::compare::{same, same_at};
 use crate::shapes::BOTH;
+use mb_claim::Shape;
 use mb_quorum::TableName::{self, Bits, Middle};
 use mb_script::report_text;
 use mb_world::{Setup, SetupFault, World};
@@ -80,6 +81,33 @@ fn a_large_setup_tells_its_numbers(rt: HostRuntime) {
         .shaped(BOTH);
     let told = (shaped.consumers(), shaped.cells(), shaped.layout().shape());
     same(&rt, &told, &(64, MOST, BOTH));
+}
+
+// There are no pairs to look at.
+#[test]
+fn an_exchange_is_refused_in_the_same_order(rt: HostRuntime) {
+    for (p, c, m, want) in &[
+        (0, 0, ABOVE, SetupFault::BadProducers),
+        (17, 65, ABOVE, SetupFault::BadProducers),
+        (16, 0, ABOVE, SetupFault::BadConsumers),
+        (1, 65, ABOVE, SetupFault::BadConsumers),
+        (1, 64, ABOVE, SetupFault::BadCells),
+    ] {
+        same_at(&rt, &Setup::exchange(*p, *c, *m), &Err(*want), &(p, c, m));
+    }
+}
+
+#[test]
+fn an_exchange_tells_its_numbers(rt: HostRuntime) {
+    for (p, c, m) in &[(1, 1, 0), (16, 64, MOST)] {
+        let setup = Setup::exchange(*p, *c, *m).expect(&rt, "no setup");
+        let told = (setup.producers(), setup.consumers(), setup.cells());
+        same(&rt, &told, &(*p, *c, *m));
+        same(&rt, &setup.layout().max_steps(), &1);
+        // Another shape leaves the last object.
+        let shape = setup.shaped(Shape::PLAIN).layout().shape();
+        same(&rt, &shape, &Shape::LAST);
+    }
 }
 
 #[test]

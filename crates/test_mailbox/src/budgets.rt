@@ -106,7 +106,11 @@ fn any_setup(rt: &impl Abort, dice: &mut ChaCha8Rng) -> Setup {
         last: roll(dice) % 2 == 0,
     };
     let (producers, consumers) = (1 + roll(dice) % 3, 1 + roll(dice) % 8);
-    let (cells, pairs) = (1 + roll(dice) % 12, 1 + roll(dice) % 3);
+    let (cells, pairs) = (1 + roll(dice) % 12, roll(dice) % 4);
+    if pairs == 0 {
+        let setup = Setup::exchange(producers, consumers, cells).expect(rt, "no setup");
+        return setup.shaped(shape);
+    }
     let setup = Setup::new(producers, consumers, cells, pairs, name).expect(rt, "no setup");
     setup.shaped(shape)
 }
