@@ -17,6 +17,8 @@ pub enum Loop {
     Mailbox,
     /// As `Mailbox`, but each consumer takes until nothing more comes.
     Taken,
+    /// Makes the puts of a producer into a mailbox. After each put each consumer takes once.
+    Passed,
     /// As `Mailbox`, but with random words of ChaCha8.
     Chacha,
     /// Passes an item through a mailbox, put and then polled, with random words of ChaCha8.
@@ -24,11 +26,12 @@ pub enum Loop {
 }
 
 /// All loops with their names. If no loop is named, they run in this order.
-pub const LOOPS: [(&str, Loop); 6] = [
+pub const LOOPS: [(&str, Loop); 7] = [
     ("mailboxes", Loop::Mailboxes),
     ("puts", Loop::Puts),
     ("mailbox", Loop::Mailbox),
     ("taken", Loop::Taken),
+    ("passed", Loop::Passed),
     ("chacha", Loop::Chacha),
     ("relay", Loop::Relay),
 ];
@@ -40,8 +43,7 @@ const TABLES: [(&str, TableName); 3] = [
     ("middle", TableName::Middle),
 ];
 
-/// All shapes of the cells with their names. If none is named, the loops run over each. Cells of the last one have no
-/// pairs, but a last object alone.
+/// All shapes of the cells with their names. If none is named, the loops run over each. `exchange` has no pairs.
 pub const SHAPES: [(&str, Option<Shape>); 5] = [
     ("plain", Some(Shape::PLAIN)),
     (
@@ -90,7 +92,7 @@ impl Choice {
         let shape = named(&SHAPES, shape)?;
         Some(Choice {
             what: named(&LOOPS, what.as_str())?,
-            setup: setup_of(shape, consumers.parse::<u64>().ok()?, cells, table)?,
+            setup: setup_of(consumers.parse::<u64>().ok()?, cells, table, shape)?,
             times: times.parse::<u64>().ok()?,
         })
     }
@@ -99,20 +101,20 @@ impl Choice {
     pub fn short(what: Loop, shape: Option<Shape>) -> Option<Choice> {
         Some(Choice {
             what,
-            setup: setup_of(shape, 3, u64::from(MAX_CELLS), TableName::Bits)?,
+            setup: setup_of(3, u64::from(MAX_CELLS), TableName::Bits, shape)?,
             times: 1,
         })
     }
 }
 
-/// The setup with one producer and cells of this shape. With none it has last objects alone, and no table.
-fn setup_of(shape: Option<Shape>, consumers: u64, cells: u64, table: TableName) -> Option<Setup> {
+/// The setup of one lane and of these numbers. Without a shape the cells have a last object alone.
+fn setup_of(consumers: u64, cells: u64, table: TableName, shape: Option<Shape>) -> Option<Setup> {
     match shape {
+        None => Setup::exchange(1, consumers, cells).ok(),
         Some(shape) => {
             let setup = Setup::large(1, consumers, cells, PAIRS, table).ok()?;
             Some(setup.shaped(shape))
         }
-        None => Setup::exchange(1, consumers, cells).ok(),
     }
 }
 

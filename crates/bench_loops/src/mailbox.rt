@@ -21,6 +21,14 @@ pub struct Post {
     pub taken: u64,
 }
 
+impl Post {
+    /// Counts an item that a consumer took.
+    pub fn add(&mut self, item: u64) {
+        self.notes = self.notes.wrapping_add(1);
+        self.taken = self.taken.wrapping_add(item);
+    }
+}
+
 impl fmt::Display for Post {
     fn fmt<W: fmt::Write>(&self, f: &mut fmt::Formatter<W>) -> fmt::Result {
         let Post {
@@ -151,10 +159,7 @@ fn read<A: Allocator + Drop, R: Rng>(
 {
     for _ in 0..u64::MAX {
         match consumer.poll(mailbox, 0, u64::MAX, rng) {
-            Poll::Took(item) => {
-                post.notes = post.notes.wrapping_add(1);
-                post.taken = post.taken.wrapping_add(item);
-            }
+            Poll::Took(item) => post.add(item),
             Poll::Lost(_) | Poll::Undecided => post.notes = post.notes.wrapping_add(1),
             Poll::Spent => {}
             Poll::Nothing | Poll::Ended | Poll::NoLane => break,
@@ -173,10 +178,7 @@ fn take<A: Allocator + Drop, R: Rng>(
 {
     for _ in 0..u64::MAX {
         match consumer.take(mailbox, 0, u64::MAX, rng) {
-            Poll::Took(item) => {
-                post.notes = post.notes.wrapping_add(1);
-                post.taken = post.taken.wrapping_add(item);
-            }
+            Poll::Took(item) => post.add(item),
             Poll::Undecided => post.notes = post.notes.wrapping_add(1),
             Poll::Lost(_) | Poll::Spent => {}
             Poll::Nothing | Poll::Ended | Poll::NoLane => break,

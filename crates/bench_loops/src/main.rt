@@ -10,6 +10,7 @@ use std::process::ExitCode;
 pub mod choice;
 pub mod examples;
 pub mod mailbox;
+pub mod passed;
 pub mod relay;
 pub mod run;
 pub mod source;
