@@ -1,6 +1,7 @@
 //! A consumer of a mailbox.
 mod competing;
 mod moves;
+mod passing;
 mod places;
 mod polls;
 mod pursuit;
