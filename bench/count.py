@@ -6,7 +6,7 @@ usage: bench/count.py [--loops mailbox,polled,puts] [--shapes plain,fast,last,fa
 
 Both programs are built first: `bench_loops` by `rt run`, which proves it, and `by_hand` by rustc. Then callgrind counts the
 instructions of each at two sizes, so that the start of the program falls out; the counts repeat exactly. Both have to print
-the same lines. The loop `chacha` is not there by hand. With --keep the programs of the last run are taken as they are. It
+the same lines. The loops `chacha` and `taken` are not there by hand. With --keep the programs of the last run are taken as they are. It
 wants rt, rustc and valgrind.
 """
 import argparse
@@ -18,7 +18,9 @@ import sys
 import measuring
 
 BY_HAND = measuring.ROOM / "by_hand"
-UNITS = {"mailbox": "an item", "polled": "an item", "puts": "a put", "chacha": "an item"}
+UNITS = {"mailbox": "an item", "polled": "an item", "puts": "a put", "chacha": "an item", "taken": "an item"}
+# These loops are not there by hand.
+ALONE = ("chacha", "taken")
 # This is a loop above, counted without the making of its mailbox and producer.
 SAME = {"polled": "mailbox"}
 # How often a loop is done at either size.
@@ -45,9 +47,9 @@ def difference(program, loop, what):
 def row(loop, what):
     """What a unit of the loop takes by the libraries and, if there is such a loop, by hand."""
     taken, lines = [], set()
-    for program in (measuring.LOOPS, BY_HAND)[: 1 if loop == "chacha" else 2]:
+    for program in (measuring.LOOPS, BY_HAND)[: 1 if loop in ALONE else 2]:
         instructions, items, said = difference(program, SAME.get(loop, loop), what)
-        if loop in ("polled", "puts"):
+        if loop in ("polled", "puts", "taken"):
             instructions -= difference(program, "mailboxes", what)[0]
         taken.append(instructions / items)
         lines.add(said)
@@ -58,7 +60,7 @@ def row(loop, what):
 
 def main():
     parser = argparse.ArgumentParser()
-    parser.add_argument("--loops", default="mailbox,polled,puts", help="which, beside them chacha (mailbox,polled,puts)")
+    parser.add_argument("--loops", default="mailbox,polled,puts", help="which, beside them chacha and taken (mailbox,polled,puts)")
     parser.add_argument("--shapes", default="plain")
     parser.add_argument("--tables", default="bits,unary,middle")
     parser.add_argument("--consumers", default="1,2,4,16,64")

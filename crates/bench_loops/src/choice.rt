@@ -15,6 +15,8 @@ pub enum Loop {
     Puts,
     /// Fills a mailbox. Then each consumer polls it to its end.
     Mailbox,
+    /// As `Mailbox`, but each consumer takes until nothing more comes.
+    Taken,
     /// As `Mailbox`, but with random words of ChaCha8.
     Chacha,
     /// Passes an item through a mailbox, put and then polled, with random words of ChaCha8.
@@ -22,10 +24,11 @@ pub enum Loop {
 }
 
 /// All loops with their names. If no loop is named, they run in this order.
-pub const LOOPS: [(&str, Loop); 5] = [
+pub const LOOPS: [(&str, Loop); 6] = [
     ("mailboxes", Loop::Mailboxes),
     ("puts", Loop::Puts),
     ("mailbox", Loop::Mailbox),
+    ("taken", Loop::Taken),
     ("chacha", Loop::Chacha),
     ("relay", Loop::Relay),
 ];
