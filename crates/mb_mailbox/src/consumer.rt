@@ -1,5 +1,6 @@
 //! A consumer of a mailbox.
 mod competing;
+mod meeting;
 mod moves;
 mod passing;
 mod places;

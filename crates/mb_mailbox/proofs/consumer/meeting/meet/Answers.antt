@@ -14,8 +14,8 @@ use Rattle.mb_mailbox.proofs.Lists.{get_some, set_here, set_same, set_twice, som
 use Rattle.mb_mailbox.proofs.Made.{at_views, cells_size, claims_size, known_in, look_made, moved_has}
 use Rattle.mb_mailbox.proofs.Meeting.{look_tells, no_cell, quiet}
 use Rattle.mb_mailbox.proofs.Polls.{history_extends}
-use Rattle.mb_mailbox.proofs.consumer.passing.meet.{Given.Over, Goals.After-consumer, Goals.After-has_history, Goals.After-look}
-use Rattle.mb_mailbox.proofs.consumer.passing.meet.Goals as goal
+use Rattle.mb_mailbox.proofs.consumer.meeting.meet.{Given.Over, Goals.After-consumer, Goals.After-has_history, Goals.After-look}
+use Rattle.mb_mailbox.proofs.consumer.meeting.meet.Goals as goal
 
 module _ (g : Over) (c : After-has_history g) where
   -- the consumer, which stands before the link
