@@ -1,10 +1,10 @@
 -- Proof of `Consumer::pass_lost`: the consumer's fields go past items that it loses.
-use Rattle.std.proofs.Common.{◌≡◌, ◌∙◌, ◌+◌, ◌<◌, ℕ, List, [], ◌∷◌, ap, arith, length, refl, subst, sym}
-use Rattle.std.specs.Prelude.{IfSome, Some, Option}
+use Rattle.std.proofs.Common.{◌≡◌, ◌∙◌, ◌+◌, [], ◌∷◌, ap, arith, subst, sym}
+use Rattle.std.specs.Prelude.{IfSome, Some}
 use Rattle.mb_deciding.specs.declared.object.Kind.TheVariants.{LastObject}
 use Rattle.mb_world.specs.declared.place.Place.{Place}
-use Rattle.mb_mailbox.specs.Imports.{CellsName, Layout, PoolSize, Stream, kinds_of}
-use Rattle.mb_mailbox.specs.ConsumerWords.{AnswerTells, ConsumerView, IsConsumerOf, Poll, with_fields}
+use Rattle.mb_mailbox.specs.Imports.{Layout, PoolSize, kinds_of}
+use Rattle.mb_mailbox.specs.ConsumerWords.{AnswerTells, ConsumerView, IsConsumerOf, with_fields}
 use Rattle.mb_mailbox.specs.Jobs.{accesses_made}
 use Rattle.mb_mailbox.specs.Mailboxes.{MailboxView}
 use Rattle.mb_mailbox.specs.Steps.{outcome}

@@ -1,10 +1,7 @@
 -- Proof of `Consumer::take`: polls of a lane in a row, past the items that are lost.
-use Rattle.std.proofs.Common.{◌≡◌, ◌≢◌, ◌∙◌, ◌+◌, ◌<◌, ◌≤◌, ◌++◌, ℕ, [], ◌∷◌, subst, arith}
-use Rattle.mb_mailbox.specs.Imports.{Stream}
-use Rattle.mb_mailbox.specs.Jobs.{accesses_made}
+use Rattle.std.proofs.Common.{◌∙◌, ◌++◌, ◌∷◌, subst, arith}
 use Rattle.mb_mailbox.specs.Steps.{AnswerTells, outcome}
-use Rattle.mb_mailbox.specs.Takes.{HasPassed, IsPollOfRest, IsTakeOf}
-use Rattle.mb_mailbox.specs.declared.consumer.Poll.TheVariants as poll
+use Rattle.mb_mailbox.specs.Takes.{IsTakeOf}
 use Rattle.mb_mailbox.proofs.Polls.{told_from}
 use Rattle.mb_mailbox.proofs.Takes.{lost_grows, passed_grows, passed_known, passed_on, spent_by, take_by, take_on, within_by}
 use Rattle.mb_mailbox.proofs.consumer.Consumer.take.Goals as goal

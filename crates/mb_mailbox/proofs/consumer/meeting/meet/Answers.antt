@@ -1,10 +1,9 @@
 -- Proof of `meet`: loads the link at a cursor before which the consumer stands.
-use Rattle.std.proofs.Common.{[], ◌≡◌, ◌≢◌, ◌∙◌, ◌+◌, ◌<◌, ℕ, List, ap, refl, subst, sym}
-use Rattle.std.specs.Prelude.{None, Some, slice_get, slice_set}
-use Rattle.mb_cells.specs.declared.answer.Look.TheVariants as look
+use Rattle.std.proofs.Common.{[], ◌≡◌, ◌≢◌, ◌∙◌, ◌+◌, ◌<◌, ℕ, ap, refl, subst, sym}
+use Rattle.std.specs.Prelude.{None, Some, slice_set}
 use Rattle.mb_shared_cells.specs.Vocabulary.{LookMakes}
-use Rattle.mb_world.specs.declared.place.Place.{Place, TheVariants.At, TheVariants.Before}
-use Rattle.mb_mailbox.specs.Imports.{Claim, END, IsAccessAfter, IsClaimIn, IsStanding, Look, MayRead, PoolSize, ReaderSeatView, TableSize, consumer_count, load, word_of}
+use Rattle.mb_world.specs.declared.place.Place.{TheVariants.At, TheVariants.Before}
+use Rattle.mb_mailbox.specs.Imports.{END, IsAccessAfter, IsClaimIn, Look, MayRead, PoolSize, TableSize, consumer_count, load, word_of}
 use Rattle.mb_mailbox.specs.Consumers.{ConsumerView, IsConsumer}
 use Rattle.mb_mailbox.specs.{ConsumerStep.link_answer, Mailboxes.MailboxView}
 use Rattle.mb_mailbox.specs.Moves.{HasPlace, reads_with_link}

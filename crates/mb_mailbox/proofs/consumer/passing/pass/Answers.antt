@@ -1,19 +1,18 @@
 -- Proof of `pass`: goes on past items that the consumer loses, with the cursor in a variable.
 use Rattle.std.proofs.Common.{◌≡◌, ◌≢◌, ◌∙◌, ◌+◌, ◌-◌, ◌<◌, ◌≤◌, ℕ, List, [], ◌∷◌, ap, arith, length, refl, subst, sym}
-use Rattle.std.specs.Prelude.{None, Option, Some, slice_get, slice_set}
-use Rattle.mb_cells.specs.declared.answer.Look.TheVariants as look
+use Rattle.std.specs.Prelude.{None, Option, Some, slice_set}
 use Rattle.mb_cells.specs.declared.cursor.Cursor.TheVariants.{Past}
 use Rattle.mb_mailbox.specs.declared.consumer.Poll.TheVariants as poll
 use Rattle.mb_world.specs.declared.place.Place.{Place, TheVariants.At, TheVariants.Before}
-use Rattle.mb_mailbox.specs.Imports.{CellsName, Claim, Cursor, ReaderSeatView, SeatView, Stream}
+use Rattle.mb_mailbox.specs.Imports.{CellsName, Cursor, ReaderSeatView, Stream}
 use Rattle.mb_mailbox.specs.ConsumerStep.{link_answer}
-use Rattle.mb_mailbox.specs.ConsumerWords.{AnswerTells, AreSteps, ConsumerView, IsBeforeObject, IsConsumer, IsConsumerOf, IsPursuit, Poll, at_link, claim_takes, holding, with_fields}
+use Rattle.mb_mailbox.specs.ConsumerWords.{AnswerTells, AreSteps, ConsumerView, IsConsumer, IsConsumerOf, IsPursuit, Poll, at_link, claim_takes, with_fields}
 use Rattle.mb_mailbox.specs.Jobs.{accesses_made}
 use Rattle.mb_mailbox.specs.{LaneNotes.NotesView, Mailboxes.MailboxView, NoteLists.HasAllRoom}
 use Rattle.mb_mailbox.specs.{Pursuits.IsOfClaim, Steps.{IsPollOf, outcome}}
-use Rattle.mb_mailbox.specs.Takes.{HasPassed, IsPollOfRest, IsTakeOf}
+use Rattle.mb_mailbox.specs.Takes.{IsPollOfRest, IsTakeOf}
 use Rattle.mb_mailbox.proofs.Ending.{left_by, poll_by, pursuit_tells, still_of}
-use Rattle.mb_mailbox.proofs.Lists.{set_same, set_twice}
+use Rattle.mb_mailbox.proofs.Lists.{set_same}
 use Rattle.mb_mailbox.proofs.Polls.{poll_of}
 use Rattle.mb_mailbox.proofs.Takes.{HasPassedTo, take_by}
 use Rattle.mb_mailbox.proofs.consumer.passing.pass.{Given.Over, Goals.After-meet, Goals.After-settle}
