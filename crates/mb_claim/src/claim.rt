@@ -21,7 +21,7 @@ impl Claim {
     ghost use Rattle.std.specs.Prelude.{◌≡◌, ◌≢◌, ◌<◌, ◌≤◌, ◌+◌, ℕ, Bool, true, List, [], ◌∷◌, length, slice_get, MatchOption, None};
     ghost use Rattle.mb_deciding.specs.Vocabulary.{PcIsAt, IsNext, IsReached, next_from, turns_left, turns_after};
     ghost use Rattle.mb_deciding.specs.Vocabulary.{most_turns};
-    ghost use Rattle.mb_claim.specs.{Kind, Turn, ClaimOp, ObjectTurn, Going, Undecided, consumer_of, claim_stage, is_begun};
+    ghost use Rattle.mb_claim.specs.{Kind, LastObject, Turn, ClaimOp, ObjectTurn, Going, Undecided, consumer_of, claim_stage, is_begun};
     ghost use Rattle.mb_claim.specs.{FitsLayout, IsClaimIn, IsNextOp, CanClaimFind, IsClaimStep, steps_left, step_of};
     ghost use Rattle.mb_claim.specs.{Pc, stage_for, placed_at, stood_at, quorums_of, kinds_of, consumer_count, most_accesses, IsStanding};
 
@@ -41,6 +41,29 @@ impl Claim {
             consumer,
             object: 0,
             place: layout.kind_of(0).place(&layout.table, consumer),
+            stage: Stage::Going,
+            begun: false,
+        }
+    }
+
+    /// The claim of a consumer that has made no access, if each cell has a last object alone
+    /// ([`Layout::exchange`]).
+    #[inline(always)]
+    pub fn alone(layout: &Layout, consumer: u32) -> Claim
+        requires consumer { consumer < consumer_count layout.now }
+        requires alone { kinds_of layout.now ≡ LastObject ∷ [] }
+        ensures consumer { consumer_of result ≡ consumer }
+        ensures going { claim_stage result ≡ Going }
+        ensures path { IsClaimIn layout.now result [] }
+        ensures first { IsStanding layout.now consumer 0 consumer result }
+    {
+        // Only the contract names the layout.
+        let _ = layout;
+        places_show_prefixes();
+        Claim {
+            consumer,
+            object: 0,
+            place: Pc::last(consumer),
             stage: Stage::Going,
             begun: false,
         }

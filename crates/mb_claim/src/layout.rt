@@ -338,6 +338,14 @@ impl Layout {
         self.objects
     }
 
+    /// Whether each cell has a last object alone.
+    #[inline(always)]
+    pub fn is_alone(&self) -> bool
+        ensures { result ≡ true → kinds_of self.now ≡ LastObject ∷ [] }
+    {
+        if self.objects == 1 { true } else { false }
+    }
+
     /// How many words each cell has.
     #[inline(always)]
     fn words_of_cell(&self) -> usize

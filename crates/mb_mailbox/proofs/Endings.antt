@@ -1,8 +1,7 @@
 -- What a poll keeps and adds, and a consumer that has read a lane to its end.
-use Rattle.std.proofs.Common.{◌≡◌, ◌≢◌, ℕ, ◌+◌, ◌<◌, ◌≤◌, List, [], ◌∷◌, ◌++◌, length, refl, sym, ap, ◌∙◌, subst, inr, arith}
+use Rattle.std.proofs.Common.{◌≡◌, ◌≢◌, ℕ, List, [], ◌∷◌, ◌++◌, length, refl, sym, ap, ◌∙◌, subst, inr}
 use Rattle.std.specs.Prelude.{Option, Some, None, slice_get}
 use Rattle.std.specs.Option.{option_map_or}
-use Rattle.std.proofs.lemmas.List.{length-append}
 use Rattle.mb_world.proofs.Diaries.{values_length}
 use Rattle.mb_cells.proofs.ReaderChains.{HasMet-more}
 use Rattle.mb_cells.specs.Vocabulary.{HasLoaded}
@@ -10,14 +9,13 @@ use Rattle.mb_cells.specs.declared.access.Process.{Process}
 use Rattle.mb_shared_cells.specs.Vocabulary.{IsRollOf}
 use Rattle.mb_shared_cells.specs.declared.views.Roll.{Roll}
 use Rattle.mb_world.specs.Reporting.{values_put}
-use Rattle.mb_mailbox.specs.Imports.{END, Has, HasMet, History, IsPoolLawful, Note, PoolAccess, PoolSize, Producer, Reader, ReaderSeatView, SeatView, Stream, ToCells, ToClaims}
-use Rattle.mb_mailbox.specs.Imports.{WorldHistory, cells_met, claim_accesses, linked_cells, load, part, place_past, pool_accesses}
+use Rattle.mb_mailbox.specs.Imports.{END, Has, HasMet, History, IsPoolLawful, Note, PoolAccess, PoolSize, Producer, Reader, Stream}
+use Rattle.mb_mailbox.specs.Imports.{cells_met, linked_cells, load, part, place_past, pool_accesses}
 use Rattle.mb_mailbox.specs.Consumers.{ConsumerView}
-use Rattle.mb_mailbox.specs.Jobs.{HasReadToEnd, IsSameConsumer, accesses_made}
+use Rattle.mb_mailbox.specs.Jobs.{HasReadToEnd, IsSameConsumer}
 use Rattle.mb_mailbox.specs.Moves.{HasLoads}
-use Rattle.mb_mailbox.specs.Steps.{HasDone, HasLoadedEnd, HasNoteOnEach, IsPollOf, LeadTo, note_with, notes_on, outcome, with_note}
+use Rattle.mb_mailbox.specs.Steps.{HasLoadedEnd, HasNoteOnEach, IsPollOf, note_with, notes_on, outcome, with_note}
 use Rattle.mb_mailbox.specs.declared.consumer.Poll.{Poll}
-use Rattle.mb_mailbox.specs.declared.consumer.Poll.TheVariants as poll
 use Rattle.mb_mailbox.proofs.Lists.{set_else}
 
 -- ---- what a part has, a longer one has

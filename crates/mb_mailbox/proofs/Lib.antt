@@ -29,6 +29,7 @@ pub mod Ending
 pub mod Beginnings
 pub mod Straight
 pub mod Taking
+pub mod Meeting
 pub mod Takes
 pub mod ShortPolls
 -- A consumer at the end of a lane

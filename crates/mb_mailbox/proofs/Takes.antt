@@ -1,14 +1,17 @@
 -- Takes: polls in a row, past the items that are lost.
-use Rattle.std.proofs.Common.{◌≡◌, ◌+◌, ◌≤◌, ◌<◌, ℕ, List, [], ◌∷◌, length, ap, ◌∙◌, subst, arith}
+use Rattle.std.proofs.Common.{◌≡◌, ◌≢◌, ◌+◌, ◌<◌, ◌≤◌, ℕ, List, [], ◌∷◌, ◌++◌, ap, arith, length, subst, sym, ◌∙◌}
 use Rattle.std.specs.Prelude.{Some}
-use Rattle.mb_mailbox.specs.Imports.{ReaderSeatView, Stream, WorldHistory}
-use Rattle.mb_mailbox.specs.Consumers.{ConsumerView}
+use Rattle.mb_mailbox.specs.Imports.{Cursor, ReaderSeatView, Stream, WorldHistory}
+use Rattle.mb_mailbox.specs.Consumers.{ConsumerView, IsConsumer, IsConsumerOf}
 use Rattle.mb_mailbox.specs.Jobs.{accesses_made}
-use Rattle.mb_mailbox.specs.Steps.{IsPollOf, LeadTo}
-use Rattle.mb_mailbox.specs.Takes.{HasPassed, IsPollOfRest}
+use Rattle.mb_mailbox.specs.{Mailboxes.MailboxView, NoteLists.HasAllRoom, Pursuits.{at_link, with_fields}}
+use Rattle.mb_mailbox.specs.declared.consumer.ConsumerFields.{ConsumerFields}
+use Rattle.mb_mailbox.specs.Steps.{AnswerTells, IsPollOf, LeadTo, outcome}
+use Rattle.mb_mailbox.specs.Takes.{HasPassed, IsPollOfRest, IsTakeOf}
 use Rattle.mb_mailbox.specs.declared.consumer.Poll.{Poll}
 use Rattle.mb_mailbox.specs.declared.consumer.Poll.TheVariants as poll
 use Rattle.mb_mailbox.proofs.Grown.{grown_by}
+use Rattle.mb_mailbox.proofs.Polls.{told_from}
 
 -- a poll of what is left is within the budget, and leaves none of it if it is spent
 pub within_by : (p most : ℕ) (answer : Poll) (s t : Stream) (start old new : ConsumerView)
@@ -28,7 +31,36 @@ spent_by p most answer s t start old new i e =
     let grown = grown_by p i.poll.accesses _ old new i.poll.done in
     omega (arith, all, rest, grown)
 
--- a poll that lost an item made an access
+-- ---- what goes on with what is left
+-- `mid` is the consumer after some accesses, and `left` is what they left of `most`
+module _ (p most left : ℕ) (start mid : ConsumerView)
+    (rest : accesses_made mid + left ≡ accesses_made start + most) where
+  rest_on : (answer : Poll) (s t : Stream) (old new : ConsumerView)
+      → IsPollOfRest p left answer s t mid old new → IsPollOfRest p most answer s t start old new
+  rest_on answer s t old new i = record { left = i.left; rest = i.rest ∙ rest; poll = i.poll }
+
+  -- items that are passed then are passed in all
+  pub passed_on : (older later : List ℕ) (s t u : Stream) (new : ConsumerView) → HasPassed p most older s t start mid
+      → HasPassed p left later t u mid new → HasPassed p most (later ++ older) s u start new
+  passed_on older [] s t u new was (drawn, is) =
+      subst (λ (z : Stream × ConsumerView). HasPassed p most older s z.0 start z.1) (λ i. (sym drawn i, sym is i)) was
+  passed_on older (w ∷ later) s t u new was (v, last, more, one) =
+      (v, last, passed_on older later s t v last was more, rest_on (poll.Lost w) v u last new one)
+
+  -- a take of what is left ends the take
+  pub take_on : (older : List ℕ) (answer : Poll) (s t u : Stream) (new : ConsumerView)
+      → HasPassed p most older s t start mid → IsTakeOf p left answer t u mid new → IsTakeOf p most answer s u start new
+  take_on older answer s t u new was i = record {
+    winners = i.winners ++ older;
+    mid = i.mid;
+    rest = i.rest;
+    passed = passed_on older i.winners s t i.rest i.mid was i.passed;
+    last = rest_on answer i.rest u i.mid new i.last;
+    over = i.over;
+  }
+
+-- ---- a poll that lost an item
+-- it made an access
 lost_by : (p w : ℕ) (done : WorldHistory) (s : ConsumerView) → LeadTo p (Some (poll.Lost w)) done s → 0 < length done
 lost_by p w [] s lead = absurd (cc)
 lost_by p w (a ∷ older) s lead = omega arith
@@ -40,9 +72,49 @@ lost_grows p budget w s t old new i =
     let grown = grown_by p i.accesses _ old new i.done in
     omega (arith, some, grown)
 
+-- to pass items adds accesses
+pub passed_grows : (p most : ℕ) (winners : List ℕ) (s t : Stream) (start new : ConsumerView)
+    → HasPassed p most winners s t start new → accesses_made start ≤ accesses_made new
+passed_grows p most [] s t start new (drawn, is) = let same = ap accesses_made is in omega (arith, same)
+passed_grows p most (w ∷ older) s t start new (u, mid, was, last) =
+    let before = passed_grows p most older s u start mid was in
+    let more = lost_grows p last.left w u t mid new last.poll in
+    omega (arith, before, more)
+
 -- the lanes of which a consumer knows what was put stay the same while it passes items
 pub passed_known : (p most : ℕ) (winners : List ℕ) (s t : Stream) (start new : ConsumerView)
     → HasPassed p most winners s t start new → new.reader.known ≡ start.reader.known
 passed_known p most [] s t start new (drawn, is) = ap (λ (v : ConsumerView). v.reader.known) is
 passed_known p most (w ∷ older) s t start new (u, mid, was, last) =
     ap (λ (r : ReaderSeatView). r.known) last.poll.done.reader ∙ passed_known p most older s u start mid was
+
+-- ---- the end of a take
+-- after items that were passed, a poll that loses no item makes a take
+pub take_by : (p most left : ℕ) (winners : List ℕ) (answer : Poll) (s t u : Stream) (start mid new : ConsumerView)
+    → HasPassed p most winners s t start mid → accesses_made mid + left ≡ accesses_made start + most
+    → IsPollOf p left answer t u mid new → ((w : ℕ) → answer ≢ poll.Lost w)
+    → AnswerTells p (outcome answer) mid new
+    → IsTakeOf p most answer s u start new × AnswerTells p (outcome answer) start new
+take_by p most left winners answer s t u start mid new was rest one over tells = (
+  record {
+    winners = winners;
+    mid = mid;
+    rest = t;
+    passed = was;
+    last = record { left = left; rest = rest; poll = one };
+    over = over;
+  },
+  told_from p (outcome answer) start mid new (passed_known p most winners s t start mid was) tells,
+)
+
+-- ---- the cursor in a variable
+-- a consumer with these fields and its cursor in a variable has passed items of lane p. `left` is what is left of `most`
+pub record HasPassedTo {Z : Type 0} (m : MailboxView) (p most : ℕ) (s t : Stream) (start : ConsumerView) (at : Cursor)
+    (f : ConsumerFields Z) (left : ℕ) : Type 0 where
+  pub winners : List ℕ
+  pub passed : HasPassed p most winners s t start (at_link p at (with_fields f))
+  pub rest : accesses_made (with_fields f) + left ≡ accesses_made start + most
+  pub is : IsConsumer (at_link p at (with_fields f))
+  pub of : IsConsumerOf m (with_fields f)
+  pub wide : HasAllRoom f.reader.table.size.cells f.notes
+  pub lane : p < length f.places.items

@@ -1,10 +1,10 @@
 -- Straight accesses of a new claim in a poll: where they leave the consumer, and the item if the claim is won.
-use Rattle.std.proofs.Common.{◌≡◌, ℕ, zero, suc, ◌+◌, ◌≤◌, List, refl, sym, ap, ◌∙◌, subst, arith}
+use Rattle.std.proofs.Common.{◌≡◌, ◌≢◌, ℕ, zero, suc, ◌+◌, ◌≤◌, List, refl, sym, ap, ◌∙◌, subst, arith}
 use Rattle.std.specs.Prelude.{Option, Some, None, slice_get, slice_set}
 use Rattle.mb_claim.specs.declared.access.Stage.TheVariants as stage
 use Rattle.mb_cells.specs.declared.cursor.Cursor.TheVariants.{Past}
 use Rattle.mb_shared_cells.specs.Vocabulary.{ItemMakes}
-use Rattle.mb_mailbox.specs.Imports.{AreSeatSteps, Claim, HasEnd, IsClaimIn, IsStanding, Item, Layout, Note, ReaderSeatView, SeatView, Stream, Stretch, ToCells, Took}
+use Rattle.mb_mailbox.specs.Imports.{AreSeatSteps, Claim, HasEnd, IsClaimIn, IsStanding, Item, Layout, Note, ReaderSeatView, SeatView, Stage, Stream, Stretch, ToCells, Took}
 use Rattle.mb_mailbox.specs.Imports.{claim_stage, claims_at, load, most_accesses, part_on}
 use Rattle.mb_mailbox.specs.declared.consumer.Poll.{Poll}
 use Rattle.mb_mailbox.specs.declared.consumer.Poll.TheVariants as poll
@@ -100,3 +100,18 @@ pursued_on p a n rest most left x t u from new sum so =
       noted = so.noted;
       is = so.is;
     }
+
+-- ---- one exchange
+-- what one access of a new claim from a seat led to
+abbrev pub IsOneAccess : Layout → ℕ → SeatView → Stream → Stage → SeatView → Stream → Type 0
+IsOneAccess layout k seat s st after t =
+    (start : Claim) × IsStanding layout seat.consumer 0 seat.consumer start
+    × (end : Claim) × AreSeatSteps layout k start seat s 1 end after t × (claim_stage end ≡ st)
+
+-- a claim that has ended, is decided and is not lost is won
+pub only_won : (st : Stage) → st ≢ stage.Going → st ≢ stage.Undecided → ((w : ℕ) → st ≢ stage.Lost w)
+    → st ≡ stage.Won
+only_won stage.Going ended decided never = absurd (ended refl)
+only_won stage.Won ended decided never = refl
+only_won (stage.Lost w) ended decided never = absurd (never w refl)
+only_won stage.Undecided ended decided never = absurd (decided refl)

@@ -4,7 +4,6 @@ use Rattle.std.specs.Prelude.{Option, Some, None, slice_get}
 use Rattle.std.specs.Option.{option_map_or}
 use Rattle.std.proofs.lemmas.List.{length-reverse}
 use Rattle.mb_world.proofs.Diaries.{values_length}
-use Rattle.mb_claim.specs.declared.access.Stage.TheVariants as stage
 use Rattle.mb_cells.specs.declared.answer.Look.TheVariants as look
 use Rattle.mb_shared_cells.specs.Vocabulary.{LookMakes}
 use Rattle.mb_mailbox.specs.Imports.{Cursor, END, HasMet, History, Note, Has, Load, ReaderSeatView, Reader, cells_met, claims_in, has_ended, linked_cells, load, look_of}

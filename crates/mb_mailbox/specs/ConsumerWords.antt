@@ -6,5 +6,5 @@ pub use Rattle.mb_mailbox.specs.Steps.{AnswerTells, AreSteps, HasLoadedEnd, HasN
 pub use Rattle.mb_mailbox.specs.Laws.{Laws}
 pub use Rattle.mb_mailbox.specs.LaneNotes.{AreMarked, all_told, by_lane, noted}
 pub use Rattle.mb_mailbox.specs.NoteLists.{HasAllRoom, HasRoom, NotesGrow}
-pub use Rattle.mb_mailbox.specs.Pursuits.{IsBeforeObject, IsHolding, IsPursuit, holding, with_fields}
+pub use Rattle.mb_mailbox.specs.Pursuits.{IsBeforeObject, IsHolding, IsPursuit, at_link, claim_takes, holding, with_fields}
 pub use Rattle.mb_mailbox.specs.Moves.{HasLoads, HasPlace, HasTurns, moved_to, reads_with_item, reads_with_link}

@@ -1,10 +1,10 @@
 -- What a poll does with the claim of its lane. While a new claim goes straight, the place there is out of date.
 use Rattle.std.specs.Prelude.{ℕ, ◌≡◌, ◌≢◌, ◌+◌, ◌<◌, length, slice_set}
-use Rattle.mb_mailbox.specs.Imports.{Claim, IsStanding, Layout, SeatView, Stream, claim_stage, note_of}
+use Rattle.mb_mailbox.specs.Imports.{Claim, Cursor, IsStanding, Layout, SeatView, Stream, claim_stage, note_of}
 use Rattle.mb_mailbox.specs.declared.consumer.ConsumerFields.{ConsumerFields}
 use Rattle.mb_mailbox.specs.declared.consumer.Poll.{Poll}
 use Rattle.mb_mailbox.specs.declared.consumer.Poll.TheVariants as poll
-use Rattle.mb_world.specs.declared.place.Place.TheVariants.{At}
+use Rattle.mb_world.specs.declared.place.Place.TheVariants.{At, Before}
 use Rattle.mb_mailbox.specs.Consumers.{ConsumerView, IsConsumer}
 use Rattle.mb_mailbox.specs.ConsumerStep.{stage_answer}
 use Rattle.mb_mailbox.specs.Moves.{HasPlace, moved_to}
@@ -19,6 +19,10 @@ with_fields f = record { reader = f.reader; seat = f.seat; places = f.places.ite
 -- the consumer at cell k of lane p with this claim there
 abbrev pub holding : ℕ → ℕ → Claim → ConsumerView → ConsumerView
 holding p k claim s = record s { places = slice_set s.places p (At k claim) }
+
+-- the consumer before the link at this cursor of lane p
+abbrev pub at_link : ℕ → Cursor → ConsumerView → ConsumerView
+at_link p at s = record s { places = slice_set s.places p (Before at) }
 
 -- the consumer stands at a cell of lane p, with a claim there
 pub record IsHolding (p : ℕ) (s : ConsumerView) : Type 0 where
@@ -56,6 +60,11 @@ IsOfClaim poll.Nothing = ⊥
 IsOfClaim poll.Ended = ⊥
 IsOfClaim poll.NoLane = ⊥
 IsOfClaim _ = Unit {0}
+
+-- how many accesses a claim takes with its item, by what it comes to, if each cell has a last object alone
+abbrev pub claim_takes : Poll → ℕ
+claim_takes (poll.Took x) = 2
+claim_takes _ = 1
 
 -- after n accesses on lane p, further ones come to this answer, and leave `left` of a budget of `most`. If the poll is
 -- spent, nothing is left

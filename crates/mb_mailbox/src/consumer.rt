@@ -1,6 +1,8 @@
 //! A consumer of a mailbox.
 mod competing;
+mod meeting;
 mod moves;
+mod passing;
 mod places;
 mod polls;
 mod pursuit;

@@ -8,7 +8,8 @@ ghost use Rattle.mb_mailbox.specs.ConsumerWords.{AnswerTells, ConsumerView, HasN
 ghost use Rattle.mb_world.specs.Places.{has_begun_at};
 ghost use Rattle.mb_mailbox.specs.Gathering.{IsGathered, IsReportIn, UndecidedHasCompany, begun_in, count_missing, ended_in, items_in, notes_in};
 ghost use Rattle.mb_mailbox.specs.Mailboxes.{MailboxView};
-ghost use Rattle.mb_mailbox.specs.Steps.{AreDrawn, outcome};
+ghost use Rattle.mb_mailbox.specs.{Jobs.{accesses_made}, Steps.{AreDrawn, outcome}, Takes.{IsTakeOf}};
+ghost use Rattle.mb_mailbox.specs.declared.consumer.Poll.TheVariants.{Lost, Spent, Took};
 ghost use Rattle.mb_world.specs.Agreement.{AreAllTaken, IsLeftBesideBegun};
 ghost use Rattle.mb_world.specs.Theorem.{ReportView, note};
 ghost use Rattle.mb_mailbox.specs.GatheringExamples.{alone_undecided, two_undecided};
@@ -96,6 +97,24 @@ pub fn calls_draw_the_first_words()
         (old new : ConsumerView)
         → AreCalls from end budget made source left old new → old.seat.part ≡ []
         → AreDrawn source (map (λ a. a.step.turn.word) new.seat.part) left }
+{}
+
+/// A take, by example. A poll that lost its item and a poll that took one make a take, if the second has what the first
+/// left.
+pub fn takes_by_example()
+    ensures past_one { (p most left w x : ℕ) (s t u : Stream) (old mid new : ConsumerView)
+        → IsPollOf p most (Lost w) s t old mid
+        → accesses_made mid + left ≡ accesses_made old + most
+        → IsPollOf p left (Took x) t u mid new → IsTakeOf p most (Took x) s u old new }
+
+    // With no budget it is spent, and changes nothing.
+    ensures none { (p : ℕ) (s : Stream) (old : ConsumerView) → IsTakeOf p 0 Spent s s old old }
+
+    // It does not end with a loss, and is not spent with a budget left.
+    ensures lost { (p most w : ℕ) (s t : Stream) (old new : ConsumerView)
+        → IsTakeOf p most (Lost w) s t old new → ⊥ }
+    ensures idle { (p : ℕ) (s t : Stream) (old : ConsumerView)
+        → IsTakeOf p 2 Spent s t old old → ⊥ }
 {}
 
 /// What was taken in has one report.

@@ -26,7 +26,7 @@ pub(super) fn place_at(places: &ArrayVec<Place, 16>, p: usize) -> Place
 
 /// Makes this the place on lane `p`.
 #[inline(always)]
-fn set_place(places: &mut ArrayVec<Place, 16>, p: usize, place: Place)
+pub(super) fn set_place(places: &mut ArrayVec<Place, 16>, p: usize, place: Place)
     requires { p < array_vec_len places.old }
     ensures { places.new.items ≡ slice_set places.old.items p place }
 {

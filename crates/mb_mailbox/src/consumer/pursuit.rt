@@ -127,7 +127,6 @@ pub(super) fn run_new<A: Allocator + Drop, B: Allocator + Drop, R: Rng>(
     accesses_are_counted();
     claims_begin_objects();
     fields.reader.has_history();
-
     if *left == 0 {
         let consumer = fields.seat.consumer();
         let layout = mailbox.claims.layout();
@@ -135,7 +134,6 @@ pub(super) fn run_new<A: Allocator + Drop, B: Allocator + Drop, R: Rng>(
         stay(&mut fields.places, lane as usize, cell, claim);
         return Poll::Spent;
     }
-
     // One access is kept for the item.
     let room = *left - 1;
     let mut end = mailbox.claims.straight(&mut fields.seat, cell, rng, room);
@@ -148,15 +146,13 @@ pub(super) fn run_new<A: Allocator + Drop, B: Allocator + Drop, R: Rng>(
             Poll::Took(take(places, notes, &mut fields.reader, mailbox, lane, cell))
         }
         Stage::Lost(winner) => {
-            let places = &mut fields.places;
-            let notes = &mut fields.notes;
-            leave(places, notes, lane, cell, Note::Lost(winner));
+            let note = Note::Lost(winner);
+            leave(&mut fields.places, &mut fields.notes, lane, cell, note);
             Poll::Lost(winner)
         }
         Stage::Undecided => {
-            let places = &mut fields.places;
-            let notes = &mut fields.notes;
-            leave(places, notes, lane, cell, Note::Undecided);
+            let note = Note::Undecided;
+            leave(&mut fields.places, &mut fields.notes, lane, cell, note);
             Poll::Undecided
         }
         Stage::Going => {

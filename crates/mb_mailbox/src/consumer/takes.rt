@@ -1,17 +1,20 @@
 //! A take: polls of a lane one after another, past the items that are lost.
+use super::passing::pass;
+use super::places::place_at;
 use super::{Consumer, Poll};
 use crate::mailbox::Mailbox;
+use mb_world::Place;
 use rand_core::Rng;
 use std::alloc::Allocator;
 
 impl<A: Allocator + Drop> Consumer<A> {
-    ghost use Rattle.std.specs.Prelude.{◌≡◌, ◌≢◌, ◌↔◌, ◌≤◌, ◌+◌, ℕ, true};
+    ghost use Rattle.std.specs.Prelude.{◌≡◌, ◌≢◌, ◌↔◌, ◌≤◌, ◌+◌, ◌<◌, ℕ, List, true, IfSome, None};
     ghost use Rattle.mb_claim.specs.Vocabulary.{shape_of};
     ghost use Rattle.mb_mailbox.specs.declared.consumer.Poll.TheVariants.{Lost, NoLane, Spent, Undecided};
     ghost use Rattle.mb_mailbox.specs.Consumers.{IsConsumerOf};
     ghost use Rattle.mb_mailbox.specs.Jobs.{accesses_made};
     ghost use Rattle.mb_mailbox.specs.Steps.{AnswerTells, outcome};
-    ghost use Rattle.mb_mailbox.specs.Takes.{IsTakeOf};
+    ghost use Rattle.mb_mailbox.specs.Takes.{HasPassed, IsTakeOf};
 
     /// Makes accesses on a lane until it takes an item, or until it has made `most` of them. It goes on past items that
     /// it loses, and each of them gets its note. It is the same as calls of [`Consumer::poll`] one after another, as
@@ -54,10 +57,50 @@ impl<A: Allocator + Drop> Consumer<A> {
         };
         let mut left = most;
         'items: loop {
+            if let Some(answer) = self.pass_lost(mailbox, lane, &mut left, rng) {
+                return answer;
+            }
             match self.poll_rest(mailbox, lane, &mut left, rng) {
                 Poll::Lost(_) => {}
                 answer => return answer,
             }
         }
+    }
+
+    /// Goes on past items that it loses, if each cell has a last object alone and no claim is held on the lane. It stops
+    /// if fewer than three accesses are left. If it comes to another answer, returns that.
+    #[inline(always)]
+    fn pass_lost<B: Allocator + Drop, R: Rng>(
+        &mut self,
+        mailbox: &Mailbox<B>,
+        lane: u32,
+        left: &mut u64,
+        rng: &mut R,
+    ) -> Option<Poll>
+        requires of { IsConsumerOf mailbox.now self.old }
+        requires lane { lane < mailbox.now.cells.size.lanes }
+
+        // Without an answer the items were lost, one after another, and `left` is what is left.
+        ensures passed { result ≡ None → (winners : List ℕ)
+            × HasPassed lane left.old winners (R.stream rng.old) (R.stream rng.new)
+            self.old self.new }
+        ensures left { result ≡ None → accesses_made self.new + left.new
+            ≡ accesses_made self.old + left.old }
+
+        // With an answer they make a take.
+        ensures taken { IfSome result (λ answer.
+            IsTakeOf lane left.old answer (R.stream rng.old) (R.stream rng.new) self.old self.new
+            × AnswerTells lane (outcome answer) self.old self.new) }
+        ensures decided { IfSome result (λ answer. (answer ≢ NoLane) × (answer ≢ Undecided)) }
+        ensures of { IsConsumerOf mailbox.now self.new }
+    {
+        if !mailbox.claims.layout().is_alone() {
+            return None;
+        }
+        let Consumer { fields } = self;
+        let Place::Before(at) = place_at(&fields.places, lane as usize) else {
+            return None;
+        };
+        pass(fields, mailbox, lane, at, left, rng)
     }
 }

@@ -4,7 +4,7 @@ ghost use Rattle.std.specs.Prelude.{◌<◌, ◌^◌};
 use crate::rule::{AccessSpec, MakeAccess};
 use crate::seat::ClaimSeat;
 use crate::table::SharedClaims;
-use mb_claim::laws::last_objects_decide_claims;
+use mb_claim::laws::{claims_have_steps_left, last_objects_decide_claims};
 use mb_claim::steps::{accesses_lengthen_one_part, addresses_are_apart, claims_make_steps};
 use mb_claim::{Claim, ClaimOp, Stage};
 use mb_deciding::{Memory, Op};
@@ -12,12 +12,13 @@ use std::alloc::Allocator;
 use std::marker::Brand;
 
 impl<A: Allocator + Drop> SharedClaims<A> {
-    ghost use Rattle.std.specs.Prelude.{◌≡◌, ◌≢◌, ◌<◌, ℕ, true};
+    ghost use Rattle.std.specs.Prelude.{◌≡◌, ◌≢◌, ◌<◌, ◌≤◌, ℕ, true, [], ◌∷◌};
     ghost use Rattle.mb_deciding.specs.Vocabulary.{reg_of};
-    ghost use Rattle.mb_claim.specs.Vocabulary.{IsWordInLayout, IsClaimIn, claim_stage, claims_in, consumer_of, is_begun};
-    ghost use Rattle.mb_claim.specs.Vocabulary.{part_on, shape_of, steps_left, word_address};
+    ghost use Rattle.mb_claim.specs.Vocabulary.{IsStanding, IsWordInLayout, IsClaimIn, claim_stage, claims_in, consumer_of, is_begun};
+    ghost use Rattle.mb_claim.specs.Vocabulary.{kinds_of, part_on, shape_of, steps_left, word_address};
+    ghost use Rattle.mb_deciding.specs.declared.object.Kind.TheVariants.{LastObject};
     ghost use Rattle.mb_claim.specs.declared.access.Stage.TheVariants.{Undecided};
-    ghost use Rattle.mb_shared_claims.specs.{Going, name_of, IsSeatStep, MayComeNext, ComesAfter, access_of, with_access};
+    ghost use Rattle.mb_shared_claims.specs.{Claim, Going, name_of, IsSeatStep, MayComeNext, ComesAfter, access_of, with_access};
 
     /// Makes the next access of a claim of the seat's consumer on a cell, with the random word of this step. Returns
     /// how far the claim has come.
@@ -56,6 +57,34 @@ impl<A: Allocator + Drop> SharedClaims<A> {
             word,
         };
         claim.step(&self.size.layout, &mut memory, word)
+    }
+
+    /// Makes the only access of a new claim of the seat's consumer on a cell, if each cell has a last object alone.
+    /// Returns how the claim ended: won or lost. The random word of the access counts for nothing.
+    #[inline(always)]
+    pub fn exchange(&self, seat: &mut ClaimSeat, cell: u32, word: u64) -> Stage
+        requires table { seat.old.table ≡ name_of self.now }
+        requires cell { cell < self.now.cells }
+        requires alone { kinds_of self.now.layout ≡ LastObject ∷ [] }
+
+        // The consumer has done nothing on the cell.
+        requires fresh { part_on seat.old.consumer cell seat.old.part ≡ [] }
+
+        // The access is that of a new claim, which has then made all that its consumer has done on the cell.
+        ensures step { (start : Claim) × (end : Claim)
+            × IsStanding self.now.layout seat.old.consumer 0 seat.old.consumer start
+            × (claim_stage start ≡ Going) × (consumer_of start ≡ seat.old.consumer)
+            × (consumer_of end ≡ seat.old.consumer)
+            × IsSeatStep self.now.layout cell word start seat.old end seat.new
+            × (claim_stage end ≡ result)
+            × IsClaimIn self.now.layout end (part_on seat.new.consumer cell seat.new.part) }
+        ensures ended { result ≢ Going }
+        ensures decided { result ≢ Undecided }
+    {
+        claims_have_steps_left();
+        let consumer = seat.consumer();
+        let mut claim = Claim::alone(&self.size.layout, consumer);
+        self.step(seat, &mut claim, cell, word)
     }
 
     /// Makes an access of a claim that may come next. Returns the value that a load or an exchange found, and any value

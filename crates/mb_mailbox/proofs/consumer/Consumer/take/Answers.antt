@@ -1,68 +1,100 @@
 -- Proof of `Consumer::take`: polls of a lane in a row, past the items that are lost.
-use Rattle.std.proofs.Common.{◌≡◌, ◌≢◌, ◌+◌, ◌<◌, ◌≤◌, ℕ, [], ◌∷◌, subst, sym, arith}
-use Rattle.mb_mailbox.specs.Imports.{Stream}
-use Rattle.mb_mailbox.specs.Jobs.{accesses_made}
+use Rattle.std.proofs.Common.{◌∙◌, ◌++◌, ◌∷◌, subst, arith}
 use Rattle.mb_mailbox.specs.Steps.{AnswerTells, outcome}
-use Rattle.mb_mailbox.specs.Takes.{IsPollOfRest, IsTakeOf}
-use Rattle.mb_mailbox.specs.declared.consumer.Poll.TheVariants as poll
+use Rattle.mb_mailbox.specs.Takes.{IsTakeOf}
 use Rattle.mb_mailbox.proofs.Polls.{told_from}
-use Rattle.mb_mailbox.proofs.Takes.{lost_grows, passed_known, spent_by, within_by}
+use Rattle.mb_mailbox.proofs.Takes.{lost_grows, passed_grows, passed_known, passed_on, spent_by, take_by, take_on, within_by}
 use Rattle.mb_mailbox.proofs.consumer.Consumer.take.Goals as goal
 
 pub items-smaller : goal.items-smaller
 items-smaller g c =
-    let grown = lost_grows c.in-Some.lane c.items.left c.in-Lost.field-0 _ _ c.items.self c.poll_rest.new.self
-    c.in-Lost.ensures.polled in
-    let all = c.poll_rest.ensures.left in
-    omega (arith, grown, all)
+    let passed = c.in_default-pass_lost.is in
+    let was = c.pass_lost.ensures.passed passed in
+    let more = passed_grows c.in-Some.lane c.items.left was.0 _ _ c.items.self c.pass_lost.new.self was.1 in
+    let some = c.pass_lost.ensures.left passed in
+    let grown = lost_grows c.in-Some.lane c.pass_lost.new.left c.in-Lost.field-0 _ _ c.pass_lost.new.self
+    c.poll_rest.new.self c.in-Lost.ensures.polled in
+    let left = c.poll_rest.ensures.left in
+    omega (arith, more, some, grown, left)
 
 pub items-preserved : goal.items-preserved
 items-preserved g c =
-    let was = c.items.invariant in
-    let rest = was.rest in
+    let p = c.in-Some.lane in
+    let inv = c.items.invariant in
+    let was = c.pass_lost.ensures.passed c.in_default-pass_lost.is in
+    let some = c.pass_lost.ensures.left c.in_default-pass_lost.is in
+    let rest = some ∙ inv.rest in
     let left = c.poll_rest.ensures.left in
     record {
-      winners = c.in-Lost.field-0 ∷ was.winners;
+      winners = c.in-Lost.field-0 ∷ (was.0 ++ inv.winners);
       passed = (
-        g.R.Rng.stream c.items.rng,
-        c.items.self,
-        was.passed,
-        record { left = c.items.left; rest = rest; poll = c.in-Lost.ensures.polled },
+        g.R.Rng.stream c.pass_lost.new.rng,
+        c.pass_lost.new.self,
+        passed_on p c.args.most c.items.left c.args.self.now c.items.self inv.rest inv.winners was.0
+            (g.R.Rng.stream c.args.rng.now) (g.R.Rng.stream c.items.rng) (g.R.Rng.stream c.pass_lost.new.rng)
+            c.pass_lost.new.self inv.passed was.1,
+        record { left = c.pass_lost.new.left; rest = rest; poll = c.in-Lost.ensures.polled },
       );
-      rest = omega (arith, rest, left);
+      rest = left ∙ rest;
       all_of = c.poll_rest.ensures.of;
-      lane = was.lane;
+      lane = inv.lane;
     }
 
-pub returns-in_default-poll_rest : goal.returns-in_default-poll_rest
-returns-in_default-poll_rest g c =
-    let was = c.items.invariant in
-    let low = was.lane in
+-- ---- an answer of items that are passed
+pub returns-in-Some-pass_lost : goal.returns-in-Some-pass_lost
+returns-in-Some-pass_lost g c =
     let p = c.in-Some.lane in
     let is = c.in-Some.ensures.some.0 in
-    let last : IsPollOfRest p c.args.most c.poll_rest.result (g.R.Rng.stream c.items.rng)
-    (g.R.Rng.stream c.poll_rest.new.rng) c.args.self.now c.items.self c.poll_rest.new.self =
-    record { left = c.items.left; rest = was.rest; poll = c.poll_rest.ensures.polled } in
+    let inv = c.items.invariant in
+    let low = inv.lane in
+    let answer = c.in-Some-pass_lost.answer in
+    let not = c.in-Some-pass_lost.ensures.decided in
+    let taken = c.in-Some-pass_lost.ensures.taken in
+    let take = take_on p c.args.most c.items.left c.args.self.now c.items.self inv.rest inv.winners answer
+    (g.R.Rng.stream c.args.rng.now) (g.R.Rng.stream c.items.rng) (g.R.Rng.stream c.pass_lost.new.rng)
+    c.pass_lost.new.self inv.passed taken.0 in
+    record {
+      no_lane = ((λ e. absurd (not.0 e)), (λ wide. absurd (omega (arith, wide, low, is))));
+      refused = λ e. absurd (not.0 e);
+      taken = λ there. subst (λ q. IsTakeOf q c.args.most answer (g.R.Rng.stream c.args.rng.now)
+          (g.R.Rng.stream c.pass_lost.new.rng) c.args.self.now c.pass_lost.new.self) is take;
+      not_lost = take.over;
+      within = within_by p c.args.most answer _ _ c.args.self.now take.mid c.pass_lost.new.self take.last;
+      spent = spent_by p c.args.most answer _ _ c.args.self.now take.mid c.pass_lost.new.self take.last;
+      decided = λ last. not.1;
+      told = λ there. subst (λ q. AnswerTells q (outcome answer) c.args.self.now c.pass_lost.new.self) is
+          (told_from p (outcome answer) c.args.self.now c.items.self c.pass_lost.new.self
+          (passed_known p c.args.most inv.winners (g.R.Rng.stream c.args.rng.now) (g.R.Rng.stream c.items.rng)
+          c.args.self.now c.items.self inv.passed) taken.1);
+      of = c.pass_lost.ensures.of;
+    }
+
+-- ---- an answer of a poll
+pub returns-in_default-poll_rest : goal.returns-in_default-poll_rest
+returns-in_default-poll_rest g c =
+    let p = c.in-Some.lane in
+    let is = c.in-Some.ensures.some.0 in
+    let inv = c.items.invariant in
+    let low = inv.lane in
+    let answer = c.poll_rest.result in
+    let was = c.pass_lost.ensures.passed c.in_default-pass_lost.is in
+    let rest = c.pass_lost.ensures.left c.in_default-pass_lost.is ∙ inv.rest in
+    let take = take_by p c.args.most c.pass_lost.new.left (was.0 ++ inv.winners) answer
+    (g.R.Rng.stream c.args.rng.now) (g.R.Rng.stream c.pass_lost.new.rng) (g.R.Rng.stream c.poll_rest.new.rng)
+    c.args.self.now c.pass_lost.new.self c.poll_rest.new.self
+    (passed_on p c.args.most c.items.left c.args.self.now c.items.self inv.rest inv.winners was.0
+    (g.R.Rng.stream c.args.rng.now) (g.R.Rng.stream c.items.rng) (g.R.Rng.stream c.pass_lost.new.rng)
+    c.pass_lost.new.self inv.passed was.1) rest c.poll_rest.ensures.polled c.in_default-poll_rest.not-Lost
+    c.poll_rest.ensures.told in
     record {
       no_lane = ((λ e. absurd (c.poll_rest.ensures.some e)), (λ wide. absurd (omega (arith, wide, low, is))));
       refused = λ e. absurd (c.poll_rest.ensures.some e);
-      taken = λ there. subst (λ q. IsTakeOf q c.args.most c.poll_rest.result (g.R.Rng.stream c.args.rng.now)
-          (g.R.Rng.stream c.poll_rest.new.rng) c.args.self.now c.poll_rest.new.self) is
-          (record {
-            winners = was.winners;
-            mid = c.items.self;
-            rest = g.R.Rng.stream c.items.rng;
-            passed = was.passed;
-            last = last;
-            over = c.in_default-poll_rest.not-Lost;
-          });
+      taken = λ there. subst (λ q. IsTakeOf q c.args.most answer (g.R.Rng.stream c.args.rng.now)
+          (g.R.Rng.stream c.poll_rest.new.rng) c.args.self.now c.poll_rest.new.self) is take.0;
       not_lost = c.in_default-poll_rest.not-Lost;
-      within = within_by p c.args.most c.poll_rest.result _ _ c.args.self.now c.items.self c.poll_rest.new.self last;
-      spent = spent_by p c.args.most c.poll_rest.result _ _ c.args.self.now c.items.self c.poll_rest.new.self last;
+      within = within_by p c.args.most answer _ _ c.args.self.now take.0.mid c.poll_rest.new.self take.0.last;
+      spent = spent_by p c.args.most answer _ _ c.args.self.now take.0.mid c.poll_rest.new.self take.0.last;
       decided = c.poll_rest.ensures.decided;
-      told = λ there. subst (λ q. AnswerTells q (outcome c.poll_rest.result) c.args.self.now c.poll_rest.new.self) is
-          (told_from p (outcome c.poll_rest.result) c.args.self.now c.items.self c.poll_rest.new.self
-          (passed_known p c.args.most was.winners (g.R.Rng.stream c.args.rng.now) (g.R.Rng.stream c.items.rng)
-          c.args.self.now c.items.self was.passed) c.poll_rest.ensures.told);
+      told = λ there. subst (λ q. AnswerTells q (outcome answer) c.args.self.now c.poll_rest.new.self) is take.1;
       of = c.poll_rest.ensures.of;
     }

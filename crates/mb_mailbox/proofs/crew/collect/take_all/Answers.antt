@@ -1,5 +1,5 @@
 -- Proof of `take_all`: takes the producers of all ends in and then the consumers.
-use Rattle.std.proofs.Common.{◌≡◌, ◌<◌, ◌+◌, arith}
+use Rattle.std.proofs.Common.{arith}
 use Rattle.mb_mailbox.proofs.crew.collect.take_all.Goals as goal
 
 pub returns-else-putting-clause-puts_on : goal.returns-else-putting-clause-puts_on

@@ -1,0 +1,272 @@
+-- Proof of `pass`: goes on past items that the consumer loses, with the cursor in a variable.
+use Rattle.std.proofs.Common.{◌≡◌, ◌≢◌, ◌∙◌, ◌+◌, ◌-◌, ◌<◌, ◌≤◌, ℕ, List, [], ◌∷◌, ap, arith, length, refl, subst, sym}
+use Rattle.std.specs.Prelude.{None, Option, Some, slice_set}
+use Rattle.mb_cells.specs.declared.cursor.Cursor.TheVariants.{Past}
+use Rattle.mb_mailbox.specs.declared.consumer.Poll.TheVariants as poll
+use Rattle.mb_world.specs.declared.place.Place.{Place, TheVariants.At, TheVariants.Before}
+use Rattle.mb_mailbox.specs.Imports.{CellsName, Cursor, ReaderSeatView, Stream}
+use Rattle.mb_mailbox.specs.ConsumerStep.{link_answer}
+use Rattle.mb_mailbox.specs.ConsumerWords.{AnswerTells, AreSteps, ConsumerView, IsConsumer, IsConsumerOf, IsPursuit, Poll, at_link, claim_takes, with_fields}
+use Rattle.mb_mailbox.specs.Jobs.{accesses_made}
+use Rattle.mb_mailbox.specs.{LaneNotes.NotesView, Mailboxes.MailboxView, NoteLists.HasAllRoom}
+use Rattle.mb_mailbox.specs.{Pursuits.IsOfClaim, Steps.{IsPollOf, outcome}}
+use Rattle.mb_mailbox.specs.Takes.{IsPollOfRest, IsTakeOf}
+use Rattle.mb_mailbox.proofs.Ending.{left_by, poll_by, pursuit_tells, still_of}
+use Rattle.mb_mailbox.proofs.Lists.{set_same}
+use Rattle.mb_mailbox.proofs.Polls.{poll_of}
+use Rattle.mb_mailbox.proofs.Takes.{HasPassedTo, take_by}
+use Rattle.mb_mailbox.proofs.consumer.passing.pass.{Given.Over, Goals.After-meet, Goals.After-settle}
+use Rattle.mb_mailbox.proofs.consumer.passing.pass.Goals as goal
+
+pub items-init : goal.items-init
+items-init g c =
+    let s = with_fields c.args.fields.now in
+    let same : at_link c.args.lane c.args.first s ≡ s =
+    ap (λ (ps : List Place). record s { places = ps }) (set_same s.places c.args.lane (Before c.args.first)
+    c.requires.place) in
+    record {
+      winners = [];
+      passed = (refl, same);
+      rest = refl;
+      is = subst IsConsumer (sym same) c.requires.is;
+      of = c.requires.of;
+      wide = c.requires.wide;
+      lane = c.requires.lane;
+    }
+
+-- there is as much room for notes as before, if the table is the same
+wide_still : (m : MailboxView) (was now : ReaderSeatView) (old new : NotesView) → was.table ≡ m.cells → now.table ≡ m.cells
+    → new ≡ old → HasAllRoom was.table.size.cells old → HasAllRoom now.table.size.cells new
+wide_still m was now old new here there same wide =
+    subst (λ (z : CellsName × NotesView). HasAllRoom z.0.size.cells z.1)
+    (λ i. ((here ∙ sym there) i, sym same i)) wide
+
+-- a claim on a last object takes one access, and one more with its item
+takes_few : (x : Poll) → (1 ≤ claim_takes x) × (claim_takes x ≤ 2)
+takes_few (poll.Took v) = (omega arith, omega arith)
+takes_few (poll.Lost w) = (omega arith, omega arith)
+takes_few poll.Undecided = (omega arith, omega arith)
+takes_few poll.Nothing = (omega arith, omega arith)
+takes_few poll.Ended = (omega arith, omega arith)
+takes_few poll.Spent = (omega arith, omega arith)
+takes_few poll.NoLane = (omega arith, omega arith)
+
+-- after the load of a link
+module _ (g : Over) (c : After-meet g) where
+  -- `waiting` is the consumer at the cursor before the load, and `met` has the fields after it
+  abbrev waiting : ConsumerView
+  waiting = at_link c.args.lane c.items.at (with_fields c.items.fields)
+
+  abbrev met : ConsumerView
+  met = with_fields c.meet.new.fields
+
+  abbrev words : Stream
+  words = g.R.Rng.stream c.items.rng
+
+  -- if the load has an answer, it ends the take
+  look_ends : (answer : Poll) (new : ConsumerView) → outcome answer ≡ link_answer c.meet.result
+      → answer ≢ poll.Spent → ((w : ℕ) → answer ≢ poll.Lost w)
+      → new ≡ at_link c.args.lane c.items.at met → link_answer c.meet.result ≢ None
+      → IsTakeOf c.args.lane c.args.left.now answer (g.R.Rng.stream c.args.rng.now) words
+      (with_fields c.args.fields.now) new
+      × AnswerTells c.args.lane (outcome answer) (with_fields c.args.fields.now) new
+  look_ends answer new same some over is told =
+      let p = c.args.lane in
+      let inv = c.items.invariant in
+      let steps = subst (λ (z : Option Poll × ConsumerView). AreSteps p 1 z.0 words words waiting z.1)
+      (λ i. (sym same i, sym is i)) (c.meet.ensures.looks (slice_set c.meet.new.fields.places.items p
+      (Before c.items.at)) words) in
+      let tells = subst (λ (z : Option Poll × ConsumerView). AnswerTells p z.0 waiting z.1)
+      (λ i. (sym same i, sym is i)) (c.meet.ensures.waits told).1 in
+      take_by p c.args.left.now c.items.rest inv.winners answer (g.R.Rng.stream c.args.rng.now) words words
+      (with_fields c.args.fields.now) waiting new inv.passed inv.rest
+      (poll_of p 1 c.items.rest answer words words waiting new steps (omega (arith, c.items-test.true))
+      (λ e. absurd (some e))) over tells
+
+  -- if it has an answer, the consumer keeps what consumers keep
+  look_keeps : (new : ConsumerView) → new ≡ at_link c.args.lane c.items.at met → link_answer c.meet.result ≢ None
+      → IsConsumer new × IsConsumerOf c.args.mailbox.now new
+  look_keeps new is told = (
+    subst IsConsumer (sym is) (c.meet.ensures.waits told).0,
+    subst (λ z. IsConsumerOf c.args.mailbox.now z) (sym is)
+        (record { cells = c.meet.ensures.of.cells; claims = c.meet.ensures.of.claims }),
+  )
+
+-- after the claim
+module _ (g : Over) (c : After-settle g) where
+  abbrev from : ConsumerView
+  from = at_link c.args.lane c.items.at (with_fields c.items.fields)
+
+  -- the consumer past the cell
+  abbrev past : ConsumerView
+  past = at_link c.args.lane (Past c.in-Cell.cell) (with_fields c.settle.new.fields)
+
+  -- `t` and `u` are the source before the claim and after it
+  abbrev t : Stream
+  t = g.R.Rng.stream c.items.rng
+
+  abbrev u : Stream
+  u = g.R.Rng.stream c.settle.new.rng
+
+  -- the claim ends the poll, and leaves this much
+  pursued : (left : ℕ)
+      → IsPursuit c.args.lane 1 (claim_takes c.settle.result + left) left c.settle.result t u from past
+  pursued left =
+      let held = c.in-Cell.ensures.finds c.in-Cell.cell refl in
+      c.settle.ensures.pursued from 1 left t held.claim held.standing
+      (c.in-Cell.ensures.looks (slice_set c.meet.new.fields.places.items c.args.lane (At c.in-Cell.cell held.claim)) t)
+
+  -- with its link it is a poll of what is left
+  polled : (left : ℕ) → claim_takes c.settle.result + left + 1 ≡ c.items.rest
+      → IsPollOf c.args.lane c.items.rest c.settle.result t u from past
+      × (accesses_made past + left ≡ accesses_made from + c.items.rest)
+  polled left sum =
+      let most = claim_takes c.settle.result + left in (
+        poll_by c.args.lane 1 most left c.items.rest c.settle.result t u from past sum (pursued left),
+        left_by c.args.lane 1 most left c.items.rest c.settle.result t u from past sum (pursued left),
+      )
+
+  -- the consumer is still one of the mailbox's
+  still : IsConsumerOf c.args.mailbox.now past
+  still =
+      let inv = c.items.invariant in
+      still_of c.args.mailbox.now c.args.lane 1 (claim_takes c.settle.result + 0) 0 c.settle.result t u from past
+      (pursued 0) (record { cells = inv.of.cells; claims = inv.of.claims })
+
+  -- it has as many places
+  lanes : c.args.lane < length c.settle.new.fields.places.items
+  lanes = subst (λ (ps : List Place). c.args.lane < length ps)
+      (sym (c.settle.ensures.places ∙ c.meet.ensures.places)) c.items.invariant.lane
+
+  -- another answer than a loss ends the take
+  claim_ends : (answer : Poll) (new : ConsumerView) → answer ≡ c.settle.result
+      → ((w : ℕ) → c.settle.result ≢ poll.Lost w) → new ≡ past
+      → IsTakeOf c.args.lane c.args.left.now answer (g.R.Rng.stream c.args.rng.now) u
+      (with_fields c.args.fields.now) new
+      × AnswerTells c.args.lane (outcome answer) (with_fields c.args.fields.now) new
+  claim_ends answer new same over is =
+      let p = c.args.lane in
+      let x = c.settle.result in
+      let inv = c.items.invariant in
+      let few = takes_few x in
+      let left = c.items.rest - 1 - claim_takes x in
+      let sum : claim_takes x + left + 1 ≡ c.items.rest = omega (arith, few, c.items-test.true) in
+      subst (λ (z : Poll × ConsumerView).
+      IsTakeOf p c.args.left.now z.0 (g.R.Rng.stream c.args.rng.now) u (with_fields c.args.fields.now) z.1
+      × AnswerTells p (outcome z.0) (with_fields c.args.fields.now) z.1) (λ i. (sym same i, sym is i))
+      (take_by p c.args.left.now c.items.rest inv.winners x (g.R.Rng.stream c.args.rng.now) t u
+      (with_fields c.args.fields.now) from past inv.passed inv.rest (polled left sum).0 over
+      (pursuit_tells p 1 (claim_takes x + left) left x t u from from past (pursued left)))
+
+pub meet-requires : goal.meet-requires
+meet-requires g c =
+    let inv = c.items.invariant in record { is = inv.is; lane = inv.lane; of = inv.of }
+
+pub settle-requires : goal.settle-requires
+settle-requires g c =
+    let inv = c.items.invariant in
+    record {
+      held = c.in-Cell.ensures.finds c.in-Cell.cell refl;
+      of = c.in-Cell.ensures.of;
+      wide = wide_still c.args.mailbox.now c.items.fields.reader c.meet.new.fields.reader c.items.fields.notes
+          c.meet.new.fields.notes inv.of.cells c.meet.ensures.of.cells c.meet.ensures.notes inv.wide;
+      alone = c.requires.alone;
+    }
+
+pub items-smaller : goal.items-smaller
+items-smaller g c = omega (arith, c.items-test.true)
+
+pub items-preserved : goal.items-preserved
+items-preserved g c =
+    let at = (goal.at.items-preserved g c).After-settle in
+    let p = c.args.lane in
+    let inv = c.items.invariant in
+    let w = c.in-Lost.field-0 in
+    let lost : c.settle.result ≡ poll.Lost w = c.in-Lost.is in
+    let takes : claim_takes c.settle.result ≡ 1 = ap claim_takes lost in
+    let sum : claim_takes c.settle.result + (c.items.rest - 2) + 1 ≡ c.items.rest =
+    omega (arith, takes, c.items-test.true) in
+    let one = polled g at (c.items.rest - 2) sum in
+    let last : IsPollOfRest p c.args.left.now (poll.Lost w) (t g at) (u g at) (with_fields c.args.fields.now)
+    (from g at) (past g at) =
+    record {
+      left = c.items.rest;
+      rest = inv.rest;
+      poll = subst (λ x. IsPollOf p c.items.rest x (t g at) (u g at) (from g at) (past g at)) lost one.0;
+    } in
+    subst (λ (z : Cursor). HasPassedTo c.args.mailbox.now p c.args.left.now (g.R.Rng.stream c.args.rng.now) (u g at)
+    (with_fields c.args.fields.now) z c.settle.new.fields (c.items.rest - 2)) (sym c.past-at.ensures)
+    (record {
+      winners = w ∷ inv.winners;
+      passed = (t g at, from g at, inv.passed, last);
+      rest = let more = one.1 in let rest = inv.rest in omega (arith, more, rest);
+      is = (pursued g at 0).is;
+      of = record { cells = (still g at).cells; claims = (still g at).claims };
+      wide = c.settle.ensures.wide;
+      lane = lanes g at;
+    })
+
+-- ---- where it stops
+pub stop-requires : goal.stop-requires
+stop-requires g c =
+    subst (λ (ps : List Place). c.args.lane < length ps) (sym c.meet.ensures.places) c.items.invariant.lane
+
+pub stop-requires-in-Ended : goal.stop-requires-in-Ended
+stop-requires-in-Ended g c =
+    subst (λ (ps : List Place). c.args.lane < length ps) (sym c.meet.ensures.places) c.items.invariant.lane
+
+pub returns-in-Nothing-clause-taken : goal.returns-in-Nothing-clause-taken
+returns-in-Nothing-clause-taken g c =
+    let at = (goal.at.returns-in-Nothing-clause-taken g c).After-meet in
+    let found : link_answer c.meet.result ≡ Some poll.Nothing = ap link_answer c.in-Nothing.is in
+    let same = c.stop.ensures.answer in
+    look_ends g at c.stop.result (with_fields c.stop.new.fields) (ap outcome same ∙ sym found) (λ e. cc) (λ w e. cc)
+    c.stop.ensures.view (λ e. cc)
+
+pub returns-in-Nothing-clause-is : goal.returns-in-Nothing-clause-is
+returns-in-Nothing-clause-is g c =
+    let at = (goal.at.returns-in-Nothing-clause-is g c).After-meet in
+    let found : link_answer c.meet.result ≡ Some poll.Nothing = ap link_answer c.in-Nothing.is in
+    (look_keeps g at (with_fields c.stop.new.fields) c.stop.ensures.view (λ e. cc)).0
+
+pub returns-in-Ended-clause-taken : goal.returns-in-Ended-clause-taken
+returns-in-Ended-clause-taken g c =
+    let at = (goal.at.returns-in-Ended-clause-taken g c).After-meet in
+    let found : link_answer c.meet.result ≡ Some poll.Ended = ap link_answer c.in-Ended.is in
+    let same = c.stop-in-Ended.ensures.answer in
+    look_ends g at c.stop-in-Ended.result (with_fields c.stop-in-Ended.new.fields) (ap outcome same ∙ sym found)
+    (λ e. cc) (λ w e. cc) c.stop-in-Ended.ensures.view (λ e. cc)
+
+pub returns-in-Ended-clause-is : goal.returns-in-Ended-clause-is
+returns-in-Ended-clause-is g c =
+    let at = (goal.at.returns-in-Ended-clause-is g c).After-meet in
+    let found : link_answer c.meet.result ≡ Some poll.Ended = ap link_answer c.in-Ended.is in
+    (look_keeps g at (with_fields c.stop-in-Ended.new.fields) c.stop-in-Ended.ensures.view (λ e. cc)).0
+
+pub returns-in_default : goal.returns-in_default
+returns-in_default g c =
+    let at = (goal.at.returns-in_default g c).After-settle in
+    let x = c.stop-in_default.result in
+    let new = with_fields c.stop-in_default.new.fields in
+    let same : x ≡ c.settle.result = c.stop-in_default.ensures.answer in
+    let view : new ≡ past g at =
+    c.stop-in_default.ensures.view
+    ∙ ap (λ (z : Cursor). at_link c.args.lane z (with_fields c.settle.new.fields)) c.past-at.ensures in
+    let so = pursued g at 0 in
+    record {
+      passed = λ e. absurd (cc);
+      left = λ e. absurd (cc);
+      taken = claim_ends g at x new same c.in_default.not-Lost view;
+      decided = (
+        λ e. subst IsOfClaim (sym same ∙ e) so.kind,
+        λ e. c.settle.ensures.ends.1 (sym same ∙ e),
+      );
+      is = subst IsConsumer (sym view) so.is;
+      of = subst (λ z. IsConsumerOf c.args.mailbox.now z) (sym view) (still g at);
+      wide = subst (λ (z : ReaderSeatView × NotesView). HasAllRoom z.0.table.size.cells z.1)
+          (λ i. (ap (λ (v : ConsumerView). v.reader) (sym view) i, sym c.stop-in_default.ensures.notes i))
+          c.settle.ensures.wide;
+    }
+
+pub set_place-requires : goal.set_place-requires
+set_place-requires g c = c.items.invariant.lane

@@ -1,0 +1,60 @@
+//! A load of the link before which a consumer stands on a lane.
+ghost use Rattle.std.specs.Prelude.{ℕ, ◌≡◌, ◌≢◌, ◌<◌, List, None};
+ghost use Rattle.arrayvec.specs.ArrayVec.{array_vec_len};
+ghost use Rattle.mb_cells.specs.declared.answer.Look.TheVariants as look;
+ghost use Rattle.mb_mailbox.specs.Imports.{Stream};
+ghost use Rattle.mb_mailbox.specs.ConsumerStep.{link_answer};
+ghost use Rattle.mb_mailbox.specs.ConsumerWords.{AnswerTells, AreSteps, IsBeforeObject, IsConsumer, IsConsumerOf, at_link, with_fields};
+ghost use Rattle.mb_world.specs.declared.place.Place.{Place};
+
+use super::ConsumerFields;
+use super::moves::{answers_tell_lanes, consumers_move_on, places_tell_steps};
+use super::standing::claims_begin_objects;
+use crate::mailbox::Mailbox;
+use mb_cells::laws::looks_tell_links;
+use mb_cells::{Cursor, Look};
+use std::alloc::Allocator;
+
+/// Loads the link at this cursor, before which the consumer stands on the lane. Its place there may be out of date.
+#[inline(always)]
+pub(super) fn meet<A: Allocator + Drop, B: Allocator + Drop>(
+    fields: &mut ConsumerFields<A>,
+    mailbox: &Mailbox<B>,
+    lane: u32,
+    at: Cursor,
+) -> Look
+    requires is { IsConsumer (at_link lane at (with_fields fields.old)) }
+    requires lane { lane < array_vec_len fields.old.places }
+    requires of { IsConsumerOf mailbox.now (with_fields fields.old) }
+
+    // The load is the next access on the lane, whatever place it leads to.
+    ensures looks { (places : List Place) (t : Stream) → AreSteps lane 1 (link_answer result) t t
+        (at_link lane at (with_fields fields.old))
+        (record (with_fields fields.new) { places = places }) }
+
+    // If it leads to no cell, the consumer stays there.
+    ensures waits { link_answer result ≢ None
+        → IsConsumer (at_link lane at (with_fields fields.new))
+        × AnswerTells lane (link_answer result) (at_link lane at (with_fields fields.old))
+        (at_link lane at (with_fields fields.new)) }
+
+    // If it leads to a cell, the consumer may begin a claim there.
+    ensures finds { (k : ℕ) → result ≡ look.Cell k
+        → IsBeforeObject mailbox.now.claims.layout lane k 0 fields.new.seat.consumer
+        (with_fields fields.new) }
+    ensures seat { fields.new.seat ≡ fields.old.seat }
+    ensures places { fields.new.places.items ≡ fields.old.places.items }
+    ensures notes { fields.new.notes ≡ fields.old.notes }
+    ensures of { IsConsumerOf mailbox.now (with_fields fields.new) }
+{
+    consumers_move_on();
+    places_tell_steps();
+    answers_tell_lanes();
+    looks_tell_links();
+    claims_begin_objects();
+    fields.reader.has_history();
+
+    // The contract says that the consumer is one of the mailbox's. So it may begin a claim.
+    fields.seat.consumer();
+    mailbox.cells.look(&mut fields.reader, at)
+}

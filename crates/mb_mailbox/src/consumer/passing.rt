@@ -1,0 +1,141 @@
+//! Past items that are lost, if each cell has a last object alone. Then a claim is one exchange. The cursor stands in a
+//! variable meanwhile, and the consumer's place on the lane is out of date.
+ghost use Rattle.std.specs.Prelude.{ℕ, ◌≡◌, ◌≢◌, ◌+◌, ◌<◌, List, [], ◌∷◌, IfSome, None};
+ghost use Rattle.arrayvec.specs.ArrayVec.{array_vec_len};
+ghost use Rattle.mb_cells.specs.declared.cursor.Cursor.TheVariants.{Past};
+ghost use Rattle.mb_deciding.specs.declared.object.Kind.TheVariants.{LastObject};
+ghost use Rattle.mb_mailbox.specs.Imports.{Claim, IsStanding, Stream, kinds_of};
+ghost use Rattle.mb_mailbox.specs.ConsumerWords.{AnswerTells, AreSteps, ConsumerView, HasAllRoom, HasPlace, IsBeforeObject, IsConsumer, IsConsumerOf};
+ghost use Rattle.mb_mailbox.specs.ConsumerWords.{IsPursuit, at_link, claim_takes, holding, with_fields};
+ghost use Rattle.mb_mailbox.specs.{Jobs.{accesses_made}, Steps.{outcome}, Takes.{HasPassed, IsTakeOf}};
+ghost use Rattle.mb_mailbox.specs.declared.consumer.Poll.TheVariants as poll;
+ghost use Rattle.mb_world.specs.declared.place.Place.TheVariants.{Before};
+
+use super::meeting::meet;
+use super::moves::{consumers_move_on, places_tell_steps};
+use super::places::set_place;
+use super::{ConsumerFields, Poll};
+use crate::mailbox::Mailbox;
+use mb_cells::{Cursor, Look};
+use mb_claim::Stage;
+use mb_world::{Note, Place};
+use rand_core::Rng;
+use std::alloc::Allocator;
+
+/// Makes the exchange of a new claim, and loads the item if the claim is won. It adds the note. The consumer stands past
+/// the cell then, and its place on the lane is out of date.
+#[inline(always)]
+fn settle<A: Allocator + Drop, B: Allocator + Drop, R: Rng>(
+    fields: &mut ConsumerFields<A>,
+    mailbox: &Mailbox<B>,
+    lane: u32,
+    cell: u32,
+    rng: &mut R,
+) -> Poll
+    requires held { IsBeforeObject mailbox.now.claims.layout lane cell 0 fields.old.seat.consumer
+        (with_fields fields.old) }
+    requires of { IsConsumerOf mailbox.now (with_fields fields.old) }
+    requires wide { HasAllRoom fields.old.reader.table.size.cells fields.old.notes }
+    requires alone { kinds_of mailbox.now.claims.layout ≡ LastObject ∷ [] }
+    ensures pursued { (from : ConsumerView) (n left : ℕ) (t : Stream) (claim : Claim)
+        → IsStanding mailbox.now.claims.layout fields.old.seat.consumer 0 fields.old.seat.consumer
+        claim
+        → AreSteps lane n None t (R.stream rng.old) from
+        (holding lane cell claim (with_fields fields.old))
+        → IsPursuit lane n (claim_takes result + left) left result t (R.stream rng.new) from
+        (at_link lane (Past cell) (with_fields fields.new)) }
+    ensures wide { HasAllRoom fields.new.reader.table.size.cells fields.new.notes }
+    ensures places { fields.new.places.items ≡ fields.old.places.items }
+    ensures ends { (result ≢ poll.Spent) × (result ≢ poll.Undecided) }
+{
+    consumers_move_on();
+    places_tell_steps();
+    fields.reader.has_history();
+    let stage = mailbox
+        .claims
+        .exchange(&mut fields.seat, cell, rng.next_u64());
+    match stage {
+        Stage::Lost(winner) => {
+            fields.notes.push(lane, Note::Lost(winner));
+            Poll::Lost(winner)
+        }
+        _ => {
+            let item = mailbox.cells.item(&mut fields.reader, cell);
+            fields.notes.push(lane, Note::Took(item));
+            Poll::Took(item)
+        }
+    }
+}
+
+/// Goes on past items that the consumer loses, from this cursor on, as long as an item's three accesses are left. If it
+/// comes to another answer, returns that. The place on the lane is up to date again at the end.
+#[inline(never)]
+pub(super) fn pass<A: Allocator + Drop, B: Allocator + Drop, R: Rng>(
+    fields: &mut ConsumerFields<A>,
+    mailbox: &Mailbox<B>,
+    lane: u32,
+    first: Cursor,
+    left: &mut u64,
+    rng: &mut R,
+) -> Option<Poll>
+    requires is { IsConsumer (with_fields fields.old) }
+    requires place { HasPlace lane (Before first) (with_fields fields.old) }
+    requires lane { lane < array_vec_len fields.old.places }
+    requires of { IsConsumerOf mailbox.now (with_fields fields.old) }
+    requires wide { HasAllRoom fields.old.reader.table.size.cells fields.old.notes }
+    requires alone { kinds_of mailbox.now.claims.layout ≡ LastObject ∷ [] }
+
+    // Without an answer the items were lost, one after another, and `left` is what is left.
+    ensures passed { result ≡ None → (winners : List ℕ)
+        × HasPassed lane left.old winners (R.stream rng.old) (R.stream rng.new)
+        (with_fields fields.old) (with_fields fields.new) }
+    ensures left { result ≡ None → accesses_made (with_fields fields.new) + left.new
+        ≡ accesses_made (with_fields fields.old) + left.old }
+
+    // With an answer they make a take.
+    ensures taken { IfSome result (λ answer.
+        IsTakeOf lane left.old answer (R.stream rng.old) (R.stream rng.new)
+        (with_fields fields.old) (with_fields fields.new)
+        × AnswerTells lane (outcome answer) (with_fields fields.old) (with_fields fields.new)) }
+    ensures decided { IfSome result (λ answer. (answer ≢ poll.NoLane)
+        × (answer ≢ poll.Undecided)) }
+    ensures is { IsConsumer (with_fields fields.new) }
+    ensures of { IsConsumerOf mailbox.now (with_fields fields.new) }
+    ensures wide { HasAllRoom fields.new.reader.table.size.cells fields.new.notes }
+{
+    let mut at = first;
+    let mut rest = *left;
+    'items: while rest >= 3 {
+        let cell = match meet(fields, mailbox, lane, at) {
+            Look::Cell(cell) => cell,
+            Look::Nothing => return Some(stop(fields, lane, at, Poll::Nothing)),
+            Look::Ended => return Some(stop(fields, lane, at, Poll::Ended)),
+        };
+        at = Cursor::past(cell);
+        match settle(fields, mailbox, lane, cell, rng) {
+            Poll::Lost(_) => rest -= 2,
+            answer => return Some(stop(fields, lane, at, answer)),
+        }
+    }
+    set_place(&mut fields.places, lane as usize, Place::Before(at));
+    *left = rest;
+    None
+}
+
+/// Makes the place on the lane be before the link at this cursor, and returns the answer.
+#[inline(always)]
+fn stop<A: Allocator + Drop>(
+    fields: &mut ConsumerFields<A>,
+    lane: u32,
+    at: Cursor,
+    answer: Poll,
+) -> Poll
+    requires { lane < array_vec_len fields.old.places }
+    ensures answer { result ≡ answer }
+    ensures view { with_fields fields.new ≡ at_link lane at (with_fields fields.old) }
+    ensures notes { fields.new.notes ≡ fields.old.notes }
+    ensures lane { lane < array_vec_len fields.new.places }
+{
+    set_place(&mut fields.places, lane as usize, Place::Before(at));
+    answer
+}
