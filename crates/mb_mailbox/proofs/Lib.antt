@@ -28,6 +28,7 @@ pub mod Starts
 pub mod Ending
 pub mod Beginnings
 pub mod Straight
+pub mod ShortPolls
 pub mod Taking
 pub mod Meeting
 pub mod Takes
