@@ -21,7 +21,9 @@ use rand_chacha::ChaCha8Rng;
 use rand_core::SeedableRng;
 use std::alloc::Global;
 
-/// The setup that C asks for, or the code of its refusal.
+/// The setup that C asks for, or the code of its refusal. (Inlined, its setups would stand on the stack of the call that
+/// makes the mailbox.)
+#[inline(never)]
 fn setup_of(wanted: &SetupIn) -> Result<Setup, u32>
     ensures made { IfOk result (λ setup. (name : TableName)
         → table_numbered wanted.now.table ≡ Some name
@@ -38,16 +40,14 @@ fn setup_of(wanted: &SetupIn) -> Result<Setup, u32>
         last: wanted.last,
     };
     let (producers, consumers, cells) = (wanted.producers, wanted.consumers, wanted.cells);
-    let made = if wanted.pairs == 0 && wanted.last && !wanted.fast {
-        Setup::exchange(producers, consumers, cells)
-    } else {
-        match Setup::large(producers, consumers, cells, wanted.pairs, table) {
-            Ok(setup) => Ok(setup.shaped(shape)),
-            Err(why) => Err(why),
-        }
-    };
-    match made {
-        Ok(setup) => Ok(setup),
+    if wanted.pairs == 0 && wanted.last && !wanted.fast {
+        return match Setup::exchange(producers, consumers, cells) {
+            Ok(setup) => Ok(setup),
+            Err(why) => Err(code_of_setup(why)),
+        };
+    }
+    match Setup::large(producers, consumers, cells, wanted.pairs, table) {
+        Ok(setup) => Ok(setup.shaped(shape)),
         Err(why) => Err(code_of_setup(why)),
     }
 }

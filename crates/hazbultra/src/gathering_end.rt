@@ -123,18 +123,23 @@ pub extern "C" fn hz_gather(
     let Some(opened) = hub.lend() else {
         return BAD_HANDLE;
     };
-    let (thing, code) = match mem::replace(opened, Thing::OfNothing) {
+    match mem::replace(opened, Thing::OfNothing) {
         Thing::OfHub(bound) => match bound.gather(alloc) {
-            Ok(made) => (Thing::OfReport(made), DONE),
-            Err((why, bound)) => (Thing::OfHub(bound), tell(why, missing)),
+            Ok(made) => {
+                *opened = Thing::OfReport(made);
+                mem::swap(hub, report);
+                DONE
+            }
+            Err((why, bound)) => {
+                *opened = Thing::OfHub(bound);
+                tell(why, missing)
+            }
         },
-        thing => (thing, BAD_HANDLE),
-    };
-    *opened = thing;
-    if code == DONE {
-        mem::swap(hub, report);
+        thing => {
+            *opened = thing;
+            BAD_HANDLE
+        }
     }
-    code
 }
 
 /// Writes the counts of a refusal, and returns its code.
