@@ -108,7 +108,8 @@ take_by p most left winners answer s t u start mid new was rest one over tells =
 )
 
 -- ---- the cursor in a variable
--- a consumer with these fields and its cursor in a variable has passed items of lane p. `left` is what is left of `most`
+-- a consumer with these fields and its cursor in a variable has passed items of lane p. `left` is
+-- what is left of `most`
 pub record HasPassedTo {Z : Type 0} (m : MailboxView) (p most : ℕ) (s t : Stream) (start : ConsumerView) (at : Cursor)
     (f : ConsumerFields Z) (left : ℕ) : Type 0 where
   pub winners : List ℕ

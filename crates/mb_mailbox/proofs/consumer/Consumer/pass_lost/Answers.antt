@@ -29,7 +29,8 @@ pass-requires g c =
       of = subst (λ o. IsConsumerOf c.args.mailbox.now o) (sym c.self.view_is) c.requires.of;
       wide = c.self.invariant.1;
       alone = subst (λ (l : Layout). kinds_of l ≡ LastObject ∷ [])
-          (c.layout.ensures ∙ ap (λ (v : MailboxView). v.claims.layout) c.mailbox.view_is) (c.is_alone.ensures c.if-not-is_alone.false);
+          (c.layout.ensures ∙ ap (λ (v : MailboxView). v.claims.layout) c.mailbox.view_is)
+          (c.is_alone.ensures c.if-not-is_alone.false);
     }
 
 pub invariant_of-self-2 : goal.invariant_of-self-2

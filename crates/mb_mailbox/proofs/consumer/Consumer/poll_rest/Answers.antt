@@ -7,11 +7,9 @@ use Rattle.mb_shared_cells.specs.Vocabulary.{LookMakes}
 use Rattle.mb_world.specs.declared.place.Place.{Place, TheVariants.At, TheVariants.Before}
 use Rattle.mb_mailbox.specs.Imports.{Claim, END, IsAccessAfter, IsClaimIn, IsStanding, Look, MayRead, PoolSize, ReaderSeatView, TableSize, consumer_count, load, word_of}
 use Rattle.mb_mailbox.specs.Consumers.{ConsumerView, IsConsumer, IsConsumerOf}
-use Rattle.mb_mailbox.specs.{ConsumerStep.link_answer, Mailboxes.MailboxView}
-use Rattle.mb_mailbox.specs.Jobs.{accesses_made}
-use Rattle.mb_mailbox.specs.Moves.{HasPlace, reads_with_link}
+use Rattle.mb_mailbox.specs.{ConsumerStep.link_answer, Jobs.accesses_made, Mailboxes.MailboxView}
 use Rattle.mb_mailbox.specs.Steps.{AnswerTells, AreSteps, IsPollOf, note_with}
-use Rattle.mb_mailbox.specs.Pursuits.{IsPursuit, with_fields}
+use Rattle.mb_mailbox.specs.{Moves.{HasPlace, reads_with_link}, Pursuits.{IsPursuit, with_fields}}
 use Rattle.mb_mailbox.proofs.Beginnings.{standing_going, standing_own}
 use Rattle.mb_mailbox.proofs.Ending.{left_by, not_no_lane, poll_by, pursuit_tells, still_of}
 use Rattle.mb_mailbox.proofs.Grown.{steps_grow}
@@ -31,7 +29,8 @@ module _ (g : Over) (c : goal.After-run_held g) where
   past_claim = with_fields c.run_held.new.fields
 
   -- the poll is the rest of a poll, after no access
-  goes_on : IsPursuit c.args.lane 0 c.args.left.now c.run_held.new.left c.run_held.result (g.R.Rng.stream c.args.rng.now)
+  goes_on : IsPursuit c.args.lane 0 c.args.left.now c.run_held.new.left c.run_held.result
+      (g.R.Rng.stream c.args.rng.now)
       (g.R.Rng.stream c.run_held.new.rng) at_claim past_claim
   goes_on =
       c.run_held.ensures.pursued at_claim 0 (g.R.Rng.stream c.args.rng.now)
@@ -96,7 +95,8 @@ module _ (g : Over) (c : goal.After-run_new g) where
   past_new = with_fields c.run_new.new.fields
 
   -- the poll is the rest of a poll, after one access: the load of the link
-  goes_on_new : IsPursuit c.args.lane 1 (c.args.left.now - 1) c.run_new.new.left c.run_new.result (g.R.Rng.stream c.args.rng.now)
+  goes_on_new : IsPursuit c.args.lane 1 (c.args.left.now - 1) c.run_new.new.left c.run_new.result
+      (g.R.Rng.stream c.args.rng.now)
       (g.R.Rng.stream c.run_new.new.rng) c.args.self.now past_new
   goes_on_new =
       let new = first g (goal.at.returns-clause-of g c).After-consumer in
@@ -235,7 +235,8 @@ returns-clause-polled g c =
 
 pub returns-clause-told : goal.returns-clause-told
 returns-clause-told g c =
-    pursuit_tells c.args.lane 1 (c.args.left.now - 1) c.run_new.new.left c.run_new.result (g.R.Rng.stream c.args.rng.now)
+    pursuit_tells c.args.lane 1 (c.args.left.now - 1) c.run_new.new.left c.run_new.result
+    (g.R.Rng.stream c.args.rng.now)
     (g.R.Rng.stream c.run_new.new.rng) c.args.self.now c.args.self.now (past_new g c) (goes_on_new g c)
 
 pub returns-clause-of : goal.returns-clause-of

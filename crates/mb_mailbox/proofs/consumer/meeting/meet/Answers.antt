@@ -52,11 +52,13 @@ returns-clause-waits g c some =
     let at = (goal.at.returns-clause-waits g c).After-has_history in
     let s = seen g at in
     let m = c.look.ensures.makes in
-    let none = no_cell c.looks_tell_links.ensures.nothing c.looks_tell_links.ensures.ended c.look.result m.0 m.1 some in (
+    let none = no_cell c.looks_tell_links.ensures.nothing c.looks_tell_links.ensures.ended
+      c.look.result m.0 m.1 some in (
       moved_has IsConsumer s c.args.lane (Before c.args.at) None (reads_with_link s c.args.at m.0) s.seat.part
           c.look.new.seat s.seat s.places s.notes
           (c.consumers_move_on.ensures.waits s c.args.lane m.0 c.args.at c.requires.is c.has_history.ensures
-          (place_is g at) none) m.2.1 refl (sym (set_same s.places c.args.lane (Before c.args.at) (place_is g at))) refl,
+          (place_is g at) none) m.2.1 refl (sym (set_same s.places c.args.lane (Before c.args.at)
+          (place_is g at))) refl,
       look_tells c.args.lane c.args.at s (record s { reader = c.look.new.seat }) c.look.new.seat
           (c.answers_tell_lanes.ensures.nothing s c.args.lane c.args.at c.look.new.seat c.requires.is
           c.has_history.ensures (place_is g at))

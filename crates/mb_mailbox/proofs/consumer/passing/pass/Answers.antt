@@ -35,7 +35,8 @@ items-init g c =
     }
 
 -- there is as much room for notes as before, if the table is the same
-wide_still : (m : MailboxView) (was now : ReaderSeatView) (old new : NotesView) → was.table ≡ m.cells → now.table ≡ m.cells
+wide_still : (m : MailboxView) (was now : ReaderSeatView) (old new : NotesView) → was.table ≡
+    m.cells → now.table ≡ m.cells
     → new ≡ old → HasAllRoom was.table.size.cells old → HasAllRoom now.table.size.cells new
 wide_still m was now old new here there same wide =
     subst (λ (z : CellsName × NotesView). HasAllRoom z.0.size.cells z.1)

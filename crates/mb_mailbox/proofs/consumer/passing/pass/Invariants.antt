@@ -9,5 +9,6 @@ decreases-items g l = l.rest
 -- the polls so far lost their items, and `rest` is what they left of the budget
 abbrev pub invariant-items : goal.invariant-items
 invariant-items g l =
-    HasPassedTo l.mailbox l.lane l.fn.left (g.R.Rng.stream l.fn.rng) (g.R.Rng.stream l.rng) (with_fields l.fn.fields) l.at
+    HasPassedTo l.mailbox l.lane l.fn.left (g.R.Rng.stream l.fn.rng) (g.R.Rng.stream l.rng)
+    (with_fields l.fn.fields) l.at
     l.fields l.rest

@@ -122,7 +122,8 @@ module _ (g : Over) (c : After-stage g) where
       → IsPursuit c.args.lane n c.args.left.now left (poll.Took v) t u from (at_views reader seat places notes)
   takes v claim seat reader places notes made n all left t u from count won so makes e f sum =
       taken base c.args.lane c.in-At.cell c.in-At.claim c.places_tell_steps.ensures.takes
-      c.consumers_move_on.ensures.takes start.loads v claim seat reader places notes made n c.args.left.now left t u from
+      c.consumers_move_on.ensures.takes start.loads v claim seat reader places notes made n
+      c.args.left.now left t u from
       (At c.in-At.cell c.in-At.claim) place_is won
       (subst (λ z. HasCompeted c.args.lane c.in-At.cell z claim t u from with_claim seat) count so) makes e f sum
 
@@ -196,7 +197,8 @@ returns-in-Won-clause-pursued g c =
     let won = sym c.stage.ensures ∙ c.in-Won.is in
     let pending : PendingClaim = record { lane = c.args.lane; cell = c.in-At.cell; claim = c.in-At.claim } in
     λ from n t m. takes g at c.take.result c.in-At.claim c.args.fields.now.seat c.take.new.reader
-    c.take.new.places.items c.take.new.notes.lists 0 n n (c.args.left.now - 1) t (g.R.Rng.stream c.args.rng.now) from (omega arith) won
+    c.take.new.places.items c.take.new.notes.lists 0 n n (c.args.left.now - 1) t
+    (g.R.Rng.stream c.args.rng.now) from (omega arith) won
     (begun c.args.mailbox.now pending c.args.fields.now (start g at) from n t (g.R.Rng.stream c.args.rng.now)
     (led g at from n t (g.R.Rng.stream c.args.rng.now) m))
     c.take.ensures.makes
@@ -327,7 +329,8 @@ returns-in-Lost g c =
     let rng = g.R.Rng.stream c.args.rng.now in
     record {
       pursued = λ from n t m. pursued_past (base g at.After-stage) c.args.lane c.in-At.cell
-          c.in-At.claim c.args.left.now c.compete-stage.new.left made n c.compete-stage.new.claim (stage.Lost c.in-Lost.w)
+          c.in-At.claim c.args.left.now c.compete-stage.new.left made n c.compete-stage.new.claim
+          (stage.Lost c.in-Lost.w)
           (Lost c.in-Lost.w) (poll.Lost c.in-Lost.w) t (g.R.Rng.stream c.compete-stage.new.rng) from
           c.compete-stage.new.seat c.leave.new.places.items c.leave.new.notes.lists
           (At c.in-At.cell c.in-At.claim) (place_is g at.After-stage)

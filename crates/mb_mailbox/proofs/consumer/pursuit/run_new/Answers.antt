@@ -173,7 +173,8 @@ returns-in-Won g c =
       pursued = λ from n t other is m. taken (base g at.After-has_history) c.args.lane c.args.cell
           c.requires.held.claim c.places_tell_steps.ensures.takes c.consumers_move_on.ensures.takes s.loads
           c.take.result (last g at.After-straight-end s) c.straight-end.new.seat c.take.new.reader
-          c.take.new.places.items c.take.new.notes.lists (made g at.After-straight-end s) n c.args.left.now c.straight-end.result.left t
+          c.take.new.places.items c.take.new.notes.lists (made g at.After-straight-end s) n
+          c.args.left.now c.straight-end.result.left t
           (g.R.Rng.stream c.straight-end.new.rng) from was.0 was.1
           (stage_is g at.After-straight-end s ∙ c.in-Won.is) (ran_on g at.After-straight-end s from n t other is m)
           c.take.ensures.makes c.take.ensures.place c.take.ensures.notes.lists
@@ -198,7 +199,8 @@ returns-in-Lost g c =
     let all = sum g at.After-straight-end s in
     record {
       pursued = λ from n t other is m. pursued_past (base g at.After-has_history) c.args.lane c.args.cell
-          c.requires.held.claim c.args.left.now (c.straight-end.result.left + 1) (made g at.After-straight-end s) n (last g at.After-straight-end s)
+          c.requires.held.claim c.args.left.now (c.straight-end.result.left + 1)
+          (made g at.After-straight-end s) n (last g at.After-straight-end s)
           (stage.Lost c.in-Lost.winner) (Lost c.in-Lost.winner) (poll.Lost c.in-Lost.winner) t
           (g.R.Rng.stream c.straight-end.new.rng) from c.straight-end.new.seat
           c.leave.new.places.items c.leave.new.notes.lists was.0 was.1
@@ -224,7 +226,8 @@ returns-in-Undecided g c =
     let all = sum g at.After-straight-end s in
     record {
       pursued = λ from n t other is m. pursued_past (base g at.After-has_history) c.args.lane c.args.cell
-          c.requires.held.claim c.args.left.now (c.straight-end.result.left + 1) (made g at.After-straight-end s) n (last g at.After-straight-end s)
+          c.requires.held.claim c.args.left.now (c.straight-end.result.left + 1)
+          (made g at.After-straight-end s) n (last g at.After-straight-end s)
           stage.Undecided Undecided poll.Undecided t (g.R.Rng.stream c.straight-end.new.rng) from
           c.straight-end.new.seat c.leave-in-Undecided.new.places.items c.leave-in-Undecided.new.notes.lists was.0 was.1
           (stage_is g at.After-straight-end s ∙ c.in-Undecided.is) refl refl tt (λ f. cc) refl
@@ -285,7 +288,8 @@ returns-in-Going-clause-pursued g c from n t other is m =
     let all = sum g at.After-straight-end s in
     pursued_on c.args.lane (made g at.After-straight-end s) n
     (c.straight-end.result.left + 1) c.args.left.now c.run_rest-answer.new.end.left
-    c.run_rest-answer.result t (g.R.Rng.stream c.run_rest-answer.new.rng) from (with_fields c.run_rest-answer.new.fields)
+    c.run_rest-answer.result t (g.R.Rng.stream c.run_rest-answer.new.rng) from
+    (with_fields c.run_rest-answer.new.fields)
     (omega (arith, all, c.if-left-eq0.false))
     (c.run_rest-answer.ensures.pursued from (made g at.After-straight-end s + n) t end
     (subst (λ x. IsStanding c.args.mailbox.now.claims.layout x c.straight-end.result.object

@@ -62,7 +62,8 @@ module _ (g : Over) (c : After-standing-claim g) where
       c.args.end.now.value c.requires.held.claim c.requires.held.standing c.standing-claim.result
       (subst (λ (l : Layout). IsStanding l c.args.fields.now.seat.consumer c.args.end.now.object c.args.end.now.value
       c.standing-claim.result) (sym layout_is)
-      (subst (λ d. IsStanding c.layout-layout.result.now d c.args.end.now.object c.args.end.now.value c.standing-claim.result)
+      (subst (λ d. IsStanding c.layout-layout.result.now d c.args.end.now.object
+      c.args.end.now.value c.standing-claim.result)
       c.consumer-consumer.ensures.exact c.standing-claim.ensures))
 
 pub standing-claim-requires-clause-object : goal.standing-claim-requires-clause-object

@@ -13,8 +13,7 @@ use Rattle.hazbultra.proofs.Steps.{named, opens, owns, part_at, sep, sets_last, 
 use denote.Memory.{part_of}
 use Rattle.std.specs.Prelude.{ℕ, IsSome, Option}
 use Rattle.hazbultra.specs.Lending.{leading_to}
-use Rattle.hazbultra.specs.contracts.handle.block.Block.{the_row as Block}
-use Rattle.hazbultra.specs.contracts.thing.Thing.{the_row as Thing}
+use Rattle.hazbultra.specs.contracts.{handle.block.Block.{the_row as Block}, thing.Thing.{the_row as Thing}}
 use Rattle.hazbultra.proofs.AsBox.{the_some, thing_box}
 use Rattle.hazbultra.specs.contracts.handle.block.Block.lend as f
 use Rattle.hazbultra.specs.contracts.handle.block.Block.lend.Key.{name as f_name}
