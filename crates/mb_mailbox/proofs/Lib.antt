@@ -27,6 +27,7 @@ pub mod Starts
 pub mod Ending
 pub mod Beginnings
 pub mod Straight
+pub mod ShortPolls
 pub mod Taking
 -- A consumer at the end of a lane
 pub mod Endings
