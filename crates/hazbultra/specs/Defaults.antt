@@ -1,11 +1,10 @@
--- Mailboxes as plain Rust makes them if nothing else is asked for.
-use Rattle.std.specs.Prelude.{ℕ, ◌≡◌, true}
-use Rattle.mb_quorum.specs.Tables.{table_of}
+-- Mailboxes as plain Rust makes them by default, but for their numbers of producers, consumers and cells.
+use Rattle.std.specs.Prelude.{ℕ, true}
 use Rattle.mb_quorum.specs.declared.table.TableName.TheVariants.{Bits}
-use Rattle.mb_claim.specs.Layouts.{pair_count, quorums_of, shape_of}
-use Rattle.mb_claim.specs.declared.layout.Layout.{Layout}
+use Rattle.mb_world.specs.Vocabulary.{Plan, shaped_plan}
 
--- each cell has four pairs, a fast path and a last object, over the bit table of n consumers
-abbrev pub IsByDefault : ℕ → Layout → Type 0
-IsByDefault n layout = (quorums_of layout ≡ table_of Bits n) × (pair_count layout ≡ 4)
-    × (shape_of layout ≡ record { fast = true; last = true })
+-- what `hz_mailbox_new` makes, by its clause `made`, if it is asked for so many producers, consumers and cells, and for
+-- what plain Rust has by default: a fast path and a last object, four pairs, and the quorum table of bits
+abbrev pub by_default : ℕ → ℕ → ℕ → Plan
+by_default producers consumers cells =
+    shaped_plan (record { fast = true; last = true }) producers consumers cells 4 Bits

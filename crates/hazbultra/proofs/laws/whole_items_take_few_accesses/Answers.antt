@@ -1,33 +1,39 @@
 -- Proof of `laws::whole_items_take_few_accesses`: the most accesses of a claim, and two loads.
-use Rattle.std.proofs.Common.{◌≡◌, ◌+◌, ◌∙◌, ℕ, refl, true}
+use Rattle.std.proofs.Common.{◌≡◌, ◌+◌, ◌∙◌, ℕ, refl, sym, ap, true}
 use Rattle.mb_quorum.specs.Tables.{table_of}
 use Rattle.mb_quorum.specs.declared.table.TableName.TheVariants.{Bits}
-use Rattle.mb_claim.specs.Layouts.{most_accesses, shaped_steps}
-use Rattle.mb_claim.specs.declared.layout.Layout.{Layout}
-use Rattle.hazbultra.specs.Defaults.{IsByDefault}
+use Rattle.mb_claim.specs.Vocabulary.{most_accesses, most_on_objects, quorums_of, shaped_steps}
+use Rattle.mb_claim.proofs.Bounds.{row_steps}
+use Rattle.mb_mailbox.specs.Vocabulary.{MailboxView, plan_at}
+use Rattle.mb_world.specs.Vocabulary.{Plan}
+use Rattle.hazbultra.specs.Defaults.{by_default}
 use Rattle.hazbultra.proofs.laws.whole_items_take_few_accesses.Goals as goal
 
--- the most accesses follow from the number of consumers
-by_default : (n : ℕ) (layout : Layout) → IsByDefault n layout
-    → most_accesses layout + 2 ≡ shaped_steps (table_of Bits n) (record { fast = true; last = true }) 4 + 2
-by_default n layout is = λ i. shaped_steps (is.0 i) (is.2 i) (is.1 i) + 2
+-- the most accesses follow from the objects of a cell, and these from the number of consumers
+by_number : (n : ℕ) (m : MailboxView) (p k : ℕ) → plan_at m ≡ by_default p n k
+    → most_accesses m.claims.layout + 2 ≡ shaped_steps (table_of Bits n) (record { fast = true; last = true }) 4 + 2
+by_number n m p k is =
+    let layout = m.claims.layout in
+    ap (λ x. x + 2) (sym (row_steps (quorums_of layout) layout.shape layout.pairs)
+    ∙ ap (λ (plan : Plan). most_on_objects plan.claims.table plan.claims.kinds) is
+    ∙ row_steps (table_of Bits n) (record { fast = true; last = true }) 4)
 
 pub returns-clause-one : goal.returns-clause-one
 unfolding lib.Count.ones
-returns-clause-one c = λ layout is. by_default 1 layout is ∙ refl
+returns-clause-one c = λ m p k is. by_number 1 m p k is ∙ refl
 
 pub returns-clause-two : goal.returns-clause-two
 unfolding lib.Count.ones
-returns-clause-two c = λ layout is. by_default 2 layout is ∙ refl
+returns-clause-two c = λ m p k is. by_number 2 m p k is ∙ refl
 
 pub returns-clause-four : goal.returns-clause-four
 unfolding lib.Count.ones
-returns-clause-four c = λ layout is. by_default 4 layout is ∙ refl
+returns-clause-four c = λ m p k is. by_number 4 m p k is ∙ refl
 
 pub returns-clause-sixteen : goal.returns-clause-sixteen
 unfolding lib.Count.ones
-returns-clause-sixteen c = λ layout is. by_default 16 layout is ∙ refl
+returns-clause-sixteen c = λ m p k is. by_number 16 m p k is ∙ refl
 
 pub returns-clause-most : goal.returns-clause-most
 unfolding lib.Count.ones
-returns-clause-most c = λ layout is. by_default 64 layout is ∙ refl
+returns-clause-most c = λ m p k is. by_number 64 m p k is ∙ refl
