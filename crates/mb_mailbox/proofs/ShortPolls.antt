@@ -174,7 +174,7 @@ are_noted p s i low = let there = get_some s.places p low in by there.0 there.1
   where
     by : (place : Place) → slice_get s.places p ≡ Some place → AreNoted p s
     by (Before at) e =
-        let same = noted s p at i e in record { low = omega (arith, same); high = omega (arith, same); }
+        let same = noted s p at i e in record { low = omega (arith, same); high = omega (arith, same) }
     by (At k claim) e =
         let h = holds s p k claim i e in
         let on = ap (λ (z : Option (List Note)). length (option_map_or (λ (l : List Note). l) z [])) h.1 in
@@ -182,7 +182,7 @@ are_noted p s i low = let there = get_some s.places p low in by there.0 there.1
         ∙ same_length (claims_in i.size.layout i.size.cells) s.seat.consumer h.2.cells (reverse h.0)
         (parts_of s.reader s.seat) h.2.ended in
         let cells = ap length h.2.met in
-        record { low = omega (arith, count, cells); high = omega (arith, count, cells); }
+        record { low = omega (arith, count, cells); high = omega (arith, count, cells) }
 
 -- an answer adds at most one note
 one_note : (p : ℕ) (o : Option Note) (notes : List (List Note)) → p < length notes

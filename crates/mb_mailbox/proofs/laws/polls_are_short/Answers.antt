@@ -1,5 +1,5 @@
 -- Proof of `laws::polls_are_short`: a poll makes few accesses.
-use Rattle.std.proofs.Common.{◌≡◌, ◌<◌, ◌≤◌, suc, length, refl, sym, ap, ◌∙◌, subst}
+use Rattle.std.proofs.Common.{◌<◌, ◌≤◌, suc, length, sym, ap, ◌∙◌, subst}
 use Rattle.mb_quorum.specs.Vocabulary.{IsQuorumTable}
 use Rattle.mb_claim.specs.Vocabulary.{most_accesses}
 use Rattle.mb_mailbox.specs.Imports.{CellsName, ClaimTable, ReaderSeatView, SeatView, cells_met, claims_at, part_on}

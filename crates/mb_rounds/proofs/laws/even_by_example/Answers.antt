@@ -1,0 +1,8 @@
+-- Proof of `laws::even_by_example`: what is dealt evenly, by example.
+use Rattle.std.proofs.Common.{[], arith}
+use Rattle.mb_rounds.proofs.laws.even_by_example.Goals as goal
+
+-- the first list has two items, and the second none
+pub returns-clause-two_more : goal.returns-clause-two_more
+returns-clause-two_more c even =
+    let close = even 0 [] (omega arith) 1 [] (omega arith) in absurd (omega (arith, close))
