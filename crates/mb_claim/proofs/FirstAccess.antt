@@ -1,6 +1,6 @@
 -- A claim that has made no access.
-use Rattle.std.proofs.Common.{◌≡◌, ◌<◌, ◌≤◌, ℕ, zero, suc, Bool, true, false, List, [], ◌∷◌, ◌++◌, length, refl, sym}
-use Rattle.std.proofs.Common.{◌∙◌, ap, subst, inl, arith}
+use Rattle.std.proofs.Common.{◌≡◌, ◌<◌, ◌≤◌, ℕ, zero, suc, Bool, true, false, List, [], ◌∷◌, ◌++◌, ◌+◌, length, refl}
+use Rattle.std.proofs.Common.{sym, ◌∙◌, ap, subst, inl, arith}
 use Rattle.mb_quorum.specs.Vocabulary.{QuorumTable}
 use Rattle.mb_deciding.specs.declared.access.Op.TheVariants as to
 use Rattle.mb_deciding.specs.Vocabulary.{answer, PcIsAt, IsOpAt, CanFind, spread}
@@ -22,11 +22,12 @@ first_object : (s n : ℕ) (ys : List Kind) → 1 ≤ n → (rest : List Kind) �
 first_object s zero ys some = absurd (omega (arith, some))
 first_object s (suc n) ys some = (Ratifier ∷ (pairs_of s n ++ ys), refl)
 
--- pairs and a last object have a first object, if without pairs there is a last object
-some_object : (s n : ℕ) (b : Bool) → (n ≡ 0 → b ≡ true)
+-- pairs and a last object have a first object, if there is one of them
+some_object : (s n : ℕ) (b : Bool) → 1 ≤ n + length (last_row b)
     → (kind : Kind) × (rest : List Kind) × (pairs_of s n ++ last_row b ≡ kind ∷ rest)
 some_object s (suc n) b some = (Conciliator s, Ratifier ∷ (pairs_of s n ++ last_row b), refl)
-some_object s zero b some = (LastObject, [], ap last_row (some refl))
+some_object s zero true some = (LastObject, [], refl)
+some_object s zero false some = absurd (omega (arith, some))
 
 -- with a fast path or without, a row has a first object
 first_kind : (b : Bool) (kind : Kind) (rest ys : List Kind) → ys ≡ kind ∷ rest

@@ -1,8 +1,8 @@
 //! The deciding objects that each cell has, and where their words lie.
-ghost use Rattle.std.specs.Prelude.{◌≡◌, ◌<◌, ◌≤◌, ◌+◌, ◌*◌, ℕ, true, length, slice_get, slice_index};
+ghost use Rattle.std.specs.Prelude.{◌≡◌, ◌<◌, ◌≤◌, ◌+◌, ◌*◌, ℕ, length, slice_get, slice_index};
 ghost use Rattle.mb_quorum.specs.Vocabulary.{chosen_table};
 ghost use Rattle.mb_deciding.specs.Vocabulary.{spread};
-ghost use Rattle.mb_claim.specs.Rows.{row_of, words_before, row_words};
+ghost use Rattle.mb_claim.specs.Rows.{last_row, row_of, words_before, row_words};
 ghost use Rattle.mb_claim.specs.declared.layout.TheConstants.{MAX_PAIRS};
 
 use crate::shape::Shape;
@@ -36,7 +36,7 @@ pub struct Layout {
     kinds: [Kind; MAX_OBJECTS],
     begins: [u32; MAX_OBJECTS],
     cell_size: u32,
-    pub ghost some: { pairs ≡ 0 → shape.last ≡ true },
+    pub ghost some: { 1 ≤ pairs + length (last_row shape.last) },
     pub ghost few: { pairs ≤ MAX_PAIRS },
     pub ghost counted: { objects ≡ length (row_of shape (spread (chosen_table table).values) pairs) },
     pub ghost row: { (o : ℕ) → o < objects
@@ -75,7 +75,7 @@ impl Layout {
     ghost use Rattle.mb_deciding.specs.Vocabulary.{spread};
     ghost use Rattle.mb_claim.specs.{Reg, width, quorums_of, kinds_of, pairs_of, row_of, plain, pair_count, shape_of, offset};
     ghost use Rattle.mb_claim.specs.{consumer_count, cell_words, word_address, IsWordInLayout, most_accesses, layout_refusal, site_of};
-    ghost use Rattle.mb_claim.specs.{LastObject, with_last};
+    ghost use Rattle.mb_claim.specs.{LastObject, last_row, with_last};
     ghost use Rattle.mb_quorum.specs.declared.table.TableName.TheVariants.{Bits};
     ghost use Rattle.mb_claim.specs.declared.layout.TheConstants.{MAX_LARGE_CELLS, MAX_OBJECTS};
 
@@ -120,7 +120,7 @@ impl Layout {
 
     /// The layout with this table, these pairs and this shape. It computes the row, and where each object begins.
     fn of(table: Table, pairs: u32, shape: Shape) -> Layout
-        requires some { pairs ≡ 0 → shape.last ≡ true }
+        requires some { 1 ≤ pairs + length (last_row shape.last) }
         requires few { pairs ≤ MAX_PAIRS }
         ensures quorums { quorums_of result ≡ chosen_table table }
         ensures pairs { pair_count result ≡ pairs }
@@ -158,9 +158,13 @@ impl Layout {
         ensures alone { pair_count self.now ≡ 0
             → shape_of result ≡ record { fast = shape.fast; last = true } }
     {
-        let shape = Shape {
-            fast: shape.fast,
-            last: shape.last || self.pairs == 0,
+        let shape = if self.pairs == 0 {
+            Shape {
+                fast: shape.fast,
+                last: true,
+            }
+        } else {
+            shape
         };
         Layout::of(self.table.copy(), self.pairs, shape)
     }

@@ -2,7 +2,7 @@
 use Rattle.std.proofs.Common.{◌≡◌, ◌≤◌, ◌∙◌, ◌+◌, true, false, length, subst, arith}
 use Rattle.mb_deciding.specs.Vocabulary.{object_of}
 use Rattle.mb_claim.specs.{part_on, quorums_of, most_accesses, fast_steps, max_steps, last_steps}
-use Rattle.mb_claim.proofs.LayoutObjects.{quorums_lawful}
+use Rattle.mb_claim.proofs.LayoutObjects.{quorums_lawful, last_without}
 use Rattle.mb_claim.proofs.Bounds.{claim_bounded, pairs_steps, row_steps}
 use Rattle.mb_claim.proofs.laws.claims_are_bounded.Goals as goal
 
@@ -39,6 +39,7 @@ returns-clause-last c t n fast = omega arith
 pub returns-clause-alone : goal.returns-clause-alone
 returns-clause-alone c layout none slow =
     let t = quorums_of layout in
+    let last = last_without layout.pairs layout.shape.last layout.some none in
     let same : most_accesses layout ≡ fast_steps t false + (max_steps t 0 + last_steps true) =
-    λ i. fast_steps t (slow i) + (max_steps t (none i) + last_steps (layout.some none i)) in
+    λ i. fast_steps t (slow i) + (max_steps t (none i) + last_steps (last i)) in
     let one : fast_steps t false + (max_steps t 0 + last_steps true) ≡ 1 = omega arith in same ∙ one
