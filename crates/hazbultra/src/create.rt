@@ -1,11 +1,15 @@
 //! The calls that make a mailbox, its producers and its consumers.
 ghost use Rattle.std.specs.Prelude.{ℕ, ◌≡◌, ◌≢◌, ◌↔◌, ◌⊎◌, ◌≤◌, IfErr, IfOk, None, Some, length};
 ghost use Rattle.mb_quorum.specs.declared.table.TableName.{TableName};
-ghost use Rattle.mb_world.specs.Vocabulary.{plan_in};
+ghost use Rattle.mb_quorum.specs.declared.table.TableName.TheVariants.{Bits};
+ghost use Rattle.mb_claim.specs.Vocabulary.{with_last};
+ghost use Rattle.mb_world.specs.Vocabulary.{plan_in, shaped_plan};
+ghost use Rattle.mb_world.specs.Setups.{large_refusal};
+ghost use Rattle.mb_world.specs.declared.setup.SetupFault.{SetupFault};
 ghost use Rattle.mb_mailbox.specs.Vocabulary.{consumer_count, new_producer, plan_at};
 ghost use Rattle.mb_mailbox.specs.Hubs.{IsNewConsumer, hub_empty, with_consumer, with_producer};
 ghost use Rattle.hazbultra.specs.Calls.{ConsumerMade, HubGave, HubGaveConsumer, HubMade, HubWent, IsHub, ProducerMade, source_of, table_numbered};
-ghost use Rattle.hazbultra.specs.Refusals.{plan_asked, refusal_of};
+ghost use Rattle.hazbultra.specs.Refusals.{plan_asked, refusal_of, setup_code};
 ghost use Rattle.hazbultra.specs.declared.codes.TheConstants.{ALL_GIVEN, BAD_HANDLE, DONE, NO_MEMORY};
 
 use crate::boundary::SetupIn;
@@ -41,13 +45,25 @@ fn setup_of(wanted: &SetupIn) -> Result<Setup, u32>
     };
     let (producers, consumers, cells) = (wanted.producers, wanted.consumers, wanted.cells);
     if wanted.pairs == 0 && wanted.last && !wanted.fast {
-        return match Setup::exchange(producers, consumers, cells) {
-            Ok(setup) => Ok(setup),
-            Err(why) => Err(code_of_setup(why)),
-        };
+        return exchanges_of(producers, consumers, cells);
     }
     match Setup::large(producers, consumers, cells, wanted.pairs, table) {
         Ok(setup) => Ok(setup.shaped(shape)),
+        Err(why) => Err(code_of_setup(why)),
+    }
+}
+
+/// The setup of exchanges alone of these numbers, or the code of its refusal. It has a stack of its own, too.
+#[inline(never)]
+fn exchanges_of(producers: u64, consumers: u64, cells: u64) -> Result<Setup, u32>
+    ensures made { IfOk result
+        (λ setup. plan_in setup ≡ shaped_plan with_last producers consumers cells 0 Bits) }
+    ensures accepted { IfOk result (λ _. large_refusal producers consumers cells 1 ≡ None) }
+    ensures refused { IfErr result (λ code. (why : SetupFault) × (code ≡ setup_code why)
+        × (large_refusal producers consumers cells 1 ≡ Some why)) }
+{
+    match Setup::exchange(producers, consumers, cells) {
+        Ok(setup) => Ok(setup),
         Err(why) => Err(code_of_setup(why)),
     }
 }
