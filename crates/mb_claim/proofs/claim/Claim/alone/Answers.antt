@@ -11,7 +11,7 @@ returns-clause-path c =
     let layout = c.args.layout.now in
     let t = quorums_of layout in
     let first : slice_get (kinds_of layout) 0 ≡ Some LastObject = ap
-        (λ (ks : List Kind). slice_get ks 0) c.requires.alone in
+    (λ (ks : List Kind). slice_get ks 0) c.requires.alone in
     let stands = stands_first t (kinds_of layout) LastObject c.args.consumer c.last.result first
     c.requires.consumer (c.last.ensures.begins t c.requires.consumer) in
     record {
@@ -26,10 +26,15 @@ pub returns-clause-first : goal.returns-clause-first
 returns-clause-first c =
     let layout = c.args.layout.now in
     let first : slice_get (kinds_of layout) 0 ≡ Some LastObject = ap
-        (λ (ks : List Kind). slice_get ks 0) c.requires.alone in
+    (λ (ks : List Kind). slice_get ks 0) c.requires.alone in
     let me = c.args.consumer in
-    subst (λ x. MatchOption x ⊥ (λ kind. record { consumer = me; object = 0; place = c.last.result;
-    stage = Going; begun = false }
+    subst (λ x. MatchOption x ⊥ (λ kind. record {
+      consumer = me;
+      object = 0;
+      place = c.last.result;
+      stage = Going;
+      begun = false;
+    }
     ≡ standing layout me 0 me kind)) (sym first)
     (ap (λ (pc : Pc). record { consumer = me; object = 0; place = pc; stage = Going; begun = false })
     (c.last.ensures.exact (quorums_of layout)))

@@ -53,7 +53,7 @@ returns-clause-waits g c some =
     let s = seen g at in
     let m = c.look.ensures.makes in
     let none = no_cell c.looks_tell_links.ensures.nothing c.looks_tell_links.ensures.ended
-      c.look.result m.0 m.1 some in (
+    c.look.result m.0 m.1 some in (
       moved_has IsConsumer s c.args.lane (Before c.args.at) None (reads_with_link s c.args.at m.0) s.seat.part
           c.look.new.seat s.seat s.places s.notes
           (c.consumers_move_on.ensures.waits s c.args.lane m.0 c.args.at c.requires.is c.has_history.ensures
