@@ -1,10 +1,8 @@
 //! The calls that make a mailbox, its producers and its consumers.
 ghost use Rattle.std.specs.Prelude.{ℕ, ◌≡◌, ◌≢◌, ◌↔◌, ◌⊎◌, ◌≤◌, IfErr, IfOk, None, Some, length};
-ghost use Rattle.mb_quorum.specs.declared.table.TableName.{TableName};
-ghost use Rattle.mb_quorum.specs.declared.table.TableName.TheVariants.{Bits};
+ghost use Rattle.mb_quorum.specs.declared.table.TableName.{TableName, TheVariants.Bits};
 ghost use Rattle.mb_claim.specs.Vocabulary.{with_last};
-ghost use Rattle.mb_world.specs.Vocabulary.{plan_in, shaped_plan};
-ghost use Rattle.mb_world.specs.Setups.{large_refusal};
+ghost use Rattle.mb_world.specs.{Setups.{large_refusal}, Vocabulary.{plan_in, shaped_plan}};
 ghost use Rattle.mb_world.specs.declared.setup.SetupFault.{SetupFault};
 ghost use Rattle.mb_mailbox.specs.Vocabulary.{consumer_count, new_producer, plan_at};
 ghost use Rattle.mb_mailbox.specs.Hubs.{IsNewConsumer, hub_empty, with_consumer, with_producer};
