@@ -58,7 +58,11 @@ impl<A: Allocator + Drop> Consumer<A> {
 
     /// The lane of this number, if there is one.
     #[inline(always)]
-    pub(super) fn lane_of<B: Allocator + Drop>(&self, mailbox: &Mailbox<B>, lane: u64) -> Option<u32>
+    pub(super) fn lane_of<B: Allocator + Drop>(
+        &self,
+        mailbox: &Mailbox<B>,
+        lane: u64,
+    ) -> Option<u32>
         requires of { IsConsumerOf mailbox.now self.now }
         ensures none { result ≡ None → mailbox.now.cells.size.lanes ≤ lane }
         ensures some { IfSome result (λ p. (p ≡ lane) × (p < mailbox.now.cells.size.lanes)) }
