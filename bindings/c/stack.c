@@ -64,5 +64,5 @@ int main(void) {
         || pthread_create(&thread, &wanted, measure, depths) || pthread_join(thread, NULL))
         return 1;
     printf("hz_mailbox_new takes %d bytes of stack, and the other calls %d at most\n", (int)depths[0], (int)depths[1]);
-    return !(0 < depths[0] && depths[0] < 19000 && 0 < depths[1] && depths[1] < 8000);
+    return !(0 < depths[0] && depths[0] < 17000 && 0 < depths[1] && depths[1] < 8000);
 }

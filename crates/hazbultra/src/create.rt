@@ -1,8 +1,8 @@
 //! The calls that make a mailbox, its producers and its consumers.
-ghost use Rattle.std.specs.Prelude.{ℕ, ◌≡◌, ◌≢◌, ◌↔◌, ◌⊎◌, ◌≤◌, IfErr, IfOk, None, Some, length};
-ghost use Rattle.mb_quorum.specs.declared.table.TableName.{TableName, TheVariants.Bits};
-ghost use Rattle.mb_claim.specs.Vocabulary.{with_last};
-ghost use Rattle.mb_world.specs.{Setups.{large_refusal}, Vocabulary.{plan_in, shaped_plan}};
+ghost use Rattle.std.specs.Prelude.{ℕ, ◌≡◌, ◌≢◌, ◌↔◌, ◌⊎◌, ◌≤◌, IfErr, IfOk, None, Some, false, length, true};
+ghost use Rattle.mb_quorum.specs.declared.table.TableName.{TableName};
+ghost use Rattle.mb_quorum.specs.declared.table.TableName.TheVariants.{Bits};
+ghost use Rattle.mb_world.specs.Setups.{large_refusal, plan_in, shaped_plan};
 ghost use Rattle.mb_world.specs.declared.setup.SetupFault.{SetupFault};
 ghost use Rattle.mb_mailbox.specs.Vocabulary.{consumer_count, new_producer, plan_at};
 ghost use Rattle.mb_mailbox.specs.Hubs.{IsNewConsumer, hub_empty, with_consumer, with_producer};
@@ -54,8 +54,8 @@ fn setup_of(wanted: &SetupIn) -> Result<Setup, u32>
 /// The setup of exchanges alone of these numbers, or the code of its refusal. It has a stack of its own, too.
 #[inline(never)]
 fn exchanges_of(producers: u64, consumers: u64, cells: u64) -> Result<Setup, u32>
-    ensures made { IfOk result
-        (λ setup. plan_in setup ≡ shaped_plan with_last producers consumers cells 0 Bits) }
+    ensures made { IfOk result (λ setup. plan_in setup
+        ≡ shaped_plan (record { fast = false; last = true }) producers consumers cells 0 Bits) }
     ensures accepted { IfOk result (λ _. large_refusal producers consumers cells 1 ≡ None) }
     ensures refused { IfErr result (λ code. (why : SetupFault) × (code ≡ setup_code why)
         × (large_refusal producers consumers cells 1 ≡ Some why)) }

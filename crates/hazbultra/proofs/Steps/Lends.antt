@@ -16,3 +16,4 @@ pub use types.Kit.{await, done, frame, fsplit3, group, keep, suffices}
 pub use types.Part.{look_in}
 pub use types.Run.{addr, load}
 pub use Rattle.std_alloc.proofs.BoxSteps.Form.{handle}
+pub use Rattle.std.specs.Prelude.{IsSome, Option, ℕ}

@@ -1,17 +1,16 @@
 -- `lend`: what the block owns is that of a box, so the thing is lent, and the rest of the box stays behind.
-use Rattle.hazbultra.proofs.Steps.{◌≡◌, refl, List, [], ◌∷◌, Ura, Val, SProp, ent, id⊢, vptr}
-use Rattle.hazbultra.proofs.Steps.{flft, fsep, ftrue, Fun, fact, tables, tables_of, Memory, Routine, bare}
-use Rattle.hazbultra.proofs.Steps.{Tables, WpFn, WpFn-mono, Logic, sem, ‵, raw, ◌⊛◌, some, later, at_ret, ◌$◌, ◌∵◌}
-use Rattle.hazbultra.proofs.Steps.{ !, qed, move, drop, use1, join, split, pick, rewrite, fsplit, fpack}
-use Rattle.hazbultra.proofs.Steps.{fjoin, suffices, await, done, sub, whole, enter, exec, first, blocks, fld}
-use Rattle.hazbultra.proofs.Steps.{of_opd, returns, stop, alloc_all, env, free_all, get, look_at, pass_all, sets}
-use Rattle.hazbultra.proofs.Steps.{no, heard, nothing, block_ptr, token, plain, triple_of, entered, Stays, ends_at, says}
-use Rattle.hazbultra.proofs.Steps.{stay_dropped, walk_Meets, walk_of, B, D, R, τ, word, box_in, box_out}
-use Rattle.hazbultra.proofs.Steps.{Env, Fml, GName, MutRef, Part, addr, cell_at, follows, frame, fsplit3, full_share}
-use Rattle.hazbultra.proofs.Steps.{group, handle, keep, lends_Part, load, look_in, mem, mut_Tells, mut_ref_to, mut_vals}
-use Rattle.hazbultra.proofs.Steps.{named, opens, owns, part_at, sep, sets_last, through, walked, Goes-spent_ref}
+use Rattle.hazbultra.proofs.Steps.{◌≡◌, refl, List, [], ◌∷◌, Ura, Val, SProp, ent, id⊢, vptr, flft, fsep, ftrue, Fun}
+use Rattle.hazbultra.proofs.Steps.{fact, tables, tables_of, Memory, Routine, bare, Tables, WpFn, WpFn-mono, Logic}
+use Rattle.hazbultra.proofs.Steps.{sem, ‵, raw, ◌⊛◌, some, later, at_ret, ◌$◌, ◌∵◌, !, qed, move, drop, use1, join}
+use Rattle.hazbultra.proofs.Steps.{split, pick, rewrite, fsplit, fpack, fjoin, suffices, await, done, sub, whole}
+use Rattle.hazbultra.proofs.Steps.{enter, exec, first, blocks, fld, of_opd, returns, stop, alloc_all, env, free_all}
+use Rattle.hazbultra.proofs.Steps.{get, look_at, pass_all, sets, no, heard, nothing, block_ptr, token, plain}
+use Rattle.hazbultra.proofs.Steps.{triple_of, entered, Stays, ends_at, says, stay_dropped, walk_Meets, walk_of, B, D}
+use Rattle.hazbultra.proofs.Steps.{R, τ, word, box_in, box_out, Env, Fml, GName, MutRef, Part, addr, cell_at}
+use Rattle.hazbultra.proofs.Steps.{follows, frame, fsplit3, full_share, group, handle, keep, lends_Part, load}
+use Rattle.hazbultra.proofs.Steps.{look_in, mem, mut_Tells, mut_ref_to, mut_vals, named, opens, owns, part_at, sep}
+use Rattle.hazbultra.proofs.Steps.{sets_last, through, walked, Goes-spent_ref, ℕ, IsSome, Option}
 use denote.Memory.{part_of}
-use Rattle.std.specs.Prelude.{ℕ, IsSome, Option}
 use Rattle.hazbultra.specs.Lending.{leading_to}
 use Rattle.hazbultra.specs.contracts.{handle.block.Block.{the_row as Block}, thing.Thing.{the_row as Thing}}
 use Rattle.hazbultra.proofs.AsBox.{the_some, thing_box}
