@@ -18,8 +18,8 @@ int main(int count, char **words) {
     hz_diary diary = {0};
     const uint8_t seed[32] = {1};
     want(HZ_DONE, hz_mailbox_new(1, &setup, &hub));
-    want(HZ_DONE, hz_producer_new(&hub, &producer));
-    want(HZ_DONE, hz_consumer_new(&hub, seed, 0, &consumer));
+    want(HZ_DONE, hz_producer_new(&hub, &producer, &value));
+    want(HZ_DONE, hz_consumer_new(&hub, seed, &consumer, &value));
     for (uint64_t item = 0; item < cells; item++) {
         want(HZ_LINKED, hz_put(&producer, item));
         want(HZ_TOOK, hz_poll(&consumer, 0, UINT64_MAX, &value));

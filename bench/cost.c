@@ -12,8 +12,8 @@ int main(int count, char **words) {
     hz_handle hub = HZ_NONE, producer = HZ_NONE, consumer = HZ_NONE;
     uint8_t seed[32];
     memset(seed, 1, sizeof seed);
-    if (hz_mailbox_new(1, &setup, &hub) || hz_producer_new(&hub, &producer)
-        || hz_consumer_new(&hub, seed, 0, &consumer))
+    if (hz_mailbox_new(1, &setup, &hub) || hz_producer_new(&hub, &producer, &value)
+        || hz_consumer_new(&hub, seed, &consumer, &value))
         return 1;
     for (uint64_t item = 0; item < items; item++) {
         if (hz_put(&producer, item) != HZ_LINKED)

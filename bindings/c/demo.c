@@ -15,7 +15,7 @@ enum { PRODUCERS = 2, CONSUMERS = 3, EACH = 100, JOBS = PRODUCERS * EACH };
 struct worker {
     pthread_t thread;
     hz_handle part;
-    int number;
+    uint64_t number;
 };
 
 struct job {
@@ -34,7 +34,7 @@ static void expect(bool so, const char *what) {
 
 static void *produce(void *arg) {
     struct worker *self = arg;
-    for (int number = self->number; number < JOBS; number += PRODUCERS) {
+    for (int number = (int)self->number; number < JOBS; number += PRODUCERS) {
         struct job *job = &jobs[number];
         *job = (struct job){.number = number, .done = 0};
         HZ_BEFORE_PUT(job);
@@ -101,14 +101,12 @@ int main(void) {
     const uint8_t seed[32] = "any 32 bytes do";
     for (int c = 0; c < CONSUMERS; c++) {
         struct worker *one = &consumers[c];
-        one->number = c;
-        expect(hz_consumer_new(&hub, seed, (uint64_t)c, &one->part) == HZ_DONE, "a consumer is given");
+        expect(hz_consumer_new(&hub, seed, &one->part, &one->number) == HZ_DONE, "a consumer is given");
         expect(pthread_create(&one->thread, NULL, consume, one) == 0, "a thread starts");
     }
     for (int p = 0; p < PRODUCERS; p++) {
         struct worker *one = &producers[p];
-        one->number = p;
-        expect(hz_producer_new(&hub, &one->part) == HZ_DONE, "a producer is given");
+        expect(hz_producer_new(&hub, &one->part, &one->number) == HZ_DONE, "a producer is given");
         expect(pthread_create(&one->thread, NULL, produce, one) == 0, "a thread starts");
     }
     for (int p = 0; p < PRODUCERS; p++) {

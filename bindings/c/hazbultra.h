@@ -11,7 +11,8 @@
  *     only one of the two may be used. It may be moved, as a struct is moved by memcpy.
  *  2. No pointer is null, not even that of hz_free, or items or notes if room is 0. Each leads to an object of its type,
  *     or to as many as the length beside it says. A handle, a setup and a seed are initialised. What a call is to write
- *     need not be: a call never reads value, missing, lanes, consumers, out, items, notes or copied. A bool is 0 or 1.
+ *     need not be: a call never reads lane, number, value, missing, lanes, consumers, out, items, notes or copied, if
+ *     it takes it by a pointer. A bool is 0 or 1.
  *     Two pointers of one call lead to different objects.
  *  3. A handle is in one call at a time. From call to call it may go from thread to thread, if the one call happens
  *     before the other: by a lock, the start or the join of a thread, an atomic, or whatever else orders them. Handles
@@ -29,7 +30,7 @@
  *
  * WHAT A CALL CHECKS ITSELF. A handle that leads to nothing (HZ_NONE), or to another kind of thing than the call wants, is
  * HZ_BAD_HANDLE. So is a handle that the call is to fill and that leads to something. After each code but HZ_DONE,
- * HZ_LINKED, HZ_FULL and those of a poll nothing has changed, if no line below says otherwise. No call loses what a
+ * HZ_LINKED, HZ_FULL and those of a poll or a take nothing has changed, if no line below says otherwise. No call loses what a
  * handle leads to, also if memory is refused.
  *
  * STACK. hz_mailbox_new takes up to 13 kB of it, and no other call takes more than 8 kB. A backtrace ends at the library's
@@ -85,7 +86,7 @@ typedef struct {
 typedef enum {
     HZ_DONE = 0,
 
-    /* of hz_poll, and the kind of a note (the first three) */
+    /* of hz_poll and hz_take, and the kind of a note (the first three) */
     HZ_TOOK = 1,
     HZ_LOST = 2,
     HZ_UNDECIDED = 3,
@@ -122,14 +123,15 @@ typedef enum {
     HZ_MIDDLE = 2
 } hz_table;
 
-/* How large a mailbox is, and what stands in each cell. If nothing speaks against it: 4 pairs, and last true. Set
+/* How large a mailbox is, and what stands in each cell. The fastest have 0 pairs, last true and fast false: each claim on an
+ * item is one exchange then, and table does not count. Else, if nothing speaks against it: 4 pairs, and last true. Set
  * fast too if mostly one consumer comes to an item.
  * docs/GUIDE.md tells which setup does what, and how much memory it takes. */
 typedef struct {
     uint64_t producers; /* 1 to 16: each has a lane of its own, from 0 on */
     uint64_t consumers; /* 1 to 64 */
     uint64_t cells;     /* 0 to 2^24: so many items can be put in all */
-    uint64_t pairs;     /* 1 to 8 pairs of deciding objects for each cell */
+    uint64_t pairs;     /* 1 to 8 pairs of deciding objects for each cell, or 0 if last is true and fast is not */
     uint32_t table;     /* an hz_table */
     bool fast;          /* two ratifiers before the pairs: faster if one consumer is alone */
     bool last;          /* an object that always decides after the pairs: no poll is HZ_UNDECIDED then */
@@ -171,16 +173,18 @@ HZ_CHECKED HZ_NONNULL
 uint32_t hz_mailbox_new(uint64_t id, const hz_setup *setup, hz_handle *hub);
 
 /* The producer of the next lane. Lanes are given in order, from 0 on.
- * HZ_DONE: producer leads to it. HZ_BAD_HANDLE. HZ_ALL_GIVEN: every lane was given. HZ_NO_MEMORY. */
+ * HZ_DONE: producer leads to it, and lane is its lane. HZ_BAD_HANDLE. HZ_ALL_GIVEN: every lane was given. HZ_NO_MEMORY.
+ * lane is written at HZ_DONE only. */
 HZ_CHECKED HZ_NONNULL
-uint32_t hz_producer_new(hz_handle *hub, hz_handle *producer);
+uint32_t hz_producer_new(hz_handle *hub, hz_handle *producer, uint64_t *lane);
 
 /* The consumer of the next number. Numbers are given in order, from 0 on. Its random words are those of ChaCha8 from this
- * seed and stream: give each consumer of a mailbox another seed or another stream. Equal words make polls longer, and
- * never wrong.
- * HZ_DONE: consumer leads to it. HZ_BAD_HANDLE. HZ_ALL_GIVEN: every number was given. HZ_NO_MEMORY. */
+ * seed, of the stream of its number. So all consumers of a mailbox may have one seed. It does not count if each claim is one
+ * exchange.
+ * HZ_DONE: consumer leads to it, and number is its number. HZ_BAD_HANDLE. HZ_ALL_GIVEN: every number was given.
+ * HZ_NO_MEMORY. number is written at HZ_DONE only. */
 HZ_CHECKED HZ_NONNULL
-uint32_t hz_consumer_new(hz_handle *hub, const uint8_t seed[32], uint64_t stream, hz_handle *consumer);
+uint32_t hz_consumer_new(hz_handle *hub, const uint8_t seed[32], hz_handle *consumer, uint64_t *number);
 
 /* Puts an item, any number, at the end of the producer's lane. It makes three accesses at most and takes no memory.
  * HZ_LINKED: it is there. HZ_FULL: no cell is left, the item is still the caller's, and each further put
@@ -202,6 +206,15 @@ uint32_t hz_finish(hz_handle *producer);
  * such lane. HZ_BAD_HANDLE. value is written at HZ_TOOK and HZ_LOST only. */
 HZ_CHECKED HZ_NONNULL
 uint32_t hz_poll(hz_handle *consumer, uint64_t lane, uint64_t budget, uint64_t *value);
+
+/* Makes accesses on a lane until this consumer takes an item, or most of them were made. It goes on past items that it
+ * loses: it does what calls of hz_poll do one after another, as long as they are HZ_LOST, each with what is left of most. It
+ * takes no memory.
+ * HZ_TOOK: the item is this consumer's alone, and value is the item. HZ_UNDECIDED, HZ_NOTHING, HZ_ENDED, HZ_NO_LANE,
+ * HZ_BAD_HANDLE: as hz_poll. HZ_SPENT: most is used up, and the next call for the lane goes on from there. value is written
+ * at HZ_TOOK only. */
+HZ_CHECKED HZ_NONNULL
+uint32_t hz_take(hz_handle *consumer, uint64_t lane, uint64_t most, uint64_t *value);
 
 /* Takes a producer or a consumer back, also before its lane has ended or while it holds a claim. What it did is kept for
  * the report, and its number is not given again.

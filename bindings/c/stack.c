@@ -25,7 +25,8 @@ static bool live(void) {
     hz_missing missing;
     hz_lane lane;
     hz_diary diary;
-    bool done = hz_producer_new(&hub, &producer) == HZ_DONE && hz_consumer_new(&hub, seed, 0, &consumer) == HZ_DONE
+    bool done = hz_producer_new(&hub, &producer, &value) == HZ_DONE
+        && hz_consumer_new(&hub, seed, &consumer, &value) == HZ_DONE
         && hz_put(&producer, 7) == HZ_LINKED && hz_poll(&consumer, 0, 1, &value) == HZ_SPENT
         && hz_poll(&consumer, 0, UINT64_MAX, &value) == HZ_TOOK && hz_finish(&producer) == HZ_DONE
         && hz_take_back(&hub, &producer) == HZ_DONE && hz_take_back(&hub, &consumer) == HZ_DONE

@@ -196,10 +196,11 @@ static bool add_mailbox(void) {
     if (!box)
         return is_done(HZ_NO_MEMORY, "malloc");
     *box = (struct mailbox){.number = hz_next_id()}; /* (each handle is HZ_NONE) */
+    uint64_t number;
     bool is_well = is_done(hz_mailbox_new(box->number, &setup, &box->hub), "hz_mailbox_new")
-                   && is_done(hz_producer_new(&box->hub, &box->producer), "hz_producer_new");
+                   && is_done(hz_producer_new(&box->hub, &box->producer, &number), "hz_producer_new");
     for (uint64_t w = 0; w < workers && is_well; w++)
-        is_well = is_done(hz_consumer_new(&box->hub, seed, w, &box->consumers[w]), "hz_consumer_new");
+        is_well = is_done(hz_consumer_new(&box->hub, seed, &box->consumers[w], &number), "hz_consumer_new");
     if (!is_well)
         return false;
     pthread_mutex_lock(&lock);

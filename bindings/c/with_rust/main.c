@@ -10,9 +10,9 @@ static uint64_t through_c(uint64_t number) {
     hz_handle hub = HZ_NONE, producer = HZ_NONE, consumer = HZ_NONE;
     const uint8_t seed[32] = {1};
     uint64_t value = 0;
-    bool done = hz_mailbox_new(hz_next_id(), &setup, &hub) == HZ_DONE && hz_producer_new(&hub, &producer) == HZ_DONE
-        && hz_consumer_new(&hub, seed, 0, &consumer) == HZ_DONE && hz_put(&producer, number) == HZ_LINKED
-        && hz_poll(&consumer, 0, UINT64_MAX, &value) == HZ_TOOK;
+    bool done = hz_mailbox_new(hz_next_id(), &setup, &hub) == HZ_DONE
+        && hz_producer_new(&hub, &producer, &value) == HZ_DONE && hz_consumer_new(&hub, seed, &consumer, &value) == HZ_DONE
+        && hz_put(&producer, number) == HZ_LINKED && hz_poll(&consumer, 0, UINT64_MAX, &value) == HZ_TOOK;
     hz_free(&producer);
     hz_free(&consumer);
     hz_free(&hub);

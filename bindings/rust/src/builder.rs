@@ -31,6 +31,9 @@ pub enum Shape {
     /// Both. This one is taken if you name none.
     #[default]
     FastLast,
+    /// That object alone: each claim on an item is one compare-exchange. It takes the least time and memory. The pairs and
+    /// the table that you name do not count.
+    Exchange,
 }
 
 /// How large a mailbox is to be. [`Mailbox::builder`] and [`Mailbox::numbers`] make one, and [`build`](Builder::build) may
@@ -88,7 +91,7 @@ impl<T> Builder<T> {
         Builder { cells, ..self }
     }
 
-    /// So many pairs of deciding objects in each cell, 1 to 8. If you name none, it is 4.
+    /// So many pairs of deciding objects in each cell, 1 to 8. If you name none, it is 4. [`Shape::Exchange`] has none.
     pub fn pairs(self, pairs: usize) -> Self {
         Builder { pairs, ..self }
     }
@@ -127,14 +130,19 @@ impl<T: Send> Builder<T> {
             producers: self.producers as u64,
             consumers: self.consumers as u64,
             cells: self.cells as u64,
-            pairs: self.pairs as u64,
+            pairs: match (self.shape, self.pairs) {
+                (Shape::Exchange, _) => 0,
+                // (by 0 the archive would make exchanges of `Last`. It refuses any other number out of range)
+                (_, 0) => u64::MAX,
+                (_, pairs) => pairs as u64,
+            },
             table: match self.table {
                 Table::Unary => UNARY,
                 Table::Bits => BITS,
                 Table::Middle => MIDDLE,
             },
             fast: matches!(self.shape, Shape::Fast | Shape::FastLast),
-            last: matches!(self.shape, Shape::Last | Shape::FastLast),
+            last: matches!(self.shape, Shape::Last | Shape::FastLast | Shape::Exchange),
         };
         let seed = self.seed.unwrap_or_else(seeds::from_system);
         Mailbox::new(&setup, self.carrier, seed)

@@ -149,6 +149,40 @@ impl<T> Consumer<T> {
     /// the lane goes on.
     pub fn poll_within(&mut self, lane: usize, budget: u64) -> Poll<T> {
         let polled = self.part.poll(lane as u64, budget);
+        self.noted(lane, polled)
+    }
+
+    /// Takes an item of a lane. It goes on past those that it loses, so it is never [`Poll::Lost`]. It waits for nobody, and
+    /// is never [`Poll::Spent`].
+    ///
+    /// ```
+    /// # fn main() -> Result<(), Box<dyn std::error::Error>> {
+    /// use hazbultra::{Mailbox, Poll};
+    ///
+    /// let mailbox = Mailbox::builder().consumers(2).build()?;
+    /// let mut producer = mailbox.producer()?;
+    /// let (mut one, mut two) = (mailbox.consumer()?, mailbox.consumer()?);
+    /// producer.put("work")?;
+    /// producer.put("more work")?;
+    ///
+    /// assert_eq!(one.take(0), Poll::Took("work"));
+    /// assert_eq!(two.take(0), Poll::Took("more work"));
+    /// assert_eq!(one.take(0), Poll::Nothing);
+    /// # Ok(())
+    /// # }
+    /// ```
+    pub fn take(&mut self, lane: usize) -> Poll<T> {
+        self.take_within(lane, u64::MAX)
+    }
+
+    /// The same with at most so many accesses. After [`Poll::Spent`] the next call for the lane goes on.
+    pub fn take_within(&mut self, lane: usize, most: u64) -> Poll<T> {
+        let taken = self.part.take(lane as u64, most);
+        self.noted(lane, taken)
+    }
+
+    /// The same result. If the lane has ended, that is noted.
+    fn noted(&mut self, lane: usize, polled: Poll<T>) -> Poll<T> {
         if let Poll::Ended = polled {
             self.ended |= 1 << lane;
         }
@@ -163,12 +197,12 @@ impl<T> Consumer<T> {
         let mut quiet = 0;
         while quiet < lanes {
             let lane = self.next;
-            self.next = (lane + 1) % lanes;
+            self.next = if lane + 1 < lanes { lane + 1 } else { 0 };
             if self.ended & (1 << lane) != 0 {
                 quiet += 1;
                 continue;
             }
-            match self.poll(lane) {
+            match self.take(lane) {
                 Poll::Took(value) => return Sweep::Took(value),
                 Poll::Nothing | Poll::Ended | Poll::NoLane => quiet += 1,
                 Poll::Lost(_) | Poll::Undecided | Poll::Spent => quiet = 0,
@@ -214,7 +248,7 @@ impl<T> Consumer<T> {
 
 impl<T> Drop for Consumer<T> {
     fn drop(&mut self) {
-        self.home.desk().hub.take_consumer(&mut self.part);
+        self.home.hub().take_consumer(&mut self.part);
     }
 }
 

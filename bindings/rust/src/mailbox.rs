@@ -25,22 +25,16 @@ pub struct Mailbox<T> {
 
 /// The home of all parts of a mailbox. Only giving parts, taking them back and the report ask for its lock.
 pub(crate) struct Home<T> {
-    desk: Mutex<Desk<T>>,
+    hub: Mutex<ffi::Hub<T>>,
     seed: [u8; 32],
     pub(crate) lanes: usize,
-}
-
-/// What the lock of a home guards.
-pub(crate) struct Desk<T> {
-    pub(crate) hub: ffi::Hub<T>,
-    producers: usize,
     consumers: usize,
 }
 
 impl<T> Home<T> {
-    /// The desk, as soon as nobody else is at it. Whoever panicked there left it as it was between two calls.
-    pub(crate) fn desk(&self) -> MutexGuard<'_, Desk<T>> {
-        self.desk.lock().unwrap_or_else(PoisonError::into_inner)
+    /// The hub, as soon as nobody else has it. Whoever panicked there left it as it was between two calls.
+    pub(crate) fn hub(&self) -> MutexGuard<'_, ffi::Hub<T>> {
+        self.hub.lock().unwrap_or_else(PoisonError::into_inner)
     }
 }
 
@@ -85,14 +79,14 @@ impl<T> Mailbox<T> {
         carrier: Carrier<T>,
         seed: [u8; 32],
     ) -> Result<Mailbox<T>, BuildError> {
-        let desk = Mutex::new(Desk {
-            hub: ffi::Hub::new(setup, carrier)?,
-            producers: 0,
-            consumers: 0,
-        });
-        let lanes = ffi::number(setup.producers);
+        let home = Home {
+            hub: Mutex::new(ffi::Hub::new(setup, carrier)?),
+            seed,
+            lanes: ffi::number(setup.producers),
+            consumers: ffi::number(setup.consumers),
+        };
         Ok(Mailbox {
-            home: Arc::new(Home { desk, seed, lanes }),
+            home: Arc::new(home),
         })
     }
 
@@ -101,14 +95,12 @@ impl<T> Mailbox<T> {
     /// # Errors
     /// All lanes were given, or there is not enough memory.
     pub fn producer(&self) -> Result<Producer<T>, IssueError> {
-        let mut desk = self.home.desk();
-        let lane = desk.producers;
-        let part = desk.hub.producer().map_err(|why| match why {
-            NotIssued::AllGiven => IssueError::AllProducersGiven(lane),
+        let home = &self.home;
+        let (part, lane) = home.hub().producer().map_err(|why| match why {
+            NotIssued::AllGiven => IssueError::AllProducersGiven(home.lanes),
             NotIssued::NoMemory => IssueError::NoMemory,
         })?;
-        desk.producers += 1;
-        Ok(Producer::new(lane, part, Arc::clone(&self.home)))
+        Ok(Producer::new(lane, part, Arc::clone(home)))
     }
 
     /// The consumer of the next number. Numbers are given in order, from 0 on.
@@ -116,17 +108,12 @@ impl<T> Mailbox<T> {
     /// # Errors
     /// All numbers were given, or there is not enough memory.
     pub fn consumer(&self) -> Result<Consumer<T>, IssueError> {
-        let mut desk = self.home.desk();
-        let number = desk.consumers;
-        let part = desk
-            .hub
-            .consumer(&self.home.seed, number as u64)
-            .map_err(|why| match why {
-                NotIssued::AllGiven => IssueError::AllConsumersGiven(number),
-                NotIssued::NoMemory => IssueError::NoMemory,
-            })?;
-        desk.consumers += 1;
-        Ok(Consumer::new(number, part, Arc::clone(&self.home)))
+        let home = &self.home;
+        let (part, number) = home.hub().consumer(&home.seed).map_err(|why| match why {
+            NotIssued::AllGiven => IssueError::AllConsumersGiven(home.consumers),
+            NotIssued::NoMemory => IssueError::NoMemory,
+        })?;
+        Ok(Consumer::new(number, part, Arc::clone(home)))
     }
 
     /// Ends each lane whose producer was not given yet. No producer is given after it. A consumer that goes over all
@@ -169,7 +156,7 @@ impl<T> Mailbox<T> {
     /// # Errors
     /// A producer or a consumer is still alive, or there is not enough memory. The mailbox is in the error.
     pub fn gather(self) -> Result<Report<T>, GatherError<T>> {
-        let gathered = self.home.desk().hub.gather();
+        let gathered = self.home.hub().gather();
         gathered.map_err(|why| match why {
             Refusal::Missing(producers, consumers) => GatherError::Missing {
                 producers,

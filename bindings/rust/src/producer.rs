@@ -58,7 +58,7 @@ impl<T> Producer<T> {
 impl<T> Drop for Producer<T> {
     fn drop(&mut self) {
         self.part.finish();
-        self.home.desk().hub.take_producer(&mut self.part);
+        self.home.hub().take_producer(&mut self.part);
     }
 }
 

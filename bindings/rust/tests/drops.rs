@@ -89,7 +89,13 @@ fn a_value_that_finds_no_cell_comes_back() {
 /// Also one that has won the item, and did not load it: that is its last stop before the end.
 #[test]
 fn a_consumer_that_stops_midway_leaves_the_value() {
-    for shape in [Shape::Plain, Shape::Fast, Shape::Last, Shape::FastLast] {
+    for shape in [
+        Shape::Plain,
+        Shape::Fast,
+        Shape::Last,
+        Shape::FastLast,
+        Shape::Exchange,
+    ] {
         for budget in 0.. {
             let drops = Drops::default();
             let mailbox = Mailbox::builder()

@@ -1,5 +1,5 @@
 //! Polls of consumers that come to one item together.
-use hazbultra::{Mailbox, Note, Poll, Shape};
+use hazbultra::{BuildError, Mailbox, Note, Poll, Shape};
 use std::thread;
 
 /// How many accesses a poll makes at most, with so many consumers. The docs of `Consumer::poll` say it.
@@ -84,7 +84,7 @@ fn threads_that_contend_need_no_larger_budget_than_the_docs_say() {
 
 #[test]
 fn a_second_consumer_gets_the_item_of_one_that_stopped_or_its_number() {
-    for shape in [Shape::Last, Shape::FastLast] {
+    for shape in [Shape::Last, Shape::FastLast, Shape::Exchange] {
         let (mut by_first, mut by_second) = (0, 0);
         for budget in 0.. {
             let builder = Mailbox::numbers().consumers(2).shape(shape);
@@ -109,4 +109,67 @@ fn a_second_consumer_gets_the_item_of_one_that_stopped_or_its_number() {
         }
         assert!(by_first > 0 && by_second > 0, "there were stops of both");
     }
+}
+
+/// Items 0 to 7. In turn each consumer takes the next one that nobody has, past those that others took.
+#[test]
+fn a_take_goes_past_what_is_lost() {
+    for shape in [Shape::FastLast, Shape::Exchange] {
+        let mailbox = Mailbox::numbers().consumers(3).shape(shape);
+        let mailbox = mailbox.build().unwrap();
+        let mut producer = mailbox.producer().unwrap();
+        (0..8).for_each(|item| producer.put(item).unwrap());
+        let mut consumers = [(); 3].map(|()| mailbox.consumer().unwrap());
+        for item in 0..8 {
+            assert_eq!(consumers[item % 3].take(0), Poll::Took(item as u64));
+        }
+        for consumer in &mut consumers {
+            assert_eq!(consumer.take(0), Poll::Nothing);
+            assert_eq!(consumer.take(1), Poll::NoLane);
+        }
+        producer.finish();
+        for consumer in &mut consumers {
+            assert_eq!(consumer.take_within(0, 0), Poll::Spent);
+            assert_eq!(consumer.take(0), Poll::Ended);
+        }
+        drop(consumers);
+        let report = mailbox.gather().unwrap();
+        for (place, taker) in (0..8).map(|place| (place, place % 3)) {
+            assert_eq!(report.taker(0, place), Some(taker));
+            for other in (0..3).filter(|&other| other != taker) {
+                let notes = &report.diary(other, 0).unwrap().notes;
+                assert_eq!(notes[place], Note::Lost(taker));
+            }
+        }
+    }
+}
+
+/// A link, an exchange that is lost, a link, an exchange that is won, and its item.
+#[test]
+fn a_take_spends_one_access_after_the_other() {
+    let mailbox = Mailbox::numbers().consumers(2).shape(Shape::Exchange);
+    let mailbox = mailbox.build().unwrap();
+    let mut producer = mailbox.producer().unwrap();
+    producer.put(70).unwrap();
+    producer.put(71).unwrap();
+    let (mut one, mut two) = (mailbox.consumer().unwrap(), mailbox.consumer().unwrap());
+    assert_eq!(two.take_within(0, 3), Poll::Took(70));
+    for _ in 0..4 {
+        assert_eq!(one.take_within(0, 1), Poll::Spent);
+    }
+    assert_eq!(one.take_within(0, 1), Poll::Took(71));
+}
+
+#[test]
+fn no_pairs_are_refused_but_of_exchanges() {
+    for shape in [Shape::Plain, Shape::Fast, Shape::Last, Shape::FastLast] {
+        let builder = Mailbox::numbers().pairs(0).shape(shape);
+        assert_eq!(builder.build().unwrap_err(), BuildError::BadPairs);
+    }
+    let builder = Mailbox::numbers().pairs(9).shape(Shape::Exchange);
+    assert!(builder.build().is_ok());
+    assert!(matches!(
+        builder.producers(17).build(),
+        Err(BuildError::BadProducers)
+    ));
 }

@@ -135,7 +135,13 @@ fn a_report_has_all_lanes_and_consumers() {
 #[test]
 fn all_tables_and_shapes_are_there() {
     for table in [Table::Unary, Table::Bits, Table::Middle] {
-        for shape in [Shape::Plain, Shape::Fast, Shape::Last, Shape::FastLast] {
+        for shape in [
+            Shape::Plain,
+            Shape::Fast,
+            Shape::Last,
+            Shape::FastLast,
+            Shape::Exchange,
+        ] {
             let builder = Mailbox::numbers().consumers(5).cells(4).pairs(8);
             let mailbox = builder.table(table).shape(shape).build().unwrap();
             let mut producer = mailbox.producer().unwrap();

@@ -15,8 +15,9 @@ pub use prog.{Memory.Memory, Routine.Routine, Wp.Tables, Wp.WpFn}
 pub use sound.WpLaws.{WpFn-mono, fm_of}
 pub use types.{Logic.Logic, Logic.sem, Part.agg, Part.sub, Part.whole}
 pub use types.Kit.{Item, ⋆, at_ret, ‵, raw, ◌⊛◌, some, later, ◌$◌, ◌∵◌, !, qed, by, move, drop, use1, join, split, split3, pick, rewrite, fsplit, fjoin, fpick, fpack, feq_i, feq_l}
-pub use types.Kit.{suffices, await, done}
 pub use types.Run.{and_then, blocks, enter, exec, first, fld, lit, no_more, of_opd, returns, stop}
 pub use types.ByLocal.{alloc_all, env, free_all, get, get_in, lands_as, lands_last, look_at, pass_all, sets}
+pub use Lends.*
 pub use Triples.*
+pub mod Lends
 pub mod Triples

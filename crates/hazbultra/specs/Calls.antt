@@ -1,8 +1,10 @@
 -- What a call does to what its handles lead to, and the numbers with which C names tables and results.
-use Rattle.std.specs.Prelude.{◌≡◌, ℕ, if◌then◌else◌, nat_eq, Option, None, Some, slice_get}
+use Rattle.std.specs.Prelude.{◌≡◌, ℕ, if◌then◌else◌, nat_eq, replicate, List, Option, None, Some, slice_get}
 use Rattle.rand_core.specs.Steps.{steps_u32, stream_of}
 use Rattle.rand_core.specs.Stream.{Stream}
-use Rattle.rand_chacha.specs.ChaCha.{ChaCha, next_word}
+use Rattle.rand_chacha.specs.ChaCha.{ChaCha, next_word, of_seed}
+use Rattle.mb_claim.specs.Vocabulary.{most_accesses}
+use Rattle.mb_claim.specs.declared.layout.Layout.{Layout}
 use Rattle.mb_quorum.specs.declared.table.TableName.{TableName}
 use Rattle.mb_quorum.specs.declared.table.TableName.TheVariants.{Bits, Middle, Unary}
 use Rattle.mb_world.specs.Report.{ReportView}
@@ -105,9 +107,20 @@ HasTakenBack h (Some (OfConsumer c)) k =
 HasTakenBack h _ k = ⊥
 
 -- ---- random words
--- the words that a generator of eight rounds gives from now on
-abbrev pub words_of_generator : ChaCha → Stream
-words_of_generator rng = stream_of (steps_u32 (next_word 4)) rng
+-- each word is 0
+abbrev pub zeros : Stream
+zeros = record { u32_after = λ _. 0; u64_after = λ _. 0; bytes_after = λ _ n. replicate n 0 }
+
+-- the words that a consumer draws from now on: those of its generator of eight rounds, if it has one
+abbrev pub words_of : Option ChaCha → Stream
+words_of None = zeros
+words_of (Some rng) = stream_of (steps_u32 (next_word 4)) rng
+
+-- the source of the consumer of this number: ChaCha8 from this seed, of the stream of that number. If a claim makes one
+-- access at most, that is an exchange, which looks at no word. Then there is none
+abbrev pub source_of : Layout → List ℕ → ℕ → Option ChaCha
+source_of layout seed number = if nat_eq (most_accesses layout) 1 then None
+    else Some (record (of_seed seed) { stream = number })
 
 -- ---- what numbers mean to C
 -- the quorum table that C names by this number, if it names one

@@ -5,3 +5,4 @@ pub mod Refusals
 pub mod Reports
 pub mod Handles
 pub mod Defaults
+pub mod Lending

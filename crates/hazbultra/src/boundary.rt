@@ -12,9 +12,9 @@ pub struct SetupIn {
     pub consumers: u64,
     /// How many cells: 0 to 2^24.
     pub cells: u64,
-    /// How many pairs each cell has: 1 to 8.
+    /// How many pairs each cell has: 1 to 8. With 0, `last` and no `fast` each claim is one exchange.
     pub pairs: u64,
-    /// The number of a quorum table: unary 0, bits 1, middle 2.
+    /// The number of a quorum table: unary 0, bits 1, middle 2. It does not count if each claim is one exchange.
     pub table: u32,
     /// Whether two ratifiers come first on each cell.
     pub fast: bool,

@@ -3,11 +3,13 @@ ghost use Rattle.std.specs.Prelude.{◌≡◌, ◌≢◌, ◌↔◌, ◌⊎◌, 
 ghost use Rattle.mb_claim.specs.Vocabulary.{most_accesses, shape_of};
 ghost use Rattle.mb_mailbox.specs.declared.consumer.Poll.{Poll};
 ghost use Rattle.mb_mailbox.specs.declared.consumer.Poll.TheVariants.{NoLane, Spent, Undecided};
+ghost use Rattle.mb_mailbox.specs.Jobs.{accesses_made};
 ghost use Rattle.mb_mailbox.specs.Producers.{FoundNoCell, HasNoCellFor, IsEndOfLane};
 ghost use Rattle.mb_mailbox.specs.Producers.{IsPutInto, is_over};
 ghost use Rattle.mb_mailbox.specs.Steps.{AnswerTells, IsPollOf, outcome};
+ghost use Rattle.mb_mailbox.specs.Takes.{IsTakeOf};
 ghost use Rattle.hazbultra.specs.Calls.{ConsumerMade, ConsumerWent, IsConsumer, IsProducer};
-ghost use Rattle.hazbultra.specs.Calls.{ProducerMade, ProducerWent, answer_told, words_of_generator};
+ghost use Rattle.hazbultra.specs.Calls.{ProducerMade, ProducerWent, answer_told, words_of};
 ghost use Rattle.hazbultra.specs.declared.codes.TheConstants.{BAD_HANDLE, CLOSED, DONE};
 ghost use Rattle.hazbultra.specs.declared.codes.TheConstants.{FULL, LINKED, LOST, NO_LANE};
 ghost use Rattle.hazbultra.specs.declared.codes.TheConstants.{SPENT, TOOK, UNDECIDED};
@@ -16,7 +18,7 @@ use crate::codes::{
     BAD_HANDLE, CLOSED, DONE, ENDED, FULL, LINKED, LOST, NO_LANE, NOTHING, SPENT, TOOK, UNDECIDED,
 };
 use crate::handle::Handle;
-use crate::thing::Thing;
+use crate::thing::{Thing, Zeros};
 use mb_cells::Finish;
 use mb_mailbox::{Poll, Put};
 
@@ -42,19 +44,17 @@ pub extern "C" fn hz_put(producer: &mut Handle, item: u64) -> u32
     ensures codes { (result ≡ LINKED) ⊎ (result ≡ FULL) ⊎ (result ≡ CLOSED)
         ⊎ (result ≡ BAD_HANDLE) }
 {
-    let Some(mut opened) = producer.take() else {
+    let Some(opened) = producer.lend() else {
         return BAD_HANDLE;
     };
-    let code = match &mut *opened {
+    match opened {
         Thing::OfProducer(bound) => match bound.put(item) {
             Put::Linked => LINKED,
             Put::Full => FULL,
             Put::Closed => CLOSED,
         },
         _ => BAD_HANDLE,
-    };
-    producer.give(opened);
-    code
+    }
 }
 
 /// Ends the lane. The call returns `DONE`, `CLOSED` if the lane has ended before, and `BAD_HANDLE` if the handle leads
@@ -72,19 +72,17 @@ pub extern "C" fn hz_finish(producer: &mut Handle) -> u32
     ensures same { result ≡ BAD_HANDLE → producer.new.block.thing ≡ producer.old.block.thing }
     ensures codes { (result ≡ DONE) ⊎ (result ≡ CLOSED) ⊎ (result ≡ BAD_HANDLE) }
 {
-    let Some(mut opened) = producer.take() else {
+    let Some(opened) = producer.lend() else {
         return BAD_HANDLE;
     };
-    let code = match &mut *opened {
+    match opened {
         Thing::OfProducer(bound) => match bound.finish() {
             Finish::Ended => DONE,
             Finish::Closed => CLOSED,
             Finish::Busy => unreachable!(),
         },
         _ => BAD_HANDLE,
-    };
-    producer.give(opened);
-    code
+    }
 }
 
 /// Polls a lane, with at most `budget` accesses. `value` becomes the item taken, or the number of the consumer to which
@@ -95,8 +93,8 @@ pub extern "C" fn hz_poll(consumer: &mut Handle, lane: u64, budget: u64, value: 
     // The answer is that of the poll, with the next words of the consumer's source.
     ensures polled { (answer : Poll) → answer_told result value.new ≡ Some answer
         → answer ≢ NoLane
-        → ConsumerWent (λ c d. IsPollOf lane budget answer (words_of_generator c.source)
-        (words_of_generator d.source)
+        → ConsumerWent (λ c d. IsPollOf lane budget answer (words_of c.source)
+        (words_of d.source)
         c.consumer.consumer d.consumer.consumer)
         consumer.old.block.thing consumer.new.block.thing }
     ensures unspent { result ≡ SPENT → ConsumerMade (λ c.
@@ -113,25 +111,74 @@ pub extern "C" fn hz_poll(consumer: &mut Handle, lane: u64, budget: u64, value: 
         c.consumer.mailbox.cells.size.lanes ≤ lane) consumer.old.block.thing }
     ensures refused { result ≡ NO_LANE
         → ConsumerWent (λ c d. (d.consumer ≡ c.consumer)
-        × (words_of_generator d.source ≡ words_of_generator c.source))
+        × (words_of d.source ≡ words_of c.source))
         consumer.old.block.thing consumer.new.block.thing }
     ensures bad { result ≡ BAD_HANDLE → IsConsumer consumer.old.block.thing → ⊥ }
     ensures same { result ≡ BAD_HANDLE → consumer.new.block.thing ≡ consumer.old.block.thing }
     ensures codes { (result ≡ BAD_HANDLE)
         ⊎ ((answer : Poll) × (answer_told result value.new ≡ Some answer)) }
 {
-    let Some(mut opened) = consumer.take() else {
+    let Some(opened) = consumer.lend() else {
         return BAD_HANDLE;
     };
-    let code = match &mut *opened {
+    match opened {
         Thing::OfConsumer(seeded) => {
-            let answer = seeded.consumer.poll(lane, budget, &mut seeded.source);
+            let answer = match &mut seeded.source {
+                Some(source) => seeded.consumer.poll(lane, budget, source),
+                None => seeded.consumer.poll(lane, budget, &mut Zeros),
+            };
             tell(answer, value)
         }
         _ => BAD_HANDLE,
+    }
+}
+
+/// Takes an item of a lane, past those that the consumer loses, with at most `most` accesses. `value` becomes the item
+/// taken. Else it is not written. The code is that of the result, or `BAD_HANDLE` if the handle leads to no consumer.
+/// It is never `LOST`.
+#[unsafe(no_mangle)]
+pub extern "C" fn hz_take(consumer: &mut Handle, lane: u64, most: u64, value: &mut u64) -> u32
+    // The answer is that of the take, with the next words of the consumer's source.
+    ensures taken { (answer : Poll) → answer_told result value.new ≡ Some answer
+        → answer ≢ NoLane
+        → ConsumerWent (λ c d. IsTakeOf lane most answer (words_of c.source) (words_of d.source)
+        c.consumer.consumer d.consumer.consumer)
+        consumer.old.block.thing consumer.new.block.thing }
+    ensures spent { result ≡ SPENT → ConsumerWent (λ c d. accesses_made d.consumer.consumer
+        ≡ accesses_made c.consumer.consumer + most)
+        consumer.old.block.thing consumer.new.block.thing }
+    ensures decided { result ≡ UNDECIDED → ConsumerMade (λ c.
+        (shape_of c.consumer.mailbox.claims.layout).last ≡ false) consumer.old.block.thing }
+    ensures kept { result ≢ TOOK → value.new ≡ value.old }
+    ensures told { (answer : Poll) → answer_told result value.new ≡ Some answer
+        → answer ≢ NoLane
+        → ConsumerWent (λ c d.
+        AnswerTells lane (outcome answer) c.consumer.consumer d.consumer.consumer)
+        consumer.old.block.thing consumer.new.block.thing }
+    ensures no_lane { (result ≡ NO_LANE) ↔ ConsumerMade (λ c.
+        c.consumer.mailbox.cells.size.lanes ≤ lane) consumer.old.block.thing }
+    ensures refused { result ≡ NO_LANE
+        → ConsumerWent (λ c d. (d.consumer ≡ c.consumer) × (words_of d.source ≡ words_of c.source))
+        consumer.old.block.thing consumer.new.block.thing }
+    ensures bad { result ≡ BAD_HANDLE → IsConsumer consumer.old.block.thing → ⊥ }
+    ensures same { result ≡ BAD_HANDLE → consumer.new.block.thing ≡ consumer.old.block.thing }
+    ensures codes { (result ≡ BAD_HANDLE)
+        ⊎ ((answer : Poll) × (answer_told result value.new ≡ Some answer)) }
+    ensures not_lost { result ≢ LOST }
+{
+    let Some(opened) = consumer.lend() else {
+        return BAD_HANDLE;
     };
-    consumer.give(opened);
-    code
+    match opened {
+        Thing::OfConsumer(seeded) => {
+            let answer = match &mut seeded.source {
+                Some(source) => seeded.consumer.take(lane, most, source),
+                None => seeded.consumer.take(lane, most, &mut Zeros),
+            };
+            tell(answer, value)
+        }
+        _ => BAD_HANDLE,
+    }
 }
 
 /// Writes the value of an answer, if it has one, and returns its code.

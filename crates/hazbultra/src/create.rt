@@ -1,12 +1,11 @@
 //! The calls that make a mailbox, its producers and its consumers.
 ghost use Rattle.std.specs.Prelude.{ℕ, ◌≡◌, ◌≢◌, ◌↔◌, ◌⊎◌, ◌≤◌, IfErr, IfOk, None, Some, length};
-ghost use Rattle.rand_chacha.specs.ChaCha.{of_seed};
 ghost use Rattle.mb_quorum.specs.declared.table.TableName.{TableName};
-ghost use Rattle.mb_world.specs.Vocabulary.{plan_in, shaped_plan};
+ghost use Rattle.mb_world.specs.Vocabulary.{plan_in};
 ghost use Rattle.mb_mailbox.specs.Vocabulary.{consumer_count, new_producer, plan_at};
 ghost use Rattle.mb_mailbox.specs.Hubs.{IsNewConsumer, hub_empty, with_consumer, with_producer};
-ghost use Rattle.hazbultra.specs.Calls.{ConsumerMade, HubGave, HubGaveConsumer, HubMade, HubWent, IsHub, ProducerMade, table_numbered};
-ghost use Rattle.hazbultra.specs.Refusals.{refusal_of};
+ghost use Rattle.hazbultra.specs.Calls.{ConsumerMade, HubGave, HubGaveConsumer, HubMade, HubWent, IsHub, ProducerMade, source_of, table_numbered};
+ghost use Rattle.hazbultra.specs.Refusals.{plan_asked, refusal_of};
 ghost use Rattle.hazbultra.specs.declared.codes.TheConstants.{ALL_GIVEN, BAD_HANDLE, DONE, NO_MEMORY};
 
 use crate::boundary::SetupIn;
@@ -26,9 +25,7 @@ use std::alloc::Global;
 fn setup_of(wanted: &SetupIn) -> Result<Setup, u32>
     ensures made { IfOk result (λ setup. (name : TableName)
         → table_numbered wanted.now.table ≡ Some name
-        → plan_in setup ≡ shaped_plan
-        (record { fast = wanted.now.fast; last = wanted.now.last })
-        wanted.now.producers wanted.now.consumers wanted.now.cells wanted.now.pairs name) }
+        → plan_in setup ≡ plan_asked wanted.now name) }
     ensures accepted { IfOk result (λ _. refusal_of wanted.now ≡ None) }
     ensures refused { IfErr result (λ code. (refusal_of wanted.now ≡ Some code)
         × (code ≢ DONE) × (code ≢ BAD_HANDLE)) }
@@ -40,14 +37,17 @@ fn setup_of(wanted: &SetupIn) -> Result<Setup, u32>
         fast: wanted.fast,
         last: wanted.last,
     };
-    match Setup::large(
-        wanted.producers,
-        wanted.consumers,
-        wanted.cells,
-        wanted.pairs,
-        table,
-    ) {
-        Ok(setup) => Ok(setup.shaped(shape)),
+    let (producers, consumers, cells) = (wanted.producers, wanted.consumers, wanted.cells);
+    let made = if wanted.pairs == 0 && wanted.last && !wanted.fast {
+        Setup::exchange(producers, consumers, cells)
+    } else {
+        match Setup::large(producers, consumers, cells, wanted.pairs, table) {
+            Ok(setup) => Ok(setup.shaped(shape)),
+            Err(why) => Err(why),
+        }
+    };
+    match made {
+        Ok(setup) => Ok(setup),
         Err(why) => Err(code_of_setup(why)),
     }
 }
@@ -58,9 +58,7 @@ fn setup_of(wanted: &SetupIn) -> Result<Setup, u32>
 #[unsafe(no_mangle)]
 pub extern "C" fn hz_mailbox_new(alloc: Global, id: u64, setup: &SetupIn, hub: &mut Handle) -> u32
     ensures made { result ≡ DONE → (name : TableName) → table_numbered setup.now.table ≡ Some name
-        → HubMade (λ h. (h.id ≡ id) × (plan_at h.mailbox ≡ shaped_plan
-        (record { fast = setup.now.fast; last = setup.now.last })
-        setup.now.producers setup.now.consumers setup.now.cells setup.now.pairs name)
+        → HubMade (λ h. (h.id ≡ id) × (plan_at h.mailbox ≡ plan_asked setup.now name)
         × (h.hub ≡ hub_empty h.mailbox)) hub.new.block.thing }
     ensures bad { (result ≡ BAD_HANDLE) ↔ (hub.old.block.thing ≢ None) }
     ensures refused { hub.old.block.thing ≡ None → (code : ℕ) → refusal_of setup.now ≡ Some code
@@ -86,17 +84,24 @@ pub extern "C" fn hz_mailbox_new(alloc: Global, id: u64, setup: &SetupIn, hub: &
     DONE
 }
 
-/// Makes the producer of the next lane. The call returns `BAD_HANDLE` if `hub` leads to no hub or `producer` to
-/// something already, `ALL_GIVEN` if each lane's producer was given, and `NO_MEMORY` if memory ran out. After each of
-/// these nothing has changed.
+/// Makes the producer of the next lane, and writes the lane's number. The call returns `BAD_HANDLE` if `hub` leads to
+/// no hub or `producer` to something already, `ALL_GIVEN` if each lane's producer was given, and `NO_MEMORY` if memory
+/// ran out. After each of these nothing has changed.
 #[unsafe(no_mangle)]
-pub extern "C" fn hz_producer_new(alloc: Global, hub: &mut Handle, producer: &mut Handle) -> u32
+pub extern "C" fn hz_producer_new(
+    alloc: Global,
+    hub: &mut Handle,
+    producer: &mut Handle,
+    lane: &mut u64,
+) -> u32
     ensures given { result ≡ DONE
         → HubGave (λ h p. p ≡ record {
           id = h.id;
           mailbox = h.mailbox;
           producer = new_producer h.mailbox (length h.hub.puts);
         }) hub.old.block.thing producer.new.block.thing }
+    ensures lane { result ≡ DONE
+        → HubMade (λ h. lane.new ≡ length h.hub.puts) hub.old.block.thing }
     ensures hub { result ≡ DONE
         → HubWent (λ h k. k ≡ record h { hub = with_producer h.hub })
         hub.old.block.thing hub.new.block.thing }
@@ -109,35 +114,41 @@ pub extern "C" fn hz_producer_new(alloc: Global, hub: &mut Handle, producer: &mu
         ⊎ (result ≡ NO_MEMORY) }
     ensures same_hub { result ≢ DONE → hub.new.block.thing ≡ hub.old.block.thing }
     ensures same { result ≢ DONE → producer.new.block.thing ≡ producer.old.block.thing }
+    ensures kept { result ≢ DONE → lane.new ≡ lane.old }
 {
     if !producer.is_none() {
         return BAD_HANDLE;
     }
-    let Some(mut opened) = hub.take() else {
+    let Some(opened) = hub.lend() else {
         return BAD_HANDLE;
     };
-    let code = match &mut *opened {
-        Thing::OfHub(bound) => give_producer(alloc, bound, producer),
+    match opened {
+        Thing::OfHub(bound) => give_producer(alloc, bound, producer, lane),
         _ => BAD_HANDLE,
-    };
-    hub.give(opened);
-    code
+    }
 }
 
 /// What [`hz_producer_new`] does, for an opened hub. The box is made first, so that no number is lost if memory runs
 /// out.
-fn give_producer(alloc: Global, hub: &mut BoundHub<Global>, producer: &mut Handle) -> u32
+fn give_producer(
+    alloc: Global,
+    hub: &mut BoundHub<Global>,
+    producer: &mut Handle,
+    lane: &mut u64,
+) -> u32
     ensures given { result ≡ DONE → ProducerMade (λ p. p ≡ record {
       id = hub.old.id;
       mailbox = hub.old.mailbox;
       producer = new_producer hub.old.mailbox (length hub.old.hub.puts);
     }) producer.new.block.thing }
+    ensures lane { result ≡ DONE → lane.new ≡ length hub.old.hub.puts }
     ensures hub { result ≡ DONE → hub.new ≡ record hub.old { hub = with_producer hub.old.hub } }
     ensures all_given { (result ≡ ALL_GIVEN)
         ↔ (hub.old.mailbox.cells.size.lanes ≤ length hub.old.hub.puts) }
     ensures codes { (result ≡ DONE) ⊎ (result ≡ ALL_GIVEN) ⊎ (result ≡ NO_MEMORY) }
     ensures same_hub { result ≢ DONE → hub.new ≡ hub.old }
     ensures same { result ≢ DONE → producer.new.block.thing ≡ producer.old.block.thing }
+    ensures kept { result ≢ DONE → lane.new ≡ lane.old }
 {
     if hub.lanes_left() == 0 {
         return ALL_GIVEN;
@@ -147,6 +158,7 @@ fn give_producer(alloc: Global, hub: &mut BoundHub<Global>, producer: &mut Handl
     };
     match hub.producer(alloc) {
         Ok(made) => {
+            *lane = u64::from(made.lane());
             *room = Thing::OfProducer(made);
             producer.give(room);
             DONE
@@ -155,22 +167,25 @@ fn give_producer(alloc: Global, hub: &mut BoundHub<Global>, producer: &mut Handl
     }
 }
 
-/// Makes the consumer of the next number, with the random words of ChaCha8 from this seed and stream. The call returns
-/// `BAD_HANDLE` if `hub` leads to no hub or `consumer` to something already, `ALL_GIVEN` if all consumers were given,
-/// and `NO_MEMORY` if memory ran out. After each of these nothing has changed.
+/// Makes the consumer of the next number, and writes that number. Its random words are those of ChaCha8 from this seed,
+/// of the stream of its number. If each claim is one exchange, they are 0. The call returns `BAD_HANDLE` if `hub` leads to
+/// no hub or `consumer` to something already, `ALL_GIVEN` if all consumers were given, and `NO_MEMORY` if memory ran
+/// out. After each of these nothing has changed.
 #[unsafe(no_mangle)]
 pub extern "C" fn hz_consumer_new(
     alloc: Global,
     hub: &mut Handle,
     seed: &[u8; 32],
-    stream: u64,
     consumer: &mut Handle,
+    number: &mut u64,
 ) -> u32
     ensures given { result ≡ DONE
         → HubGaveConsumer (λ h c. (c.consumer.id ≡ h.id) × (c.consumer.mailbox ≡ h.mailbox)
-        × (c.source ≡ record (of_seed seed.now) { stream = stream })
+        × (c.source ≡ source_of h.mailbox.claims.layout seed.now (length h.hub.ledgers))
         × IsNewConsumer h.mailbox h.hub c.consumer.consumer)
         hub.old.block.thing consumer.new.block.thing }
+    ensures number { result ≡ DONE
+        → HubMade (λ h. number.new ≡ length h.hub.ledgers) hub.old.block.thing }
     ensures hub { result ≡ DONE
         → HubWent (λ h k. k ≡ record h { hub = with_consumer h.hub })
         hub.old.block.thing hub.new.block.thing }
@@ -183,21 +198,18 @@ pub extern "C" fn hz_consumer_new(
         ⊎ (result ≡ NO_MEMORY) }
     ensures same_hub { result ≢ DONE → hub.new.block.thing ≡ hub.old.block.thing }
     ensures same { result ≢ DONE → consumer.new.block.thing ≡ consumer.old.block.thing }
+    ensures kept { result ≢ DONE → number.new ≡ number.old }
 {
     if !consumer.is_none() {
         return BAD_HANDLE;
     }
-    let Some(mut opened) = hub.take() else {
+    let Some(opened) = hub.lend() else {
         return BAD_HANDLE;
     };
-    let mut source = ChaCha8Rng::from_seed(*seed);
-    source.set_stream(stream);
-    let code = match &mut *opened {
-        Thing::OfHub(bound) => give_consumer(alloc, bound, source, consumer),
+    match opened {
+        Thing::OfHub(bound) => give_consumer(alloc, bound, seed, consumer, number),
         _ => BAD_HANDLE,
-    };
-    hub.give(opened);
-    code
+    }
 }
 
 /// What [`hz_consumer_new`] does, for an opened hub. The box is made first, so that no number is lost if memory runs
@@ -205,19 +217,23 @@ pub extern "C" fn hz_consumer_new(
 fn give_consumer(
     alloc: Global,
     hub: &mut BoundHub<Global>,
-    source: ChaCha8Rng,
+    seed: &[u8; 32],
     consumer: &mut Handle,
+    number: &mut u64,
 ) -> u32
     ensures given { result ≡ DONE → ConsumerMade (λ c. (c.consumer.id ≡ hub.old.id)
-        × (c.consumer.mailbox ≡ hub.old.mailbox) × (c.source ≡ source)
+        × (c.consumer.mailbox ≡ hub.old.mailbox)
+        × (c.source ≡ source_of hub.old.mailbox.claims.layout seed.now (length hub.old.hub.ledgers))
         × IsNewConsumer hub.old.mailbox hub.old.hub c.consumer.consumer)
         consumer.new.block.thing }
+    ensures number { result ≡ DONE → number.new ≡ length hub.old.hub.ledgers }
     ensures hub { result ≡ DONE → hub.new ≡ record hub.old { hub = with_consumer hub.old.hub } }
     ensures all_given { (result ≡ ALL_GIVEN)
         ↔ (consumer_count hub.old.mailbox.claims.layout ≤ length hub.old.hub.ledgers) }
     ensures codes { (result ≡ DONE) ⊎ (result ≡ ALL_GIVEN) ⊎ (result ≡ NO_MEMORY) }
     ensures same_hub { result ≢ DONE → hub.new ≡ hub.old }
     ensures same { result ≢ DONE → consumer.new.block.thing ≡ consumer.old.block.thing }
+    ensures kept { result ≢ DONE → number.new ≡ number.old }
 {
     if hub.consumers_left() == 0 {
         return ALL_GIVEN;
@@ -227,6 +243,8 @@ fn give_consumer(
     };
     match hub.consumer(alloc) {
         Ok(made) => {
+            *number = u64::from(made.number());
+            let source = source_for(hub, seed, made.number());
             *room = Thing::OfConsumer(SeededConsumer {
                 consumer: made,
                 source,
@@ -236,4 +254,16 @@ fn give_consumer(
         }
         Err(why) => code_of_hub(why),
     }
+}
+
+/// The source of words for the consumer of this number, if its claims look at any.
+fn source_for(hub: &BoundHub<Global>, seed: &[u8; 32], number: u32) -> Option<ChaCha8Rng>
+    ensures { result ≡ source_of hub.now.mailbox.claims.layout seed.now number }
+{
+    if hub.max_steps() == 1 {
+        return None;
+    }
+    let mut source = ChaCha8Rng::from_seed(*seed);
+    source.set_stream(u64::from(number));
+    Some(source)
 }

@@ -36,15 +36,13 @@ pub extern "C" fn hz_take_back(hub: &mut Handle, part: &mut Handle) -> u32
     ensures same_hub { result ≢ DONE → hub.new.block.thing ≡ hub.old.block.thing }
     ensures same { result ≢ DONE → part.new.block.thing ≡ part.old.block.thing }
 {
-    let Some(mut opened) = hub.take() else {
+    let Some(opened) = hub.lend() else {
         return BAD_HANDLE;
     };
-    let code = match &mut *opened {
+    match opened {
         Thing::OfHub(bound) => take_back(bound, part),
         _ => BAD_HANDLE,
-    };
-    hub.give(opened);
-    code
+    }
 }
 
 /// Takes back what the handle leads to, with the codes of [`hz_take_back`].
@@ -122,22 +120,20 @@ pub extern "C" fn hz_gather(
     if !report.is_none() {
         return BAD_HANDLE;
     }
-    let Some(mut opened) = hub.take() else {
+    let Some(opened) = hub.lend() else {
         return BAD_HANDLE;
     };
-    let (thing, code) = match mem::replace(&mut *opened, Thing::OfNothing) {
+    let (thing, code) = match mem::replace(opened, Thing::OfNothing) {
         Thing::OfHub(bound) => match bound.gather(alloc) {
-            Ok(made) => {
-                *opened = Thing::OfReport(made);
-                report.give(opened);
-                return DONE;
-            }
+            Ok(made) => (Thing::OfReport(made), DONE),
             Err((why, bound)) => (Thing::OfHub(bound), tell(why, missing)),
         },
         thing => (thing, BAD_HANDLE),
     };
     *opened = thing;
-    hub.give(opened);
+    if code == DONE {
+        mem::swap(hub, report);
+    }
     code
 }
 

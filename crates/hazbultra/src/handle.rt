@@ -19,6 +19,10 @@ pub struct Handle {
 }
 
 impl Handle {
+    ghost use Rattle.std.specs.Prelude.{MatchOption};
+    ghost use types.Logic.{sem};
+    ghost use Rattle.hazbultra.specs.Lending.{HandleLends};
+
     /// A handle that leads to nothing.
     pub fn none(alloc: Global) -> Handle
         ensures { result.block.thing ≡ None }
@@ -53,6 +57,21 @@ impl Handle {
         ensures { result ≡ not (is_some self.now.block.thing) }
     {
         !self.full
+    }
+
+    /// Lends what the handle leads to, if it leads to something. Once the borrow ends, the handle leads to what was
+    /// left there.
+    #[inline(always)]
+    pub fn lend(&mut self) -> Option<&mut Thing>
+        ensures* writes_back { sem 𝓛 (HandleLends self.entry result) }
+        ensures value { MatchOption result (self.old.block.thing ≡ None)
+            (λ x. self.old.block.thing ≡ Some x.now) }
+    {
+        if self.full {
+            Some(self.block.lend())
+        } else {
+            None
+        }
     }
 
     /// The box that the handle leads to, if any. The box is the caller's then, and the handle leads to nothing.

@@ -2,8 +2,8 @@
 //! caller has to keep to.
 //!
 //! Each call is an export over `mb_bound`. A handle is the address of a box, and leads to a hub, a
-//! producer, a consumer, a report or nothing. A call opens it, does its work, and closes it again, so
-//! no call loses what a handle leads to.
+//! producer, a consumer, a report or nothing. It lends to a call what it leads to, so no call loses
+//! that.
 #![tactic(auto)]
 
 mod boundary;

@@ -36,10 +36,10 @@ pub extern "C" fn hz_report_size(report: &mut Handle, lanes: &mut u64, consumers
     ensures same { result ≢ DONE → (lanes.new ≡ lanes.old) × (consumers.new ≡ consumers.old) }
     ensures codes { (result ≡ DONE) ⊎ (result ≡ BAD_HANDLE) }
 {
-    let Some(opened) = report.take() else {
+    let Some(opened) = report.lend() else {
         return BAD_HANDLE;
     };
-    let code = match &*opened {
+    match opened {
         Thing::OfReport(told) => {
             let count = told.lanes.len();
             *lanes = count as u64;
@@ -47,9 +47,7 @@ pub extern "C" fn hz_report_size(report: &mut Handle, lanes: &mut u64, consumers
             DONE
         }
         _ => BAD_HANDLE,
-    };
-    report.give(opened);
-    code
+    }
 }
 
 /// Writes the numbers of one lane.
@@ -65,10 +63,10 @@ pub extern "C" fn hz_report_lane(report: &mut Handle, lane: u64, out: &mut LaneO
     ensures same { result ≢ DONE → out.new ≡ out.old }
     ensures codes { (result ≡ DONE) ⊎ (result ≡ NOT_THERE) ⊎ (result ≡ BAD_HANDLE) }
 {
-    let Some(opened) = report.take() else {
+    let Some(opened) = report.lend() else {
         return BAD_HANDLE;
     };
-    let code = match &*opened {
+    match opened {
         Thing::OfReport(told) => match told.lanes.as_slice().get(lane as usize) {
             Some(lane) => {
                 *out = LaneOut {
@@ -81,9 +79,7 @@ pub extern "C" fn hz_report_lane(report: &mut Handle, lane: u64, out: &mut LaneO
             None => NOT_THERE,
         },
         _ => BAD_HANDLE,
-    };
-    report.give(opened);
-    code
+    }
 }
 
 /// Writes the numbers of one diary.
@@ -104,10 +100,10 @@ pub extern "C" fn hz_report_diary(
     ensures same { result ≢ DONE → out.new ≡ out.old }
     ensures codes { (result ≡ DONE) ⊎ (result ≡ NOT_THERE) ⊎ (result ≡ BAD_HANDLE) }
 {
-    let Some(opened) = report.take() else {
+    let Some(opened) = report.lend() else {
         return BAD_HANDLE;
     };
-    let code = match &*opened {
+    match opened {
         Thing::OfReport(told) => match diary_at(told, consumer, lane) {
             Some(diary) => {
                 *out = DiaryOut {
@@ -119,9 +115,7 @@ pub extern "C" fn hz_report_diary(
             None => NOT_THERE,
         },
         _ => BAD_HANDLE,
-    };
-    report.give(opened);
-    code
+    }
 }
 
 /// Copies items of a lane from position `from` on, as many as there is room for: those left if `left` is true, and else
@@ -147,10 +141,10 @@ pub extern "C" fn hz_report_items(
     ensures same { result ≢ DONE → (items.new ≡ items.old) × (copied.new ≡ copied.old) }
     ensures codes { (result ≡ DONE) ⊎ (result ≡ NOT_THERE) ⊎ (result ≡ BAD_HANDLE) }
 {
-    let Some(opened) = report.take() else {
+    let Some(opened) = report.lend() else {
         return BAD_HANDLE;
     };
-    let code = match &*opened {
+    match opened {
         Thing::OfReport(told) => match told.lanes.as_slice().get(lane as usize) {
             Some(lane) => {
                 let kept = if left { &lane.left } else { &lane.put };
@@ -160,9 +154,7 @@ pub extern "C" fn hz_report_items(
             None => NOT_THERE,
         },
         _ => BAD_HANDLE,
-    };
-    report.give(opened);
-    code
+    }
 }
 
 /// Copies notes of a diary from position `from` on, as many as there is room for.
@@ -187,10 +179,10 @@ pub extern "C" fn hz_report_notes(
     ensures same { result ≢ DONE → (notes.new ≡ notes.old) × (copied.new ≡ copied.old) }
     ensures codes { (result ≡ DONE) ⊎ (result ≡ NOT_THERE) ⊎ (result ≡ BAD_HANDLE) }
 {
-    let Some(opened) = report.take() else {
+    let Some(opened) = report.lend() else {
         return BAD_HANDLE;
     };
-    let code = match &*opened {
+    match opened {
         Thing::OfReport(told) => match diary_at(told, consumer, lane) {
             Some(diary) => {
                 *copied = copy_notes(past(diary.notes.as_slice(), from), notes);
@@ -199,7 +191,5 @@ pub extern "C" fn hz_report_notes(
             None => NOT_THERE,
         },
         _ => BAD_HANDLE,
-    };
-    report.give(opened);
-    code
+    }
 }

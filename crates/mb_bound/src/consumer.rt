@@ -31,17 +31,26 @@ impl<A: Allocator + Drop> Model for BoundConsumer<A> {
 }
 
 impl<A: Allocator + Drop> BoundConsumer<A> {
-    ghost use Rattle.std.specs.Prelude.{◌≡◌, ◌≢◌, ◌↔◌, ◌≤◌, ◌+◌, true};
+    ghost use Rattle.std.specs.Prelude.{◌≡◌, ◌≢◌, ◌↔◌, ◌≤◌, ◌+◌, ℕ, true};
     ghost use Rattle.mb_claim.specs.Vocabulary.{most_accesses, shape_of};
-    ghost use Rattle.mb_mailbox.specs.declared.consumer.Poll.TheVariants.{NoLane, Spent, Undecided};
+    ghost use Rattle.mb_mailbox.specs.declared.consumer.Poll.TheVariants.{Lost, NoLane, Spent, Undecided};
     ghost use Rattle.mb_mailbox.specs.Consumers.{IsConsumerOf};
+    ghost use Rattle.mb_mailbox.specs.Jobs.{accesses_made};
     ghost use Rattle.mb_mailbox.specs.Steps.{AnswerTells, IsPollOf, outcome};
+    ghost use Rattle.mb_mailbox.specs.Takes.{IsTakeOf};
 
     /// The number of the consumer's mailbox.
     pub fn id(&self) -> u64
         ensures { result ≡ self.now.id }
     {
         self.id
+    }
+
+    /// The consumer's own number, from 0 on.
+    pub fn number(&self) -> u32
+        ensures { result ≡ self.now.consumer.seat.consumer }
+    {
+        self.consumer.number()
     }
 
     /// A law: the consumer is one of the mailbox that it is kept with.
@@ -69,5 +78,29 @@ impl<A: Allocator + Drop> BoundConsumer<A> {
         ensures mailbox { self.new.mailbox ≡ self.old.mailbox }
     {
         self.consumer.poll(&self.mailbox, lane, budget, rng)
+    }
+
+    /// Makes at most `most` accesses on a lane, until it takes an item, as [`Consumer::take`] does. It goes on past items
+    /// that it loses.
+    pub fn take<R: Rng>(&mut self, lane: u64, most: u64, rng: &mut R) -> Poll
+        ensures no_lane { (result ≡ NoLane) ↔ (self.old.mailbox.cells.size.lanes ≤ lane) }
+        ensures refused { result ≡ NoLane
+            → (self.new ≡ self.old) × (R.stream rng.new ≡ R.stream rng.old) }
+        ensures taken { result ≢ NoLane
+            → IsTakeOf lane most result (R.stream rng.old) (R.stream rng.new) self.old.consumer
+            self.new.consumer }
+        ensures not_lost { (w : ℕ) → result ≢ Lost w }
+        ensures within { accesses_made self.new.consumer
+            ≤ accesses_made self.old.consumer + most }
+        ensures spent { result ≡ Spent
+            → accesses_made self.new.consumer ≡ accesses_made self.old.consumer + most }
+        ensures decided { (shape_of self.old.mailbox.claims.layout).last ≡ true
+            → result ≢ Undecided }
+        ensures told { result ≢ NoLane
+            → AnswerTells lane (outcome result) self.old.consumer self.new.consumer }
+        ensures id { self.new.id ≡ self.old.id }
+        ensures mailbox { self.new.mailbox ≡ self.old.mailbox }
+    {
+        self.consumer.take(&self.mailbox, lane, most, rng)
     }
 }

@@ -32,6 +32,7 @@ impl<A: Allocator + Drop> Model for BoundHub<A> {
 impl<A: Allocator + Drop> BoundHub<A> {
     ghost use Rattle.std.specs.Prelude.{◌≡◌, ◌≢◌, ◌↔◌, ◌≤◌, ◌-◌, Err, IfErr, IfOk, IsOk, None, OnErr, Some, length, slice_get};
     ghost use Rattle.mb_bound.specs.Bound.{AreNamedApart};
+    ghost use Rattle.mb_claim.specs.Vocabulary.{most_accesses};
     ghost use Rattle.mb_mailbox.specs.Imports.{consumer_count};
     ghost use Rattle.mb_mailbox.specs.declared.hub.HubFault.TheVariants.{AllGiven};
     ghost use Rattle.mb_mailbox.specs.Hubs.{IsHubOf, new_producer, with_producer};
@@ -42,6 +43,13 @@ impl<A: Allocator + Drop> BoundHub<A> {
         ensures { result ≡ self.now.id }
     {
         self.id
+    }
+
+    /// The most accesses that a claim of the mailbox can make.
+    pub fn max_steps(&self) -> u64
+        ensures { result ≡ most_accesses self.now.mailbox.claims.layout }
+    {
+        self.mailbox.max_steps()
     }
 
     /// How many lanes have no producer given yet.

@@ -44,6 +44,13 @@ impl<A: Allocator + Drop> BoundProducer<A> {
         self.id
     }
 
+    /// The number of its lane, from 0 on.
+    pub fn lane(&self) -> u32
+        ensures { result ≡ self.now.producer.seat.lane }
+    {
+        self.producer.lane()
+    }
+
     /// A law: the producer is one of the mailbox that it is kept with.
     pub fn is_bound(&self)
         ensures { IsProducerOf self.now.mailbox self.now.producer }

@@ -4,7 +4,7 @@ use Rattle.std.proofs.Common.{◌∙◌, ap, subst, inl, arith}
 use Rattle.mb_quorum.specs.Vocabulary.{QuorumTable}
 use Rattle.mb_deciding.specs.declared.access.Op.TheVariants as to
 use Rattle.mb_deciding.specs.Vocabulary.{answer, PcIsAt, IsOpAt, CanFind, spread}
-use Rattle.mb_claim.specs.{Op, Value, Turn, Draw, Put, Look, Kind, Conciliator, Ratifier, Pc, InRatifier, InConciliator, InLast}
+use Rattle.mb_claim.specs.{Op, Value, Turn, Draw, Put, Look, Kind, Conciliator, Ratifier, LastObject, Pc, InRatifier, InConciliator, InLast}
 use Rattle.mb_claim.specs.{ObjectTurn, Going, Claim, Layout, pairs_of, fast_row, last_row, quorums_of, kinds_of, turns_on}
 use Rattle.mb_claim.specs.{IsClaimPrefixFrom, PassesAll, StandsAt, IsClaimOf}
 use Rattle.mb_claim.proofs.KindLaws.{AreDeciding}
@@ -21,6 +21,12 @@ no_turns_on o (x ∷ turns) none = absurd (not_empty _ _ none)
 first_object : (s n : ℕ) (ys : List Kind) → 1 ≤ n → (rest : List Kind) × (pairs_of s n ++ ys ≡ Conciliator s ∷ rest)
 first_object s zero ys some = absurd (omega (arith, some))
 first_object s (suc n) ys some = (Ratifier ∷ (pairs_of s n ++ ys), refl)
+
+-- pairs and a last object have a first object, if without pairs there is a last object
+some_object : (s n : ℕ) (b : Bool) → (n ≡ 0 → b ≡ true)
+    → (kind : Kind) × (rest : List Kind) × (pairs_of s n ++ last_row b ≡ kind ∷ rest)
+some_object s (suc n) b some = (Conciliator s, Ratifier ∷ (pairs_of s n ++ last_row b), refl)
+some_object s zero b some = (LastObject, [], ap last_row (some refl))
 
 -- with a fast path or without, a row has a first object
 first_kind : (b : Bool) (kind : Kind) (rest ys : List Kind) → ys ≡ kind ∷ rest
@@ -88,13 +94,13 @@ module _ (layout : Layout) (law : AreDeciding (quorums_of layout)) (claim : Clai
   abbrev behind_fast : List Kind
   behind_fast = pairs_of (spread (quorums_of layout).values) layout.pairs ++ last_row layout.shape.last
 
-  -- the first of these objects is a conciliator
-  abbrev first : (rest : List Kind) × (behind_fast ≡ Conciliator (spread (quorums_of layout).values) ∷ rest)
-  first = first_object (spread (quorums_of layout).values) layout.pairs (last_row layout.shape.last) layout.some
+  -- these objects have a first one
+  abbrev first : (kind : Kind) × (rest : List Kind) × (behind_fast ≡ kind ∷ rest)
+  first = some_object (spread (quorums_of layout).values) layout.pairs layout.shape.last layout.some
 
   -- the layout has a first object
   abbrev any_first : (kind : Kind) × (rest : List Kind) × (kinds_of layout ≡ kind ∷ rest)
-  any_first = first_kind layout.shape.fast (Conciliator (spread (quorums_of layout).values)) first.0 behind_fast first.1
+  any_first = first_kind layout.shape.fast first.0 first.1 behind_fast first.2
 
   -- the claim is going
   pub fresh_going : claim.stage ≡ Going
@@ -119,15 +125,17 @@ module _ (layout : Layout) (law : AreDeciding (quorums_of layout)) (claim : Clai
       stands_at_first (quorums_of layout) law claim.consumer of.known (kinds_of layout) claim.object claim.place
       (of.stands fresh_going)
 
-  -- without a fast path, its next access loads the conciliator's word, and finds no more than the number of consumers
+  -- with pairs and without a fast path, its next access loads the conciliator's word, and finds no more than the number
+  -- of consumers
   pub fresh_next :
-      layout.shape.fast ≡ false → (op : Op) → IsOpAt (quorums_of layout) claim.place op
+      1 ≤ layout.pairs → layout.shape.fast ≡ false → (op : Op) → IsOpAt (quorums_of layout) claim.place op
       → (claim.object ≡ 0) × (op ≡ to.Load Value)
       × ((seen : ℕ) → CanFind (quorums_of layout) claim.place op seen → seen ≤ (quorums_of layout).values)
-  fresh_next slow op is =
-      let row : kinds_of layout ≡ Conciliator (spread (quorums_of layout).values) ∷ first.0 =
-      ap (λ b. fast_row b ++ behind_fast) slow ∙ first.1 in
+  fresh_next some slow op is =
+      let pair = first_object (spread (quorums_of layout).values) layout.pairs (last_row layout.shape.last) some in
+      let row : kinds_of layout ≡ Conciliator (spread (quorums_of layout).values) ∷ pair.0 =
+      ap (λ b. fast_row b ++ behind_fast) slow ∙ pair.1 in
       stands_first (quorums_of layout) law claim.consumer of.known (spread
-      (quorums_of layout).values) claim.object first.0 claim.place op
+      (quorums_of layout).values) claim.object pair.0 claim.place op
       (subst (λ ks. StandsAt (quorums_of layout) ks claim.consumer claim.object claim.place []) row
       (of.stands fresh_going)) is

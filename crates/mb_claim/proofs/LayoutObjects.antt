@@ -51,6 +51,11 @@ get_behind [] ys n o e = let same : n ≡ o = omega (arith, e) in ap (slice_get 
 get_behind (x ∷ xs) ys zero o e = absurd (omega (arith, e))
 get_behind (x ∷ xs) ys (suc n) o e = get_behind xs ys n o (omega (arith, e))
 
+-- there is a pair or a last object, if without pairs there is a last object
+pub some_objects : (n : ℕ) (b : Bool) → (n ≡ 0 → b ≡ true) → 1 ≤ n + length (last_row b)
+some_objects (suc n) b some = omega arith
+some_objects zero b some = subst (λ a. 1 ≤ 0 + length (last_row a)) (sym (some refl)) (omega arith)
+
 -- a fast path has two objects at most
 fast_few : (b : Bool) → length (fast_row b) ≤ 2
 fast_few true = omega arith

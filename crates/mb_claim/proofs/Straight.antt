@@ -15,7 +15,7 @@ use Rattle.mb_claim.specs.{Claims, ClaimsAreSound, IsClaimIn, IsClaimPrefix, Obj
 use Rattle.mb_claim.specs.{standing, IsStanding, site_of, HasEnd, AreClaimSteps, DrawsAndMakesNext}
 use Rattle.mb_claim.proofs.ClaimSteps.{PlacesMakeParts, claim_passed, claim_decided, stands_first}
 use Rattle.mb_claim.proofs.StepsLeft.{won_ended, lost_ended}
-use Rattle.mb_claim.proofs.LayoutObjects.{length-row_of, fit_in_row, last_turn_small, quorums_lawful}
+use Rattle.mb_claim.proofs.LayoutObjects.{some_objects, length-row_of, fit_in_row, last_turn_small, quorums_lawful}
 use Rattle.mb_claim.proofs.ManyClaimSteps.{ended_on, stood_after, all_go_on, stage_after, object_after, place_after, joined}
 
 -- ---- the first place of an object
@@ -284,7 +284,7 @@ one_of (Some k) there a b p q = p ∙ sym q
 has_first : (layout : Layout) → 0 < length (kinds_of layout)
 has_first layout =
     let all = length-row_of layout.shape (spread (quorums_of layout).values) layout.pairs in
-    omega (arith, all, layout.some)
+    omega (arith, all, some_objects layout.pairs layout.shape.last layout.some)
 
 -- a consumer's new claim stands before the first object
 pub first_claim : (layout : Layout) (c : ℕ) → (claim : Claim) × IsStanding layout c 0 c claim

@@ -5,7 +5,7 @@ use Rattle.mb_quorum.specs.Vocabulary.{QuorumTable, chosen_table}
 use Rattle.mb_deciding.specs.Vocabulary.{largest_quorum, most_turns, spread}
 use Rattle.mb_claim.specs.AllClaims.{Claims, claims_of}
 use Rattle.mb_claim.specs.ObjectTypes.{Reg, Kind, Ratifier}
-pub use Rattle.mb_claim.specs.Rows.{pairs_of, fast_row, last_row, row_of, plain}
+pub use Rattle.mb_claim.specs.Rows.{pairs_of, fast_row, last_row, row_of, plain, with_last}
 pub use Rattle.mb_claim.specs.Rows.{width, offset, words_before, row_words, shaped_words, address_of, IsWordOf}
 use Rattle.mb_claim.specs.Types.{Layout, Shape}
 

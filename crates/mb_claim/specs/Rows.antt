@@ -28,6 +28,10 @@ row_of shape s n = fast_row shape.fast ++ (pairs_of s n ++ last_row shape.last)
 abbrev pub plain : Shape
 plain = record { fast = false; last = false }
 
+-- the shape with a last object, and without a fast path
+abbrev pub with_last : Shape
+with_last = record { fast = false; last = true }
+
 -- ---- the words of a cell: how many, and where
 -- how many words an object has, with r quorum registers
 abbrev pub width : ℕ → Kind → ℕ

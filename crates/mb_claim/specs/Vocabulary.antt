@@ -7,7 +7,7 @@ pub use Rattle.mb_claim.specs.Paths.{IsWholeClaim, IsClaimPrefix, GoesOnIn, Deci
 pub use Rattle.mb_claim.specs.Claiming.{IsClaimPart, HasStage, held_after, IsClaimLawful, MayFollow, Adds}
 pub use Rattle.mb_claim.specs.Winner.{StageNames, IsUsedWith, IsClaimAnnounced, IsClaimContested, HasOneWinner}
 pub use Rattle.mb_claim.specs.Standing.{PassesAll, HasPlace, access_after, StandsAt, IsClaimOf}
-pub use Rattle.mb_claim.specs.Layouts.{pairs_of, fast_row, last_row, row_of, plain, shape_of, fast_steps, last_steps, shaped_steps}
+pub use Rattle.mb_claim.specs.Layouts.{pairs_of, fast_row, last_row, row_of, plain, with_last, shape_of, fast_steps, last_steps, shaped_steps}
 pub use Rattle.mb_claim.specs.Layouts.{quorums_of, pair_count, kinds_of, width, offset, words_before, row_words, shaped_words, address_of}
 pub use Rattle.mb_claim.specs.Layouts.{IsWordOf, words_in, IsWordIn, address_in, most_on_objects, max_steps, claims_in, consumer_count}
 pub use Rattle.mb_claim.specs.Layouts.{cell_words, IsWordInLayout, word_address, most_accesses}

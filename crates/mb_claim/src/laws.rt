@@ -221,12 +221,16 @@ pub fn cells_stand_alone()
         → held_at k o reg (on_cell k h) ≡ held_at k o reg h }
 {}
 
-/// A layout has a quorum table with 1 to `MAX_VALUES` values, and 1 to `MAX_PAIRS` pairs.
+/// A layout has a quorum table with 1 to `MAX_VALUES` values. It has a pair or a last object, and at most `MAX_PAIRS`
+/// pairs.
 pub fn layouts_are_sound()
     ensures table { (layout : Layout) → IsQuorumTable (quorums_of layout) }
     ensures consumers { (layout : Layout) → (1 ≤ consumer_count layout)
         × (consumer_count layout ≤ MAX_VALUES) }
-    ensures pairs { (layout : Layout) → (1 ≤ pair_count layout) × (pair_count layout ≤ MAX_PAIRS) }
+    ensures pairs { (layout : Layout) → pair_count layout ≤ MAX_PAIRS }
+
+    // Without pairs it has a last object.
+    ensures some { (layout : Layout) → pair_count layout ≡ 0 → (shape_of layout).last ≡ true }
 {}
 
 /// The numbers of the limits.
@@ -236,20 +240,20 @@ pub fn limits_have_their_numbers()
     ensures large { MAX_LARGE_CELLS ≡ 2 ^ 24 }
 {}
 
-/// The claim of a consumer that has made no access goes on, and stands on the first object. Without a fast path that
-/// object is a conciliator, and its word is loaded first.
+/// The claim of a consumer that has made no access goes on, and stands on the first object. If there are pairs and no
+/// fast path, that object is a conciliator, and its word is loaded first.
 pub fn claims_begin_on_the_first_object()
     ensures fresh { (layout : Layout) (claim : Claim) → IsClaimIn layout claim []
         → (claim_stage claim ≡ Going) × (is_begun claim ≡ false) }
     ensures object { (layout : Layout) (claim : Claim) (next : ClaimOp)
         → IsClaimIn layout claim [] → IsNextOp layout claim next → next.object ≡ 0 }
     ensures next { (layout : Layout) (claim : Claim) (next : ClaimOp)
-        → (shape_of layout).fast ≡ false → IsClaimIn layout claim []
+        → 1 ≤ pair_count layout → (shape_of layout).fast ≡ false → IsClaimIn layout claim []
         → IsNextOp layout claim next → next.op ≡ to.Load Value }
 
     // The first load finds at most the number of consumers there.
     ensures found { (layout : Layout) (claim : Claim) (next : ClaimOp) (seen : ℕ)
-        → (shape_of layout).fast ≡ false → IsClaimIn layout claim []
+        → 1 ≤ pair_count layout → (shape_of layout).fast ≡ false → IsClaimIn layout claim []
         → IsNextOp layout claim next → CanClaimFind layout claim next seen
         → seen ≤ consumer_count layout }
 {

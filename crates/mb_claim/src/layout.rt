@@ -1,5 +1,5 @@
 //! The deciding objects that each cell has, and where their words lie.
-ghost use Rattle.std.specs.Prelude.{◌≡◌, ◌<◌, ◌≤◌, ◌+◌, ◌*◌, ℕ, length, slice_get, slice_index};
+ghost use Rattle.std.specs.Prelude.{◌≡◌, ◌<◌, ◌≤◌, ◌+◌, ◌*◌, ℕ, true, length, slice_get, slice_index};
 ghost use Rattle.mb_quorum.specs.Vocabulary.{chosen_table};
 ghost use Rattle.mb_deciding.specs.Vocabulary.{spread};
 ghost use Rattle.mb_claim.specs.Rows.{row_of, words_before, row_words};
@@ -36,7 +36,7 @@ pub struct Layout {
     kinds: [Kind; MAX_OBJECTS],
     begins: [u32; MAX_OBJECTS],
     cell_size: u32,
-    pub ghost some: { 1 ≤ pairs },
+    pub ghost some: { pairs ≡ 0 → shape.last ≡ true },
     pub ghost few: { pairs ≤ MAX_PAIRS },
     pub ghost counted: { objects ≡ length (row_of shape (spread (chosen_table table).values) pairs) },
     pub ghost row: { (o : ℕ) → o < objects
@@ -68,13 +68,15 @@ impl fmt::Display for BadLayout {
 impl Error for BadLayout {}
 
 impl Layout {
-    ghost use Rattle.std.specs.Prelude.{◌≡◌, ◌<◌, ◌≤◌, ◌+◌, ◌*◌, ◌^◌, ℕ, length, slice_get, Some};
+    ghost use Rattle.std.specs.Prelude.{◌≡◌, ◌<◌, ◌≤◌, ◌+◌, ◌*◌, ◌^◌, ℕ, true, [], ◌∷◌, length, slice_get, Some};
     ghost use Rattle.std.specs.Prelude.{IsOk, IfOk, IfSome, Err, MatchOption};
     ghost use Rattle.mb_quorum.specs.Tables.{table_of};
     ghost use Rattle.mb_deciding.specs.Course.{IsFitKind};
     ghost use Rattle.mb_deciding.specs.Vocabulary.{spread};
     ghost use Rattle.mb_claim.specs.{Reg, width, quorums_of, kinds_of, pairs_of, row_of, plain, pair_count, shape_of, offset};
     ghost use Rattle.mb_claim.specs.{consumer_count, cell_words, word_address, IsWordInLayout, most_accesses, layout_refusal, site_of};
+    ghost use Rattle.mb_claim.specs.{LastObject, with_last};
+    ghost use Rattle.mb_quorum.specs.declared.table.TableName.TheVariants.{Bits};
     ghost use Rattle.mb_claim.specs.declared.layout.TheConstants.{MAX_LARGE_CELLS, MAX_OBJECTS};
 
     /// The layout for `consumers` consumers, with `pairs` pairs of objects and nothing beside them, over the quorum
@@ -88,6 +90,7 @@ impl Layout {
         ensures kinds { IfOk result
             (λ layout. kinds_of layout ≡ pairs_of (spread consumers) pairs) }
         ensures shape { IfOk result (λ layout. shape_of layout ≡ plain) }
+        ensures some { IfOk result (λ layout. 1 ≤ pair_count layout) }
     {
         let Ok(table) = Table::new(name, consumers) else {
             return Err(BadLayout::BadConsumers);
@@ -98,9 +101,25 @@ impl Layout {
         Ok(Layout::of(table, pairs as u32, Shape::PLAIN))
     }
 
+    /// The layout for `consumers` consumers whose cells have a last object alone. So a claim is one exchange. The error
+    /// is `BadConsumers` if the number of consumers is not in `1..=MAX_VALUES`, as of a layout with one pair.
+    pub fn exchange(consumers: u64) -> Result<Layout, BadLayout>
+        ensures refused { MatchOption (layout_refusal consumers 1) (IsOk result)
+            (λ fault. result ≡ Err fault) }
+        ensures quorums { IfOk result (λ layout. quorums_of layout ≡ table_of Bits consumers) }
+        ensures pairs { IfOk result (λ layout. pair_count layout ≡ 0) }
+        ensures kinds { IfOk result (λ layout. kinds_of layout ≡ LastObject ∷ []) }
+        ensures shape { IfOk result (λ layout. shape_of layout ≡ with_last) }
+    {
+        match Table::new(TableName::Bits, consumers) {
+            Ok(table) => Ok(Layout::of(table, 0, Shape::LAST)),
+            Err(_) => Err(BadLayout::BadConsumers),
+        }
+    }
+
     /// The layout with this table, these pairs and this shape. It computes the row, and where each object begins.
     fn of(table: Table, pairs: u32, shape: Shape) -> Layout
-        requires some { 1 ≤ pairs }
+        requires some { pairs ≡ 0 → shape.last ≡ true }
         requires few { pairs ≤ MAX_PAIRS }
         ensures quorums { quorums_of result ≡ chosen_table table }
         ensures pairs { pair_count result ≡ pairs }
@@ -129,12 +148,19 @@ impl Layout {
         }
     }
 
-    /// The layout with the same table and pairs, and with this shape in place of its own.
+    /// The layout with the same table and pairs, and with this shape in place of its own. Without pairs it keeps its last
+    /// object, so that a cell has an object.
     pub fn shaped(&self, shape: Shape) -> Layout
         ensures quorums { quorums_of result ≡ quorums_of self.now }
         ensures pairs { pair_count result ≡ pair_count self.now }
-        ensures shape { shape_of result ≡ shape }
+        ensures shape { 1 ≤ pair_count self.now → shape_of result ≡ shape }
+        ensures alone { pair_count self.now ≡ 0
+            → shape_of result ≡ record { fast = shape.fast; last = true } }
     {
+        let shape = Shape {
+            fast: shape.fast,
+            last: shape.last || self.pairs == 0,
+        };
         Layout::of(self.table.copy(), self.pairs, shape)
     }
 

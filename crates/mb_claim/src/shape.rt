@@ -19,6 +19,12 @@ impl Shape {
         last: false,
     };
 
+    /// The shape of a cell with a last object after its pairs.
+    pub const LAST: Shape = Shape {
+        fast: false,
+        last: true,
+    };
+
     /// How many objects come before the pairs.
     pub(crate) fn before(self) -> u32
         ensures exact { result ≡ length (fast_row self.fast) }

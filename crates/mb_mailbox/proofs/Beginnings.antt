@@ -10,7 +10,7 @@ use Rattle.mb_deciding.specs.Vocabulary.{IsPlace, PcIsAt, first_place, spread}
 use Rattle.mb_claim.specs.declared.access.Stage.TheVariants as stage
 use Rattle.mb_claim.specs.Vocabulary.{FitsLayout, IsClaimPrefix, StandsAt, pair_count, quorums_of, shape_of, standing}
 use Rattle.mb_claim.proofs.ClaimSteps.{stands_first}
-use Rattle.mb_claim.proofs.LayoutObjects.{fit_in_row, last_turn_small, length-row_of}
+use Rattle.mb_claim.proofs.LayoutObjects.{fit_in_row, last_turn_small, length-row_of, some_objects}
 use Rattle.mb_mailbox.specs.Imports.{Claim, IsClaimIn, IsStanding, Layout, ObjectTurn, claim_stage, claims_in, consumer_count, consumer_of, kinds_of}
 use Rattle.mb_mailbox.proofs.Lists.{get_some, some_same}
 
@@ -77,7 +77,7 @@ module _ (layout : Layout) (c : ℕ) (low : c < consumer_count layout) where
   pub first_kind : (kind : Kind) × (slice_get (kinds_of layout) 0 ≡ Some kind)
   first_kind =
       let all = length-row_of layout.shape (spread (quorums_of layout).values) layout.pairs in
-      get_some (kinds_of layout) 0 (omega (arith, all, layout.some))
+      get_some (kinds_of layout) 0 (omega (arith, all, some_objects layout.pairs layout.shape.last layout.some))
 
   -- the consumer stands there
   stands : StandsAt (quorums_of layout) (kinds_of layout) c 0 (first_place (quorums_of layout) first_kind.0 c) []

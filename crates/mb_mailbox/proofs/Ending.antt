@@ -8,9 +8,11 @@ use Rattle.mb_world.specs.declared.place.Place.{Place}
 use Rattle.mb_world.specs.declared.place.Place.TheVariants.{At}
 use Rattle.std.specs.Prelude.{List}
 use Rattle.mb_mailbox.specs.Consumers.{ConsumerView, IsConsumerOf}
+use Rattle.mb_mailbox.specs.Jobs.{accesses_made}
 use Rattle.mb_mailbox.specs.Mailboxes.{MailboxView}
 use Rattle.mb_mailbox.specs.Pursuits.{IsOfClaim, IsPursuit, holding}
 use Rattle.mb_mailbox.specs.Steps.{AnswerTells, HasNoteOnEach, IsPollOf, outcome}
+use Rattle.mb_mailbox.proofs.Grown.{steps_grow}
 use Rattle.mb_mailbox.proofs.Lists.{set_same}
 use Rattle.mb_mailbox.proofs.Polls.{poll_of}
 use Rattle.mb_mailbox.proofs.Telling.{tells_item, tells_none}
@@ -21,17 +23,27 @@ pub holds_it : (p k : ℕ) (claim : Claim) (s : ConsumerView) → slice_get s.pl
 holds_it p k claim s e = ap (λ (ps : List Place). record s { places = ps }) (set_same s.places p (At k claim) e)
 
 -- a poll that has held a claim does not return `NoLane`
-pub not_no_lane : (p n most : ℕ) (x : Poll) (t u : Stream) (from new : ConsumerView)
-    → IsPursuit p n most x t u from new → x ≡ poll.NoLane → ⊥
-not_no_lane p n most x t u from new so e = subst IsOfClaim e so.kind
+pub not_no_lane : (p n most left : ℕ) (x : Poll) (t u : Stream) (from new : ConsumerView)
+    → IsPursuit p n most left x t u from new → x ≡ poll.NoLane → ⊥
+not_no_lane p n most left x t u from new so e = subst IsOfClaim e so.kind
 
 -- the accesses before the claim and those after it make the poll
-pub poll_by : (p n most budget : ℕ) (x : Poll) (t u : Stream) (from new : ConsumerView) → most + n
-    ≡ budget → IsPursuit p n most x t u from new
+pub poll_by : (p n most left budget : ℕ) (x : Poll) (t u : Stream) (from new : ConsumerView) → most + n
+    ≡ budget → IsPursuit p n most left x t u from new
     → IsPollOf p budget x t u from new
-poll_by p n most budget x t u from new sum so =
-    let few = so.within in
-    poll_of p (so.made + n) budget x t u from new so.steps (omega arith) (λ e. ap (λ z. z + n) (so.spent e) ∙ sum)
+poll_by p n most left budget x t u from new sum so =
+    let all = so.sum in
+    poll_of p (so.made + n) budget x t u from new so.steps (omega (arith, all, sum))
+    (λ e. let none = so.spent e in omega (arith, all, none, sum))
+
+-- with what is left, the accesses before the claim and those after it are the budget
+pub left_by : (p n most left budget : ℕ) (x : Poll) (t u : Stream) (from new : ConsumerView) → most + n
+    ≡ budget → IsPursuit p n most left x t u from new
+    → accesses_made new + left ≡ accesses_made from + budget
+left_by p n most left budget x t u from new sum so =
+    let all = so.sum in
+    let grown = steps_grow p (so.made + n) (outcome x) t u from new so.steps in
+    omega (arith, all, grown, sum)
 
 -- what the answer of a poll that has held a claim says
 tells_by : (p : ℕ) (x : Poll) (old new : ConsumerView) → IsOfClaim x
@@ -55,16 +67,16 @@ tells_by p poll.Spent old new kind has = tells_none p old new
 tells_by p poll.NoLane old new kind has = absurd kind
 
 -- what the rest of a poll says of the lane
-pub pursuit_tells : (p n most : ℕ) (x : Poll) (t u : Stream) (from old new : ConsumerView)
-    → IsPursuit p n most x t u from new
+pub pursuit_tells : (p n most left : ℕ) (x : Poll) (t u : Stream) (from old new : ConsumerView)
+    → IsPursuit p n most left x t u from new
     → AnswerTells p (outcome x) old new
-pursuit_tells p n most x t u from old new so = tells_by p x old new so.kind so.noted
+pursuit_tells p n most left x t u from old new so = tells_by p x old new so.kind so.noted
 
 -- after the poll the consumer is one of the same mailbox
-pub still_of : (m : MailboxView) (p n most : ℕ) (x : Poll) (t u : Stream) (from new : ConsumerView)
-    → IsPursuit p n most x t u from new
+pub still_of : (m : MailboxView) (p n most left : ℕ) (x : Poll) (t u : Stream) (from new : ConsumerView)
+    → IsPursuit p n most left x t u from new
     → IsConsumerOf m from → IsConsumerOf m new
-still_of m p n most x t u from new so of = record {
+still_of m p n most left x t u from new so of = record {
   cells = ap (λ (r : ReaderSeatView). r.table) so.steps.done.reader ∙ of.cells;
   claims = ap (λ (z : SeatView). z.table) so.steps.done.seat ∙ of.claims;
 }

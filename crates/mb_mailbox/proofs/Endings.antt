@@ -15,7 +15,7 @@ use Rattle.mb_mailbox.specs.Imports.{WorldHistory, cells_met, claim_accesses, li
 use Rattle.mb_mailbox.specs.Consumers.{ConsumerView}
 use Rattle.mb_mailbox.specs.Jobs.{HasReadToEnd, IsSameConsumer, accesses_made}
 use Rattle.mb_mailbox.specs.Moves.{HasLoads}
-use Rattle.mb_mailbox.specs.Steps.{HasLoadedEnd, HasNoteOnEach, IsPollOf, LeadTo, note_with, notes_on, outcome, with_note}
+use Rattle.mb_mailbox.specs.Steps.{HasDone, HasLoadedEnd, HasNoteOnEach, IsPollOf, LeadTo, note_with, notes_on, outcome, with_note}
 use Rattle.mb_mailbox.specs.declared.consumer.Poll.{Poll}
 use Rattle.mb_mailbox.specs.declared.consumer.Poll.TheVariants as poll
 use Rattle.mb_mailbox.proofs.Lists.{set_else}
@@ -64,58 +64,6 @@ kept_by p q budget answer s t old new i ne o =
       notes = ap (λ (l : List (List Note)). length (notes_on q l)) i.done.notes
           ∙ ap (λ (l : List Note). length l) (notes_kept p q (note_with (outcome answer)) old.notes ne) ∙ o.notes;
     }
-
--- ---- how many accesses a poll makes
--- each access is to the cells or to the claims
-both : (done : WorldHistory) → length (pool_accesses done) + length (claim_accesses done) ≡ length done
-both [] = refl
-both (ToCells a ∷ older) = let e = both older in omega (arith, e)
-both (ToClaims a ∷ older) = let e = both older in omega (arith, e)
-
--- a poll without an access has a budget of 0
-none_made : (p budget : ℕ) (answer : Poll) (s : ConsumerView) → LeadTo p (outcome answer) [] s
-    → (answer ≡ poll.Spent → 0 ≡ budget) → 0 ≡ budget
-none_made p budget poll.Spent s lead spent = spent refl
-none_made p budget (poll.Took x) s lead spent = absurd (cc)
-none_made p budget (poll.Lost w) s lead spent = absurd (cc)
-none_made p budget poll.Undecided s lead spent = absurd (cc)
-none_made p budget poll.Nothing s lead spent = absurd (cc)
-none_made p budget poll.Ended s lead spent = absurd (cc)
-none_made p budget poll.NoLane s lead spent = absurd (cc)
-
--- a poll with a budget makes an access
-some_made : (p budget : ℕ) (answer : Poll) (done : WorldHistory) (s : ConsumerView) → 0 < budget
-    → LeadTo p (outcome answer) done s
-    → (answer ≡ poll.Spent → length done ≡ budget) → 0 < length done
-some_made p budget answer [] s able lead spent = let none = none_made p budget answer s lead spent
-    in omega (arith, able, none)
-some_made p budget answer (a ∷ older) s able lead spent = omega arith
-
--- a poll with a budget adds an access to the consumer's
-pub made_by : (p budget : ℕ) (answer : Poll) (s t : Stream) (old new : ConsumerView) → 0 < budget
-    → IsPollOf p budget answer s t old new
-    → accesses_made old < accesses_made new
-made_by p budget answer s t old new able i =
-    let some = some_made p budget answer i.accesses old able i.lead i.spent in
-    let reads = ap (λ (r : ReaderSeatView). length r.part) i.done.reader
-    ∙ length-append (pool_accesses i.accesses) old.reader.part in
-    let claimed = ap (λ (c : SeatView). length c.part) i.done.seat
-    ∙ length-append (claim_accesses i.accesses) old.seat.part in
-    let all = both i.accesses in
-    omega (arith, some, reads, claimed, all)
-
--- a poll adds no more accesses than its budget
-pub most_by : (p budget : ℕ) (answer : Poll) (s t : Stream) (old new : ConsumerView)
-    → IsPollOf p budget answer s t old new
-    → accesses_made new ≤ accesses_made old + budget
-most_by p budget answer s t old new i =
-    let within = i.within in
-    let reads = ap (λ (r : ReaderSeatView). length r.part) i.done.reader
-    ∙ length-append (pool_accesses i.accesses) old.reader.part in
-    let claimed = ap (λ (c : SeatView). length c.part) i.done.seat
-    ∙ length-append (claim_accesses i.accesses) old.seat.part in
-    let all = both i.accesses in
-    omega (arith, within, reads, claimed, all)
 
 -- ---- a lane that a consumer has read to its end
 module _ (met : (q p : ℕ) (h : History) → HasMet q p (cells_met p (part (Reader q) h)) h)

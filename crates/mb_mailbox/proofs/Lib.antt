@@ -20,6 +20,7 @@ pub mod Made
 pub mod NewConsumer
 -- A poll: many accesses
 pub mod Polls
+pub mod Grown
 pub mod Looks
 pub mod Competing
 pub mod Pursuing
@@ -28,6 +29,7 @@ pub mod Ending
 pub mod Beginnings
 pub mod Straight
 pub mod Taking
+pub mod Takes
 -- A consumer at the end of a lane
 pub mod Endings
 pub mod EndsMet

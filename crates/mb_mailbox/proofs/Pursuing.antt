@@ -97,16 +97,16 @@ module _ (b : ConsumerView) (p k : ℕ) (claim : Claim) where
     took_noted i = noted new p (Past k) i (ap (λ ps. slice_get ps p) e ∙ set_here b.places p (Before (Past k)) there at)
 
     -- the poll ends with the item
-    pub pursued_took : (most made m : ℕ) → n ≡ made + m → made + 1 ≤ most
+    pub pursued_took : (most left made m : ℕ) → n ≡ made + m → made + 1 + left ≡ most
         → ConsumerStep (claims_at mid.seat.table) mid.seat.consumer p (parts_of mid.reader mid.seat)
         (ToCells (load mid.reader.reader (Item k) v)) (Some (poll.Took v))
         → IsConsumer (moved_to p (Before (Past k)) (Some (Took v)) (reads_with_item mid k v) mid.seat.part mid)
-        → IsPursuit p m most (poll.Took v) t u from new
-    pursued_took most made m count few next i =
+        → IsPursuit p m most left (poll.Took v) t u from new
+    pursued_took most left made m count sum next i =
         let long : n + 1 ≡ made + 1 + m = omega (arith, count) in
         record {
           made = made + 1;
-          within = few;
+          sum = sum;
           spent = λ f. absurd (cc);
           steps = subst (λ z. AreSteps p z (Some (poll.Took v)) t u from new) long (took_steps next);
           kind = tt;
@@ -116,24 +116,24 @@ module _ (b : ConsumerView) (p k : ℕ) (claim : Claim) where
 
   -- ---- the claim has ended otherwise, or goes on
   -- if the claim is lost or undecided, the poll ends past the cell
-  pub pursued_past : (most made n : ℕ) (now : Claim) (st : Stage) (note : Note) (answer : Poll)
+  pub pursued_past : (most left made n : ℕ) (now : Claim) (st : Stage) (note : Note) (answer : Poll)
       (t u : Stream) (from : ConsumerView)
       (seat : SeatView) (places : List Place) (notes : List (List Note)) (there : Place)
       → slice_get b.places p ≡ Some there
       → claim_stage now ≡ st → note_of st ≡ Some note → stage_answer st ≡ outcome answer
       → IsOfClaim answer → answer ≢ poll.Spent
-      → place_after k now st ≡ Before (Past k) → made ≤ most → HasCompeted p k (made + n) now t u from s seat
+      → place_after k now st ≡ Before (Past k) → made + left ≡ most → HasCompeted p k (made + n) now t u from s seat
       → places ≡ slice_set b.places p (Before (Past k)) → notes ≡ with_note p (Some note) b.notes
-      → IsPursuit p n most answer t u from (at_views b.reader seat places notes)
-  pursued_past most made n now st note answer t u from seat places notes there at is noting tells
-      kind never past few so e f =
+      → IsPursuit p n most left answer t u from (at_views b.reader seat places notes)
+  pursued_past most left made n now st note answer t u from seat places notes there at is noting tells
+      kind never past sum so e f =
       let view : competed p k now seat s ≡ at_views b.reader seat places notes =
       seen_at now st seat places notes is so.same (e ∙ ap (λ z. slice_set b.places p z) (sym past))
       (f ∙ ap (λ o. with_note p o b.notes) (sym noting)) in
       let end = subst IsConsumer view so.is in
       record {
         made = made;
-        within = few;
+        sum = sum;
         spent = λ z. absurd (never z);
         steps = subst (λ (z : Option Poll × ConsumerView). AreSteps p (made + n) z.0 t u from z.1)
             (λ j. ((ap stage_answer is ∙ tells) j, view j)) so.steps;
@@ -144,20 +144,20 @@ module _ (b : ConsumerView) (p k : ℕ) (claim : Claim) where
       }
 
   -- if the claim goes on or is won, the poll leaves it for the next poll
-  pub pursued_spent : (most n : ℕ) (now : Claim) (st : Stage) (t u : Stream) (from : ConsumerView)
+  pub pursued_spent : (most left n : ℕ) (now : Claim) (st : Stage) (t u : Stream) (from : ConsumerView)
       (seat : SeatView) (places : List Place)
-      → claim_stage now ≡ st → note_of st ≡ None → stage_answer st ≡ None → place_after k now st ≡ At k now
+      → left ≡ 0 → claim_stage now ≡ st → note_of st ≡ None → stage_answer st ≡ None → place_after k now st ≡ At k now
       → HasCompeted p k (most + n) now t u from s seat → places ≡ slice_set b.places p (At k now)
-      → IsPursuit p n most poll.Spent t u from (at_views b.reader seat places b.notes)
-  pursued_spent most n now st t u from seat places is noting tells here so e =
+      → IsPursuit p n most left poll.Spent t u from (at_views b.reader seat places b.notes)
+  pursued_spent most left n now st t u from seat places none is noting tells here so e =
       let view : competed p k now seat s ≡ at_views b.reader seat places b.notes =
       seen_at now st seat places b.notes is so.same
       (e ∙ ap (λ z. slice_set b.places p z) (sym here))
       (ap (λ o. with_note p o b.notes) (sym noting)) in
       record {
         made = most;
-        within = omega arith;
-        spent = λ _. refl;
+        sum = omega (arith, none);
+        spent = λ _. none;
         steps = subst (λ (z : Option Poll × ConsumerView). AreSteps p (most + n) z.0 t u from z.1)
             (λ j. ((ap stage_answer is ∙ tells) j, view j)) so.steps;
         kind = tt;

@@ -52,17 +52,17 @@ module _ (b : ConsumerView) (p k : ℕ) (claim : Claim) where
   -- if the claim is won, the load of the item ends the poll
   pub taken : TakesNext → TakesOn → HasLoads b
       → (v : ℕ) (now : Claim) (seat : SeatView) (reader : ReaderSeatView) (places : List Place)
-      (notes : List (List Note)) (made n most : ℕ) (t u : Stream) (from : ConsumerView) (there : Place)
+      (notes : List (List Note)) (made n most left : ℕ) (t u : Stream) (from : ConsumerView) (there : Place)
       → slice_get b.places p ≡ Some there → claim_stage now ≡ stage.Won
       → HasCompeted p k (made + n) now t u from (holding p k claim b) seat → ItemMakes b.reader k v reader
       → places ≡ slice_set b.places p (Before (Past k)) → notes ≡ with_note p (Some (Took v)) b.notes
-      → made + 1 ≤ most → IsPursuit p n most (poll.Took v) t u from (at_views reader seat places notes)
-  taken next on loads v now seat reader places notes made n most t u from there was won so makes e f few =
+      → made + 1 + left ≡ most → IsPursuit p n most left (poll.Took v) t u from (at_views reader seat places notes)
+  taken next on loads v now seat reader places notes made n most left t u from there was won so makes e f sum =
       let mid = moved_to p (At k now) None b.reader.part seat.part (holding p k claim b) in
       let is = mid_consumer b p k claim v now seat reader places notes t u from (made + n) there was won so makes e f in
       let at = mid_at b p k claim v now seat reader places notes t u from (made + n) there was won so makes e f in
       pursued_took b p k claim v now seat reader places notes t u from (made + n) there was won so makes e f
-      most made n refl few (next mid p k v now is at won) (on mid p k v now is loads at won)
+      most left made n refl sum (next mid p k v now is at won) (on mid p k v now is loads at won)
 
   -- ---- the claim goes on
   -- if accesses of the claim led to one that goes on, the consumer holds that claim
@@ -86,15 +86,15 @@ module _ (b : ConsumerView) (p k : ℕ) (claim : Claim) where
         so.is
 
 -- accesses before those of a pursuit are made in it
-pub pursued_on : (p a n left most : ℕ) (x : Poll) (t u : Stream) (from new : ConsumerView) → a + left ≡ most
-    → IsPursuit p (a + n) left x t u from new → IsPursuit p n most x t u from new
-pursued_on p a n left most x t u from new sum so =
-    let few = so.within in
+pub pursued_on : (p a n rest most left : ℕ) (x : Poll) (t u : Stream) (from new : ConsumerView) → a + rest ≡ most
+    → IsPursuit p (a + n) rest left x t u from new → IsPursuit p n most left x t u from new
+pursued_on p a n rest most left x t u from new sum so =
+    let all = so.sum in
     let count : so.made + (a + n) ≡ so.made + a + n = omega arith in
     record {
       made = so.made + a;
-      within = omega arith;
-      spent = λ e. let all = so.spent e in omega (arith, all);
+      sum = omega (arith, all, sum);
+      spent = so.spent;
       steps = subst (λ z. AreSteps p z (outcome x) t u from new) count so.steps;
       kind = so.kind;
       noted = so.noted;

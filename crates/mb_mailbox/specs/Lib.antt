@@ -16,6 +16,7 @@ pub mod NewConsumers
 pub mod Jobs
 pub mod Begun
 pub mod Calls
+pub mod Takes
 pub mod Rooms
 pub mod Runs
 pub mod Worked

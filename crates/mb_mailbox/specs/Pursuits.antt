@@ -1,5 +1,5 @@
 -- What a poll does with the claim of its lane. While a new claim goes straight, the place there is out of date.
-use Rattle.std.specs.Prelude.{ℕ, ◌≡◌, ◌≢◌, ◌+◌, ◌<◌, ◌≤◌, length, slice_set}
+use Rattle.std.specs.Prelude.{ℕ, ◌≡◌, ◌≢◌, ◌+◌, ◌<◌, length, slice_set}
 use Rattle.mb_mailbox.specs.Imports.{Claim, IsStanding, Layout, SeatView, Stream, claim_stage, note_of}
 use Rattle.mb_mailbox.specs.declared.consumer.ConsumerFields.{ConsumerFields}
 use Rattle.mb_mailbox.specs.declared.consumer.Poll.{Poll}
@@ -57,13 +57,13 @@ IsOfClaim poll.Ended = ⊥
 IsOfClaim poll.NoLane = ⊥
 IsOfClaim _ = Unit {0}
 
--- after n accesses on lane p, at most `most` further ones come to this answer. If the poll is spent, they are just as
--- many
-pub record IsPursuit (p n most : ℕ) (answer : Poll) (t u : Stream) (from new : ConsumerView)
+-- after n accesses on lane p, further ones come to this answer, and leave `left` of a budget of `most`. If the poll is
+-- spent, nothing is left
+pub record IsPursuit (p n most left : ℕ) (answer : Poll) (t u : Stream) (from new : ConsumerView)
     : Type 0 where
   pub made : ℕ
-  pub within : made ≤ most
-  pub spent : answer ≡ poll.Spent → made ≡ most
+  pub sum : made + left ≡ most
+  pub spent : answer ≡ poll.Spent → left ≡ 0
   pub steps : AreSteps p (made + n) (outcome answer) t u from new
   pub kind : IsOfClaim answer
   pub noted : answer ≢ poll.Spent → HasNoteOnEach p new

@@ -5,6 +5,7 @@ mod places;
 mod polls;
 mod pursuit;
 mod standing;
+mod takes;
 
 use crate::notes::Notes;
 use arrayvec::ArrayVec;
@@ -74,9 +75,17 @@ impl<A: Allocator + Drop> Model for Consumer<A> {
 }
 
 impl<A: Allocator + Drop> Consumer<A> {
+    ghost use Rattle.std.specs.Prelude.{◌≡◌};
     ghost use Rattle.mb_mailbox.specs.Imports.{IsLawfulPart, claims_at};
     ghost use Rattle.mb_mailbox.specs.Consumers.{IsConsumer};
     ghost use Rattle.mb_mailbox.specs.Moves.{HasLoads};
+
+    /// Its number, from 0 on.
+    pub fn number(&self) -> u32
+        ensures { result ≡ self.now.seat.consumer }
+    {
+        self.fields.seat.consumer()
+    }
 
     /// The two parts of a consumer fit each other. They determine its place on each lane and its notes there. Each of
     /// them is the consumer's part of some lawful history. This computes nothing: its contract is a law of all

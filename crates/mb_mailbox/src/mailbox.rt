@@ -24,3 +24,15 @@ impl<A: Allocator + Drop> Model for Mailbox<A> {
     ghost invariant = { λ m. IsMailbox (record { cells = m.cells; claims = m.claims })
         × (m.lanes ≡ m.cells.size.lanes) };
 }
+
+impl<A: Allocator + Drop> Mailbox<A> {
+    ghost use Rattle.std.specs.Prelude.{◌≡◌};
+    ghost use Rattle.mb_mailbox.specs.Imports.{most_accesses};
+
+    /// The most accesses that a claim can make.
+    pub fn max_steps(&self) -> u64
+        ensures { result ≡ most_accesses self.now.claims.layout }
+    {
+        self.claims.layout().max_steps()
+    }
+}

@@ -47,6 +47,13 @@ impl<A: Allocator + Drop> Producer<A> {
     ghost use Rattle.mb_mailbox.specs.Producers.{FoundNoCell, HasNoCellFor, IsEndOfLane, IsProducer, IsProducerOf};
     ghost use Rattle.mb_mailbox.specs.Producers.{IsPutInto, IsSameLane, is_over};
 
+    /// The number of its lane, from 0 on.
+    pub fn lane(&self) -> u32
+        ensures { result ≡ self.now.seat.lane }
+    {
+        self.seat.lane()
+    }
+
     /// Puts an item, any number, at the end of the lane. It takes a cell, stores the item there, and links the cell.
     /// It makes at most these three accesses, waits for nobody and takes no memory.
     #[inline(always)]

@@ -1,5 +1,6 @@
 -- A claim on some objects goes on before its first access.
-use Rattle.std.proofs.Common.{◌≢◌, ℕ, zero, suc, ◌<◌, ◌≤◌, Bool, true, false, List, [], ◌∷◌, ◌++◌, refl, inl, arith}
+use Rattle.std.proofs.Common.{◌≢◌, ℕ, zero, suc, ◌<◌, ◌≤◌, Bool, true, false, List, [], ◌∷◌, ◌++◌, ◌≡◌, refl, inl, arith}
+use Rattle.std.proofs.lemmas.Bool.{false≢true}
 use Rattle.mb_quorum.specs.Quorum.{IsQuorumTable, QuorumTable}
 use Rattle.mb_deciding.specs.Deciding.{IsDeciding}
 use Rattle.mb_deciding.specs.Objects.{IsOpen}
@@ -28,12 +29,13 @@ some_with : (fast : Bool) (rest : List Kind) → rest ≢ [] → fast_row fast +
 some_with true rest some e = cc
 some_with false rest some e = some e
 
--- a row that begins with pairs, at least one, is not empty
-some_pairs : (s n : ℕ) (rest : List Kind) → 1 ≤ n → pairs_of s n ++ rest ≢ []
-some_pairs s zero rest less e = omega (arith, less)
-some_pairs s (suc n) rest less e = cc
+-- pairs and a last object are not nothing, if without pairs there is a last object
+some_pairs : (s n : ℕ) (b : Bool) → (n ≡ 0 → b ≡ true) → pairs_of s n ++ last_row b ≢ []
+some_pairs s (suc n) b some e = cc
+some_pairs s zero true some e = cc
+some_pairs s zero false some e = absurd (false≢true (some refl))
 
--- so the row of a shape with at least one pair is not empty
-pub some_row : (shape : Shape) (s n : ℕ) → 1 ≤ n → row_of shape s n ≢ []
-some_row shape s n less =
-    some_with shape.fast (pairs_of s n ++ last_row shape.last) (some_pairs s n (last_row shape.last) less)
+-- so the row of such a shape is not empty
+pub some_row : (shape : Shape) (s n : ℕ) → (n ≡ 0 → shape.last ≡ true) → row_of shape s n ≢ []
+some_row shape s n some =
+    some_with shape.fast (pairs_of s n ++ last_row shape.last) (some_pairs s n shape.last some)

@@ -49,10 +49,11 @@ impl fmt::Display for SetupFault {
 impl Error for SetupFault {}
 
 impl Setup {
-    ghost use Rattle.std.specs.Prelude.{◌≡◌, ◌≤◌, IsOk, IfOk, Err, MatchOption};
+    ghost use Rattle.std.specs.Prelude.{◌≡◌, ◌≤◌, true, IsOk, IfOk, Err, MatchOption};
     ghost use Rattle.std.specs.Prelude.{ℕ};
     ghost use Rattle.mb_quorum.specs.declared.table.TableName.{TableName};
-    ghost use Rattle.mb_claim.specs.Layouts.{plain};
+    ghost use Rattle.mb_claim.specs.Layouts.{plain, with_last};
+    ghost use Rattle.mb_quorum.specs.declared.table.TableName.TheVariants.{Bits};
     ghost use Rattle.mb_claim.specs.declared.layout.TheConstants.{MAX_LARGE_CELLS};
     ghost use Rattle.mb_claim.specs.declared.shape.Shape.{Shape};
     ghost use Rattle.mb_world.specs.Plan.{consumers_of};
@@ -75,6 +76,7 @@ impl Setup {
             (λ setup. plan_in setup ≡ plan_of producers consumers cells pairs name) }
         ensures pairs { IfOk result (λ setup. pairs_in setup ≡ pairs) }
         ensures shape { IfOk result (λ setup. shape_in setup ≡ plain) }
+        ensures some { IfOk result (λ setup. 1 ≤ pairs_in setup) }
     {
         Setup::up_to(MAX_CELLS, producers, consumers, cells, pairs, name)
     }
@@ -94,8 +96,35 @@ impl Setup {
             (λ setup. plan_in setup ≡ plan_of producers consumers cells pairs name) }
         ensures pairs { IfOk result (λ setup. pairs_in setup ≡ pairs) }
         ensures shape { IfOk result (λ setup. shape_in setup ≡ plain) }
+        ensures some { IfOk result (λ setup. 1 ≤ pairs_in setup) }
     {
         Setup::up_to(MAX_LARGE_CELLS, producers, consumers, cells, pairs, name)
+    }
+
+    /// The setup of `producers` (1 to 16), `consumers` (1 to 64) and `cells` (0 to 2^24) whose cells have a last object
+    /// alone. So a claim is one exchange. The fault is that of [`Setup::large`] with one pair.
+    pub fn exchange(producers: u64, consumers: u64, cells: u64) -> Result<Setup, SetupFault>
+        ensures refused { MatchOption (large_refusal producers consumers cells 1) (IsOk result)
+            (λ fault. result ≡ Err fault) }
+        ensures made { IfOk result
+            (λ setup. plan_in setup ≡ shaped_plan with_last producers consumers cells 0 Bits) }
+        ensures pairs { IfOk result (λ setup. pairs_in setup ≡ 0) }
+        ensures shape { IfOk result (λ setup. shape_in setup ≡ with_last) }
+    {
+        if !(1..=MAX_PRODUCERS).contains(&producers) {
+            return Err(SetupFault::BadProducers);
+        }
+        let Ok(layout) = Layout::exchange(consumers) else {
+            return Err(SetupFault::BadConsumers);
+        };
+        if cells > u64::from(MAX_LARGE_CELLS) {
+            return Err(SetupFault::BadCells);
+        }
+        Ok(Setup {
+            producers: producers as u32,
+            cells: cells as u32,
+            layout,
+        })
     }
 
     /// The setup of these numbers, if `cells` is at most `most`.
@@ -114,6 +143,7 @@ impl Setup {
             (λ setup. plan_in setup ≡ plan_of producers consumers cells pairs name) }
         ensures pairs { IfOk result (λ setup. pairs_in setup ≡ pairs) }
         ensures shape { IfOk result (λ setup. shape_in setup ≡ plain) }
+        ensures some { IfOk result (λ setup. 1 ≤ pairs_in setup) }
     {
         if !(1..=MAX_PRODUCERS).contains(&producers) {
             return Err(SetupFault::BadProducers);
@@ -135,16 +165,19 @@ impl Setup {
         }
     }
 
-    /// This setup, but with this shape for each cell. The shape that the cells had before makes no difference.
+    /// This setup, but with this shape for each cell. The shape that the cells had before makes no difference. Without
+    /// pairs the cells keep their last object, since they have no other.
     pub fn shaped(&self, shape: Shape) -> Setup
         ensures table { (plan_in result).claims.table ≡ (plan_in self.now).claims.table }
         ensures cells { (plan_in result).claims.cells ≡ (plan_in self.now).claims.cells }
         ensures lanes { (plan_in result).lanes ≡ (plan_in self.now).lanes }
         ensures plan { (s : Shape) (p c m k : ℕ) (t : TableName)
-            → plan_in self.now ≡ shaped_plan s p c m k t → pairs_in self.now ≡ k
+            → plan_in self.now ≡ shaped_plan s p c m k t → pairs_in self.now ≡ k → 1 ≤ k
             → plan_in result ≡ shaped_plan shape p c m k t }
         ensures pairs { pairs_in result ≡ pairs_in self.now }
-        ensures shape { shape_in result ≡ shape }
+        ensures shape { 1 ≤ pairs_in self.now → shape_in result ≡ shape }
+        ensures alone { pairs_in self.now ≡ 0
+            → shape_in result ≡ record { fast = shape.fast; last = true } }
     {
         Setup {
             producers: self.producers,

@@ -89,16 +89,17 @@ const _: () = {
 
 unsafe extern "C" {
     pub(super) fn hz_mailbox_new(id: u64, setup: &Setup, hub: &mut Handle) -> u32;
-    pub(super) fn hz_producer_new(hub: &mut Handle, producer: &mut Handle) -> u32;
+    pub(super) fn hz_producer_new(hub: &mut Handle, producer: &mut Handle, lane: &mut u64) -> u32;
     pub(super) fn hz_consumer_new(
         hub: &mut Handle,
         seed: &[u8; 32],
-        stream: u64,
         consumer: &mut Handle,
+        number: &mut u64,
     ) -> u32;
     pub(super) fn hz_put(producer: &mut Handle, item: u64) -> u32;
     pub(super) fn hz_finish(producer: &mut Handle) -> u32;
     pub(super) fn hz_poll(consumer: &mut Handle, lane: u64, budget: u64, value: &mut u64) -> u32;
+    pub(super) fn hz_take(consumer: &mut Handle, lane: u64, most: u64, value: &mut u64) -> u32;
     pub(super) fn hz_take_back(hub: &mut Handle, part: &mut Handle) -> u32;
     pub(super) fn hz_gather(hub: &mut Handle, report: &mut Handle, missing: &mut Missing) -> u32;
     pub(super) fn hz_report_size(report: &mut Handle, lanes: &mut u64, consumers: &mut u64) -> u32;

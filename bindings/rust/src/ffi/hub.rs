@@ -1,6 +1,6 @@
 //! A hub of the archive, with its mailbox.
 use super::calls::{self, excluded, expect_done, hz_consumer_new, hz_gather, hz_mailbox_new};
-use super::calls::{hz_producer_new, hz_take_back, Missing, Setup};
+use super::calls::{hz_producer_new, hz_take_back, number, Missing, Setup};
 use super::carrier::Carrier;
 use super::handle::Handle;
 use super::parts::{Consumer, Producer};
@@ -57,34 +57,32 @@ impl<T> Hub<T> {
         }
     }
 
-    /// The producer of the next lane.
-    pub(crate) fn producer(&mut self) -> Result<Producer<T>, NotIssued> {
-        let mut handle = Handle::empty();
+    /// The producer of the next lane, and the lane.
+    pub(crate) fn producer(&mut self) -> Result<(Producer<T>, usize), NotIssued> {
+        let (mut handle, mut lane) = (Handle::empty(), 0);
         // SAFETY: the rules of calls.
-        let code = unsafe { hz_producer_new(&mut self.handle, &mut handle) };
+        let code = unsafe { hz_producer_new(&mut self.handle, &mut handle, &mut lane) };
         issued("hz_producer_new", code)?;
-        Ok(Producer {
+        let producer = Producer {
             handle,
             carrier: self.carrier,
             values: PhantomData,
-        })
+        };
+        Ok((producer, number(lane)))
     }
 
-    /// The consumer of the next number, with the random words of this seed and stream.
-    pub(crate) fn consumer(
-        &mut self,
-        seed: &[u8; 32],
-        stream: u64,
-    ) -> Result<Consumer<T>, NotIssued> {
-        let mut handle = Handle::empty();
+    /// The consumer of the next number, with random words from this seed, and the number.
+    pub(crate) fn consumer(&mut self, seed: &[u8; 32]) -> Result<(Consumer<T>, usize), NotIssued> {
+        let (mut handle, mut given) = (Handle::empty(), 0);
         // SAFETY: the rules of calls.
-        let code = unsafe { hz_consumer_new(&mut self.handle, seed, stream, &mut handle) };
+        let code = unsafe { hz_consumer_new(&mut self.handle, seed, &mut handle, &mut given) };
         issued("hz_consumer_new", code)?;
-        Ok(Consumer {
+        let consumer = Consumer {
             handle,
             carrier: self.carrier,
             values: PhantomData,
-        })
+        };
+        Ok((consumer, number(given)))
     }
 
     /// Takes a producer of this mailbox back.

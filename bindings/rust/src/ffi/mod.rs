@@ -21,8 +21,8 @@
 //!
 //! - `hz_gather`: `headline`, which is that of `Mailbox::gather`. One assignment explains the whole report: each item put
 //!   goes to at most one consumer, and each that was not taken is left, once.
-//! - `hz_poll`: `polled`. The answer is that of the poll. So a consumer is told `HZ_TOOK` of an item exactly if it gets the
-//!   note of it, which the report has.
+//! - `hz_poll`: `polled`, and `hz_take`: `taken`. The answer is that of the poll, or of the last of the take's polls. So a
+//!   consumer is told `HZ_TOOK` of an item exactly if it gets the note of it, which the report has.
 //! - `hz_put`: `linked` and `full`. An item is put by `HZ_LINKED` alone. After `HZ_FULL` it is in no lane.
 //!
 //! The first speaks of a report. But each run can go on until its calls return, all parts are handed back, and a report

@@ -1,5 +1,5 @@
 //! A producer and a consumer of the archive.
-use super::calls::{self, excluded, expect_done, hz_finish, hz_poll, hz_put, number};
+use super::calls::{self, excluded, expect_done, hz_finish, hz_poll, hz_put, hz_take, number};
 use super::carrier::Carrier;
 use super::handle::Handle;
 use crate::consumer::Poll;
@@ -49,7 +49,26 @@ impl<T> Consumer<T> {
     pub(crate) fn poll(&mut self, lane: u64, budget: u64) -> Poll<T> {
         let mut value = 0;
         // SAFETY: the rules of calls.
-        match unsafe { hz_poll(&mut self.handle, lane, budget, &mut value) } {
+        let code = unsafe { hz_poll(&mut self.handle, lane, budget, &mut value) };
+        // SAFETY: these are of that call.
+        unsafe { self.told("hz_poll", code, value) }
+    }
+
+    /// Takes an item of a lane, past those that are lost.
+    pub(crate) fn take(&mut self, lane: u64, most: u64) -> Poll<T> {
+        let mut value = 0;
+        // SAFETY: the rules of calls.
+        let code = unsafe { hz_take(&mut self.handle, lane, most, &mut value) };
+        // SAFETY: these are of that call.
+        unsafe { self.told("hz_take", code, value) }
+    }
+
+    /// What a code and a value tell.
+    ///
+    /// # Safety
+    /// The last call of this consumer's returned this code and wrote this value, and nobody else was told them.
+    unsafe fn told(&self, call: &str, code: u32, value: u64) -> Poll<T> {
+        match code {
             // SAFETY: ownership. A producer of this mailbox, with this carrier, made the word of the item, and this
             // consumer alone takes it, now.
             calls::TOOK => Poll::Took(unsafe { self.carrier.unpack(value) }),
@@ -59,7 +78,7 @@ impl<T> Consumer<T> {
             calls::ENDED => Poll::Ended,
             calls::SPENT => Poll::Spent,
             calls::NO_LANE => Poll::NoLane,
-            other => excluded("hz_poll", other),
+            other => excluded(call, other),
         }
     }
 }

@@ -27,6 +27,9 @@ impl Model for Block {
 }
 
 impl Block {
+    ghost use types.Logic.{sem};
+    ghost use Rattle.hazbultra.specs.Lending.{BlockLends};
+
     /// A block that leads to nothing.
     pub(super) fn none(alloc: Global) -> Block
         ensures { result.thing ≡ None }
@@ -50,6 +53,16 @@ impl Block {
         ensures { self.thing ≡ Some result.value }
     {
         self.into_parts().into_box()
+    }
+
+    /// Lends the thing to which the block leads. Once the borrow ends, the block leads to what was left there.
+    #[inline(always)]
+    pub(super) fn lend(&mut self) -> &mut Thing
+        requires { IsSome self.old.thing }
+        ensures* writes_back { sem 𝓛 (BlockLends self.entry result) }
+        ensures value { self.old.thing ≡ Some result.now }
+    {
+        unsafe { &mut *(self.at as *mut Thing) }
     }
 
     /// A block that leads to the thing of which these are the parts of a box.

@@ -12,10 +12,11 @@ use rand_core::Rng;
 use std::alloc::Allocator;
 
 impl<A: Allocator + Drop> Consumer<A> {
-    ghost use Rattle.std.specs.Prelude.{◌≡◌, ◌≢◌, ◌↔◌, ◌≤◌, ◌+◌, true};
+    ghost use Rattle.std.specs.Prelude.{◌≡◌, ◌≢◌, ◌↔◌, ◌<◌, ◌≤◌, ◌+◌, true, None, IfSome};
     ghost use Rattle.mb_claim.specs.Vocabulary.{most_accesses, shape_of};
     ghost use Rattle.mb_mailbox.specs.declared.consumer.Poll.TheVariants.{NoLane, Spent, Undecided};
     ghost use Rattle.mb_mailbox.specs.Consumers.{IsConsumerOf};
+    ghost use Rattle.mb_mailbox.specs.Jobs.{accesses_made};
     ghost use Rattle.mb_mailbox.specs.Steps.{AnswerTells, IsPollOf, outcome};
 
     /// Makes accesses on a lane until one has a result, or until it has made as many as the budget allows. Lanes count
@@ -48,10 +49,50 @@ impl<A: Allocator + Drop> Consumer<A> {
         ensures told { result ≢ NoLane → AnswerTells lane (outcome result) self.old self.new }
         ensures of { IsConsumerOf mailbox.now self.new }
     {
-        if lane >= self.fields.places.len() as u64 {
-            return Poll::NoLane;
+        let mut left = budget;
+        match self.lane_of(mailbox, lane) {
+            Some(lane) => self.poll_rest(mailbox, lane, &mut left, rng),
+            None => Poll::NoLane,
         }
-        if budget == 0 {
+    }
+
+    /// The lane of this number, if there is one.
+    #[inline(always)]
+    pub(super) fn lane_of<B: Allocator + Drop>(&self, mailbox: &Mailbox<B>, lane: u64) -> Option<u32>
+        requires of { IsConsumerOf mailbox.now self.now }
+        ensures none { result ≡ None → mailbox.now.cells.size.lanes ≤ lane }
+        ensures some { IfSome result (λ p. (p ≡ lane) × (p < mailbox.now.cells.size.lanes)) }
+    {
+        // Only the contract names the mailbox.
+        let _ = mailbox;
+        if lane >= self.fields.places.len() as u64 {
+            return None;
+        }
+        Some(lane as u32)
+    }
+
+    /// A poll of a lane that there is, with the clauses of [`Consumer::poll`]. Its budget is `left`, which is then what
+    /// it leaves.
+    #[inline(always)]
+    pub(super) fn poll_rest<B: Allocator + Drop, R: Rng>(
+        &mut self,
+        mailbox: &Mailbox<B>,
+        lane: u32,
+        left: &mut u64,
+        rng: &mut R,
+    ) -> Poll
+        requires of { IsConsumerOf mailbox.now self.old }
+        requires lane { lane < mailbox.now.cells.size.lanes }
+        ensures some { result ≢ NoLane }
+        ensures polled { IsPollOf lane left.old result (R.stream rng.old) (R.stream rng.new)
+            self.old self.new }
+        ensures left { accesses_made self.new + left.new ≡ accesses_made self.old + left.old }
+        ensures unspent { most_accesses mailbox.now.claims.layout + 2 ≤ left.old → result ≢ Spent }
+        ensures decided { (shape_of mailbox.now.claims.layout).last ≡ true → result ≢ Undecided }
+        ensures told { AnswerTells lane (outcome result) self.old self.new }
+        ensures of { IsConsumerOf mailbox.now self.new }
+    {
+        if *left == 0 {
             return Poll::Spent;
         }
         consumers_move_on();
@@ -60,15 +101,15 @@ impl<A: Allocator + Drop> Consumer<A> {
         looks_tell_links();
         claims_begin_objects();
         self.fields.reader.has_history();
-        let lane = lane as u32;
         let Consumer { fields } = self;
         let at = match place_at(&fields.places, lane as usize) {
             Place::Before(at) => at,
             Place::At { cell, claim } => {
                 let _ = (cell, claim);
-                return run_held(fields, mailbox, lane, budget, rng);
+                return run_held(fields, mailbox, lane, left, rng);
             }
         };
+        *left -= 1;
         let cell = match mailbox.cells.look(&mut fields.reader, at) {
             Look::Nothing => return Poll::Nothing,
             Look::Ended => return Poll::Ended,
@@ -77,6 +118,6 @@ impl<A: Allocator + Drop> Consumer<A> {
 
         // This call's contract says that the consumer is one of the mailbox's. So it may begin a claim.
         fields.seat.consumer();
-        run_new(fields, mailbox, lane, cell, budget - 1, rng)
+        run_new(fields, mailbox, lane, cell, left, rng)
     }
 }

@@ -21,35 +21,36 @@ use rand_core::Rng;
 use std::alloc::Allocator;
 
 /// Goes on with the claim that the consumer holds on this lane. It goes to the claim's end, to the item if the claim is
-/// won, or until it has made this many accesses. It takes the consumer's fields, not the consumer. The claim is stepped
-/// in its place.
+/// won, or until it has made the accesses that are left. It takes the consumer's fields, not the consumer. The claim is
+/// stepped in its place.
 #[inline(always)]
 pub(super) fn run_held<A: Allocator + Drop, B: Allocator + Drop, R: Rng>(
     fields: &mut ConsumerFields<A>,
     mailbox: &Mailbox<B>,
     lane: u32,
-    most: u64,
+    left: &mut u64,
     rng: &mut R,
 ) -> Poll
     requires is { IsConsumer (with_fields fields.old) }
     requires lane { lane < array_vec_len fields.old.places }
     requires held { IsHolding lane (with_fields fields.old) }
     requires won { (k : ℕ) (claim : Claim) → HasPlace lane (At k claim) (with_fields fields.old)
-        → claim_stage claim ≡ stage.Won → 0 < most }
+        → claim_stage claim ≡ stage.Won → 0 < left.old }
     requires of { IsConsumerOf mailbox.now (with_fields fields.old) }
     requires wide { HasAllRoom fields.old.reader.table.size.cells fields.old.notes }
 
     // If the accesses before came to no answer, the poll is these accesses and those made here.
     ensures pursued { (from : ConsumerView) (n : ℕ) (t : Stream)
         → AreSteps lane n None t (R.stream rng.old) from (with_fields fields.old)
-        → IsPursuit lane n most result t (R.stream rng.new) from (with_fields fields.new) }
+        → IsPursuit lane n left.old left.new result t (R.stream rng.new) from
+        (with_fields fields.new) }
     ensures wide { HasAllRoom fields.new.reader.table.size.cells fields.new.notes }
 
     // A claim ends after no more accesses than its layout allows, with those made before. If its cell has a last
     // object, the claim is decided then.
     ensures few { (k : ℕ) (claim : Claim) → HasPlace lane (At k claim) (with_fields fields.old)
         → result ≡ poll.Spent
-        → most + length (part_on fields.old.seat.consumer k fields.old.seat.part)
+        → left.old + length (part_on fields.old.seat.consumer k fields.old.seat.part)
         ≤ most_accesses mailbox.now.claims.layout }
     ensures decided { (shape_of mailbox.now.claims.layout).last ≡ true → result ≢ poll.Undecided }
 {
@@ -69,15 +70,16 @@ pub(super) fn run_held<A: Allocator + Drop, B: Allocator + Drop, R: Rng>(
         Place::At { cell, claim } => (*cell, claim),
     };
     if let Stage::Won = claim.stage() {
+        *left -= 1;
         return Poll::Took(take(places, notes, reader, mailbox, lane, cell));
     }
-    let mut left = most;
-    let stage = compete(&mailbox.claims, seat, claim, cell, rng, &mut left);
+    let stage = compete(&mailbox.claims, seat, claim, cell, rng, left);
     seat.has_history();
     match stage {
         Stage::Going => Poll::Spent,
         Stage::Won => {
-            if left != 0 {
+            if *left != 0 {
+                *left -= 1;
                 return Poll::Took(take(places, notes, reader, mailbox, lane, cell));
             }
             Poll::Spent
@@ -93,16 +95,16 @@ pub(super) fn run_held<A: Allocator + Drop, B: Allocator + Drop, R: Rng>(
     }
 }
 
-/// Makes the accesses of a new claim, with the clauses of [`run_held`]. As long as `most` has room for whole
-/// objects, it goes straight through them. [`run_rest`] makes the other accesses. With no budget left the claim is only
-/// held, which takes less by itself than by [`run_rest`].
+/// Makes the accesses of a new claim, with the clauses of [`run_held`]. As long as there is room for whole objects, it
+/// goes straight through them. [`run_rest`] makes the other accesses. With no budget left the claim is only held, which
+/// takes less by itself than by [`run_rest`].
 #[inline(always)]
 pub(super) fn run_new<A: Allocator + Drop, B: Allocator + Drop, R: Rng>(
     fields: &mut ConsumerFields<A>,
     mailbox: &Mailbox<B>,
     lane: u32,
     cell: u32,
-    most: u64,
+    left: &mut u64,
     rng: &mut R,
 ) -> Poll
     requires held { IsBeforeObject mailbox.now.claims.layout lane cell 0 fields.old.seat.consumer
@@ -114,9 +116,10 @@ pub(super) fn run_new<A: Allocator + Drop, B: Allocator + Drop, R: Rng>(
         claim
         → AreSteps lane n None t (R.stream rng.old) from
         (holding lane cell claim (with_fields fields.old))
-        → IsPursuit lane n most result t (R.stream rng.new) from (with_fields fields.new) }
+        → IsPursuit lane n left.old left.new result t (R.stream rng.new) from
+        (with_fields fields.new) }
     ensures wide { HasAllRoom fields.new.reader.table.size.cells fields.new.notes }
-    ensures few { result ≡ poll.Spent → most ≤ most_accesses mailbox.now.claims.layout }
+    ensures few { result ≡ poll.Spent → left.old ≤ most_accesses mailbox.now.claims.layout }
     ensures decided { (shape_of mailbox.now.claims.layout).last ≡ true → result ≢ poll.Undecided }
 {
     consumers_move_on();
@@ -125,7 +128,7 @@ pub(super) fn run_new<A: Allocator + Drop, B: Allocator + Drop, R: Rng>(
     claims_begin_objects();
     fields.reader.has_history();
 
-    if most == 0 {
+    if *left == 0 {
         let consumer = fields.seat.consumer();
         let layout = mailbox.claims.layout();
         let claim = Claim::new(layout, consumer);
@@ -134,10 +137,12 @@ pub(super) fn run_new<A: Allocator + Drop, B: Allocator + Drop, R: Rng>(
     }
 
     // One access is kept for the item.
-    let room = most - 1;
+    let room = *left - 1;
     let mut end = mailbox.claims.straight(&mut fields.seat, cell, rng, room);
+    *left = end.left + 1;
     match end.stage {
         Stage::Won => {
+            *left = end.left;
             let places = &mut fields.places;
             let notes = &mut fields.notes;
             Poll::Took(take(places, notes, &mut fields.reader, mailbox, lane, cell))
@@ -155,35 +160,39 @@ pub(super) fn run_new<A: Allocator + Drop, B: Allocator + Drop, R: Rng>(
             Poll::Undecided
         }
         Stage::Going => {
-            end.left += 1;
-            run_rest(fields, mailbox, lane, cell, end, rng)
+            end.left = *left;
+            let answer = run_rest(fields, mailbox, lane, cell, &mut end, rng);
+            *left = end.left;
+            answer
         }
     }
 }
 
 /// Goes on with a claim from where its straight accesses ended, with the clauses of [`run_held`]. The claim stands in
-/// its place from there on.
+/// its place from there on. `end.left` is the budget.
 #[inline(always)]
 fn run_rest<A: Allocator + Drop, B: Allocator + Drop, R: Rng>(
     fields: &mut ConsumerFields<A>,
     mailbox: &Mailbox<B>,
     lane: u32,
     cell: u32,
-    end: Stretch,
+    end: &mut Stretch,
     rng: &mut R,
 ) -> Poll
-    requires held { IsBeforeObject mailbox.now.claims.layout lane cell end.object end.value
-        (with_fields fields.old) }
+    requires held { IsBeforeObject mailbox.now.claims.layout lane cell end.old.object
+        end.old.value (with_fields fields.old) }
     requires of { IsConsumerOf mailbox.now (with_fields fields.old) }
     requires wide { HasAllRoom fields.old.reader.table.size.cells fields.old.notes }
     ensures pursued { (from : ConsumerView) (n : ℕ) (t : Stream) (claim : Claim)
-        → IsStanding mailbox.now.claims.layout fields.old.seat.consumer end.object end.value claim
+        → IsStanding mailbox.now.claims.layout fields.old.seat.consumer end.old.object
+        end.old.value claim
         → AreSteps lane n None t (R.stream rng.old) from
         (holding lane cell claim (with_fields fields.old))
-        → IsPursuit lane n end.left result t (R.stream rng.new) from (with_fields fields.new) }
+        → IsPursuit lane n end.old.left end.new.left result t (R.stream rng.new) from
+        (with_fields fields.new) }
     ensures wide { HasAllRoom fields.new.reader.table.size.cells fields.new.notes }
     ensures few { result ≡ poll.Spent
-        → end.left + length (part_on fields.old.seat.consumer cell fields.old.seat.part)
+        → end.old.left + length (part_on fields.old.seat.consumer cell fields.old.seat.part)
         ≤ most_accesses mailbox.now.claims.layout }
     ensures decided { (shape_of mailbox.now.claims.layout).last ≡ true → result ≢ poll.Undecided }
 {
@@ -194,5 +203,5 @@ fn run_rest<A: Allocator + Drop, B: Allocator + Drop, R: Rng>(
     let layout = mailbox.claims.layout();
     let claim = Claim::standing(layout, consumer, end.object, end.value);
     stay(&mut fields.places, lane as usize, cell, claim);
-    run_held(fields, mailbox, lane, end.left, rng)
+    run_held(fields, mailbox, lane, &mut end.left, rng)
 }

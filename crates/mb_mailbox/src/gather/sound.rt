@@ -11,7 +11,9 @@ ghost use Rattle.mb_mailbox.specs.Mailboxes.{IsMailbox, MailboxView};
 
 use mb_cells::laws::{lanes_share_cells, parts_tell_lanes, readers_follow_lanes};
 use mb_cells::steps::parts_have_accesses;
-use mb_claim::laws::{claims_have_one_winner, layouts_are_sound, prefixes_have_one_stage};
+use mb_claim::laws::{
+    claims_have_one_winner, last_objects_decide_claims, layouts_are_sound, prefixes_have_one_stage,
+};
 use mb_claim::steps::accesses_lengthen_one_part;
 use mb_world::laws::{
     competitors_have_accesses, parts_tell_cells_met, reports_have_one_assignment,
@@ -43,6 +45,7 @@ pub(super) fn gathering_is_sound()
     claims_have_one_winner();
     competitors_have_accesses();
     lanes_share_cells();
+    last_objects_decide_claims();
     layouts_are_sound();
     parts_fit_on();
     parts_have_accesses();

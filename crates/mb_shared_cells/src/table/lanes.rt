@@ -40,8 +40,11 @@ impl<A: Allocator + Drop> SharedCells<A> {
         let Some((word, value)) = seat.place.next_push(seat.number) else {
             return Push::Idle;
         };
+
+        // (after an atomic step the compiler would read the place anew)
+        let answer = seat.place.pushed();
         self.store::<Brand>(&mut seat.seat, word, value);
-        seat.place.pushed()
+        answer
     }
 
     /// Stores the end mark of the lane. If the producer's place refuses that, no access is made.

@@ -24,8 +24,9 @@ pub returns-clause-object : goal.returns-clause-object
 returns-clause-object c layout claim next of is = is.object ∙ fresh_object layout (law c layout) claim of
 
 pub returns-clause-next : goal.returns-clause-next
-returns-clause-next c layout claim next slow of is = (fresh_next layout (law c layout) claim of slow next.op is.op).1
+returns-clause-next c layout claim next some slow of is =
+    (fresh_next layout (law c layout) claim of some slow next.op is.op).1
 
 pub returns-clause-found : goal.returns-clause-found
-returns-clause-found c layout claim next seen slow of is can = (fresh_next layout
-    (law c layout) claim of slow next.op is.op).2 seen can
+returns-clause-found c layout claim next seen some slow of is can = (fresh_next layout
+    (law c layout) claim of some slow next.op is.op).2 seen can

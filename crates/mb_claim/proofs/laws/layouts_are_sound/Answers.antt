@@ -1,5 +1,5 @@
--- Proof of `laws::layouts_are_sound`: a layout has a quorum table with 1 to `MAX_VALUES` values, and 1 to `MAX_PAIRS`
--- pairs.
+-- Proof of `laws::layouts_are_sound`: a layout has a quorum table with 1 to `MAX_VALUES` values. It has a pair or a
+-- last object, and at most `MAX_PAIRS` pairs.
 use Rattle.mb_claim.proofs.LayoutObjects.{quorums_lawful, consumers_within}
 use Rattle.mb_claim.proofs.laws.layouts_are_sound.Goals as goal
 
@@ -10,4 +10,7 @@ pub returns-clause-consumers : goal.returns-clause-consumers
 returns-clause-consumers c = consumers_within
 
 pub returns-clause-pairs : goal.returns-clause-pairs
-returns-clause-pairs c layout = (layout.some, layout.few)
+returns-clause-pairs c layout = layout.few
+
+pub returns-clause-some : goal.returns-clause-some
+returns-clause-some c layout none = layout.some none

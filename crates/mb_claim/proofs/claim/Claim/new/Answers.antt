@@ -5,7 +5,7 @@ use Rattle.mb_claim.specs.{quorums_of, kinds_of, claims_in}
 use Rattle.mb_claim.proofs.Bounds.{row_steps}
 use Rattle.mb_claim.proofs.ClaimSteps.{stands_first}
 use Rattle.mb_deciding.specs.Vocabulary.{spread}
-use Rattle.mb_claim.proofs.LayoutObjects.{quorums_lawful, length-row_of}
+use Rattle.mb_claim.proofs.LayoutObjects.{quorums_lawful, some_objects, length-row_of}
 use Rattle.mb_claim.proofs.StepsLeft.{most_from}
 use Rattle.mb_claim.proofs.claim.Claim.new.Goals as goal
 
@@ -13,7 +13,7 @@ pub kind_of-requires : goal.kind_of-requires
 kind_of-requires c =
     let layout = c.args.layout.now in
     let all = length-row_of layout.shape (spread (quorums_of layout).values) layout.pairs
-    in omega (arith, all, layout.some)
+    in omega (arith, all, some_objects layout.pairs layout.shape.last layout.some)
 
 pub returns-clause-path : goal.returns-clause-path
 returns-clause-path c =

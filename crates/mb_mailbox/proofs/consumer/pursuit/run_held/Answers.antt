@@ -1,4 +1,4 @@
-use Rattle.std.proofs.Common.{◌≡◌, ◌∙◌, ◌+◌, ◌≢◌, ◌<◌, ◌≤◌, ◌++◌, ℕ, List, [], ◌∷◌, length, take, drop, true, arith, ap, refl, subst, sym}
+use Rattle.std.proofs.Common.{◌≡◌, ◌∙◌, ◌+◌, ◌-◌, ◌≢◌, ◌<◌, ◌≤◌, ◌++◌, ℕ, List, [], ◌∷◌, length, take, drop, true, arith, ap, refl, subst, sym}
 use Rattle.std.specs.Prelude.{None, Some, slice_get, slice_set}
 use Rattle.mb_claim.specs.declared.access.Stage.TheVariants as stage
 use Rattle.std.proofs.lemmas.{List.length-set, Option.get_or_from_slice_get}
@@ -113,18 +113,18 @@ module _ (g : Over) (c : After-stage g) where
 
   -- if the claim is won, the load of the item ends the poll
   takes : (v : ℕ) (claim : Claim) (seat : SeatView) (reader : ReaderSeatView) (places : List Place)
-      (notes : List (List Note)) (made n all : ℕ) (t u : Stream) (from : ConsumerView)
+      (notes : List (List Note)) (made n all left : ℕ) (t u : Stream) (from : ConsumerView)
       → all ≡ made + n → claim_stage claim ≡ stage.Won
       → HasCompeted c.args.lane c.in-At.cell all claim t u from with_claim seat
       → ItemMakes c.args.fields.now.reader c.in-At.cell v reader
       → places ≡ slice_set c.args.fields.now.places.items c.args.lane (Before (Past c.in-At.cell))
-      → notes ≡ with_note c.args.lane (Some (Took v)) c.args.fields.now.notes.lists → made + 1 ≤ c.args.most
-      → IsPursuit c.args.lane n c.args.most (poll.Took v) t u from (at_views reader seat places notes)
-  takes v claim seat reader places notes made n all t u from count won so makes e f few =
+      → notes ≡ with_note c.args.lane (Some (Took v)) c.args.fields.now.notes.lists → made + 1 + left ≡ c.args.left.now
+      → IsPursuit c.args.lane n c.args.left.now left (poll.Took v) t u from (at_views reader seat places notes)
+  takes v claim seat reader places notes made n all left t u from count won so makes e f sum =
       taken base c.args.lane c.in-At.cell c.in-At.claim c.places_tell_steps.ensures.takes
-      c.consumers_move_on.ensures.takes start.loads v claim seat reader places notes made n c.args.most t u from
+      c.consumers_move_on.ensures.takes start.loads v claim seat reader places notes made n c.args.left.now left t u from
       (At c.in-At.cell c.in-At.claim) place_is won
-      (subst (λ z. HasCompeted c.args.lane c.in-At.cell z claim t u from with_claim seat) count so) makes e f few
+      (subst (λ z. HasCompeted c.args.lane c.in-At.cell z claim t u from with_claim seat) count so) makes e f sum
 
 -- after accesses of the claim
 module _ (g : Over) (c : After-compete-stage g) (start : Start c.args.mailbox.now
@@ -153,7 +153,7 @@ module _ (g : Over) (c : After-compete-stage g) (start : Start c.args.mailbox.no
       c.compete-stage.new.seat (g.R.Rng.stream c.compete-stage.new.rng) c.compete-stage.ensures.steps.2
 
   -- if no budget is left, as many accesses were made as may be
-  all_made : c.compete-stage.new.left ≡ 0 → made ≡ c.args.most
+  all_made : c.compete-stage.new.left ≡ 0 → made ≡ c.args.left.now
   all_made none = omega (arith, none, c.compete-stage.ensures.steps.1)
 
 -- if as many accesses were made as may be, the claim's layout allows that many, with those before
@@ -162,13 +162,13 @@ few_made : (g : Over) (c : After-has_history-2 g) → Start c.args.mailbox.now
     → c.compete-stage.new.left ≡ 0
     → (k : ℕ) (claim : Claim) → HasPlace c.args.lane (At k claim) (with_fields c.args.fields.now)
     → HasPlace c.args.lane (At c.in-At.cell c.in-At.claim) (with_fields c.args.fields.now)
-    → c.args.most + length (part_on c.args.fields.now.seat.consumer k c.args.fields.now.seat.part)
+    → c.args.left.now + length (part_on c.args.fields.now.seat.consumer k c.args.fields.now.seat.part)
     ≤ most_accesses c.args.mailbox.now.claims.layout
 few_made g c start none k claim at is =
     let m = c.args.mailbox.now in
     let seat = c.args.fields.now.seat in
     let steps = c.compete-stage.ensures.steps in
-    let all : steps.0 ≡ c.args.most = omega (arith, none, steps.1) in
+    let all : steps.0 ≡ c.args.left.now = omega (arith, none, steps.1) in
     let pending : PendingClaim = record { lane = c.args.lane; cell = c.in-At.cell; claim = c.in-At.claim } in
     let few =
     subst (λ z. z + length (part_on seat.consumer c.in-At.cell seat.part) ≤ most_accesses m.claims.layout) all
@@ -178,7 +178,7 @@ few_made g c start none k claim at is =
     (subst (λ (y : MailboxView). AreSeatSteps y.claims.layout c.in-At.cell c.in-At.claim seat
     (g.R.Rng.stream c.args.rng.now) steps.0 c.compete-stage.new.claim c.compete-stage.new.seat
     (g.R.Rng.stream c.compete-stage.new.rng)) c.mailbox.view_is steps.2) c.has_history-2.ensures) in
-    subst (λ j. c.args.most + length (part_on seat.consumer j seat.part) ≤ most_accesses m.claims.layout)
+    subst (λ j. c.args.left.now + length (part_on seat.consumer j seat.part) ≤ most_accesses m.claims.layout)
     (same_cell c.in-At.cell k c.in-At.claim claim
     (some_same (At c.in-At.cell c.in-At.claim) (At k claim) (sym is ∙ at))) few
 
@@ -196,7 +196,7 @@ returns-in-Won-clause-pursued g c =
     let won = sym c.stage.ensures ∙ c.in-Won.is in
     let pending : PendingClaim = record { lane = c.args.lane; cell = c.in-At.cell; claim = c.in-At.claim } in
     λ from n t m. takes g at c.take.result c.in-At.claim c.args.fields.now.seat c.take.new.reader
-    c.take.new.places.items c.take.new.notes.lists 0 n n t (g.R.Rng.stream c.args.rng.now) from (omega arith) won
+    c.take.new.places.items c.take.new.notes.lists 0 n n (c.args.left.now - 1) t (g.R.Rng.stream c.args.rng.now) from (omega arith) won
     (begun c.args.mailbox.now pending c.args.fields.now (start g at) from n t (g.R.Rng.stream c.args.rng.now)
     (led g at from n t (g.R.Rng.stream c.args.rng.now) m))
     c.take.ensures.makes
@@ -246,7 +246,7 @@ returns-then-left-ne0 g c =
     record {
       pursued = λ from n t m. takes g at.After-stage c.take-then-left-ne0.result c.compete-stage.new.claim
           c.compete-stage.new.seat c.take-then-left-ne0.new.reader c.take-then-left-ne0.new.places.items
-          c.take-then-left-ne0.new.notes.lists made n (made + n) t
+          c.take-then-left-ne0.new.notes.lists made n (made + n) (c.compete-stage.new.left - 1) t
           (g.R.Rng.stream c.compete-stage.new.rng) from refl (sym c.compete-stage.ensures.stage ∙ c.in-Won-stage.is)
           (ran_on g at.After-compete-stage (start g at.After-stage) from n t (led g at.After-stage from n t rng m))
           c.take-then-left-ne0.ensures.makes
@@ -272,11 +272,11 @@ returns-in-Going g c =
     let rng = g.R.Rng.stream c.args.rng.now in
     record {
       pursued = λ from n t m. pursued_spent (base g at.After-stage) c.args.lane c.in-At.cell
-          c.in-At.claim c.args.most n c.compete-stage.new.claim stage.Going t
+          c.in-At.claim c.args.left.now c.compete-stage.new.left n c.compete-stage.new.claim stage.Going t
           (g.R.Rng.stream c.compete-stage.new.rng) from c.compete-stage.new.seat
           (with_items c.args.fields.now.places (slice_set c.as_mut_slice.result.now c.args.lane
           (At c.in-At.cell c.compete-stage.new.claim))).items
-          going refl refl refl
+          none going refl refl refl
           (subst (λ z. HasCompeted c.args.lane c.in-At.cell (z + n) c.compete-stage.new.claim t
           (g.R.Rng.stream c.compete-stage.new.rng) from (with_claim g at.After-stage) c.compete-stage.new.seat)
           (all_made g at.After-compete-stage s none)
@@ -296,11 +296,11 @@ returns-else-left-ne0 g c =
     let rng = g.R.Rng.stream c.args.rng.now in
     record {
       pursued = λ from n t m. pursued_spent (base g at.After-stage) c.args.lane c.in-At.cell
-          c.in-At.claim c.args.most n c.compete-stage.new.claim stage.Won t
+          c.in-At.claim c.args.left.now c.compete-stage.new.left n c.compete-stage.new.claim stage.Won t
           (g.R.Rng.stream c.compete-stage.new.rng) from c.compete-stage.new.seat
           (with_items c.args.fields.now.places (slice_set c.as_mut_slice.result.now c.args.lane
           (At c.in-At.cell c.compete-stage.new.claim))).items
-          won refl refl refl
+          none won refl refl refl
           (subst (λ z. HasCompeted c.args.lane c.in-At.cell (z + n) c.compete-stage.new.claim t
           (g.R.Rng.stream c.compete-stage.new.rng) from (with_claim g at.After-stage) c.compete-stage.new.seat)
           (all_made g at.After-compete-stage s none)
@@ -327,7 +327,7 @@ returns-in-Lost g c =
     let rng = g.R.Rng.stream c.args.rng.now in
     record {
       pursued = λ from n t m. pursued_past (base g at.After-stage) c.args.lane c.in-At.cell
-          c.in-At.claim c.args.most made n c.compete-stage.new.claim (stage.Lost c.in-Lost.w)
+          c.in-At.claim c.args.left.now c.compete-stage.new.left made n c.compete-stage.new.claim (stage.Lost c.in-Lost.w)
           (Lost c.in-Lost.w) (poll.Lost c.in-Lost.w) t (g.R.Rng.stream c.compete-stage.new.rng) from
           c.compete-stage.new.seat c.leave.new.places.items c.leave.new.notes.lists
           (At c.in-At.cell c.in-At.claim) (place_is g at.After-stage)
@@ -358,7 +358,7 @@ returns-in-Undecided g c =
     let rng = g.R.Rng.stream c.args.rng.now in
     record {
       pursued = λ from n t m. pursued_past (base g at.After-stage) c.args.lane c.in-At.cell
-          c.in-At.claim c.args.most made n c.compete-stage.new.claim stage.Undecided
+          c.in-At.claim c.args.left.now c.compete-stage.new.left made n c.compete-stage.new.claim stage.Undecided
           Undecided poll.Undecided t (g.R.Rng.stream c.compete-stage.new.rng) from
           c.compete-stage.new.seat c.leave-in-Undecided.new.places.items c.leave-in-Undecided.new.notes.lists
           (At c.in-At.cell c.in-At.claim) (place_is g at.After-stage)

@@ -80,10 +80,10 @@ module _ (g : Over) (c : After-straight-end g) (start : Start c.args.mailbox.now
 
   -- the straight accesses, by the layout of the mailbox
   straight_on : AreStraight c.args.mailbox.now.claims.layout c.args.cell c.args.fields.now.seat
-      (g.R.Rng.stream c.args.rng.now) (c.args.most - 1) c.straight-end.result
+      (g.R.Rng.stream c.args.rng.now) (c.args.left.now - 1) c.straight-end.result
       c.straight-end.new.seat (g.R.Rng.stream c.straight-end.new.rng)
   straight_on = subst (λ (y : MailboxView). AreStraight y.claims.layout c.args.cell c.args.fields.now.seat
-      (g.R.Rng.stream c.args.rng.now) (c.args.most - 1) c.straight-end.result
+      (g.R.Rng.stream c.args.rng.now) (c.args.left.now - 1) c.straight-end.result
       c.straight-end.new.seat (g.R.Rng.stream c.straight-end.new.rng)) c.mailbox.view_is c.straight-end.ensures.steps
 
   -- how many they are, and the claim at their end
@@ -94,7 +94,7 @@ module _ (g : Over) (c : After-straight-end g) (start : Start c.args.mailbox.now
   last = straight_on.3
 
   -- with what is left they are the budget of the straight accesses
-  sum : made + c.straight-end.result.left ≡ c.args.most - 1
+  sum : made + c.straight-end.result.left ≡ c.args.left.now - 1
   sum = straight_on.4
 
   -- they are accesses of the claim
@@ -112,7 +112,7 @@ module _ (g : Over) (c : After-straight-end g) (start : Start c.args.mailbox.now
   stage_is = straight_on.6.0
 
   -- if the claim is won, an access is left of the whole budget
-  item_left : c.straight-end.result.stage ≡ stage.Won → made + 1 ≤ c.args.most
+  item_left : c.straight-end.result.stage ≡ stage.Won → made + 1 + c.straight-end.result.left ≡ c.args.left.now
   item_left won =
       let d = c.args.fields.now.seat.consumer in
       let some = some_made c.args.mailbox.now.claims.layout c.args.cell made first last c.args.fields.now.seat
@@ -120,7 +120,7 @@ module _ (g : Over) (c : After-straight-end g) (start : Start c.args.mailbox.now
       steps
       (standing_going c.args.mailbox.now.claims.layout d 0 d first c.requires.held.standing) (stage_is ∙ won) in
       let all = sum in
-      omega (arith, some, all, c.if-most-eq0.false)
+      omega (arith, some, all, c.if-left-eq0.false)
 
   -- accesses that led to the start of these lead on
   ran_on : (from : ConsumerView) (n : ℕ) (t : Stream) (other : Claim)
@@ -173,7 +173,7 @@ returns-in-Won g c =
       pursued = λ from n t other is m. taken (base g at.After-has_history) c.args.lane c.args.cell
           c.requires.held.claim c.places_tell_steps.ensures.takes c.consumers_move_on.ensures.takes s.loads
           c.take.result (last g at.After-straight-end s) c.straight-end.new.seat c.take.new.reader
-          c.take.new.places.items c.take.new.notes.lists (made g at.After-straight-end s) n c.args.most t
+          c.take.new.places.items c.take.new.notes.lists (made g at.After-straight-end s) n c.args.left.now c.straight-end.result.left t
           (g.R.Rng.stream c.straight-end.new.rng) from was.0 was.1
           (stage_is g at.After-straight-end s ∙ c.in-Won.is) (ran_on g at.After-straight-end s from n t other is m)
           c.take.ensures.makes c.take.ensures.place c.take.ensures.notes.lists
@@ -198,12 +198,12 @@ returns-in-Lost g c =
     let all = sum g at.After-straight-end s in
     record {
       pursued = λ from n t other is m. pursued_past (base g at.After-has_history) c.args.lane c.args.cell
-          c.requires.held.claim c.args.most (made g at.After-straight-end s) n (last g at.After-straight-end s)
+          c.requires.held.claim c.args.left.now (c.straight-end.result.left + 1) (made g at.After-straight-end s) n (last g at.After-straight-end s)
           (stage.Lost c.in-Lost.winner) (Lost c.in-Lost.winner) (poll.Lost c.in-Lost.winner) t
           (g.R.Rng.stream c.straight-end.new.rng) from c.straight-end.new.seat
           c.leave.new.places.items c.leave.new.notes.lists was.0 was.1
           (stage_is g at.After-straight-end s ∙ c.in-Lost.is) refl refl tt (λ f. cc) refl
-          (omega (arith, all, c.if-most-eq0.false))
+          (omega (arith, all, c.if-left-eq0.false))
           (ran_on g at.After-straight-end s from n t other is m) c.leave.ensures.place c.leave.ensures.notes.lists;
       few = λ e. cc;
       decided = λ last e. cc;
@@ -224,11 +224,11 @@ returns-in-Undecided g c =
     let all = sum g at.After-straight-end s in
     record {
       pursued = λ from n t other is m. pursued_past (base g at.After-has_history) c.args.lane c.args.cell
-          c.requires.held.claim c.args.most (made g at.After-straight-end s) n (last g at.After-straight-end s)
+          c.requires.held.claim c.args.left.now (c.straight-end.result.left + 1) (made g at.After-straight-end s) n (last g at.After-straight-end s)
           stage.Undecided Undecided poll.Undecided t (g.R.Rng.stream c.straight-end.new.rng) from
           c.straight-end.new.seat c.leave-in-Undecided.new.places.items c.leave-in-Undecided.new.notes.lists was.0 was.1
           (stage_is g at.After-straight-end s ∙ c.in-Undecided.is) refl refl tt (λ f. cc) refl
-          (omega (arith, all, c.if-most-eq0.false))
+          (omega (arith, all, c.if-left-eq0.false))
           (ran_on g at.After-straight-end s from n t other is m) c.leave-in-Undecided.ensures.place
           c.leave-in-Undecided.ensures.notes.lists;
       few = λ e. cc;
@@ -240,9 +240,9 @@ returns-in-Undecided g c =
     }
 
 -- after straight accesses the consumer is at the cell with a claim that begins an object
-pub run_rest-requires-clause-held : goal.run_rest-requires-clause-held
-run_rest-requires-clause-held g c =
-    let at = goal.at.run_rest-requires-clause-held g c in
+pub run_rest-answer-requires-clause-held : goal.run_rest-answer-requires-clause-held
+run_rest-answer-requires-clause-held g c =
+    let at = goal.at.run_rest-answer-requires-clause-held g c in
     let s = start g at.After-has_history in
     let m = c.args.mailbox.now in
     let first = c.requires.held.claim in
@@ -262,9 +262,9 @@ run_rest-requires-clause-held g c =
           (with_claim g at.After-has_history) c.straight-end.new.seat going so;
     }
 
-pub run_rest-requires-clause-of : goal.run_rest-requires-clause-of
-run_rest-requires-clause-of g c =
-    let at = goal.at.run_rest-requires-clause-of g c in
+pub run_rest-answer-requires-clause-of : goal.run_rest-answer-requires-clause-of
+run_rest-answer-requires-clause-of g c =
+    let at = goal.at.run_rest-answer-requires-clause-of g c in
     let s = start g at.After-has_history in
     let rng = g.R.Rng.stream c.args.rng.now in
     let so = ran_on g at.After-straight-end s (with_claim g at.After-has_history) 0 rng c.requires.held.claim
@@ -284,10 +284,10 @@ returns-in-Going-clause-pursued g c from n t other is m =
     let going : claim_stage end ≡ stage.Going = stage_is g at.After-straight-end s ∙ c.in-Going.is in
     let all = sum g at.After-straight-end s in
     pursued_on c.args.lane (made g at.After-straight-end s) n
-    (c.straight-end.result.left + 1) c.args.most
-    c.run_rest.result t (g.R.Rng.stream c.run_rest.new.rng) from (with_fields c.run_rest.new.fields)
-    (omega (arith, all, c.if-most-eq0.false))
-    (c.run_rest.ensures.pursued from (made g at.After-straight-end s + n) t end
+    (c.straight-end.result.left + 1) c.args.left.now c.run_rest-answer.new.end.left
+    c.run_rest-answer.result t (g.R.Rng.stream c.run_rest-answer.new.rng) from (with_fields c.run_rest-answer.new.fields)
+    (omega (arith, all, c.if-left-eq0.false))
+    (c.run_rest-answer.ensures.pursued from (made g at.After-straight-end s + n) t end
     (subst (λ x. IsStanding c.args.mailbox.now.claims.layout x c.straight-end.result.object
     c.straight-end.result.value end) (sym (ap (λ (z : SeatView). z.consumer) so.same))
     ((straight_on g at.After-straight-end s).6.3 c.in-Going.is))
@@ -307,8 +307,8 @@ new-claim-requires g c =
     (sym (c.layout-layout.ensures ∙ ap (λ (v : MailboxView). v.claims.layout) c.mailbox.view_is))
     (subst (λ d. d < consumer_count m.claims.layout) (sym c.consumer-consumer.ensures.exact) within.1)
 
-pub returns-then-most-eq0-clause-pursued : goal.returns-then-most-eq0-clause-pursued
-returns-then-most-eq0-clause-pursued g c from n t other is so =
+pub returns-then-left-eq0-clause-pursued : goal.returns-then-left-eq0-clause-pursued
+returns-then-left-eq0-clause-pursued g c from n t other is so =
     let m = c.args.mailbox.now in
     let f = c.args.fields.now in
     let d = f.seat.consumer in
@@ -322,12 +322,12 @@ returns-then-most-eq0-clause-pursued g c from n t other is so =
     λ x first. ap (λ (ps : List Place). record (with_fields f) { places = ps })
     (ap (λ z. slice_set f.places.items c.args.lane (At c.args.cell z))
     (standing_same m.claims.layout d 0 d x first c.new-claim.result stands) ∙ sym c.stay.ensures) in
-    let none : c.args.most ≡ 0 = omega (arith, c.if-most-eq0.true) in
+    let none : c.args.left.now ≡ 0 = omega (arith, c.if-left-eq0.true) in
     let count : n ≡ 0 + n = omega arith in
     record {
       made = 0;
-      within = omega arith;
-      spent = λ _. sym none;
+      sum = omega arith;
+      spent = λ _. none;
       steps = subst (λ z. AreSteps c.args.lane z None t (g.R.Rng.stream c.args.rng.now) from
           (record (with_fields f) { places = c.stay.new.places.items })) count
           (subst (λ z. AreSteps c.args.lane n None t (g.R.Rng.stream c.args.rng.now) from z) (held other is) so);

@@ -37,8 +37,8 @@ module _ (g : Over) (c : After-has_history g) where
   }
 
   -- its object is one of the layout's, and its input is one of the consumers
-  within : (c.args.end.object < length (kinds_of c.args.mailbox.now.claims.layout))
-      × (c.args.end.value < consumer_count c.args.mailbox.now.claims.layout)
+  within : (c.args.end.now.object < length (kinds_of c.args.mailbox.now.claims.layout))
+      × (c.args.end.now.value < consumer_count c.args.mailbox.now.claims.layout)
   within =
       let m = c.args.mailbox.now in
       let seat = c.args.fields.now.seat in
@@ -47,7 +47,7 @@ module _ (g : Over) (c : After-has_history g) where
       c.consumers_move_on.ensures.turns (holding c.args.lane c.args.cell pending.claim (with_fields c.args.fields.now))
       c.args.lane c.args.cell pending.claim c.requires.held.is (here m pending c.args.fields.now start) z
       (table m pending c.args.fields.now start) in
-      c.claims_begin_objects.ensures.within m.claims.layout seat.consumer c.args.end.object c.args.end.value
+      c.claims_begin_objects.ensures.within m.claims.layout seat.consumer c.args.end.now.object c.args.end.now.value
       pending.claim (part_on seat.consumer c.args.cell seat.part) c.requires.held.standing path
 
 module _ (g : Over) (c : After-standing-claim g) where
@@ -58,23 +58,23 @@ module _ (g : Over) (c : After-standing-claim g) where
   -- the claim is that which the consumer holds
   claim_is : c.requires.held.claim ≡ c.standing-claim.result
   claim_is =
-      standing_same c.args.mailbox.now.claims.layout c.args.fields.now.seat.consumer c.args.end.object
-      c.args.end.value c.requires.held.claim c.requires.held.standing c.standing-claim.result
-      (subst (λ (l : Layout). IsStanding l c.args.fields.now.seat.consumer c.args.end.object c.args.end.value
+      standing_same c.args.mailbox.now.claims.layout c.args.fields.now.seat.consumer c.args.end.now.object
+      c.args.end.now.value c.requires.held.claim c.requires.held.standing c.standing-claim.result
+      (subst (λ (l : Layout). IsStanding l c.args.fields.now.seat.consumer c.args.end.now.object c.args.end.now.value
       c.standing-claim.result) (sym layout_is)
-      (subst (λ d. IsStanding c.layout-layout.result.now d c.args.end.object c.args.end.value c.standing-claim.result)
+      (subst (λ d. IsStanding c.layout-layout.result.now d c.args.end.now.object c.args.end.now.value c.standing-claim.result)
       c.consumer-consumer.ensures.exact c.standing-claim.ensures))
 
 pub standing-claim-requires-clause-object : goal.standing-claim-requires-clause-object
 standing-claim-requires-clause-object g c =
     let at = (goal.at.standing-claim-requires-clause-object g c).After-has_history in
-    subst (λ (l : Layout). c.args.end.object < length (kinds_of l))
+    subst (λ (l : Layout). c.args.end.now.object < length (kinds_of l))
     (sym (c.layout-layout.ensures ∙ ap (λ (v : MailboxView). v.claims.layout) c.mailbox.view_is)) (within g at).0
 
 pub standing-claim-requires-clause-value : goal.standing-claim-requires-clause-value
 standing-claim-requires-clause-value g c =
     let at = (goal.at.standing-claim-requires-clause-value g c).After-has_history in
-    subst (λ (l : Layout). c.args.end.value < consumer_count l)
+    subst (λ (l : Layout). c.args.end.now.value < consumer_count l)
     (sym (c.layout-layout.ensures ∙ ap (λ (v : MailboxView). v.claims.layout) c.mailbox.view_is)) (within g at).1
 
 -- the consumer that `run_held` goes on with
@@ -123,7 +123,7 @@ run_held-requires-clause-won g c k claim there won =
     let m = c.args.mailbox.now in
     let some = get_some f.places.items c.args.lane c.requires.held.lane in
     let is = place_is g at.After-stay (claim_is g at.After-standing-claim) some.0 some.1 in
-    let going = standing_going m.claims.layout f.seat.consumer c.args.end.object c.args.end.value
+    let going = standing_going m.claims.layout f.seat.consumer c.args.end.now.object c.args.end.now.value
     c.requires.held.claim c.requires.held.standing in
     absurd (held_goes c.args.cell k c.standing-claim.result claim
     (some_same (At c.args.cell c.standing-claim.result) (At k claim) (sym is ∙ there))
@@ -133,7 +133,7 @@ pub returns-clause-pursued : goal.returns-clause-pursued
 returns-clause-pursued g c from n t claim is so =
     let at = goal.at.returns-clause-pursued g c in
     let f = c.args.fields.now in
-    let same = standing_same c.args.mailbox.now.claims.layout f.seat.consumer c.args.end.object c.args.end.value
+    let same = standing_same c.args.mailbox.now.claims.layout f.seat.consumer c.args.end.now.object c.args.end.now.value
     claim is c.requires.held.claim c.requires.held.standing in
     c.run_held.ensures.pursued from n t
     (subst (λ z. AreSteps c.args.lane n None t (g.R.Rng.stream c.args.rng.now) from z)

@@ -3,7 +3,7 @@ use Rattle.std.specs.Prelude.{slice_index_or}
 use Rattle.mb_mailbox.specs.Jobs.{HasReadToEnd, count_marks}
 use Rattle.mb_mailbox.specs.Steps.{outcome}
 use Rattle.mb_mailbox.specs.declared.consumer.Poll.TheVariants as poll
-use Rattle.mb_mailbox.proofs.Endings.{made_by, most_by}
+use Rattle.mb_mailbox.proofs.Grown.{made_by, most_by}
 use Rattle.mb_mailbox.proofs.EndsMet.{no_end_by, one_end_by}
 use Rattle.mb_mailbox.proofs.Looks.{only_by}
 use Rattle.mb_mailbox.proofs.Marks.{apart, marked, marks_more}

@@ -92,6 +92,11 @@ second_of false s (suc n) rest some = refl
 ratifier : (shape : Shape) (s n : ℕ) → 1 ≤ n → slice_get (row_of shape s n) 1 ≡ Some Ratifier
 ratifier shape s n some = second_of shape.fast s n (last_row shape.last) some
 
+-- a row without a last object has a pair, if without pairs there is a last object
+by_pairs : (n : ℕ) (b : Bool) → (n ≡ 0 → b ≡ true) → (b ≡ true → ⊥) → 1 ≤ n
+by_pairs (suc n) b some never = omega arith
+by_pairs zero b some never = absurd (never (some refl))
+
 -- a cell with a second object has objects
 some_kinds : (kinds : List Kind) → slice_get kinds 1 ≡ Some Ratifier → kinds ≢ []
 some_kinds [] e none = absurd (cc)
@@ -102,9 +107,6 @@ returns-clause-undecided c m h r g d p j e =
     let plan = plan_at m in
     let hs = g.histories in
     let table = c.layouts_are_sound.ensures.table m.claims.layout in
-    let second : slice_get plan.claims.kinds 1 ≡ Some Ratifier =
-    ratifier (shape_of m.claims.layout) (spread (consumer_count m.claims.layout))
-    (pair_count m.claims.layout) (c.layouts_are_sound.ensures.pairs m.claims.layout).0 in
     let at = is_noted plan hs r g.report d p j Undecided e in
     let t = g.report.diary d p at.consumer at.lane in
     let same = some_same at.diary t.0 (sym at.there ∙ t.1) in
@@ -114,6 +116,13 @@ returns-clause-undecided c m h r g d p j e =
     t.2.cells g.sound.pool_lawful t.2.met.met in
     let on : slice_get (reverse (linked_cells p hs.pool)) j
     ≡ Some k = at_start t.2.cells (linked_cells p hs.pool) j k start end.1 in
+    let layout = m.claims.layout in
+    let never : (shape_of layout).last ≡ true → ⊥ =
+    (λ last. c.last_objects_decide_claims.ensures.stages layout m.claims.cells d k hs.claims last
+    (at.consumer, end.2)) in
+    let pair = by_pairs (pair_count layout) (shape_of layout).last (c.layouts_are_sound.ensures.some layout) never in
+    let second : slice_get plan.claims.kinds 1 ≡ Some Ratifier =
+    ratifier (shape_of layout) (spread (consumer_count layout)) (pair_count layout) pair in
     let winner = c.claims_have_one_winner.ensures plan.claims hs.claims k table g.sound.claims_lawful in
     let other = winner.company d 1 (at.consumer, end.2) second in
     let known = (g.sound.claims_lawful.parts other.0 k other.2).0 in

@@ -33,9 +33,9 @@ invariant_of-seat g c =
     let place = c.seat.inside.place in
     let word = c.in-Some.word in
     let value = c.in-Some.value in
-    lane_then c.accesses_lengthen_one_part.ensures.own me c.store.new.seat.me number place c.pushed.new.self word
+    lane_then c.accesses_lengthen_one_part.ensures.own me c.store.new.seat.me number place c.pushed-answer.new.self word
     (Store value) c.seat.invariant c.store.ensures.makes
     (subst (λ (z : Lane). IsLaneAfter (size_in me.0).cells number z (store number word value ∷ done_in me.0))
-    (sym c.pushed.ensures.lane)
+    (sym c.pushed-answer.ensures.lane)
     (c.lanes_lead_on.ensures.pushed (size_in me.0).cells number place (done_in me.0) (word, value)
     c.seat.invariant.stands (sym c.next_push.ensures ∙ c.in-Some.is)))

@@ -1,5 +1,5 @@
 -- Proof of `Setup::shaped`: this setup, but with this shape for each cell.
-use Rattle.std.proofs.Common.{◌≡◌, ℕ, ap, ◌∙◌, List}
+use Rattle.std.proofs.Common.{◌≡◌, ◌≤◌, ℕ, ap, ◌∙◌, List, arith}
 use Rattle.mb_quorum.specs.Quorum.{QuorumTable}
 use Rattle.mb_quorum.specs.Tables.{table_of}
 use Rattle.mb_quorum.specs.TablesLaw.{named_values}
@@ -29,10 +29,10 @@ same_row s r v w n k shape values pairs =
     ∙ (ap (λ x. row_of r (spread x) n) values ∙ ap (λ x. row_of r (spread w) x) pairs)
 
 pub returns-clause-plan : goal.returns-clause-plan
-returns-clause-plan c s p d m k t same pairs =
+returns-clause-plan c s p d m k t same pairs some =
     let table : quorums_of c.args.self.now.layout ≡ table_of t d = ap (λ plan. plan.claims.table) same in
     let made = c.shaped.ensures in
     same_plan _ _ _ _ _ _ _ _ (made.quorums ∙ table)
-    (same_row _ _ _ _ _ _ made.shape (ap (λ q. q.values) (made.quorums ∙ table) ∙ named_values t d)
-    (made.pairs ∙ pairs))
+    (same_row _ _ _ _ _ _ (made.shape (omega (arith, pairs, some)))
+    (ap (λ q. q.values) (made.quorums ∙ table) ∙ named_values t d) (made.pairs ∙ pairs))
     (ap (λ plan. plan.claims.cells) same) (ap (λ plan. plan.lanes) same)

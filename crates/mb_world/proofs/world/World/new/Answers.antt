@@ -37,7 +37,7 @@ returns-clause-empty g c =
     let table = c.layouts_are_sound.ensures.table setup.layout in
     let some : kinds_of setup.layout ≢ [] =
     some_row (shape_of setup.layout) (spread (consumers_of plan)) (pair_count setup.layout)
-    (c.layouts_are_sound.ensures.pairs setup.layout).0 in
+    (c.layouts_are_sound.ensures.some setup.layout) in
     let sized : setup.cells < END = omega (arith, setup.small) in
     empty_after setup (fresh_goes plan.claims table c.objects_keep_their_promises.ensures some)
     (λ d s r. c.prefixes_have_one_stage.ensures plan.claims d [] s r table)

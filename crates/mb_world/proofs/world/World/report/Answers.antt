@@ -21,7 +21,7 @@ returns-clause-exact g c h is =
     let known = c.worlds_are_known.ensures plan h table sound.pool_lawful in
     let some : kinds_of s.setup.layout ≢ [] =
     some_row (shape_of s.setup.layout) (spread (consumers_of plan)) (pair_count s.setup.layout)
-    (c.layouts_are_sound.ensures.pairs s.setup.layout).0 in
+    (c.layouts_are_sound.ensures.some s.setup.layout) in
     report_is s h is known sound
     (fresh_goes plan.claims table c.objects_keep_their_promises.ensures some)
     (record { lanes = c.in_ok-lanes.field-0.items; diaries = c.in_ok-diaries.field-0.items })

@@ -8,16 +8,18 @@ use Rattle.mb_world.specs.declared.place.Place.{Place, TheVariants.At, TheVarian
 use Rattle.mb_mailbox.specs.Imports.{Claim, END, IsAccessAfter, IsClaimIn, IsStanding, Look, MayRead, PoolSize, ReaderSeatView, TableSize, consumer_count, load, word_of}
 use Rattle.mb_mailbox.specs.Consumers.{ConsumerView, IsConsumer, IsConsumerOf}
 use Rattle.mb_mailbox.specs.{ConsumerStep.link_answer, Mailboxes.MailboxView}
+use Rattle.mb_mailbox.specs.Jobs.{accesses_made}
 use Rattle.mb_mailbox.specs.Moves.{HasPlace, reads_with_link}
 use Rattle.mb_mailbox.specs.Steps.{AnswerTells, AreSteps, IsPollOf, note_with}
 use Rattle.mb_mailbox.specs.Pursuits.{IsPursuit, with_fields}
 use Rattle.mb_mailbox.proofs.Beginnings.{standing_going, standing_own}
-use Rattle.mb_mailbox.proofs.Ending.{not_no_lane, poll_by, pursuit_tells, still_of}
+use Rattle.mb_mailbox.proofs.Ending.{left_by, not_no_lane, poll_by, pursuit_tells, still_of}
+use Rattle.mb_mailbox.proofs.Grown.{steps_grow}
 use Rattle.mb_mailbox.proofs.Lists.{set_same, some_same}
 use Rattle.mb_mailbox.proofs.Made.{at_views, cells_size, claims_size, known_in, look_made, moved_has}
 use Rattle.mb_mailbox.proofs.Polls.{no_steps, history_extends, poll_of}
-use Rattle.mb_mailbox.proofs.consumer.Consumer.poll.{Given.Over, Goals.After-consumer, Goals.After-look}
-use Rattle.mb_mailbox.proofs.consumer.Consumer.poll.Goals as goal
+use Rattle.mb_mailbox.proofs.consumer.Consumer.poll_rest.{Given.Over, Goals.After-consumer, Goals.After-look}
+use Rattle.mb_mailbox.proofs.consumer.Consumer.poll_rest.Goals as goal
 
 -- a poll that goes on with the claim of its place
 module _ (g : Over) (c : goal.After-run_held g) where
@@ -29,7 +31,7 @@ module _ (g : Over) (c : goal.After-run_held g) where
   past_claim = with_fields c.run_held.new.fields
 
   -- the poll is the rest of a poll, after no access
-  goes_on : IsPursuit c.args.lane 0 c.args.budget c.run_held.result (g.R.Rng.stream c.args.rng.now)
+  goes_on : IsPursuit c.args.lane 0 c.args.left.now c.run_held.new.left c.run_held.result (g.R.Rng.stream c.args.rng.now)
       (g.R.Rng.stream c.run_held.new.rng) at_claim past_claim
   goes_on =
       c.run_held.ensures.pursued at_claim 0 (g.R.Rng.stream c.args.rng.now)
@@ -94,7 +96,7 @@ module _ (g : Over) (c : goal.After-run_new g) where
   past_new = with_fields c.run_new.new.fields
 
   -- the poll is the rest of a poll, after one access: the load of the link
-  goes_on_new : IsPursuit c.args.lane 1 (c.args.budget - 1) c.run_new.result (g.R.Rng.stream c.args.rng.now)
+  goes_on_new : IsPursuit c.args.lane 1 (c.args.left.now - 1) c.run_new.new.left c.run_new.result (g.R.Rng.stream c.args.rng.now)
       (g.R.Rng.stream c.run_new.new.rng) c.args.self.now past_new
   goes_on_new =
       let new = first g (goal.at.returns-clause-of g c).After-consumer in
@@ -115,39 +117,23 @@ run_held-requires-clause-held g c = record {
 pub invariant_of-self : goal.invariant_of-self
 invariant_of-self g c = ((goes_on g c).is, c.run_held.ensures.wide)
 
-pub returns-in-At-clause-no_lane : goal.returns-in-At-clause-no_lane
-returns-in-At-clause-no_lane g c =
-    let lanes : c.len.result ≡ c.args.mailbox.now.cells.size.lanes =
-    c.len.ensures.value ∙ c.self.invariant.0.places_count
-    ∙ ap (λ (z : PoolSize). z.lanes) (cells_size c.args.mailbox.now (at_claim g c) c.args.self.now c.self.view_is
-    c.requires.of) in (
-      (λ f. absurd (not_no_lane c.args.lane 0 c.args.budget c.run_held.result (g.R.Rng.stream c.args.rng.now)
-          (g.R.Rng.stream c.run_held.new.rng) (at_claim g c) (past_claim g c) (goes_on g c) f)),
-      (λ wide. let low = c.if-lane-len.false in absurd (omega (arith, low, wide, lanes))),
-    )
-
-pub returns-in-At-clause-refused : goal.returns-in-At-clause-refused
-returns-in-At-clause-refused g c = λ f. absurd (not_no_lane c.args.lane 0 c.args.budget c.run_held.result
-    (g.R.Rng.stream c.args.rng.now) (g.R.Rng.stream c.run_held.new.rng) (at_claim g c) (past_claim g c)
-    (goes_on g c) f)
-
 pub returns-in-At-clause-polled : goal.returns-in-At-clause-polled
 returns-in-At-clause-polled g c =
-    let sum : c.args.budget + 0 ≡ c.args.budget = omega arith in
-    λ _. subst (λ o. IsPollOf c.args.lane c.args.budget c.run_held.result
+    let sum : c.args.left.now + 0 ≡ c.args.left.now = omega arith in
+    subst (λ o. IsPollOf c.args.lane c.args.left.now c.run_held.result
     (g.R.Rng.stream c.args.rng.now) (g.R.Rng.stream c.run_held.new.rng) o (past_claim g c)) c.self.view_is
-    (poll_by c.args.lane 0 c.args.budget c.args.budget c.run_held.result
+    (poll_by c.args.lane 0 c.args.left.now c.run_held.new.left c.args.left.now c.run_held.result
     (g.R.Rng.stream c.args.rng.now) (g.R.Rng.stream c.run_held.new.rng) (at_claim g c) (past_claim g c) sum
     (goes_on g c))
 
 pub returns-in-At-clause-told : goal.returns-in-At-clause-told
 returns-in-At-clause-told g c =
-    λ _. pursuit_tells c.args.lane 0 c.args.budget c.run_held.result (g.R.Rng.stream c.args.rng.now)
+    pursuit_tells c.args.lane 0 c.args.left.now c.run_held.new.left c.run_held.result (g.R.Rng.stream c.args.rng.now)
     (g.R.Rng.stream c.run_held.new.rng) (at_claim g c) c.args.self.now (past_claim g c) (goes_on g c)
 
 pub returns-in-At-clause-of : goal.returns-in-At-clause-of
 returns-in-At-clause-of g c =
-    still_of c.args.mailbox.now c.args.lane 0 c.args.budget c.run_held.result
+    still_of c.args.mailbox.now c.args.lane 0 c.args.left.now c.run_held.new.left c.run_held.result
     (g.R.Rng.stream c.args.rng.now) (g.R.Rng.stream c.run_held.new.rng) (at_claim g c) (past_claim g c) (goes_on g c)
     (subst (λ o. IsConsumerOf c.args.mailbox.now o) (sym c.self.view_is) c.requires.of)
 
@@ -170,8 +156,8 @@ invariant_of-self-in-Nothing g c =
 pub returns-in-Nothing-clause-polled : goal.returns-in-Nothing-clause-polled
 returns-in-Nothing-clause-polled g c =
     let at = (goal.at.returns-in-Nothing-clause-polled g c).After-look in
-    let some = c.if-budget-eq0.false in
-    λ _. poll_of c.args.lane 1 c.args.budget poll.Nothing (g.R.Rng.stream c.args.rng.now)
+    let some = c.if-left-eq0.false in
+    poll_of c.args.lane 1 c.args.left.now poll.Nothing (g.R.Rng.stream c.args.rng.now)
     (g.R.Rng.stream c.args.rng.now) c.args.self.now (looked g at)
     (look_steps g at c.self.inside.fields.places.items look.Nothing c.in-Nothing.ensures.makes refl)
     (omega (arith, some)) (λ f. absurd (cc))
@@ -179,7 +165,7 @@ returns-in-Nothing-clause-polled g c =
 pub returns-in-Nothing-clause-told : goal.returns-in-Nothing-clause-told
 returns-in-Nothing-clause-told g c =
     let at = (goal.at.returns-in-Nothing-clause-told g c).After-look in
-    λ _. subst (λ o. AnswerTells c.args.lane (Some poll.Nothing) o (looked g at)) c.self.view_is
+    subst (λ o. AnswerTells c.args.lane (Some poll.Nothing) o (looked g at)) c.self.view_is
     (c.answers_tell_lanes.ensures.nothing (seen g at) c.args.lane c.in-Before.at c.look.new.seat
     c.self.invariant.0 c.has_history.ensures (place_is g at) c.in-Nothing.ensures.makes)
 
@@ -192,8 +178,8 @@ invariant_of-self-in-Ended g c =
 pub returns-in-Ended-clause-polled : goal.returns-in-Ended-clause-polled
 returns-in-Ended-clause-polled g c =
     let at = (goal.at.returns-in-Ended-clause-polled g c).After-look in
-    let some = c.if-budget-eq0.false in
-    λ _. poll_of c.args.lane 1 c.args.budget poll.Ended (g.R.Rng.stream c.args.rng.now)
+    let some = c.if-left-eq0.false in
+    poll_of c.args.lane 1 c.args.left.now poll.Ended (g.R.Rng.stream c.args.rng.now)
     (g.R.Rng.stream c.args.rng.now) c.args.self.now (looked g at)
     (look_steps g at c.self.inside.fields.places.items look.Ended c.in-Ended.ensures.makes refl) (omega (arith, some))
     (λ f. absurd (cc))
@@ -201,7 +187,7 @@ returns-in-Ended-clause-polled g c =
 pub returns-in-Ended-clause-told : goal.returns-in-Ended-clause-told
 returns-in-Ended-clause-told g c =
     let at = (goal.at.returns-in-Ended-clause-told g c).After-look in
-    λ _. subst (λ o. AnswerTells c.args.lane (Some poll.Ended) o (looked g at)) c.self.view_is
+    subst (λ o. AnswerTells c.args.lane (Some poll.Ended) o (looked g at)) c.self.view_is
     (c.answers_tell_lanes.ensures.ended (seen g at) c.args.lane c.in-Before.at c.look.new.seat
     c.self.invariant.0 c.has_history.ensures (place_is g at) c.in-Ended.ensures.makes)
 
@@ -239,39 +225,22 @@ run_new-requires-clause-held g c =
 pub invariant_of-self-2 : goal.invariant_of-self-2
 invariant_of-self-2 g c = ((goes_on_new g c).is, c.run_new.ensures.wide)
 
-pub returns-clause-no_lane : goal.returns-clause-no_lane
-returns-clause-no_lane g c =
-    let s = with_fields c.self.inside.fields in
-    let lanes : c.len.result ≡ c.args.mailbox.now.cells.size.lanes =
-    c.len.ensures.value ∙ c.self.invariant.0.places_count
-    ∙ ap (λ (z : PoolSize). z.lanes) (cells_size c.args.mailbox.now s c.args.self.now c.self.view_is c.requires.of) in (
-      (λ f. absurd (not_no_lane c.args.lane 1 (c.args.budget - 1) c.run_new.result (g.R.Rng.stream c.args.rng.now)
-          (g.R.Rng.stream c.run_new.new.rng) c.args.self.now (past_new g c) (goes_on_new g c) f)),
-      (λ wide. let low = c.if-lane-len.false in absurd (omega (arith, low, wide, lanes))),
-    )
-
-pub returns-clause-refused : goal.returns-clause-refused
-returns-clause-refused g c =
-    λ f. absurd (not_no_lane c.args.lane 1 (c.args.budget - 1) c.run_new.result
-    (g.R.Rng.stream c.args.rng.now) (g.R.Rng.stream c.run_new.new.rng) c.args.self.now (past_new g c)
-    (goes_on_new g c) f)
-
 pub returns-clause-polled : goal.returns-clause-polled
 returns-clause-polled g c =
-    let some = c.if-budget-eq0.false in
-    let sum : c.args.budget - 1 + 1 ≡ c.args.budget = omega (arith, some) in
-    λ _. poll_by c.args.lane 1 (c.args.budget - 1) c.args.budget c.run_new.result
+    let some = c.if-left-eq0.false in
+    let sum : c.args.left.now - 1 + 1 ≡ c.args.left.now = omega (arith, some) in
+    poll_by c.args.lane 1 (c.args.left.now - 1) c.run_new.new.left c.args.left.now c.run_new.result
     (g.R.Rng.stream c.args.rng.now) (g.R.Rng.stream c.run_new.new.rng) c.args.self.now (past_new g c) sum
     (goes_on_new g c)
 
 pub returns-clause-told : goal.returns-clause-told
 returns-clause-told g c =
-    λ _. pursuit_tells c.args.lane 1 (c.args.budget - 1) c.run_new.result (g.R.Rng.stream c.args.rng.now)
+    pursuit_tells c.args.lane 1 (c.args.left.now - 1) c.run_new.new.left c.run_new.result (g.R.Rng.stream c.args.rng.now)
     (g.R.Rng.stream c.run_new.new.rng) c.args.self.now c.args.self.now (past_new g c) (goes_on_new g c)
 
 pub returns-clause-of : goal.returns-clause-of
 returns-clause-of g c =
-    still_of c.args.mailbox.now c.args.lane 1 (c.args.budget - 1) c.run_new.result
+    still_of c.args.mailbox.now c.args.lane 1 (c.args.left.now - 1) c.run_new.new.left c.run_new.result
     (g.R.Rng.stream c.args.rng.now) (g.R.Rng.stream c.run_new.new.rng) c.args.self.now (past_new g c)
     (goes_on_new g c) c.requires.of
 
@@ -286,8 +255,51 @@ returns-in-At-clause-decided g c = c.run_held.ensures.decided
 
 pub returns-clause-unspent : goal.returns-clause-unspent
 returns-clause-unspent g c = λ more spent.
-    let few = c.run_new.ensures.few spent in let some = c.if-budget-eq0.false
+    let few = c.run_new.ensures.few spent in let some = c.if-left-eq0.false
     in absurd (omega (arith, more, few, some))
 
 pub returns-clause-decided : goal.returns-clause-decided
 returns-clause-decided g c = c.run_new.ensures.decided
+
+pub returns-in-At-clause-left : goal.returns-in-At-clause-left
+returns-in-At-clause-left g c =
+    let sum : c.args.left.now + 0 ≡ c.args.left.now = omega arith in
+    let left = left_by c.args.lane 0 c.args.left.now c.run_held.new.left c.args.left.now c.run_held.result
+    (g.R.Rng.stream c.args.rng.now) (g.R.Rng.stream c.run_held.new.rng) (at_claim g c) (past_claim g c) sum
+    (goes_on g c) in
+    left ∙ ap (λ s. accesses_made s + c.args.left.now) c.self.view_is
+
+pub returns-in-At-clause-some : goal.returns-in-At-clause-some
+returns-in-At-clause-some g c =
+    not_no_lane c.args.lane 0 c.args.left.now c.run_held.new.left c.run_held.result (g.R.Rng.stream c.args.rng.now)
+    (g.R.Rng.stream c.run_held.new.rng) (at_claim g c) (past_claim g c) (goes_on g c)
+
+pub returns-in-Nothing-clause-left : goal.returns-in-Nothing-clause-left
+returns-in-Nothing-clause-left g c =
+    let at = (goal.at.returns-in-Nothing-clause-left g c).After-look in
+    let grown = steps_grow c.args.lane 1 (Some poll.Nothing) (g.R.Rng.stream c.args.rng.now)
+    (g.R.Rng.stream c.args.rng.now) c.args.self.now (looked g at)
+    (look_steps g at c.self.inside.fields.places.items look.Nothing c.in-Nothing.ensures.makes refl) in
+    omega (arith, grown, c.if-left-eq0.false)
+
+pub returns-in-Ended-clause-left : goal.returns-in-Ended-clause-left
+returns-in-Ended-clause-left g c =
+    let at = (goal.at.returns-in-Ended-clause-left g c).After-look in
+    let grown = steps_grow c.args.lane 1 (Some poll.Ended) (g.R.Rng.stream c.args.rng.now)
+    (g.R.Rng.stream c.args.rng.now) c.args.self.now (looked g at)
+    (look_steps g at c.self.inside.fields.places.items look.Ended c.in-Ended.ensures.makes refl) in
+    omega (arith, grown, c.if-left-eq0.false)
+
+pub returns-clause-left : goal.returns-clause-left
+returns-clause-left g c =
+    let some = c.if-left-eq0.false in
+    let sum : c.args.left.now - 1 + 1 ≡ c.args.left.now = omega (arith, some) in
+    left_by c.args.lane 1 (c.args.left.now - 1) c.run_new.new.left c.args.left.now c.run_new.result
+    (g.R.Rng.stream c.args.rng.now) (g.R.Rng.stream c.run_new.new.rng) c.args.self.now (past_new g c) sum
+    (goes_on_new g c)
+
+pub returns-clause-some : goal.returns-clause-some
+returns-clause-some g c =
+    not_no_lane c.args.lane 1 (c.args.left.now - 1) c.run_new.new.left c.run_new.result
+    (g.R.Rng.stream c.args.rng.now) (g.R.Rng.stream c.run_new.new.rng) c.args.self.now (past_new g c)
+    (goes_on_new g c)

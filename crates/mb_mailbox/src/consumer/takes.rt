@@ -1,0 +1,63 @@
+//! A take: polls of a lane one after another, past the items that are lost.
+use super::{Consumer, Poll};
+use crate::mailbox::Mailbox;
+use rand_core::Rng;
+use std::alloc::Allocator;
+
+impl<A: Allocator + Drop> Consumer<A> {
+    ghost use Rattle.std.specs.Prelude.{◌≡◌, ◌≢◌, ◌↔◌, ◌≤◌, ◌+◌, ℕ, true};
+    ghost use Rattle.mb_claim.specs.Vocabulary.{shape_of};
+    ghost use Rattle.mb_mailbox.specs.declared.consumer.Poll.TheVariants.{Lost, NoLane, Spent, Undecided};
+    ghost use Rattle.mb_mailbox.specs.Consumers.{IsConsumerOf};
+    ghost use Rattle.mb_mailbox.specs.Jobs.{accesses_made};
+    ghost use Rattle.mb_mailbox.specs.Steps.{AnswerTells, outcome};
+    ghost use Rattle.mb_mailbox.specs.Takes.{IsTakeOf};
+
+    /// Makes accesses on a lane until it takes an item, or until it has made `most` of them. It goes on past items that
+    /// it loses, and each of them gets its note. It is the same as calls of [`Consumer::poll`] one after another, as
+    /// long as the answer is [`Poll::Lost`], each with what is left of `most`. So it is never `Lost`. It ends undecided
+    /// on an item as a poll does. [`Poll::Spent`] comes only after `most` accesses. [`Poll::NoLane`] comes first, if
+    /// there is no such lane, and changes nothing. It waits for nobody and takes no memory.
+    ///
+    /// An item that is lost takes one access for its link and at most [`max_steps`](mb_claim::Layout::max_steps) for
+    /// its claim. An item that is taken takes one more.
+    pub fn take<B: Allocator + Drop, R: Rng>(
+        &mut self,
+        mailbox: &Mailbox<B>,
+        lane: u64,
+        most: u64,
+        rng: &mut R,
+    ) -> Poll
+        requires of { IsConsumerOf mailbox.now self.old }
+        ensures no_lane { (result ≡ NoLane) ↔ (mailbox.now.cells.size.lanes ≤ lane) }
+        ensures refused { result ≡ NoLane
+            → (self.new ≡ self.old) × (R.stream rng.new ≡ R.stream rng.old) }
+
+        // Polls that lost their items, and then one that did not, each of what was left of the budget.
+        ensures taken { result ≢ NoLane
+            → IsTakeOf lane most result (R.stream rng.old) (R.stream rng.new) self.old self.new }
+        ensures not_lost { (w : ℕ) → result ≢ Lost w }
+
+        // It makes at most `most` accesses, and just as many if it is spent.
+        ensures within { accesses_made self.new ≤ accesses_made self.old + most }
+        ensures spent { result ≡ Spent → accesses_made self.new ≡ accesses_made self.old + most }
+
+        // If each cell has a last object, the answer is never `Undecided`.
+        ensures decided { (shape_of mailbox.now.claims.layout).last ≡ true → result ≢ Undecided }
+
+        // What the answer says of the lane, even if its producer was taken in before the consumer was given.
+        ensures told { result ≢ NoLane → AnswerTells lane (outcome result) self.old self.new }
+        ensures of { IsConsumerOf mailbox.now self.new }
+    {
+        let Some(lane) = self.lane_of(mailbox, lane) else {
+            return Poll::NoLane;
+        };
+        let mut left = most;
+        'items: loop {
+            match self.poll_rest(mailbox, lane, &mut left, rng) {
+                Poll::Lost(_) => {}
+                answer => return answer,
+            }
+        }
+    }
+}
