@@ -13,8 +13,8 @@ use std::time::{Duration, Instant};
 use std::{env, fs, mem, thread};
 
 const THREADS: u64 = 4;
-/// How many values each thread sends in a round.
-const SHARE: u64 = 20_000;
+/// How many values each thread sends in a round, if segments are not very small.
+const SHARE: u64 = 50_000;
 
 #[derive(Clone, Copy)]
 struct Value {
@@ -50,9 +50,9 @@ fn open(tally: &Mutex<Tally>) -> MutexGuard<'_, Tally> {
     tally.lock().expect("no other thread failed")
 }
 
-fn send(mut sender: Sender<Value>, mut dice: Dice, tally: &Mutex<Tally>) {
+fn send(mut sender: Sender<Value>, share: u64, mut dice: Dice, tally: &Mutex<Tally>) {
     let mut place = 0;
-    for _ in 0..SHARE {
+    for _ in 0..share {
         if dice.one_of(500) && place > 0 {
             let next = sender.clone();
             let old = mem::replace(&mut sender, next);
@@ -126,6 +126,7 @@ fn receive(mut receiver: Receiver<Value>, mut dice: Dice, tally: &Mutex<Tally>) 
 
 /// One channel, from its making to its end. Returns how many values went through.
 fn round(number: u64) -> u64 {
+    let share = if number % 4 < 2 { SHARE / 50 } else { SHARE };
     let mut builder = Builder::new();
     if let Some(cells) = [1, 3, 64].get(usize::try_from(number % 4).unwrap_or(0)) {
         builder = builder.cells(*cells);
@@ -139,7 +140,7 @@ fn round(number: u64) -> u64 {
         for thread in 1..=THREADS {
             let (sender, receiver, tally) = (sender.clone(), receiver.clone(), &tally);
             let dice = move |side| Dice(number * 1000 + thread * 10 + side);
-            scope.spawn(move || send(sender, dice(1), tally));
+            scope.spawn(move || send(sender, share, dice(1), tally));
             scope.spawn(move || receive(receiver, dice(2), tally));
         }
         drop((sender, receiver));
@@ -158,7 +159,7 @@ fn round(number: u64) -> u64 {
         (totals.given_back, totals.left, totals.unknown),
         (tally.given_back, 0, 0)
     );
-    THREADS * SHARE
+    THREADS * share
 }
 
 fn ends(seconds: u64) -> String {

@@ -78,16 +78,18 @@ fn each_value_goes_to_one_of_many_ends() {
         .eq((0..20).flat_map(|s| (0..500).map(move |it| (s, it)))));
 }
 
-/// A value that was sent is there for whoever comes after that, also if others send and receive meanwhile.
+/// A value that was sent is there for whoever comes after that, also if others send and receive meanwhile. (There are many
+/// chains, so that values come behind the one who looks.)
 #[test]
 fn a_receiver_finds_what_was_sent_before() {
     let (sender, receiver) = Builder::new().cells(64).build();
+    let threads: [_; 4] =
+        std::array::from_fn(|_| ([(); 4].map(|()| sender.clone()), receiver.clone()));
     thread::scope(|scope| {
-        for _ in 0..4 {
-            let (sender, receiver) = (sender.clone(), receiver.clone());
+        for (senders, receiver) in threads {
             scope.spawn(move || {
-                for it in 0..30_000 {
-                    sender.send(it).unwrap();
+                for it in 0..200_000 {
+                    senders[it % 4].send(it).unwrap();
                     receiver.try_recv().unwrap();
                 }
             });

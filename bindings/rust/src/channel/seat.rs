@@ -1,12 +1,12 @@
 //! A seat, from which a receiver takes: for each chain it has a place in one segment, with a consumer of its own.
 use super::chain::Chain;
 use super::segment::{Look, Reader};
-use super::system::lock;
+use super::system::{lock, Line};
 use super::CHAINS;
 use std::sync::atomic::{AtomicU64, Ordering::Relaxed};
 use std::sync::{Mutex, TryLockError};
 
-/// (on lines of memory of its own, since mostly one receiver alone writes it)
+/// (on lines of memory of its own, as a [`Line`])
 #[repr(align(128))]
 pub(super) struct Seat<T> {
     desk: Mutex<Desk<T>>,
@@ -55,7 +55,7 @@ impl<T> Seat<T> {
     #[inline]
     pub(super) fn take<'a>(
         &self,
-        chains: impl Fn() -> &'a [Chain<T>],
+        chains: impl Fn() -> &'a [Line<Chain<T>>],
         who: u64,
         is_end: &mut bool,
     ) -> Look<T>
@@ -101,7 +101,7 @@ impl<T> Desk<T> {
     #[cold]
     fn look_in_turn<'a>(
         &mut self,
-        chains: impl Fn() -> &'a [Chain<T>],
+        chains: impl Fn() -> &'a [Line<Chain<T>>],
         who: u64,
         is_end: &mut bool,
     ) -> Look<T>
@@ -121,7 +121,7 @@ impl<T> Desk<T> {
     fn look_round<'a>(
         &mut self,
         first: usize,
-        chains: impl Fn() -> &'a [Chain<T>],
+        chains: impl Fn() -> &'a [Line<Chain<T>>],
         who: u64,
         is_end: &mut bool,
     ) -> Look<T>
@@ -133,11 +133,11 @@ impl<T> Desk<T> {
             let mut is_quiet = true;
             for step in 0..round.len() {
                 let at = (first + step) % round.len();
-                let sent = round[at].sent();
+                let sent = round[at].0.sent();
                 if self.seen[at] == sent {
                     continue;
                 }
-                match round[at].take(sent, &mut self.places[at], who, is_end) {
+                match round[at].0.take(sent, &mut self.places[at], who, is_end) {
                     Look::Nothing | Look::Over => self.seen[at] = sent,
                     look => {
                         self.at = at;

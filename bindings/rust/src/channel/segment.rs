@@ -6,7 +6,7 @@
 //!
 //! This file alone of the channel calls the mailbox.
 use super::audit::{Ledger, Logs};
-use super::system::lock;
+use super::system::{lock, Line};
 use super::SEATS;
 use crate::{Builder, Consumer, Mailbox, Poll, Producer, Shape};
 use std::panic::{catch_unwind, resume_unwind, AssertUnwindSafe};
@@ -35,13 +35,6 @@ fn mailbox(cells: usize) -> Builder<u64> {
     builder.shape(Shape::Exchange).seed([0; 32])
 }
 
-/// So many slots, counted from the first, are known to be taken. It may lag behind. Who reads it need not go past them, only
-/// to find nothing.
-///
-/// (on lines of memory of its own, since the sender reads what stands beside it)
-#[repr(align(128))]
-struct Taken(AtomicU64);
-
 pub(super) struct Segment<T> {
     /// How many values were sent on its chain before.
     first: u64,
@@ -51,7 +44,9 @@ pub(super) struct Segment<T> {
     /// Whether all slots are known to be taken. A seat that has no consumer here makes none after that.
     is_over: AtomicBool,
     next: OnceLock<Arc<Segment<T>>>,
-    taken: Taken,
+    /// So many slots, counted from the first, are known to be taken. It may lag behind. Who reads it need not go past them,
+    /// only to find nothing.
+    taken: Line<AtomicU64>,
     audit: Option<(Arc<Ledger<T>>, Mutex<Logs>)>,
 }
 
@@ -113,7 +108,7 @@ impl<T> Writer<T> {
             mailbox: Some(mailbox),
             is_over: AtomicBool::new(false),
             next: OnceLock::new(),
-            taken: Taken(AtomicU64::new(0)),
+            taken: Line(AtomicU64::new(0)),
             audit: audit.map(|ledger| (ledger, Mutex::default())),
         });
         Ok(Writer {

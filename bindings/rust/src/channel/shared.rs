@@ -3,7 +3,7 @@ use super::audit::{Ledger, GIVEN_BACK};
 use super::chain::{Chain, Refused};
 use super::seat::Seat;
 use super::segment::Look;
-use super::system::{lock, Waiters};
+use super::system::{lock, Line, Waiters};
 use super::{CHAINS, SEATS};
 use std::array;
 use std::sync::atomic::{AtomicUsize, Ordering::SeqCst};
@@ -30,16 +30,16 @@ impl<T> Plan<T> {
 
 pub(super) struct Shared<T> {
     pub(super) plan: Plan<T>,
-    chains: [Chain<T>; CHAINS],
+    chains: [Line<Chain<T>>; CHAINS],
     /// How many chains were ever in use. A chain counts before its first value.
     used_chains: AtomicUsize,
     seats: [OnceLock<Arc<Seat<T>>>; SEATS],
     ends: Mutex<Ends>,
     senders: AtomicUsize,
     receivers: AtomicUsize,
-    pub(super) jobs: Jobs,
+    jobs: Line<Jobs>,
     /// How many values wait, or are about to be put. It is kept if the channel has a bound.
-    waiting: AtomicUsize,
+    waiting: Line<AtomicUsize>,
     /// Receivers that wait for a value.
     pub(super) empty: Waiters,
     /// Senders that wait for room.
@@ -55,13 +55,13 @@ struct Ends {
 }
 
 /// The jobs that are open or about to be begun, in the lower half. The upper half counts those begun, and turns over.
-pub(super) struct Jobs(AtomicUsize);
+struct Jobs(AtomicUsize);
 
 const BEGUN: usize = 1 << 32;
 
 impl Jobs {
     /// What there was before it began.
-    pub(super) fn begin(&self) -> usize {
+    fn begin(&self) -> usize {
         self.0.fetch_add(BEGUN + 1, SeqCst)
     }
 
@@ -102,7 +102,7 @@ impl<T> Shared<T> {
     pub(super) fn new(plan: Plan<T>) -> Shared<T> {
         Shared {
             plan,
-            chains: array::from_fn(|_| Chain::new()),
+            chains: array::from_fn(|_| Line(Chain::new())),
             used_chains: AtomicUsize::new(0),
             seats: [const { OnceLock::new() }; SEATS],
             ends: Mutex::new(Ends {
@@ -112,8 +112,8 @@ impl<T> Shared<T> {
             }),
             senders: AtomicUsize::new(0),
             receivers: AtomicUsize::new(0),
-            jobs: Jobs(AtomicUsize::new(0)),
-            waiting: AtomicUsize::new(0),
+            jobs: Line(Jobs(AtomicUsize::new(0))),
+            waiting: Line(AtomicUsize::new(0)),
             empty: Waiters::new(),
             full: Waiters::new(),
         }
@@ -155,12 +155,12 @@ impl<T> Shared<T> {
         if self.receivers.fetch_sub(1, SeqCst) == 1 {
             self.full.wake_all();
             // Nobody holds a lock while a value is dropped, which may have an end of this channel.
-            self.chains().iter().map(Chain::close).for_each(drop);
+            self.chains().iter().for_each(|it| drop(it.0.close()));
             self.seats().map(Seat::clear).for_each(drop);
         }
     }
 
-    fn chains(&self) -> &[Chain<T>] {
+    fn chains(&self) -> &[Line<Chain<T>>] {
         &self.chains[..self.used_chains.load(SeqCst)]
     }
 
@@ -178,7 +178,7 @@ impl<T> Shared<T> {
             return Room::Free;
         };
         let more = |waiting| (waiting < bound).then_some(waiting + 1);
-        match self.waiting.fetch_update(SeqCst, SeqCst, more) {
+        match self.waiting.0.fetch_update(SeqCst, SeqCst, more) {
             Ok(_) => Room::Free,
             Err(_) => Room::Full,
         }
@@ -188,7 +188,7 @@ impl<T> Shared<T> {
     #[inline]
     fn free(&self) {
         if self.plan.bound.is_some() {
-            self.waiting.fetch_sub(1, SeqCst);
+            self.waiting.0.fetch_sub(1, SeqCst);
             self.full.wake_one();
         }
     }
@@ -196,7 +196,7 @@ impl<T> Shared<T> {
     /// Puts a value, for which there is room, at the end of a chain.
     #[inline]
     pub(super) fn put(&self, chain: usize, value: T, who: u64) -> Result<(), Refused<T>> {
-        let put = self.chains[chain].put(value, who, &self.plan);
+        let put = self.chains[chain].0.put(value, who, &self.plan);
         match put {
             Ok(()) => self.empty.wake_one(),
             Err(_) => self.free(),
@@ -207,7 +207,7 @@ impl<T> Shared<T> {
     /// Puts the value of a job again, also if there is no room.
     pub(super) fn put_again(&self, value: T) {
         if self.plan.bound.is_some() {
-            self.waiting.fetch_add(1, SeqCst);
+            self.waiting.0.fetch_add(1, SeqCst);
         }
         drop(self.put(0, value, GIVEN_BACK));
     }
@@ -225,14 +225,14 @@ impl<T> Shared<T> {
     /// The same after it found nothing: it may be that nothing comes.
     #[cold]
     fn take_last(&self, seat: &Seat<T>, who: u64) -> Got<T> {
-        let jobs = self.jobs.load();
+        let jobs = self.jobs.0.load();
         if self.senders.load(SeqCst) != 0 || jobs % BEGUN != 0 {
             return Got::Nothing;
         }
         match self.look(seat, who) {
             Look::Took(value) => Got::Took(value),
             Look::NoMemory => Got::NoMemory,
-            _ if self.jobs.load() == jobs => Got::Closed,
+            _ if self.jobs.0.load() == jobs => Got::Closed,
             _ => Got::Nothing,
         }
     }
@@ -241,7 +241,7 @@ impl<T> Shared<T> {
     /// nothing comes, while this value may come back.
     pub(super) fn take_job(&self, seat: &Seat<T>, who: u64) -> Got<T> {
         let has_senders = self.senders.load(SeqCst) != 0;
-        let before = self.jobs.begin();
+        let before = self.jobs.0.begin();
         let look = self.look(seat, who);
         if let Look::Took(value) = look {
             return Got::Took(value);
@@ -257,7 +257,7 @@ impl<T> Shared<T> {
 
     /// Ends a job, and returns what there was before. The last one lets all receivers look whether anything comes.
     pub(super) fn end_job(&self) -> usize {
-        let jobs = self.jobs.end();
+        let jobs = self.jobs.0.end();
         if jobs % BEGUN == 1 && self.senders.load(SeqCst) == 0 {
             self.empty.wake_all();
         }
@@ -288,9 +288,9 @@ impl<T> Shared<T> {
             return 0;
         }
         if self.plan.bound.is_some() {
-            return self.waiting.load(SeqCst);
+            return self.waiting.0.load(SeqCst);
         }
-        let sent: u64 = self.chains().iter().map(Chain::sent).sum();
+        let sent: u64 = self.chains().iter().map(|it| it.0.sent()).sum();
         let taken: u64 = self.seats().map(Seat::taken).sum();
         usize::try_from(sent.saturating_sub(taken)).unwrap_or(usize::MAX)
     }

@@ -60,6 +60,10 @@ impl Word for AtomicUsize {
     }
 }
 
+/// On lines of memory of its own, so that whoever writes it does not slow down those who read what stands beside it.
+#[repr(align(128))]
+pub(super) struct Line<T>(pub(super) T);
+
 /// Locks it, also if somebody panicked under the lock: no value is half changed there.
 #[inline]
 pub(super) fn lock<T>(of: &Mutex<T>) -> MutexGuard<'_, T> {
