@@ -35,7 +35,10 @@ macro_rules! channel {
     };
 }
 
-channel!(hazbultra::channel::Sender<T>, hazbultra::channel::Receiver<T>);
+channel!(
+    hazbultra::channel::Sender<T>,
+    hazbultra::channel::Receiver<T>
+);
 channel!(crossbeam_channel::Sender<T>, crossbeam_channel::Receiver<T>);
 channel!(flume::Sender<T>, flume::Receiver<T>);
 
@@ -44,13 +47,19 @@ type Locked<T> = Arc<Mutex<mpsc::Receiver<T>>>;
 
 impl<T: Send> Sending<T> for mpsc::Sender<T> {
     fn send(&self, value: T) {
-        assert!(mpsc::Sender::send(self, value).is_ok(), "a receiver is there");
+        assert!(
+            mpsc::Sender::send(self, value).is_ok(),
+            "a receiver is there"
+        );
     }
 }
 
 impl<T: Send> Receiving<T> for Locked<T> {
     fn receive(&self) -> Option<T> {
-        self.lock().unwrap_or_else(PoisonError::into_inner).recv().ok()
+        self.lock()
+            .unwrap_or_else(PoisonError::into_inner)
+            .recv()
+            .ok()
     }
 }
 
@@ -70,40 +79,62 @@ struct Form<T> {
 
 /// Each producer and consumer is a thread. Each value is the time of its send. It returns how long it took, and how long each
 /// value was on its way.
-fn threads<T, S: Sending<T>, R: Receiving<T>>((sender, receiver): (S, R), plan: Plan, form: Form<T>) -> (u64, Vec<u64>) {
+fn threads<T, S: Sending<T>, R: Receiving<T>>(
+    (sender, receiver): (S, R),
+    plan: Plan,
+    form: Form<T>,
+) -> (u64, Vec<u64>) {
     let began = Instant::now();
     let now = || u64::try_from(began.elapsed().as_nanos()).unwrap_or(u64::MAX);
     thread::scope(|scope| {
         for _ in 0..plan.producers {
             let sender = sender.clone();
-            scope.spawn(move || (0..plan.values / plan.producers).for_each(|_| sender.send((form.pack)(now()))));
+            scope.spawn(move || {
+                (0..plan.values / plan.producers).for_each(|_| sender.send((form.pack)(now())))
+            });
         }
         let takers: Vec<_> = (0..plan.consumers)
             .map(|_| receiver.clone())
             .map(|receiver| {
                 scope.spawn(move || {
                     let values = std::iter::from_fn(|| receiver.receive());
-                    values.map(|it| now() - (form.unpack)(it)).collect::<Vec<_>>()
+                    values
+                        .map(|it| now() - (form.unpack)(it))
+                        .collect::<Vec<_>>()
                 })
             })
             .collect();
         drop((sender, receiver));
-        let ways = takers.into_iter().flat_map(|it| it.join().unwrap_or_default()).collect();
+        let ways = takers
+            .into_iter()
+            .flat_map(|it| it.join().unwrap_or_default())
+            .collect();
         (now(), ways)
     })
 }
 
 /// One thread sends so many values at a time, and then receives them.
-fn alone<T, S: Sending<T>, R: Receiving<T>>((sender, receiver): (S, R), plan: Plan, form: Form<T>, at_a_time: u64) -> (u64, Vec<u64>) {
+fn alone<T, S: Sending<T>, R: Receiving<T>>(
+    (sender, receiver): (S, R),
+    plan: Plan,
+    form: Form<T>,
+    at_a_time: u64,
+) -> (u64, Vec<u64>) {
     let began = Instant::now();
     for _ in 0..plan.values / at_a_time {
         (0..at_a_time).for_each(|it| sender.send((form.pack)(it)));
-        (0..at_a_time).for_each(|_| drop(black_box(receiver.receive().map(form.unpack))));
+        (0..at_a_time)
+            .for_each(|_| assert!(black_box(receiver.receive().map(form.unpack)).is_some()));
     }
     (began.elapsed().as_nanos() as u64, Vec::new())
 }
 
-fn work<T: Send, S: Sending<T>, R: Receiving<T>>(ends: (S, R), way: &str, plan: Plan, form: Form<T>) -> Option<(u64, Vec<u64>)> {
+fn work<T: Send, S: Sending<T>, R: Receiving<T>>(
+    ends: (S, R),
+    way: &str,
+    plan: Plan,
+    form: Form<T>,
+) -> Option<(u64, Vec<u64>)> {
     match way {
         "threads" => Some(threads(ends, plan, form)),
         "relay" => Some(alone(ends, plan, form, 1)),
@@ -133,10 +164,30 @@ fn run(words: &[String]) -> Option<(u64, Vec<u64>)> {
     let &[producers, consumers, values] = numbers?.as_slice() else {
         return None;
     };
-    let plan = Plan { producers, consumers, values };
+    let plan = Plan {
+        producers,
+        consumers,
+        values,
+    };
     match form.as_str() {
-        "u64" => through(what, way, plan, Form { pack: |it| it, unpack: |it| it }),
-        "box" => through(what, way, plan, Form { pack: Box::new, unpack: |it| *it }),
+        "u64" => through(
+            what,
+            way,
+            plan,
+            Form {
+                pack: |it| it,
+                unpack: |it| it,
+            },
+        ),
+        "box" => through(
+            what,
+            way,
+            plan,
+            Form {
+                pack: Box::new,
+                unpack: |it| *it,
+            },
+        ),
         _ => None,
     }
 }

@@ -1,4 +1,4 @@
-//! Whether the channel holds for long. `cargo run --release --example soak -- WHAT SECONDS`, and WHAT is
+//! Whether the channel holds for long. `cargo run --release --example soak -- WHAT SECONDS VALUES`, and WHAT is
 //!
 //! - `ends`: values go through channels of many forms, while ends are cloned and dropped at random, calls give up after some
 //!   time, and workers panic. None is lost, none comes twice, the order of each sender is kept, and each audit agrees.
@@ -13,8 +13,6 @@ use std::time::{Duration, Instant};
 use std::{env, fs, mem, thread};
 
 const THREADS: u64 = 4;
-/// How many values each thread sends in a round, if segments are not very small.
-const SHARE: u64 = 50_000;
 
 #[derive(Clone, Copy)]
 struct Value {
@@ -125,8 +123,9 @@ fn receive(mut receiver: Receiver<Value>, mut dice: Dice, tally: &Mutex<Tally>) 
 }
 
 /// One channel, from its making to its end. Returns how many values went through.
-fn round(number: u64) -> u64 {
-    let share = if number % 4 < 2 { SHARE / 50 } else { SHARE };
+fn round(number: u64, share: u64) -> u64 {
+    // (with very small segments it is slow)
+    let share = if number % 4 < 2 { share / 50 } else { share };
     let mut builder = Builder::new();
     if let Some(cells) = [1, 3, 64].get(usize::try_from(number % 4).unwrap_or(0)) {
         builder = builder.cells(*cells);
@@ -162,11 +161,11 @@ fn round(number: u64) -> u64 {
     THREADS * share
 }
 
-fn ends(seconds: u64) -> String {
+fn ends(seconds: u64, share: u64) -> String {
     let began = Instant::now();
     let (mut count, mut rounds) = (0, 0);
     while began.elapsed().as_secs() < seconds {
-        count += round(rounds + u64::from(std::process::id()));
+        count += round(rounds + u64::from(std::process::id()), share);
         rounds += 1;
     }
     format!("{count} values in {rounds} channels: each came once, in order, and each audit agrees")
@@ -266,12 +265,14 @@ fn full() -> String {
 
 fn main() {
     let words: Vec<_> = env::args().skip(1).collect();
-    let seconds = words.get(1).and_then(|it| it.parse().ok()).unwrap_or(1);
+    let number = |place: usize| words.get(place).and_then(|it| it.parse().ok());
+    let seconds = number(1).unwrap_or(1);
     let said = match words.first().map(String::as_str) {
         Some("idle") => idle(seconds),
         Some("memory") => memory(seconds),
         Some("full") => full(),
-        _ => ends(seconds),
+        // (so many values of each thread in a round)
+        _ => ends(seconds, number(2).unwrap_or(50_000)),
     };
     println!("{said}");
 }

@@ -2,6 +2,8 @@
 //! most one consumer takes it**. A report at the end says who took what, and gives back what is left. No put and no poll
 //! takes a lock or waits, but for what the allocator does with a box.
 //!
+//! [`channel`] is a channel over such mailboxes: it never ends, and its receivers sleep until something comes.
+//!
 //! The mailbox is written in Rattle, which is Rust with contracts, and proved for every run: every order of the threads'
 //! steps, and all random words. This crate links the archive built from it, and needs nothing else. It is for x86-64 Linux,
 //! on a processor of level x86-64-v2.
@@ -37,8 +39,8 @@
 //! - A [`Consumer`] polls one lane, or goes over all of them. It goes home when it is dropped.
 //! - [`Mailbox::gather`] makes the [`Report`] after all parts are home.
 //!
-//! A mailbox takes as many items as it has cells, and uses none again. A long-lived service builds one for each round
-//! (`examples/rounds.rs`).
+//! A mailbox takes as many items as it has cells, and uses none again. A long-lived service takes a [`channel`], or builds
+//! a mailbox for each round (`examples/rounds.rs`).
 //!
 //! # What is proved, and what the types add
 //!

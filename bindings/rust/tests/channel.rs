@@ -207,8 +207,13 @@ fn run<F: Future>(future: F) -> F::Output {
     }
 }
 
-fn poll_once<F: Future + Unpin>(future: &mut F, waker: &Waker) -> Poll<F::Output> {
-    pin!(future).poll(&mut Context::from_waker(waker))
+/// Polls a future whose task nobody polls again.
+fn poll_once<F: Future + Unpin>(future: &mut F) -> Poll<F::Output> {
+    struct Deaf;
+    impl Wake for Deaf {
+        fn wake(self: Arc<Self>) {}
+    }
+    pin!(future).poll(&mut Context::from_waker(&Waker::from(Arc::new(Deaf))))
 }
 
 #[test]
@@ -230,7 +235,7 @@ fn a_future_that_is_dropped_passes_its_wake_up_on() {
     let (sender, receiver) = small();
     let other = receiver.clone();
     let mut first = receiver.recv_async();
-    assert!(poll_once(&mut first, Waker::noop()).is_pending());
+    assert!(poll_once(&mut first).is_pending());
     let sleeper = thread::spawn(move || other.recv_timeout(LONG));
     thread::sleep(SHORT * 5);
     sender.send(1).unwrap(); // (it wakes the first)
@@ -242,7 +247,7 @@ fn a_future_that_is_dropped_passes_its_wake_up_on() {
 fn a_future_that_is_dropped_leaves_the_list() {
     let (sender, receiver) = small();
     let mut first = receiver.recv_async();
-    assert!(poll_once(&mut first, Waker::noop()).is_pending());
+    assert!(poll_once(&mut first).is_pending());
     drop(first);
     let sleeper = thread::spawn(move || receiver.recv_timeout(LONG));
     thread::sleep(SHORT * 5);
@@ -251,11 +256,32 @@ fn a_future_that_is_dropped_leaves_the_list() {
 }
 
 #[test]
+fn a_waker_that_panics_is_passed_over() {
+    struct Panicking;
+    impl Wake for Panicking {
+        fn wake(self: Arc<Self>) {
+            std::panic::resume_unwind(Box::new("a waker"));
+        }
+    }
+    let (sender, receiver) = small();
+    let mut first = receiver.recv_async();
+    let waker = Waker::from(Arc::new(Panicking));
+    assert!(pin!(&mut first)
+        .poll(&mut Context::from_waker(&waker))
+        .is_pending());
+    let other = receiver.clone();
+    let sleeper = thread::spawn(move || other.recv_timeout(LONG));
+    thread::sleep(SHORT * 5);
+    assert_eq!(sender.send(1), Ok(()));
+    assert_eq!(sleeper.join().unwrap(), Ok(1));
+}
+
+#[test]
 fn a_send_that_is_dropped_sends_nothing() {
     let (sender, receiver) = bounded(1);
     sender.send(1).unwrap();
     let mut future = sender.send_async(2);
-    assert!(poll_once(&mut future, Waker::noop()).is_pending());
+    assert!(poll_once(&mut future).is_pending());
     drop(future);
     drop(sender);
     assert!(receiver.iter().eq([1]));

@@ -197,7 +197,9 @@ fn receive_as_task(channel: &Channel, kind: Kind) {
 fn no_wake_up_is_lost() {
     use Kind::{Dropped, Panicking, Task, Thread, Timed};
     search_case(3, 0, &[Thread, Task]);
-    search_case(3, 1, &[Thread]);
+    search_case(100, 1, &[Thread]);
+    search_case(100, 1, &[Timed]);
+    search_case(100, 1, &[Dropped]);
     search_case(2, 2, &[Thread, Thread]);
     search_case(2, 2, &[Thread, Timed]);
     search_case(2, 2, &[Thread, Dropped]);

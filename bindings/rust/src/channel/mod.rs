@@ -28,7 +28,7 @@
 //!   before.
 //! - No value waits while a receiver sleeps. A wake-up that its receiver does not use goes to the next one: after a
 //!   timeout, a dropped future, or a waker that panics.
-//! - Memory is in proportion to the values that wait. An end that does nothing holds one segment of a chain at most, but
+//! - Memory is in proportion to the values that wait. An end that does nothing holds at most one segment of each chain, but
 //!   for moments.
 //! - What takes a lock is said at [`Sender`] and [`Receiver`].
 //!
@@ -36,14 +36,8 @@
 //!
 //! Each of the first 16 senders writes a *chain* of its own: segment after segment, each a [`Mailbox`](crate::Mailbox) with
 //! one lane. Each of the first 64 receivers has a consumer of its own in the segment that it stands in. It goes first to
-//! one chain, and if nothing is there to the others. The items are the numbers of slots, so no value is boxed.
-//!
-//! | | by |
-//! |---|---|
-//! | at most one receiver takes a value's number | proof: the main theorem, for the mailbox of each segment |
-//! | at most one receiver has a value | that, and safe Rust: this module has no `unsafe` code |
-//! | no wake-up is lost | a search of the orders of the very source, with wrong bodies that it finds (`tests/wait_orders.rs`) |
-//! | no value is lost over segments and ends | tests, the tests of `crossbeam-channel`, and a soak (`examples/soak.rs`) |
+//! one chain, and if nothing is there to the others. The items are the numbers of slots, so no value is boxed. A table in
+//! the crate's README says what is proved, and what is tested.
 //!
 //! It has no `select!`, no channel without room (`bounded(0)`), and ends with the process.
 mod audit;
