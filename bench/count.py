@@ -1,13 +1,13 @@
 #!/usr/bin/env python3
 """Counts the instructions of the libraries' loops and of the same loops by hand, and prints a table of them all.
 
-usage: bench/count.py [--loops mailbox,polled,puts] [--shapes plain,fast,last,fastlast] [--tables bits,unary,middle]
+usage: bench/count.py [--loops mailbox,polled,puts] [--shapes plain,exchange,..] [--tables bits,unary,middle]
                       [--consumers 1,2,4,16,64] [--keep]
 
 Both programs are built first: `bench_loops` by `rt run`, which proves it, and `by_hand` by rustc. Then callgrind counts the
 instructions of each at two sizes, so that the start of the program falls out; the counts repeat exactly. Both have to print
-the same lines. The loop `chacha` is not there by hand. With --keep the programs of the last run are taken as they are. It
-wants rt, rustc and valgrind.
+the same lines. By hand there is no `chacha`, and `taken` and `passed` want the shape `exchange`. With --keep the programs
+of the last run are taken as they are. It wants rt, rustc and valgrind.
 """
 import argparse
 import itertools
@@ -18,7 +18,7 @@ import sys
 import measuring
 
 BY_HAND = measuring.ROOM / "by_hand"
-UNITS = {"mailbox": "an item", "polled": "an item", "puts": "a put", "chacha": "an item"}
+UNITS = {"mailbox": "an item", "polled": "an item", "puts": "a put", "chacha": "an item", "taken": "an item", "passed": "an item"}
 # This is a loop above, counted without the making of its mailbox and producer.
 SAME = {"polled": "mailbox"}
 # How often a loop is done at either size.
@@ -47,7 +47,7 @@ def row(loop, what):
     taken, lines = [], set()
     for program in (measuring.LOOPS, BY_HAND)[: 1 if loop == "chacha" else 2]:
         instructions, items, said = difference(program, SAME.get(loop, loop), what)
-        if loop in ("polled", "puts"):
+        if loop in ("polled", "puts", "taken", "passed"):
             instructions -= difference(program, "mailboxes", what)[0]
         taken.append(instructions / items)
         lines.add(said)
@@ -58,7 +58,7 @@ def row(loop, what):
 
 def main():
     parser = argparse.ArgumentParser()
-    parser.add_argument("--loops", default="mailbox,polled,puts", help="which, beside them chacha (mailbox,polled,puts)")
+    parser.add_argument("--loops", default="mailbox,polled,puts", help="which, or taken, passed, chacha (mailbox,polled,puts)")
     parser.add_argument("--shapes", default="plain")
     parser.add_argument("--tables", default="bits,unary,middle")
     parser.add_argument("--consumers", default="1,2,4,16,64")

@@ -25,7 +25,7 @@ KEPT, KEPT_IN_QUEUES = (1 << 17, 1 << 18), (1 << 21, 1 << 22)
 COUNTED = (1000, 5000)
 # Of a loop in Rattle, how often it is done in two runs that are compared, each time with a mailbox of so many cells.
 TIMES, COUNTED_TIMES, CELLS = (100, 1100), (2, 6), 256
-MAILBOXES = (*SHAPES, "boxes")
+MAILBOXES = (*SHAPES, "exchange", "boxes", "exchange_boxes")
 # Consumers and producers that are as many.
 PAIRED = (2, 4, 8)
 
@@ -90,11 +90,12 @@ class Beside:
         )
 
 
-SHARING = [Beside(f"plain Rust, `{shape}`, `u64`", shape) for shape in SHAPES]
+SHARING = [Beside(f"plain Rust, `{shape}`, `u64`", shape) for shape in (*SHAPES, "exchange")]
 WAYS = [
     *(Rattle(shape, words) for words in ("cheap", "chacha") for shape in SHAPES),
     *SHARING,
     Beside("plain Rust, `fastlast`, a box each", "boxes"),
+    Beside("plain Rust, `exchange`, a box each", "exchange_boxes"),
     Beside("`SegQueue`", "seg"),
     Beside("`SegQueue`, a box each", "seg_boxes"),
     Beside("`ArrayQueue`", "array"),

@@ -7,8 +7,8 @@ import subprocess
 from rooms import Room
 
 TOP = os.path.dirname(os.path.dirname(os.path.abspath(__file__)))
-OWN = "sh env sed grep tee mktemp date dirname rm cat tail".split()
-FILES = "mailbox examples/script bindings/rust/tests/packing.sh bindings/c/Makefile ci/prebuilt.sh".split()
+OWN = "sh env sed grep awk tee mktemp date dirname rm cat tail".split()
+FILES = "mailbox examples/script bindings/rust/tests/packing.sh bindings/c/Makefile ci/prebuilt.sh ci/map.sh".split()
 # A program that is refused a thread, as each should be.
 REFUSED = 'echo "run 0 of seed $1: Work(NoThread, 2), Plan { cells: 3 }"; echo Error: a thread could not be started; exit 1'
 TOOLS = "python3 cargo rustfmt cargo-clippy make cc c++ gcc clang valgrind pkg-config git rt sha256sum nats-server".split()
@@ -93,7 +93,7 @@ class Test(Room):
         self.assertEqual(self.run_it("--may-skip", "Miri")[0], 1)
 
     def test_nothing_that_ran_is_no_success(self):
-        for name in ("python3", "cargo", "make", "sha256sum"):
+        for name in ("python3", "cargo", "make", "sha256sum", "awk"):
             os.remove(f"{self.top}/bin/{name}")
         status, counts, _ = self.run_it()
         self.assertEqual((status, counts[:2]), (1, (0, 0)))

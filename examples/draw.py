@@ -316,13 +316,18 @@ def svg(title, heads, marks, hidden, report, its_legend):
         y += TEXT
         body += f"<text x='{28 if line[0] == ' ' else 12}' y='{y}'>{html.escape(line.strip())}</text>\n"
     more, height = legend(*its_legend, y + TEXT + 10)
-    # Title and desc are for screen readers. The rules, a line each, hold for pictures of this class alone.
+    told = "".join(f"{it}; " for it in report)
+    return page(title, f"Time runs downward, one event a row. The report: {told}", width, height, body + more)
+
+
+def page(title, says, width, height, body):
+    """The text of a picture with this body. Title and what it says are for screen readers."""
+    # The rules, a line each, hold for pictures of this class alone.
     light, dark = (re.sub(r"(?m)^|(?<=,)(?=\.)", ".hz ", it.strip().replace("} ", "}\n")) for it in (LIGHT, DARK))
     return f"""<svg xmlns='http://www.w3.org/2000/svg' class='hz' width='{width}' height='{height}' \
 viewBox='0 0 {width} {height}' role='img' aria-labelledby='title desc'>
 <title id='title'>{html.escape(title)}</title>
-<desc id='desc'>Time runs downward, one event a row. The report: \
-{html.escape("".join(f"{it}; " for it in report))}</desc>
+<desc id='desc'>{html.escape(says)}</desc>
 <style>
 {light}
 @media (prefers-color-scheme:dark){{
@@ -330,7 +335,7 @@ viewBox='0 0 {width} {height}' role='img' aria-labelledby='title desc'>
 }}
 </style>
 <rect class='bg' width='{width}' height='{height}'/>
-{body}{more}</svg>
+{body}</svg>
 """
 
 

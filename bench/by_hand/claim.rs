@@ -52,7 +52,11 @@ pub struct Claim {
 impl Claim {
     #[inline]
     pub fn new(layout: &Layout, consumer: u32, cell: usize) -> Claim {
-        let place = if layout.fast { announcing(layout, consumer) } else { Place::Look { limit: 1 } };
+        let place = match (layout.fast, layout.ratifiers) {
+            (true, _) => announcing(layout, consumer),
+            (false, 0) => Place::Exchange,
+            (false, _) => Place::Look { limit: 1 },
+        };
         Claim { consumer, value: consumer, passed: 0, base: cell * layout.cell_words, place, stage: Stage::Going }
     }
 

@@ -57,7 +57,7 @@ impl Shape {
         match name {
             "plain" => Some(Shape { fast: false, last: false }),
             "fast" => Some(Shape { fast: true, last: false }),
-            "last" => Some(Shape { fast: false, last: true }),
+            "last" | "exchange" => Some(Shape { fast: false, last: true }),
             "fastlast" => Some(Shape { fast: true, last: true }),
             _ => None,
         }

@@ -1,6 +1,7 @@
 //! A mailbox that threads can share, under one thread: a producer fills it, and then each consumer polls it to its end.
 
 use crate::claim::{Claim, Stage};
+use crate::exchange::{Take, Taker};
 use crate::layout::{CELLS, Layout, atomic_zeros};
 use crate::source::Source;
 use std::fmt;
@@ -9,10 +10,10 @@ use std::sync::atomic::AtomicU64;
 use std::sync::atomic::Ordering::SeqCst;
 
 /// The mark that ends a lane.
-const END: u64 = u64::MAX;
+pub const END: u64 = u64::MAX;
 
 /// How many lanes there are.
-const LANES: usize = 1;
+pub const LANES: usize = 1;
 
 /// The counts of all mailboxes together.
 #[derive(Default)]
@@ -29,13 +30,13 @@ impl fmt::Display for Post {
 }
 
 /// The words of the lanes, of the cells, and of the claims on them.
-struct Mailbox<'a> {
+pub struct Mailbox<'a> {
     layout: &'a Layout,
     counter: AtomicU64,
-    heads: Vec<AtomicU64>,
-    links: Vec<AtomicU64>,
-    items: Vec<AtomicU64>,
-    claims: Vec<AtomicU64>,
+    pub heads: Vec<AtomicU64>,
+    pub links: Vec<AtomicU64>,
+    pub items: Vec<AtomicU64>,
+    pub claims: Vec<AtomicU64>,
 }
 
 impl Mailbox<'_> {
@@ -229,6 +230,49 @@ pub fn mailboxes(layout: &Layout, times: u64) -> Post {
         }
     }
     post
+}
+
+/// So many mailboxes, one after the other, each filled. Then each consumer takes from it to its end.
+pub fn taken(layout: &Layout, times: u64) -> Post {
+    let mut post = Post::default();
+    for time in 0..times {
+        let mailbox = Mailbox::new(layout);
+        post.items += fill(&mailbox, time * CELLS as u64);
+        for number in 0..layout.consumers {
+            take_all(&mailbox, &mut Taker::new(number), &mut post)
+        }
+    }
+    post
+}
+
+/// So many mailboxes, in each of which a producer puts an item in each cell. After each put each consumer takes once.
+pub fn passed(layout: &Layout, times: u64) -> Post {
+    let mut post = Post::default();
+    for time in 0..times {
+        let mailbox = Mailbox::new(layout);
+        let mut producer = Producer::new(0);
+        let mut takers: Vec<_> = (0..layout.consumers).map(Taker::new).collect();
+        for number in 0..CELLS as u64 {
+            if producer.put(&mailbox, time * CELLS as u64 + number) == Put::Linked {
+                post.items += 1
+            }
+            for taker in &mut takers {
+                if let Take::Took(item) = taker.take(&mailbox, 0, u64::MAX) {
+                    post.notes += 1;
+                    post.taken += item
+                }
+            }
+        }
+    }
+    post
+}
+
+/// A consumer takes from the lane to its end.
+fn take_all(mailbox: &Mailbox, taker: &mut Taker, post: &mut Post) {
+    while let Take::Took(item) = taker.take(mailbox, 0, u64::MAX) {
+        post.notes += 1;
+        post.taken += item
+    }
 }
 
 /// So many mailboxes and their producers alone.

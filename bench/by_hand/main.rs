@@ -6,6 +6,7 @@
 #![allow(dead_code)]
 
 mod claim;
+mod exchange;
 mod layout;
 mod mailbox;
 mod source;
@@ -16,7 +17,7 @@ use layout::{Layout, MAX_CONSUMERS, Shape, Table};
 /// How many pairs of objects each cell has.
 const PAIRS: u32 = 4;
 
-const USAGE: &str = "usage: by_hand mailboxes|puts|mailbox bits|unary|middle CONSUMERS TIMES [plain|fast|last|fastlast]";
+const USAGE: &str = "usage: by_hand mailboxes|puts|mailbox|taken|passed bits|unary|middle CONSUMERS TIMES [plain|fast|last|fastlast|exchange]";
 
 fn main() {
     let words: Vec<String> = std::env::args().skip(1).collect();
@@ -30,11 +31,14 @@ fn main() {
     assert!((1..=MAX_CONSUMERS as u64).contains(&consumers), "1 to {MAX_CONSUMERS} consumers");
     let its_table = Table::of(table).expect("a table");
     let its_shape = Shape::of(shape).expect("a shape");
-    let layout = Layout::new(consumers as u32, PAIRS, its_table, its_shape);
+    let pairs = if shape == "exchange" { 0 } else { PAIRS };
+    let layout = Layout::new(consumers as u32, pairs, its_table, its_shape);
     let post = match name.as_str() {
         "mailboxes" => mailbox::mailboxes_alone(&layout, times),
         "puts" => mailbox::puts(&layout, times),
         "mailbox" => mailbox::mailboxes(&layout, times),
+        "taken" => mailbox::taken(&layout, times),
+        "passed" => mailbox::passed(&layout, times),
         _ => panic!("no such loop"),
     };
     println!("{post}");

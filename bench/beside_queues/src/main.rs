@@ -16,11 +16,16 @@ use std::time::Duration;
 use work::{mailbox, queue, Plan, Way};
 
 const USAGE: &str = "usage: beside_queues \
-    plain|fast|last|fastlast|plain_boxes|boxes|seg|seg_boxes|array|channel|deque \
+    plain|fast|last|fastlast|exchange|plain_boxes|boxes|exchange_boxes|seg|seg_boxes|array|channel|deque \
     threads|lanes|apart|turns|relay PRODUCERS CONSUMERS ITEMS CELLS";
 
 fn shaped(shape: Shape) -> Builder<u64> {
     Mailbox::numbers().shape(shape)
+}
+
+/// The same with a box for each item.
+fn boxed(shape: Shape) -> Builder<u64> {
+    Mailbox::builder().shape(shape)
 }
 
 /// How long the work took, if there is such a mailbox or queue.
@@ -30,8 +35,10 @@ fn run(what: &str, plan: Plan) -> Option<Duration> {
         "fast" => mailbox(|| shaped(Shape::Fast), plan, |item| item),
         "last" => mailbox(|| shaped(Shape::Last), plan, |item| item),
         "fastlast" => mailbox(|| shaped(Shape::FastLast), plan, |item| item),
-        "plain_boxes" => mailbox(|| Mailbox::builder().shape(Shape::Plain), plan, |item| item),
-        "boxes" => mailbox(Mailbox::builder, plan, |item| item),
+        "exchange" => mailbox(|| shaped(Shape::Exchange), plan, |item| item),
+        "plain_boxes" => mailbox(|| boxed(Shape::Plain), plan, |item| item),
+        "boxes" => mailbox(|| boxed(Shape::FastLast), plan, |item| item),
+        "exchange_boxes" => mailbox(|| boxed(Shape::Exchange), plan, |item| item),
         "seg" => queue(|_| SegQueue::new(), plan, |item| item),
         "seg_boxes" => queue(|_| SegQueue::new(), plan, Box::new),
         "array" => queue(ArrayQueue::new, plan, |item| item),

@@ -121,7 +121,7 @@ fn threads<T: Send>(mut parts: Vec<Crew<T>>, plan: Plan, value: fn(u64) -> T) ->
 /// One lane up to its end.
 fn take_lane<T>(consumer: &mut Consumer<T>, lane: usize) {
     loop {
-        match consumer.poll(lane) {
+        match consumer.take(lane) {
             Poll::Took(value) => drop(black_box(value)),
             Poll::Nothing => thread::yield_now(),
             Poll::Ended | Poll::NoLane => break,

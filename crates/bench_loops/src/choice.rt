@@ -15,6 +15,10 @@ pub enum Loop {
     Puts,
     /// Fills a mailbox. Then each consumer polls it to its end.
     Mailbox,
+    /// As `Mailbox`, but each consumer takes until nothing more comes.
+    Taken,
+    /// Makes the puts of a producer into a mailbox. After each put each consumer takes once.
+    Passed,
     /// As `Mailbox`, but with random words of ChaCha8.
     Chacha,
     /// Passes an item through a mailbox, put and then polled, with random words of ChaCha8.
@@ -22,10 +26,12 @@ pub enum Loop {
 }
 
 /// All loops with their names. If no loop is named, they run in this order.
-pub const LOOPS: [(&str, Loop); 5] = [
+pub const LOOPS: [(&str, Loop); 7] = [
     ("mailboxes", Loop::Mailboxes),
     ("puts", Loop::Puts),
     ("mailbox", Loop::Mailbox),
+    ("taken", Loop::Taken),
+    ("passed", Loop::Passed),
     ("chacha", Loop::Chacha),
     ("relay", Loop::Relay),
 ];
@@ -37,30 +43,25 @@ const TABLES: [(&str, TableName); 3] = [
     ("middle", TableName::Middle),
 ];
 
-/// All shapes of the cells with their names. If none is named, the loops run over each.
-pub const SHAPES: [(&str, Shape); 4] = [
-    ("plain", Shape::PLAIN),
+/// All shapes of the cells with their names. If none is named, the loops run over each. `exchange` has no pairs.
+pub const SHAPES: [(&str, Option<Shape>); 5] = [
+    ("plain", Some(Shape::PLAIN)),
     (
         "fast",
-        Shape {
+        Some(Shape {
             fast: true,
             last: false,
-        },
+        }),
     ),
-    (
-        "last",
-        Shape {
-            fast: false,
-            last: true,
-        },
-    ),
+    ("last", Some(Shape::LAST)),
     (
         "fastlast",
-        Shape {
+        Some(Shape {
             fast: true,
             last: true,
-        },
+        }),
     ),
+    ("exchange", None),
 ];
 
 /// A loop with the setup of its mailboxes, and how often it runs.
@@ -88,22 +89,32 @@ impl Choice {
             _ => return None,
         };
         let table = named(&TABLES, table.as_str())?;
-        let setup = Setup::large(1, consumers.parse::<u64>().ok()?, cells, PAIRS, table).ok()?;
+        let shape = named(&SHAPES, shape)?;
         Some(Choice {
             what: named(&LOOPS, what.as_str())?,
-            setup: setup.shaped(named(&SHAPES, shape)?),
+            setup: setup_of(consumers.parse::<u64>().ok()?, cells, table, shape)?,
             times: times.parse::<u64>().ok()?,
         })
     }
 
     /// A short run of this loop, over cells of this shape.
-    pub fn short(what: Loop, shape: Shape) -> Option<Choice> {
-        let setup = Setup::large(1, 3, u64::from(MAX_CELLS), PAIRS, TableName::Bits).ok()?;
+    pub fn short(what: Loop, shape: Option<Shape>) -> Option<Choice> {
         Some(Choice {
             what,
-            setup: setup.shaped(shape),
+            setup: setup_of(3, u64::from(MAX_CELLS), TableName::Bits, shape)?,
             times: 1,
         })
+    }
+}
+
+/// The setup of one lane and of these numbers. Without a shape the cells have a last object alone.
+fn setup_of(consumers: u64, cells: u64, table: TableName, shape: Option<Shape>) -> Option<Setup> {
+    match shape {
+        None => Setup::exchange(1, consumers, cells).ok(),
+        Some(shape) => {
+            let setup = Setup::large(1, consumers, cells, PAIRS, table).ok()?;
+            Some(setup.shaped(shape))
+        }
     }
 }
 

@@ -1,10 +1,10 @@
 //! Mailboxes that threads can share, used by one thread. A producer fills one, and then each consumer polls it to its
-//! end.
+//! end, or takes until the end.
 ghost use Rattle.mb_mailbox.specs.Consumers.{IsConsumerOf};
 ghost use Rattle.mb_mailbox.specs.Hubs.{IsHubOf};
 ghost use Rattle.mb_mailbox.specs.Producers.{IsProducerOf};
 
-use crate::choice::Choice;
+use crate::choice::{Choice, Loop};
 use mb_mailbox::{Consumer, Hub, HubFault, Mailbox, Poll, Producer, Put};
 use rand_core::Rng;
 use std::alloc::{AllocError, Allocator};
@@ -15,10 +15,18 @@ use std::fmt;
 pub struct Post {
     /// The items that producers put.
     pub items: u64,
-    /// The notes that consumers made.
+    /// The calls of consumers that ended with a note.
     pub notes: u64,
     /// The sum of the items that consumers took.
     pub taken: u64,
+}
+
+impl Post {
+    /// Counts an item that a consumer took.
+    pub fn add(&mut self, item: u64) {
+        self.notes = self.notes.wrapping_add(1);
+        self.taken = self.taken.wrapping_add(item);
+    }
 }
 
 impl fmt::Display for Post {
@@ -49,7 +57,8 @@ pub fn puts<A: Allocator + Copy + Drop>(
     Ok(post)
 }
 
-/// Makes and fills `choice.times` mailboxes, one after the other. Each consumer polls each of them to its end.
+/// Makes and fills `choice.times` mailboxes, one after the other. Each consumer reads each of them to its end, by takes if
+/// the choice is that.
 pub fn mailboxes<A: Allocator + Copy + Drop, R: Rng>(
     alloc: A,
     choice: &Choice,
@@ -59,7 +68,7 @@ pub fn mailboxes<A: Allocator + Copy + Drop, R: Rng>(
     for time in 0..choice.times {
         let (mailbox, mut hub) = Mailbox::new(alloc, choice.setup.copy())?;
         let put = fill(alloc, &mailbox, &mut hub, choice.setup.cells(), time, true);
-        let read = read_all(alloc, &mailbox, &mut hub, rng, &mut post);
+        let read = read_all(alloc, &mailbox, &mut hub, choice.what, rng, &mut post);
         drop(mailbox);
         drop(hub);
         post.items = post.items.wrapping_add(put?);
@@ -115,11 +124,12 @@ fn put_all<A: Allocator + Drop>(
     linked
 }
 
-/// Each consumer that the hub can still give polls the lane until nothing more comes.
+/// Each consumer that the hub can still give polls the lane, or takes there, until nothing more comes.
 fn read_all<A: Allocator + Copy + Drop, R: Rng>(
     alloc: A,
     mailbox: &Mailbox<A>,
     hub: &mut Hub<A>,
+    what: Loop,
     rng: &mut R,
     post: &mut Post,
 ) -> Result<(), AllocError>
@@ -127,7 +137,10 @@ fn read_all<A: Allocator + Copy + Drop, R: Rng>(
 {
     for _ in 0..u64::MAX {
         match hub.consumer(alloc, mailbox) {
-            Ok(mut consumer) => read(mailbox, &mut consumer, rng, post),
+            Ok(mut consumer) => match what {
+                Loop::Taken => take(mailbox, &mut consumer, rng, post),
+                _ => read(mailbox, &mut consumer, rng, post),
+            },
             Err(HubFault::AllGiven) => break,
             Err(HubFault::NoMemory) => return Err(AllocError),
         }
@@ -146,12 +159,28 @@ fn read<A: Allocator + Drop, R: Rng>(
 {
     for _ in 0..u64::MAX {
         match consumer.poll(mailbox, 0, u64::MAX, rng) {
-            Poll::Took(item) => {
-                post.notes = post.notes.wrapping_add(1);
-                post.taken = post.taken.wrapping_add(item);
-            }
+            Poll::Took(item) => post.add(item),
             Poll::Lost(_) | Poll::Undecided => post.notes = post.notes.wrapping_add(1),
             Poll::Spent => {}
+            Poll::Nothing | Poll::Ended | Poll::NoLane => break,
+        }
+    }
+}
+
+/// A consumer takes until nothing more comes, and its answers with an item are counted.
+fn take<A: Allocator + Drop, R: Rng>(
+    mailbox: &Mailbox<A>,
+    consumer: &mut Consumer<A>,
+    rng: &mut R,
+    post: &mut Post,
+)
+    requires of { IsConsumerOf mailbox.now consumer.old }
+{
+    for _ in 0..u64::MAX {
+        match consumer.take(mailbox, 0, u64::MAX, rng) {
+            Poll::Took(item) => post.add(item),
+            Poll::Undecided => post.notes = post.notes.wrapping_add(1),
+            Poll::Lost(_) | Poll::Spent => {}
             Poll::Nothing | Poll::Ended | Poll::NoLane => break,
         }
     }

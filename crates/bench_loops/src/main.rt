@@ -10,6 +10,7 @@ use std::process::ExitCode;
 pub mod choice;
 pub mod examples;
 pub mod mailbox;
+pub mod passed;
 pub mod relay;
 pub mod run;
 pub mod source;
@@ -19,7 +20,7 @@ use run::{run, run_all};
 
 /// Printed if the command line is refused.
 const USAGE: &str =
-    "usage: bench_loops [LOOP bits|unary|middle CONSUMERS TIMES [plain|fast|last|fastlast [CELLS]]]";
+    "usage: bench_loops [LOOP bits|unary|middle CONSUMERS TIMES [plain|fast|last|fastlast|exchange [CELLS]]]";
 
 /// The program's status if the command line is refused.
 const REFUSED: u8 = 2;

@@ -69,8 +69,7 @@ fn pass<A: Allocator + Drop, R: Rng>(
             post.items = post.items.wrapping_add(1);
         }
         if let Poll::Took(taken) = consumer.poll(mailbox, 0, u64::MAX, rng) {
-            post.notes = post.notes.wrapping_add(1);
-            post.taken = post.taken.wrapping_add(taken);
+            post.add(taken);
         }
     }
 }

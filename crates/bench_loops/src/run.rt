@@ -1,6 +1,7 @@
 //! One run of a choice, and the line that it prints.
 use crate::choice::{Choice, LOOPS, Loop, SHAPES};
 use crate::mailbox::{Post, mailboxes, puts};
+use crate::passed::passed;
 use crate::relay::relay;
 use crate::source::Source;
 use rand_chacha::ChaCha8Rng;
@@ -32,7 +33,8 @@ fn done<A: Allocator + Copy + Drop>(alloc: A, choice: &Choice) -> Result<Post, A
     match choice.what {
         Loop::Mailboxes => puts(alloc, choice, 0),
         Loop::Puts => puts(alloc, choice, choice.setup.cells()),
-        Loop::Mailbox => mailboxes(alloc, choice, &mut Source::new()),
+        Loop::Mailbox | Loop::Taken => mailboxes(alloc, choice, &mut Source::new()),
+        Loop::Passed => passed(alloc, choice, &mut Source::new()),
         Loop::Chacha => mailboxes(alloc, choice, &mut ChaCha8Rng::from_seed([0; 32])),
         Loop::Relay => relay(alloc, choice, &mut ChaCha8Rng::from_seed([1; 32])),
     }

@@ -4,7 +4,7 @@ use Rattle.std.proofs.Common.{length}
 use Rattle.std.proofs.lemmas.Nat.{div-mul-add}
 use Rattle.std.specs.Prelude.{SomeIff}
 use Rattle.std.specs.Option.{unwrap_or}
-use Rattle.mb_world.specs.Report.{ReportView}
+use Rattle.mb_world.specs.Theorem.{ReportView}
 use Rattle.hazbultra.specs.Reports.{HasConsumers}
 
 -- if the count is not 0, the share is there, and it is the quotient

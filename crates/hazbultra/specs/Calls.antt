@@ -7,7 +7,7 @@ use Rattle.mb_claim.specs.Vocabulary.{most_accesses}
 use Rattle.mb_claim.specs.declared.layout.Layout.{Layout}
 use Rattle.mb_quorum.specs.declared.table.TableName.{TableName}
 use Rattle.mb_quorum.specs.declared.table.TableName.TheVariants.{Bits, Middle, Unary}
-use Rattle.mb_world.specs.Report.{ReportView}
+use Rattle.mb_world.specs.Theorem.{ReportView}
 use Rattle.mb_bound.specs.Bound.{BoundHubView, BoundProducerView}
 use Rattle.mb_mailbox.specs.Hubs.{with_taken_consumer, with_taken_producer}
 use Rattle.mb_mailbox.specs.declared.consumer.Poll.{Poll}

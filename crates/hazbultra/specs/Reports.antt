@@ -1,6 +1,6 @@
 -- What C reads of a report.
 use Rattle.std.specs.Prelude.{◌≡◌, ◌*◌, ◌<◌, ℕ, Bool, true, false, List, length}
-use Rattle.mb_world.specs.Report.{LaneView, ReportView}
+use Rattle.mb_world.specs.Theorem.{LaneView, ReportView}
 use Rattle.mb_world.specs.declared.report.Note.{Note}
 use Rattle.mb_world.specs.declared.report.Note.TheVariants as note
 use Rattle.hazbultra.specs.declared.boundary.NoteOut.{NoteOut}

@@ -90,7 +90,7 @@ pub extern "C" fn hz_gather(
     report: &mut Handle,
     missing: &mut MissingOut,
 ) -> u32
-    ensures headline { result ≡ DONE → HubTold (λ h r. IsGathered h.mailbox h.hub r)
+    ensures main_theorem { result ≡ DONE → HubTold (λ h r. IsGathered h.mailbox h.hub r)
         hub.old.block.thing report.new.block.thing }
     ensures lists { result ≡ DONE → HubTold (λ h r. IsReportIn h.mailbox.cells.size.lanes
         (consumer_count h.mailbox.claims.layout) h.hub r)

@@ -2,7 +2,7 @@
 //! the report has no such lane or diary. After both nothing is written.
 ghost use Rattle.std.specs.Prelude.{ℕ, ◌≡◌, ◌≢◌, ◌↔◌, ◌⊎◌, ◌++◌, ◌≤◌, MatchOption, None, Some};
 ghost use Rattle.std.specs.Prelude.{drop, length, map, min, slice_get, take};
-ghost use Rattle.mb_world.specs.Report.{DiaryView, LaneView, diary};
+ghost use Rattle.mb_world.specs.Theorem.{DiaryView, LaneView, diary};
 ghost use Rattle.hazbultra.specs.Calls.{IsReport, ReportHas};
 ghost use Rattle.hazbultra.specs.Reports.{HasConsumers, items_asked, note_out};
 ghost use Rattle.hazbultra.specs.declared.codes.TheConstants.{BAD_HANDLE, DONE, NOT_THERE};

@@ -218,7 +218,7 @@ impl<A: Allocator + Clone + Drop> BoundHub<A> {
         ensures same { IfErr result (λ e. e.1 ≡ self) }
         ensures lists { IfOk result (λ r. IsReportIn self.mailbox.cells.size.lanes
             (consumer_count self.mailbox.claims.layout) self.hub r) }
-        ensures headline { IfOk result (λ r. IsGathered self.mailbox self.hub r) }
+        ensures main_theorem { IfOk result (λ r. IsGathered self.mailbox self.hub r) }
         ensures full { IfOk result (λ r. FullTakesAll self.mailbox self.hub r) }
         ensures undecided { IfOk result (λ r. UndecidedHasCompany r) }
     {

@@ -49,4 +49,5 @@ pub mod OnePlay
 -- Examples
 pub mod LawfulExamples
 pub mod ShapedExamples
+pub mod AloneExamples
 pub mod Counterexamples

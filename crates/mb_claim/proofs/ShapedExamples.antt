@@ -267,11 +267,11 @@ one_here : IsLastPart 1 0
 one_here = ((omega arith), (omega arith), (Lost 0, last_lost))
 
 -- what the second exchange finds is below 2 ^ 64
-found_word : IsInWords (record { act = Exchange Last 2 1; word = 0 })
+pub found_word : IsInWords (record { act = Exchange Last 2 1; word = 0 })
 found_word = ((omega arith, tt), (omega arith))
 
 -- what the first exchange finds and stores is below 2 ^ 64
-put_word : IsInWords (record { act = Exchange Last 1 0; word = 0 })
+pub put_word : IsInWords (record { act = Exchange Last 1 0; word = 0 })
 put_word = ((omega arith, omega arith), (omega arith))
 
 -- `last_decides` is lawful

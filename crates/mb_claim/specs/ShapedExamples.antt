@@ -5,7 +5,7 @@ use Rattle.mb_quorum.specs.Unary.{unary_table}
 use Rattle.mb_claim.specs.AllClaims.{Claims, claims_of}
 use Rattle.mb_claim.specs.ObjectTypes.{Value, Proposal, Quorum, Last, Load, Store, Exchange}
 use Rattle.mb_claim.specs.Types.{ClaimAccess}
-use Rattle.mb_claim.specs.Rows.{row_of}
+use Rattle.mb_claim.specs.Rows.{row_of, with_last}
 use Rattle.mb_claim.specs.Examples.{access_at, both_undecided}
 
 -- the claims of two consumers on one cell of this shape, with one pair over the unary table
@@ -53,3 +53,16 @@ last_found_empty_twice =
 -- not lawful: consumer 0 begins with the last object
 abbrev pub last_comes_first : List ClaimAccess
 last_comes_first = access_at 0 2 (Exchange Last 1 0) ∷ []
+
+-- ---- a last object alone
+-- the claims of two consumers on one cell with a last object alone
+abbrev pub two_alone : Claims
+two_alone = claims_of (unary_table 2) (row_of with_last 2 0) 1
+
+-- lawful: consumer 0 comes first and wins, and consumer 1 finds its number
+abbrev pub exchanged_once_each : List ClaimAccess
+exchanged_once_each = access_at 1 0 (Exchange Last 2 1) ∷ access_at 0 0 (Exchange Last 1 0) ∷ []
+
+-- not lawful: both consumers find the word empty
+abbrev pub both_found_empty : List ClaimAccess
+both_found_empty = access_at 1 0 (Exchange Last 2 0) ∷ access_at 0 0 (Exchange Last 1 0) ∷ []

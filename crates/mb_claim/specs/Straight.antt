@@ -1,5 +1,5 @@
 -- A claim that goes straight through whole objects: where it stands before one, and where its accesses ended.
-use Rattle.std.specs.Prelude.{ℕ, zero, suc, ◌≡◌, ◌⊎◌, ◌+◌, ◌*◌, ◌<◌, Bool, true, false, Some, MatchOption, slice_get}
+use Rattle.std.specs.Prelude.{ℕ, zero, suc, ◌≡◌, ◌+◌, ◌*◌, ◌<◌, Bool, true, false, Some, MatchOption, slice_get}
 use Rattle.mb_deciding.specs.Vocabulary.{first_place}
 use Rattle.mb_claim.specs.ObjectTypes.{Kind, LastObject, Site}
 use Rattle.mb_claim.specs.Types.{Claim, Going, Layout, Stretch}
@@ -39,9 +39,9 @@ abbrev pub HasEnd : Layout → ℕ → Stretch → Claim → Type 0
 HasEnd layout c stretch end = (claim_stage end ≡ stretch.stage) × (consumer_of end ≡ c) × FitsLayout layout end
     × (stretch.stage ≡ Going → IsStanding layout c stretch.object stretch.value end)
 
--- straight accesses of a claim ended no sooner than they had to. If it is going, it stands before a last object, or
--- fewer accesses are left than 2 for each register and 10: no other object takes more
+-- straight accesses of a claim ended no sooner than they had to. If it is going, fewer accesses are left than 2 for
+-- each register and 10: no object takes more. Before a last object none is left
 abbrev pub HasStopped : Layout → Stretch → Type 0
 HasStopped layout stretch = stretch.stage ≡ Going
-    → (slice_get (kinds_of layout) stretch.object ≡ Some LastObject)
-    ⊎ (stretch.left < 2 * (quorums_of layout).registers + 10)
+    → (stretch.left < 2 * (quorums_of layout).registers + 10)
+    × (slice_get (kinds_of layout) stretch.object ≡ Some LastObject → stretch.left ≡ 0)

@@ -5,6 +5,7 @@ ghost use Rattle.mb_claim.specs.{IsClaimLawful, HasStage, Going, Won, Lost, Unde
 ghost use Rattle.mb_claim.specs.{two_consumers, won_and_lost, both_undecided, begun_again, after_winning};
 ghost use Rattle.mb_claim.specs.{own_number_again, of_a_stranger, two_with, lost_at_second, skip_both_ratifiers};
 ghost use Rattle.mb_claim.specs.{skip_one_ratifier, last_decides, last_found_empty_twice, last_comes_first};
+ghost use Rattle.mb_claim.specs.{two_alone, exchanged_once_each, both_found_empty};
 
 use crate::laws::last_objects_decide_claims;
 use mb_deciding::laws::objects_keep_their_promises;
@@ -74,3 +75,14 @@ pub fn last_objects_come_last()
 {
     last_objects_decide_claims();
 }
+
+/// Histories with a last object alone.
+pub fn last_objects_stand_alone()
+    // Consumer 0 comes first and wins, and consumer 1 loses to it.
+    ensures lawful { IsClaimLawful two_alone exchanged_once_each }
+    ensures won { HasStage two_alone 0 0 Won exchanged_once_each }
+    ensures lost { HasStage two_alone 1 0 (Lost 0) exchanged_once_each }
+
+    // After consumer 0's exchange, that of consumer 1 does not find 0.
+    ensures empty { IsClaimLawful two_alone both_found_empty → ⊥ }
+{}

@@ -78,6 +78,7 @@ pub fn claims_are_bounded()
         → length (part_on c k h) ≤ most_accesses layout }
 
     // A row of pairs alone allows `max_steps`. A fast path adds two ratifiers to that, and a last object one access.
+    // So a last object alone allows one.
     ensures plain { (t : QuorumTable) (n : ℕ) → shaped_steps t plain n ≡ max_steps t n }
     ensures fast { (t : QuorumTable) (n : ℕ) (last : Bool)
         → shaped_steps t (record { fast = true; last = last }) n
@@ -86,6 +87,8 @@ pub fn claims_are_bounded()
     ensures last { (t : QuorumTable) (n : ℕ) (fast : Bool)
         → shaped_steps t (record { fast = fast; last = true }) n
         ≡ shaped_steps t (record { fast = fast; last = false }) n + 1 }
+    ensures alone { (layout : Layout) → pair_count layout ≡ 0 → (shape_of layout).fast ≡ false
+        → most_accesses layout ≡ 1 }
 {
     objects_keep_their_promises();
 }

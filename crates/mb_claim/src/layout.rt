@@ -12,7 +12,7 @@ use mb_quorum::{Quorums, Table, TableName};
 use std::error::Error;
 use std::fmt;
 
-/// The most pairs that a layout can have. The least is 1.
+/// The most pairs that a layout can have. The least is 1, but for [`Layout::exchange`].
 pub const MAX_PAIRS: u64 = 8;
 
 /// The most cells of a setup that is not large, such as a script's. Layouts do not depend on it.
@@ -109,6 +109,7 @@ impl Layout {
         ensures quorums { IfOk result (λ layout. quorums_of layout ≡ table_of Bits consumers) }
         ensures pairs { IfOk result (λ layout. pair_count layout ≡ 0) }
         ensures kinds { IfOk result (λ layout. kinds_of layout ≡ LastObject ∷ []) }
+        ensures bound { IfOk result (λ layout. most_accesses layout ≡ 1) }
         ensures shape { IfOk result (λ layout. shape_of layout ≡ with_last) }
     {
         match Table::new(TableName::Bits, consumers) {

@@ -1,9 +1,9 @@
 -- An access that was made at a place of one kind, and what it leads to, is one step.
 use Rattle.std.proofs.Common.{ℕ, List, ◌∷◌}
 use Rattle.mb_quorum.specs.Quorum.{QuorumTable}
-use Rattle.mb_deciding.specs.{Op, Turn, Kind, Conciliator, Ratifier, LastObject, InConciliator, InRatifier, Next, ConciliatorPlace}
-use Rattle.mb_deciding.specs.{RatifierPlace, PcIsAt, IsConciliatorOp, IsRatifierOp, IsReached, CanFind, act_of}
-use Rattle.mb_deciding.specs.{ConciliatorReaches, RatifierReaches, IsStep}
+use Rattle.mb_deciding.specs.{Op, Turn, Kind, Conciliator, Ratifier, LastObject, InConciliator, InRatifier, InLast, Next, ConciliatorPlace}
+use Rattle.mb_deciding.specs.{RatifierPlace, LastPlace, PcIsAt, IsConciliatorOp, IsRatifierOp, IsLastOp, IsReached, CanFind}
+use Rattle.mb_deciding.specs.{act_of, ConciliatorReaches, RatifierReaches, LastReaches, IsStep}
 
 -- an access made at a place in a conciliator is one step to what it leads to
 pub conciliator_step :
@@ -38,3 +38,20 @@ ratifier_step t place makes op seen word follows is made reaches =
     reached (Conciliator s) v turns at can = absurd at
     reached LastObject v turns at can = absurd at
     reached Ratifier v turns at can = reaches v turns op word at is can
+
+-- an access made at a place in a last object is one step to what it leads to
+pub last_step :
+    (t : QuorumTable) (place : LastPlace) (makes : Op → ℕ → Type 0) (op : Op) (seen word : ℕ) (follows : Next)
+    → IsLastOp place op → makes op seen → LastReaches t place seen follows
+    → IsStep t (InLast place) makes word follows
+last_step t place makes op seen word follows is made reaches =
+    record { op = op; seen = seen; is = is; made = made; reached = reached }
+  where
+    -- what follows is reached, as only a last object has this place
+    reached :
+        (kind : Kind) (v : ℕ) (turns : List Turn) → PcIsAt t kind v (InLast place) turns
+        → CanFind t (InLast place) op seen
+        → IsReached t kind v follows (record { act = act_of op seen; word = word } ∷ turns)
+    reached (Conciliator s) v turns at can = absurd at
+    reached Ratifier v turns at can = absurd at
+    reached LastObject v turns at can = reaches v turns op word at is can

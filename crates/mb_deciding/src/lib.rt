@@ -33,8 +33,8 @@
 //!
 //! - [`Pc`] is the place of one process in an object. [`Pc::next`] returns its next access, and [`Pc::after`] what that
 //!   leads to. It holds no words, so it serves a simulation and threads alike.
-//! - [`through_conciliator`] and [`through_ratifier`] make all accesses of a process to one object, in a memory that
-//!   draws random words, with a budget that has room for them.
+//! - [`through_conciliator`], [`through_ratifier`] and [`through_last`] make all accesses of a process to one object, in
+//!   a memory that draws random words, with a budget that has room for them.
 //! - [`ratify`] and [`conciliate`] run one object for a whole schedule of turns.
 //! - [`laws`] has what holds of every lawful history of one object, for all orders of accesses and all random words:
 //!   validity, coherence, acceptance and more. These are contracts of functions that compute nothing. [`steps`] is for
@@ -57,7 +57,8 @@ pub use attempts::spread;
 pub use memory::{Drawing, Memory, Site};
 pub use object::{Kind, Out};
 pub use place::{
-    ConciliatorPlace, LastPlace, Next, Pc, RatifierPlace, through_conciliator, through_ratifier,
+    ConciliatorPlace, LastPlace, Next, Pc, RatifierPlace, through_conciliator, through_last,
+    through_ratifier,
 };
 pub use run::conciliate::conciliate;
 pub use run::ratify::ratify;

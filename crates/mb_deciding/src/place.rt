@@ -17,7 +17,7 @@ pub use conciliator::ConciliatorPlace;
 pub use last::LastPlace;
 pub use pc::{Next, Pc};
 pub use ratifier::RatifierPlace;
-pub use straight::{through_conciliator, through_ratifier};
+pub use straight::{through_conciliator, through_last, through_ratifier};
 
 impl Pc {
     ghost use Rattle.std.specs.Prelude.{◌≡◌, ◌<◌, ◌≤◌, ℕ, List, [], ◌∷◌};

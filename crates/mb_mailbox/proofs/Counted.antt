@@ -9,7 +9,7 @@ use Rattle.std.proofs.lemmas.Option.{slice_get_within}
 use Rattle.mb_world.proofs.Positions.{get-front}
 use Rattle.mb_cells.specs.Vocabulary.{Entry, IsStart, items_put, put_list}
 use Rattle.mb_world.specs.Plan.{Histories, Plan, consumers_of}
-use Rattle.mb_world.specs.Report.{DiaryView, LaneView, ReportView, diary, note}
+use Rattle.mb_world.specs.Theorem.{DiaryView, LaneView, ReportView, diary, note}
 use Rattle.mb_world.specs.Reporting.{IsReportOf, lane_view}
 use Rattle.mb_mailbox.specs.Imports.{Note}
 use Rattle.mb_mailbox.specs.Gathering.{put_count}

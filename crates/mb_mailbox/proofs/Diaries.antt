@@ -9,7 +9,7 @@ use Rattle.std.proofs.lemmas.Option.{slice_get_within}
 use Rattle.std.proofs.Math.Nat.{mul-le-mul_right}
 use Rattle.mb_world.proofs.Positions.{get-front}
 use Rattle.mb_world.proofs.StateNotes.{any_below-same}
-use Rattle.mb_world.specs.Report.{DiaryView}
+use Rattle.mb_world.specs.Theorem.{DiaryView}
 use Rattle.mb_world.specs.Reporting.{any_below, is_took}
 use Rattle.mb_mailbox.specs.Filling.{AreEmptyDiaries, with_notes}
 use Rattle.mb_mailbox.specs.Gathering.{AreDiaries, begun_of, diary_in, diary_outline, is_taken_in, kept_at, notes_among, notes_in, outline_row}

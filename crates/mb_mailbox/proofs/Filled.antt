@@ -2,7 +2,7 @@
 use Rattle.std.proofs.Common.{◌≡◌, ◌≢◌, ℕ, zero, suc, ◌+◌, ◌*◌, ◌<◌, ◌≤◌, List, [], ◌∷◌, ◌++◌, length, get_or, set, refl, sym, ap, ◌∙◌, subst, arith}
 use Rattle.std.specs.Prelude.{Option, Some, None, slice_get}
 use Rattle.std.specs.Option.{option_map, option_map_or}
-use Rattle.mb_world.specs.Report.{LaneView, ReportView}
+use Rattle.mb_world.specs.Theorem.{LaneView, ReportView}
 use Rattle.mb_mailbox.specs.Imports.{CellsName, ClaimTable, claims_at, consumer_count}
 use Rattle.mb_mailbox.specs.Filling.{changed_at, changed_from, with_items}
 use Rattle.mb_mailbox.specs.Gathering.{IsOutlineIn, IsReportIn, lane_in, lane_outline}

@@ -5,7 +5,7 @@ use Rattle.std.specs.Option.{option_map_or}
 use Rattle.std.proofs.lemmas.Bool.{ne_eqb, eq-eqb}
 use Rattle.std.proofs.lemmas.List.{length-append, length-map, length-take, map_push, take_all, take_more}
 use Rattle.std.proofs.lemmas.List.Sums.{sum_by-cons}
-use Rattle.mb_world.specs.Report.{DiaryView}
+use Rattle.mb_world.specs.Theorem.{DiaryView}
 use Rattle.mb_mailbox.specs.Filling.{AreEmptyDiaries, with_notes}
 use Rattle.mb_mailbox.specs.Imports.{Lost, Note}
 use Rattle.mb_mailbox.specs.LaneNotes.{AreFiled, AreLosses, Noted, all_told, by_lane, noted, on_lane, on_lanes, told, word_at, words_among, words_in}

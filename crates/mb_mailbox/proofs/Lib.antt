@@ -30,6 +30,7 @@ pub mod Beginnings
 pub mod Straight
 pub mod Taking
 pub mod Takes
+pub mod ShortPolls
 -- A consumer at the end of a lane
 pub mod Endings
 pub mod EndsMet

@@ -3,7 +3,7 @@ use Rattle.std.proofs.Common.{◌≡◌, ℕ, suc, ◌+◌, ◌*◌, ◌<◌, �
 use Rattle.std.specs.Prelude.{Option, Some, None, if◌then◌else◌}
 use Rattle.std.proofs.lemmas.List.{length-take-le, take_more}
 use Rattle.std.proofs.Math.Nat.{mul-le-mul_right}
-use Rattle.mb_world.specs.Assignment.{items_where}
+use Rattle.mb_world.specs.Theorem.{items_where}
 use Rattle.mb_mailbox.specs.Gathering.{count_missing}
 
 -- ---- what is missing

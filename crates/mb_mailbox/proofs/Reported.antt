@@ -3,11 +3,10 @@ use Rattle.std.proofs.Common.{◌≡◌, ℕ, zero, suc, ◌+◌, ◌*◌, ◌<�
 use Rattle.std.proofs.lemmas.Bool.{false≢true, lt-ltb}
 use Rattle.std.specs.Prelude.{Option, Some, None, if◌then◌else◌, nat_lt, slice_get}
 use Rattle.std.specs.Option.{option_map_or}
-use Rattle.mb_world.specs.Assignment.{items_where}
+use Rattle.mb_world.specs.Theorem.{DiaryView, ReportView, diary, items_where, note}
 use Rattle.mb_world.specs.Fitting.{parts_of as parts_in}
 use Rattle.mb_world.specs.PartSteps.{no_parts}
 use Rattle.mb_world.specs.Plan.{Histories, Plan, consumers_of}
-use Rattle.mb_world.specs.Report.{DiaryView, ReportView, diary, note}
 use Rattle.mb_world.specs.Reporting.{HasMetAll, IsDiaryOf, IsReportOf, any_below, is_took, is_taken, lane_view, values_put}
 use Rattle.mb_mailbox.specs.Imports.{Claim, IsClaimIn, IsClaimPrefix, Note, ObjectTurn, Parts, Stage, cells_met, claim_stage, consumer_of}
 use Rattle.mb_world.specs.Places.{has_begun_at}

@@ -37,18 +37,24 @@ kept layout k zero claim now seat after s t (is, keeps, e) = ap (λ (z : SeatVie
 kept layout k (suc n) claim now seat after s t (at, before, u, word, older, going, drawn, step, still, stands) =
     ap (λ (z : SeatView). z.table) step.adds ∙ kept layout k n claim at seat before s u older
 
+-- what a seat has done on a cell is no more than the layout allows
+pub few_on : CutPart → IsBounded → (layout : Layout) (cells k : ℕ) (seat : SeatView)
+    → seat.table.size ≡ Some (record { layout = layout; cells = cells })
+    → IsLawfulPart (claims_at seat.table) seat.consumer seat.part
+    → length (part_on seat.consumer k seat.part) ≤ most_accesses layout
+few_on cut bounded layout cells k seat name lawful =
+    let has : IsLawfulPart (claims_in layout cells) seat.consumer seat.part =
+    subst (λ z. IsLawfulPart (claims_at_size z) seat.consumer seat.part) name lawful in
+    subst (λ xs. length xs ≤ most_accesses layout)
+    (sym (cut seat.consumer k has.0) ∙ ap (part_on seat.consumer k) has.2)
+    (bounded layout cells has.0 seat.consumer k has.1)
+
 -- with those that the seat made there before, accesses in a row are no more than the layout allows
 pub few_in_row : OwnCell → CutPart → IsBounded → (layout : Layout) (cells k n : ℕ) (claim now : Claim)
     (seat after : SeatView) (s t : Stream) → seat.table.size ≡ Some (record { layout = layout; cells = cells })
     → AreSeatSteps layout k claim seat s n now after t → IsLawfulPart (claims_at after.table) after.consumer after.part
     → n + length (part_on seat.consumer k seat.part) ≤ most_accesses layout
 few_in_row own cut bounded layout cells k n claim now seat after s t table steps lawful =
-    let name : after.table.size ≡ Some (record { layout = layout; cells = cells }) =
-    ap (λ (z : ClaimTable). z.size) (kept layout k n claim now seat after s t steps) ∙ table in
-    let has : IsLawfulPart (claims_in layout cells) after.consumer after.part =
-    subst (λ z. IsLawfulPart (claims_at_size z) after.consumer after.part) name lawful in
-    let few : length (part_on after.consumer k after.part) ≤ most_accesses layout =
-    subst (λ xs. length xs ≤ most_accesses layout)
-    (sym (cut after.consumer k has.0) ∙ ap (part_on after.consumer k) has.2)
-    (bounded layout cells has.0 after.consumer k has.1) in
+    let name = ap (λ (z : ClaimTable). z.size) (kept layout k n claim now seat after s t steps) ∙ table in
+    let few = few_on cut bounded layout cells k after name lawful in
     omega (arith, counted own layout k n claim now seat after s t steps, few)

@@ -1,6 +1,6 @@
 -- The lists of items that are moved into the outline of a report, each to its place, and diaries with other notes.
 use Rattle.std.specs.Prelude.{ℕ, zero, suc, ◌≡◌, List, [], ◌∷◌, Option, Some, None, length, slice_get}
-use Rattle.mb_world.specs.Report.{DiaryView, LaneView}
+use Rattle.mb_world.specs.Theorem.{DiaryView, LaneView}
 use Rattle.mb_mailbox.specs.Imports.{Note}
 use Rattle.mb_mailbox.specs.Hubs.{PutListView}
 

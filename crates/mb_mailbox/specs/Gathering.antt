@@ -4,12 +4,9 @@ use Rattle.std.specs.Prelude.{[], ◌∷◌, ◌++◌, Option, Some, None, lengt
 use Rattle.std.specs.Option.{option_map_or}
 use Rattle.mb_shared_cells.specs.Vocabulary.{IsRollOf}
 use Rattle.mb_shared_claims.specs.Vocabulary.{taken_part}
-use Rattle.mb_world.specs.Agreement.{HasCompeted}
-use Rattle.mb_world.specs.Assignment.{items_where}
-use Rattle.mb_world.specs.Headline.{IsHonest}
+use Rattle.mb_world.specs.Theorem.{DiaryView, HasCompeted, LaneView, MainTheorem, ReportView, items_where, note}
 use Rattle.mb_world.specs.Places.{has_begun_at}
 use Rattle.mb_world.specs.Plan.{Histories}
-use Rattle.mb_world.specs.Report.{DiaryView, LaneView, ReportView, note}
 use Rattle.mb_world.specs.Reporting.{IsReportOf, any_below, is_took}
 use Rattle.mb_world.specs.Sound.{AreSound}
 use Rattle.mb_mailbox.specs.Imports.{HasFoundNone, History, Note, Undecided, consumer_part}
@@ -112,7 +109,7 @@ pub record IsReportIn (lanes consumers : ℕ) (h : HubView) (r : ReportView) : T
       → slice_get r.diaries (c * lanes + p) ≡ Some (diary_in c p h)
 
 -- ---- what a report shows
--- all that were taken in made two histories which are sound, and the report is honest about them
+-- all that were taken in made two histories which are sound, and the main theorem holds of the report
 pub record IsGathered (m : MailboxView) (h : HubView) (r : ReportView) : Type 0 where
   -- what was done to the words of the claims and to those of the cells; consumer c is reader c
   pub histories : Histories
@@ -124,10 +121,8 @@ pub record IsGathered (m : MailboxView) (h : HubView) (r : ReportView) : Type 0 
   pub sound : AreSound (plan_at m) histories
   -- the report is that of these histories
   pub report : IsReportOf (plan_at m) histories r
-  -- One assignment of items to competitors accounts for the whole report. Each ledger has exactly the items given, in
-  -- the order put. The rest is reported as left. Nothing follows an end mark. If nobody took an item that was
-  -- competed for, some competitor's claim on it is unfinished
-  pub honest : IsHonest (plan_at m) histories r
+  -- the main theorem holds of it
+  pub main_theorem : MainTheorem histories.pool histories.reader_of r
 
 -- how many items are put, on all lanes together
 abbrev pub put_count : ReportView → ℕ

@@ -1,6 +1,6 @@
 -- Small diaries, and reports of one lane with one item that nobody took.
 use Rattle.std.specs.Prelude.{ℕ, false, List, [], ◌∷◌}
-use Rattle.mb_world.specs.Report.{DiaryView, ReportView}
+use Rattle.mb_world.specs.Theorem.{DiaryView, ReportView}
 use Rattle.mb_mailbox.specs.Imports.{Note, Undecided}
 
 -- the diary of consumer c on lane 0, which holds no claim

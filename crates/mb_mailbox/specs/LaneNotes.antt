@@ -2,7 +2,7 @@
 -- lane, and diaries filled from marks.
 use Rattle.std.specs.Prelude.{ℕ, zero, suc, ◌≡◌, ◌+◌, ◌^◌, ◌≤◌, List, [], ◌∷◌, ◌++◌, if◌then◌else◌, length, map, nat_eq, nat_lt, slice_get, sum_by, take}
 use Rattle.std.specs.Option.{option_map_or}
-use Rattle.mb_world.specs.Report.{DiaryView}
+use Rattle.mb_world.specs.Theorem.{DiaryView}
 use Rattle.mb_mailbox.specs.Imports.{Note}
 use Rattle.mb_mailbox.specs.Imports.{Took, Lost, Undecided}
 use Rattle.mb_mailbox.specs.declared.notes.Mark.{Mark}

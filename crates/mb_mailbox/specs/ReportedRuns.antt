@@ -8,7 +8,7 @@ use Rattle.mb_mailbox.specs.Mailboxes.{MailboxView, plan_at}
 use Rattle.mb_mailbox.specs.declared.gate.Who.{Who}
 use Rattle.mb_mailbox.specs.declared.crew.Worked.{Worked}
 use Rattle.mb_world.specs.Plan.{Histories, Plan, size_of}
-use Rattle.mb_world.specs.Report.{ReportView}
+use Rattle.mb_world.specs.Theorem.{ReportView}
 use Rattle.mb_world.specs.Setups.{plan_in}
 use Rattle.mb_world.specs.declared.setup.Setup.{Setup}
 

@@ -72,7 +72,7 @@ impl<A: Allocator + Clone + Drop> Mailbox<A> {
             IsReportIn self.cells.size.lanes (consumer_count self.claims.layout) hub r) }
 
         // One assignment of items to competitors accounts for the whole report, and nothing follows an end mark.
-        ensures headline { IfOk result (λ r. IsGathered self hub r) }
+        ensures main_theorem { IfOk result (λ r. IsGathered self hub r) }
 
         // If a producer found no cell, the put lists together have all cells. If a note is undecided, two consumers
         // or more competed for the item.
@@ -127,7 +127,7 @@ impl<A: Allocator + Clone + Drop> Mailbox<A> {
         // The report is as `gather` says it.
         ensures lists { IsReportIn self.cells.size.lanes (consumer_count self.claims.layout)
             draft result }
-        ensures headline { IsGathered self draft result }
+        ensures main_theorem { IsGathered self draft result }
         ensures full { FullTakesAll self draft result }
         ensures undecided { UndecidedHasCompany result }
     {

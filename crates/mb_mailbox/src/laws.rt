@@ -1,24 +1,45 @@
-//! Laws of what a hub has taken in, and of what is gathered. The functions compute nothing: their contracts are the
-//! laws.
-ghost use Rattle.std.specs.Prelude.{ℕ, ◌≡◌, ◌≢◌, ◌≤◌, List, [], ◌∷◌, Some, None, false, true, length, map, slice_get};
-ghost use Rattle.mb_claim.specs.Vocabulary.{shape_of};
-ghost use Rattle.mb_mailbox.specs.Imports.{Claim, Note, Stream, Undecided, has_ended};
+//! Laws of polls, of what a hub has taken in, and of what is gathered. The functions compute nothing: their contracts
+//! are the laws.
+ghost use Rattle.std.specs.Prelude.{ℕ, ◌≡◌, ◌≢◌, ◌≤◌, ◌<◌, ◌+◌, List, [], ◌∷◌, Some, None, false, true, length, map, slice_get};
+ghost use Rattle.mb_claim.specs.Vocabulary.{most_accesses, shape_of};
+ghost use Rattle.mb_mailbox.specs.Imports.{Claim, IsLawfulPart, Note, Stream, Undecided, claims_at, has_ended};
 ghost use Rattle.mb_mailbox.specs.Calls.{AreCalls, Call};
-ghost use Rattle.mb_mailbox.specs.Consumers.{ConsumerView, IsConsumer};
+ghost use Rattle.mb_mailbox.specs.ConsumerWords.{AnswerTells, ConsumerView, HasNoteOnEach, IsConsumer, IsConsumerOf, IsPollOf, Poll};
 ghost use Rattle.mb_world.specs.Places.{has_begun_at};
-ghost use Rattle.mb_mailbox.specs.Gathering.{UndecidedHasCompany, begun_in, count_missing, ended_in};
-ghost use Rattle.mb_mailbox.specs.Gathering.{IsGathered, IsReportIn, items_in, notes_in};
+ghost use Rattle.mb_mailbox.specs.Gathering.{IsGathered, IsReportIn, UndecidedHasCompany, begun_in, count_missing, ended_in, items_in, notes_in};
 ghost use Rattle.mb_mailbox.specs.Mailboxes.{MailboxView};
-ghost use Rattle.mb_mailbox.specs.Steps.{AreDrawn, HasNoteOnEach};
+ghost use Rattle.mb_mailbox.specs.Steps.{AreDrawn, outcome};
 ghost use Rattle.mb_world.specs.Agreement.{AreAllTaken, IsLeftBesideBegun};
-ghost use Rattle.mb_world.specs.Report.{ReportView, note};
+ghost use Rattle.mb_world.specs.Theorem.{ReportView, note};
 ghost use Rattle.mb_mailbox.specs.GatheringExamples.{alone_undecided, two_undecided};
 ghost use Rattle.mb_mailbox.specs.Hubs.{HubView, with_taken_consumer, with_taken_producer};
 ghost use Rattle.mb_mailbox.specs.Producers.{ProducerView};
-ghost use Rattle.mb_world.specs.declared.place.Place.{Place};
-ghost use Rattle.mb_world.specs.declared.place.Place.TheVariants.{At};
+ghost use Rattle.mb_world.specs.declared.place.Place.{Place, TheVariants.At};
 
+use mb_cells::laws::looks_tell_links;
+use mb_claim::laws::{claims_are_bounded, layouts_are_sound, prefixes_have_one_stage};
+use mb_claim::steps::accesses_lengthen_one_part;
 use mb_world::laws::{last_objects_settle_items, shaped_setups_have_last_objects};
+use mb_world::steps::loads_meet_cells;
+
+/// Whatever its budget, a poll makes no more accesses than a whole claim, the load of its link and that of its item. The
+/// poll and its consumer are as [`Consumer::poll`](crate::Consumer::poll) and
+/// [`keeps_its_parts`](crate::Consumer::keeps_its_parts) say.
+pub fn polls_are_short()
+    ensures { (m : MailboxView) (p budget : ℕ) (answer : Poll) (s t : Stream)
+        (old new : ConsumerView) (poll : IsPollOf p budget answer s t old new)
+        → p < m.cells.size.lanes → IsConsumer old → IsConsumer new → IsConsumerOf m new
+        → IsLawfulPart (claims_at new.seat.table) new.seat.consumer new.seat.part
+        → AnswerTells p (outcome answer) old new
+        → length poll.accesses ≤ most_accesses m.claims.layout + 2 }
+{
+    accesses_lengthen_one_part();
+    claims_are_bounded();
+    layouts_are_sound();
+    loads_meet_cells();
+    looks_tell_links();
+    prefixes_have_one_stage();
+}
 
 /// A lane that was never given is open and empty. A consumer that was never given has noted and begun nothing.
 pub fn what_was_not_given_is_empty()

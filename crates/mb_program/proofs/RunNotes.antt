@@ -3,7 +3,7 @@ use Rattle.std.proofs.Common.{◌≡◌, ◌+◌, ◌-◌, ◌*◌, ◌^◌, ◌
 use Rattle.std.specs.List.{All}
 use Rattle.std.proofs.lemmas.Bool.{lt-ltb}
 use Rattle.std.proofs.lemmas.Option.{slice_get-get_or, slice_get-map}
-use Rattle.mb_world.specs.Report.{ReportView, notes}
+use Rattle.mb_world.specs.Theorem.{ReportView, notes}
 use Rattle.mb_mailbox.specs.Imports.{Reader, consumer_count, consumer_part, part, taken_part}
 use Rattle.mb_mailbox.specs.Gathering.{IsGathered, IsReportIn, kept_at, notes_in}
 use Rattle.mb_mailbox.specs.Hubs.{HubView, ConsumerRecordView}

@@ -5,7 +5,7 @@ use Rattle.std.specs.List.{AllZip, range_with_len}
 use Rattle.std.proofs.lemmas.List.FromFn.{length-map-range_with_len}
 use Rattle.std.proofs.lemmas.Option.{slice_get-map, slice_get_within}
 use Rattle.std.proofs.lemmas.Slice.Zip.{AllZip-left}
-use Rattle.mb_world.specs.Vocabulary.{LaneView, ReportView, IsHonest, consumers_of, size_of, IsReportOf, AreSound}
+use Rattle.mb_world.specs.Vocabulary.{LaneView, ReportView, MainTheorem, consumers_of, size_of, IsReportOf, AreSound}
 use Rattle.mb_world.specs.Imports.{PoolSize}
 use Rattle.mb_mailbox.specs.Vocabulary.{CellsName, consumer_count, HubView, IsHubOf, MailboxView, plan_at, IsFront, AreCutByCells, AreStoppedPolls, AreStoppedPuts, HasNoteAtEach, IsWorked}
 use Rattle.mb_mailbox.specs.Vocabulary.{ProducerEnd, ended_list}
@@ -149,7 +149,7 @@ run_report {budget} may_stop never o m old h r lists n w few asked plan size emp
       reader = gathered.reader;
       sound = subst (λ p. AreSound p gathered.histories) plan gathered.sound;
       report = subst (λ p. IsReportOf p gathered.histories r) plan gathered.report;
-      honest = subst (λ p. IsHonest p gathered.histories r) plan gathered.honest;
+      main_theorem = gathered.main_theorem;
       counts = w;
       run = run;
       lanes = lanes_told o.producers o.items m.cells.size.lanes (consumer_count m.claims.layout) h

@@ -5,9 +5,8 @@ use Rattle.std.specs.List.{range_with_len}
 use Rattle.std.specs.Io.KnownBytes.{Appends}
 use Rattle.mb_quorum.specs.declared.table.TableName.TheVariants.{Bits}
 use Rattle.mb_world.specs.declared.setup.SetupFault.{SetupFault}
-use Rattle.mb_world.specs.Headline.{IsHonest}
+use Rattle.mb_world.specs.Theorem.{LaneView, MainTheorem, ReportView, notes}
 use Rattle.mb_world.specs.Plan.{Histories, Plan}
-use Rattle.mb_world.specs.Report.{LaneView, ReportView, notes}
 use Rattle.mb_world.specs.Reporting.{IsReportOf}
 use Rattle.mb_world.specs.Setups.{setup_refusal, shaped_plan}
 use Rattle.mb_world.specs.Sound.{AreSound}
@@ -85,7 +84,7 @@ pub record IsRunReport (o : Options) (r : ReportView) : Type 0 where
   pub sound : AreSound (plan_asked o) histories
   -- the report is that of the histories, and one assignment agrees with it
   pub report : IsReportOf (plan_asked o) histories r
-  pub honest : IsHonest (plan_asked o) histories r
+  pub main_theorem : MainTheorem histories.pool histories.reader_of r
   -- report and histories are those of a run with the budget and the seed that are asked for, which no gate stops. It
   -- came to some counts
   pub counts : Worked

@@ -5,7 +5,7 @@ use Rattle.std.specs.Prelude.{nat_eq, if◌then◌else◌}
 use Rattle.std.specs.Option.{is_none}
 use Rattle.std.proofs.lemmas.List.Sums.{sum_by-append, sum_by-cons}
 use mathlib.Core.Bool.{cond}
-use Rattle.mb_world.specs.Assignment.{items_where, is_consumer}
+use Rattle.mb_world.specs.Theorem.{is_consumer, items_where}
 use Rattle.mb_rounds.specs.Carried.{times}
 
 -- how often x is the one value y: once or never

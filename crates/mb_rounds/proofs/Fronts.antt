@@ -9,7 +9,7 @@ use Rattle.mb_mailbox.specs.Gathering.{IsReportIn, lane_in}
 use Rattle.mb_mailbox.specs.Hubs.{HubView, PutListView}
 use Rattle.mb_mailbox.specs.Jobs.{IsFront}
 use Rattle.mb_mailbox.specs.Worked.{ProducerEnd, ended_list}
-use Rattle.mb_world.specs.Report.{LaneView, ReportView}
+use Rattle.mb_world.specs.Theorem.{LaneView, ReportView}
 use Rattle.mb_mailbox.proofs.Lists.{map_get}
 use Rattle.mb_rounds.specs.Round.{IsPutOf}
 

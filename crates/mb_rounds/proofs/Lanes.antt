@@ -6,10 +6,8 @@ use Rattle.std.proofs.lemmas.Option.{slice_get_past}
 use Rattle.std.specs.Prelude.{if◌then◌else◌, nat_lt, slice_get}
 use Rattle.std.specs.Option.{option_map_or}
 use Rattle.mb_mailbox.specs.declared.{gate.Who.Who, crew.Worked.Worked}
-use Rattle.mb_world.specs.Agreement.{HasCompeted, ledger}
-use Rattle.mb_world.specs.Assignment.{is_consumer, items_where}
+use Rattle.mb_world.specs.Theorem.{DiaryView, HasCompeted, LaneView, ReportView, diary, is_begun, is_consumer, items_left, items_put, items_where, ledger, notes}
 use Rattle.mb_world.specs.Plan.{Plan, consumers_of}
-use Rattle.mb_world.specs.Report.{DiaryView, LaneView, ReportView, diary, is_begun, items_left, items_put, notes}
 use Rattle.mb_mailbox.specs.ReportedRuns.{Terms}
 use Rattle.mb_rounds.specs.Carried.{times}
 use Rattle.mb_rounds.specs.Round.{IsPlayed}
@@ -61,14 +59,14 @@ module _ {may_stop may_pass : Who → ℕ → Type 0} (terms : Terms) (lists : L
   pub lane_adds_up : (x p : ℕ) (l : LaneView) → slice_get r.lanes p ≡ Some l
       → sum_below (consumers_of plan) (λ c. times x (ledger c p r)) + times x l.left ≡ times x l.put
   lane_adds_up x p l e =
-      let given = played.honest.given in
-      let t = played.honest.assignment p in
+      let given = played.main_theorem.given in
+      let t = played.main_theorem.assignment p in
       let put : items_put p r ≡ l.put = ap (λ (o : Option LaneView). option_map_or (λ z. z.put) o []) e in
       let left : items_left p r ≡ l.left = ap (λ (o : Option LaneView). option_map_or (λ z. z.left) o []) e in
       let ledgers = sum_same (consumers_of plan) (λ c. times x (ledger c p r))
       (λ c. times x (items_where (λ j. is_consumer c (t j)) (items_put p r)))
       (λ c low. ap (times x) (given.ledgers c p)) in
-      let rest = ap (times x) (sym left ∙ played.honest.left p) in
+      let rest = ap (times x) (sym left ∙ played.main_theorem.left p) in
       let all = ap (times x) put in
       let whole = given_and_left x (consumers_of plan) t (items_put p r)
       (λ j c low f. known c p j ((given.competitors c p j f).1)) in

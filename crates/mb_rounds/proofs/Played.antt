@@ -9,9 +9,8 @@ use Rattle.mb_mailbox.specs.Mailboxes.{MailboxView, plan_at}
 use Rattle.mb_mailbox.specs.Worked.{AsksTooMany, ended_list}
 use Rattle.mb_mailbox.specs.declared.gate.Who.{Who}
 use Rattle.mb_mailbox.specs.declared.crew.Worked.{Worked}
-use Rattle.mb_world.specs.Headline.{IsHonest}
+use Rattle.mb_world.specs.Theorem.{MainTheorem, ReportView}
 use Rattle.mb_world.specs.Plan.{Plan, consumers_of, size_of}
-use Rattle.mb_world.specs.Report.{ReportView}
 use Rattle.mb_world.specs.Reporting.{IsReportOf}
 use Rattle.mb_world.specs.Sound.{AreSound}
 use Rattle.mb_mailbox.specs.ReportedRuns.{Terms}
@@ -54,7 +53,7 @@ played m old h r terms lists may_stop may_pass w same size all empty of called t
       histories = gathered.histories;
       sound = subst (λ (q : Plan). AreSound q gathered.histories) same gathered.sound;
       report = subst (λ (q : Plan). IsReportOf q gathered.histories r) same gathered.report;
-      honest = subst (λ (q : Plan). IsHonest q gathered.histories r) same gathered.honest;
+      main_theorem = gathered.main_theorem;
       run = record {
         mailbox = m;
         plan = same;

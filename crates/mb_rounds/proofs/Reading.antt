@@ -4,7 +4,7 @@ use Rattle.std.specs.Prelude.{slice_get}
 use Rattle.std.specs.List.{filter_map}
 use Rattle.std.proofs.lemmas.List.{append-nil}
 use Rattle.std.proofs.lemmas.List.Elements.{filter_map-append}
-use Rattle.mb_world.specs.Report.{LaneView}
+use Rattle.mb_world.specs.Theorem.{LaneView}
 use Rattle.mb_rounds.specs.Round.{staying}
 
 -- the next position, as the code counts it

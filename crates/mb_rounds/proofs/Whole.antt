@@ -4,9 +4,8 @@ use Rattle.std.proofs.lemmas.List.{drop_at}
 use Rattle.std.specs.Prelude.{drop, slice_get}
 use Rattle.std.specs.List.{AllZip, concat}
 use Rattle.mb_mailbox.specs.declared.{gate.Who.Who, crew.Worked.Worked}
-use Rattle.mb_world.specs.Agreement.{ledger}
+use Rattle.mb_world.specs.Theorem.{LaneView, ReportView, ledger}
 use Rattle.mb_world.specs.Plan.{consumers_of}
-use Rattle.mb_world.specs.Report.{LaneView, ReportView}
 use Rattle.mb_mailbox.specs.ReportedRuns.{Terms}
 use Rattle.mb_rounds.specs.Carried.{AreSameItems, times}
 use Rattle.mb_rounds.specs.Round.{IsPutOf, IsRound, ledgers_of, staying, taken_below}

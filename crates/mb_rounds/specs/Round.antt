@@ -4,10 +4,8 @@ use Rattle.std.specs.List.{All, AllZip, concat, filter_map}
 use Rattle.mb_mailbox.specs.Jobs.{IsFront}
 use Rattle.mb_mailbox.specs.declared.crew.Worked.{Worked}
 use Rattle.mb_mailbox.specs.declared.gate.Who.{Who}
-use Rattle.mb_world.specs.Agreement.{item_taken, ledger}
-use Rattle.mb_world.specs.Headline.{IsHonest}
+use Rattle.mb_world.specs.Theorem.{LaneView, MainTheorem, ReportView, item_taken, items_put, ledger, notes}
 use Rattle.mb_world.specs.Plan.{Histories, consumers_of}
-use Rattle.mb_world.specs.Report.{LaneView, ReportView, items_put, notes}
 use Rattle.mb_world.specs.Reporting.{IsReportOf}
 use Rattle.mb_world.specs.Sound.{AreSound}
 use Rattle.mb_world.specs.declared.report.Note.{Note}
@@ -30,7 +28,7 @@ pub record IsPlayed (may_stop may_pass : Who → ℕ → Type 0) (terms : Terms)
   pub sound : AreSound terms.plan histories
   pub report : IsReportOf terms.plan histories r
   -- one assignment of items to consumers agrees with the whole report
-  pub honest : IsHonest terms.plan histories r
+  pub main_theorem : MainTheorem histories.pool histories.reader_of r
   -- a producer for each list and a consumer for each source did this, and went on until they were done or stopped. The
   -- counts are of these workers
   pub run : IsReportedRun may_stop may_pass terms lists counts histories r

@@ -1,6 +1,7 @@
 //! Laws of rounds. The functions compute nothing: their contracts are the laws.
 ghost use Rattle.std.specs.Prelude.{ℕ, ◌≡◌, ◌≤◌, ◌++◌, List, [], ◌∷◌};
 ghost use Rattle.mb_rounds.specs.Carried.{AreSameItems, times};
+ghost use Rattle.mb_rounds.specs.Round.{AreEven};
 ghost use Rattle.mb_rounds.specs.TurnExamples.{two_rounds};
 ghost use Rattle.mb_rounds.specs.Turns.{AreCarriedAfter, Turn, given_out, handed_in};
 
@@ -19,4 +20,11 @@ pub fn carried_by_example()
     ensures one_left { AreCarriedAfter two_rounds (8 ∷ []) }
     ensures none_left { AreCarriedAfter two_rounds [] → ⊥ }
     ensures other_left { AreCarriedAfter two_rounds (7 ∷ []) → ⊥ }
+{}
+
+/// What is dealt evenly, by example. If one list has one item more than each other, that is even. If it has two items
+/// more, it is not.
+pub fn even_by_example()
+    ensures one_more { AreEven ([] ∷ [] ∷ (7 ∷ []) ∷ []) }
+    ensures two_more { AreEven ((7 ∷ 8 ∷ []) ∷ [] ∷ []) → ⊥ }
 {}

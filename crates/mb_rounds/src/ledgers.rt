@@ -1,7 +1,7 @@
 //! What each consumer took in a round.
 ghost use Rattle.std.specs.Prelude.{◌≡◌, ◌+◌, ◌*◌, ◌≤◌, ◌++◌, IfOk, length};
 ghost use Rattle.mb_mailbox.specs.Worked.{lists_in};
-ghost use Rattle.mb_world.specs.Agreement.{item_taken};
+ghost use Rattle.mb_world.specs.Theorem.{item_taken};
 ghost use Rattle.mb_rounds.specs.Round.{ledgers_of, taken_below, taken_in};
 
 use mb_world::{Note, Report};

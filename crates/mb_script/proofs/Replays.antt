@@ -7,11 +7,10 @@ use Rattle.mb_world.specs.declared.setup.Setup.{Setup}
 use Rattle.mb_world.specs.EventSteps.{EventAdds}
 use Rattle.mb_world.specs.Plan.{Plan}
 use Rattle.mb_world.specs.Replay.{HasAnswer, IsReplay, with_access}
-use Rattle.mb_world.specs.Headline.{IsHonest}
-use Rattle.mb_world.specs.Report.{ReportView}
+use Rattle.mb_world.specs.Theorem.{MainTheorem, ReportView}
 use Rattle.mb_world.specs.Reporting.{IsReportOf}
 use Rattle.mb_world.specs.Setups.{plan_in}
-use Rattle.mb_world.specs.World.{WorldAccess, WorldHistory, histories_of}
+use Rattle.mb_world.specs.World.{WorldAccess, WorldHistory, histories_of, pool_accesses}
 use Rattle.mb_world.specs.WorldState.{IsWorldAfter, WorldState}
 use Rattle.mb_script.specs.ReplayText.{IsReplayText}
 use Rattle.mb_script.specs.ReportText.{report_text}
@@ -69,9 +68,9 @@ pub IsReplayText-made : (setup : Setup) (events : List Event) (world : WorldStat
     (report : ReportView) (none text all : List ℕ)
     → IsTranscribed events [] world none text → none ≡ [] → world.setup ≡ setup
     → ((h : WorldHistory) → IsWorldAfter h world → IsReportOf (plan_in world.setup) (histories_of h) report)
-    → ((h : WorldHistory) → IsWorldAfter h world → IsHonest (plan_in world.setup) (histories_of h) report)
+    → ((h : WorldHistory) → IsWorldAfter h world → MainTheorem (pool_accesses h) (λ c. c) report)
     → all ≡ text ++ report_text report → IsReplayText (plan_in setup) events all
-IsReplayText-made setup events world report none text all done empty same exact honest written =
+IsReplayText-made setup events world report none text all done empty same exact main_theorem written =
     let plan = ap plan_in same in
     record {
       answers = done.answers;
@@ -79,7 +78,7 @@ IsReplayText-made setup events world report none text all done empty same exact 
       replayed = subst (λ plan. IsReplay plan events done.answers [] done.history) plan done.replayed;
       report = report;
       reported = subst (λ plan. IsReportOf plan (histories_of done.history) report) plan (exact done.history done.left);
-      honest = subst (λ plan. IsHonest plan (histories_of done.history) report) plan (honest done.history done.left);
+      main_theorem = main_theorem done.history done.left;
       written = written
           ∙ ap (λ (t : List ℕ). t ++ report_text report)
           (done.written ∙ ap (λ (t : List ℕ). t ++ transcript_text events done.answers) empty);

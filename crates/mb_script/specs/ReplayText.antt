@@ -3,11 +3,10 @@ use Rattle.std.specs.Prelude.{ℕ, ◌≡◌, List, [], ◌++◌}
 use Rattle.mb_world.specs.declared.event.Answer.{Answer}
 use Rattle.mb_world.specs.declared.event.Event.{Event}
 use Rattle.mb_world.specs.Plan.{Plan}
-use Rattle.mb_world.specs.Report.{ReportView}
+use Rattle.mb_world.specs.Theorem.{MainTheorem, ReportView}
 use Rattle.mb_world.specs.Reporting.{IsReportOf}
-use Rattle.mb_world.specs.Headline.{IsHonest}
 use Rattle.mb_world.specs.Replay.{IsReplay}
-use Rattle.mb_world.specs.World.{WorldHistory, histories_of}
+use Rattle.mb_world.specs.World.{WorldHistory, histories_of, pool_accesses}
 use Rattle.mb_script.specs.ReportText.{report_text}
 use Rattle.mb_script.specs.Transcript.{transcript_text}
 
@@ -21,6 +20,6 @@ pub record IsReplayText (plan : Plan) (events : List Event) (text : List ℕ) : 
   pub report : ReportView
   pub reported : IsReportOf plan (histories_of history) report
   -- one assignment agrees with the report, and no lane has anything after its end mark
-  pub honest : IsHonest plan (histories_of history) report
+  pub main_theorem : MainTheorem (pool_accesses history) (λ c. c) report
   -- the text is the transcript, and then the text of the report
   pub written : text ≡ transcript_text events answers ++ report_text report

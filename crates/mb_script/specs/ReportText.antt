@@ -4,7 +4,7 @@ use Rattle.std.specs.List.{flat_map}
 use Rattle.std.specs.Fmt.{decimal}
 use Rattle.mb_world.specs.declared.report.Note.{Note}
 use Rattle.mb_world.specs.declared.report.Note.TheVariants.{Took, Lost, Undecided}
-use Rattle.mb_world.specs.Report.{DiaryView, LaneView, ReportView}
+use Rattle.mb_world.specs.Theorem.{DiaryView, LaneView, ReportView}
 
 -- the text of items: each after a space
 abbrev pub items_text : List ℕ → List ℕ

@@ -1,9 +1,8 @@
 -- Small reports that agree with an assignment.
 use Rattle.std.proofs.Common.{◌≡◌, ◌↔◌, ℕ, zero, suc, ◌<◌, ◌≤◌, true, false, List, [], ◌∷◌, length, Some, refl, inl, inr, arith}
 use Rattle.mb_world.specs.declared.report.Note.TheVariants.{Took, Lost}
-use Rattle.mb_world.specs.Report.{DiaryView, is_begun, notes}
-use Rattle.mb_world.specs.Agreement.{AgreesWith, HasCompeted, HasLostTo, HasTaken, IsLossTo, ledger}
-use Rattle.mb_world.specs.Assignment.{share}
+use Rattle.mb_world.specs.Theorem.{DiaryView, HasCompeted, HasLostTo, HasTaken, IsLossTo, is_begun, ledger, notes, share}
+use Rattle.mb_world.specs.Agreement.{AgreesWith}
 use Rattle.mb_world.specs.ReportExamples.{diary_of, first_to, taken_and_lost, to_nobody, won_not_loaded}
 use Rattle.mb_world.proofs.ReportLists.{no_diary, not_noted}
 use Rattle.mb_world.proofs.OneLaneReports.{agrees_on_lane}

@@ -6,9 +6,8 @@ use Rattle.std.proofs.lemmas.Bool.{eqb-true, eq-eqb, false_from_ne_true}
 use Rattle.std.proofs.lemmas.Option.{slice_get_within}
 use Rattle.mb_world.specs.declared.report.Note.{Note}
 use Rattle.mb_world.specs.declared.report.Note.TheVariants.{Took, Lost, Undecided}
-use Rattle.mb_world.specs.Report.{ReportView, is_begun, items_left, items_put, note, notes}
-use Rattle.mb_world.specs.Assignment.{Assignment, is_consumer, items_where}
-use Rattle.mb_world.specs.Agreement.{AgreesWith, HasCompeted, HasLostTo, HasTaken, IsLossTo}
+use Rattle.mb_world.specs.Theorem.{Assignment, HasCompeted, HasLostTo, HasTaken, IsLossTo, ReportView, is_begun, is_consumer, items_left, items_put, items_where, note, notes}
+use Rattle.mb_world.specs.Agreement.{AgreesWith}
 use Rattle.mb_world.specs.Reporting.{is_taken, is_took}
 use Rattle.mb_world.proofs.Lists.{items_where-same, is_took-at, taken-items_where, last_below, last_below-at, last_below-some, last_below-none}
 

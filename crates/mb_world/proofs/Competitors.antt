@@ -7,8 +7,7 @@ use Rattle.mb_world.specs.declared.report.Note.{Note}
 use Rattle.mb_world.specs.declared.report.Note.TheVariants.{Took, Lost, Undecided}
 use Rattle.mb_world.specs.Imports.{IsClaimPrefix, Stage, claim_part, linked_cells}
 use Rattle.mb_world.specs.Plan.{Histories, Plan, consumers_of}
-use Rattle.mb_world.specs.Report.{DiaryView, ReportView}
-use Rattle.mb_world.specs.Agreement.{HasCompeted}
+use Rattle.mb_world.specs.Theorem.{DiaryView, HasCompeted, ReportView}
 use Rattle.mb_world.specs.Fitting.{EndsAs, parts_of}
 use Rattle.mb_world.specs.Reporting.{IsDiaryOf, IsReportOf}
 use Rattle.mb_world.proofs.Diaries.{met_at, note_at, open_last, placed}

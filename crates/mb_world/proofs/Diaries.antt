@@ -10,7 +10,7 @@ use Rattle.mb_world.specs.declared.report.Note.{Note}
 use Rattle.mb_world.specs.declared.report.Note.TheVariants.{Took, Lost, Undecided}
 use Rattle.mb_world.specs.Imports.{Entry, Gave, HasLoaded, History, Item, Link, Reader, Stage, claim_part, entry_of, item_of, linked_cells, part, put_list}
 use Rattle.mb_world.specs.Plan.{Histories, Plan, consumers_of}
-use Rattle.mb_world.specs.Report.{DiaryView}
+use Rattle.mb_world.specs.Theorem.{DiaryView}
 use Rattle.mb_world.specs.Fitting.{EndsAs, Fits, HasStageIn, HasRead, parts_of}
 use Rattle.mb_world.specs.Reporting.{IsDiaryOf, values_put}
 use Rattle.mb_world.specs.Known.{Known}

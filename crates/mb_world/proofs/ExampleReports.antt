@@ -6,7 +6,7 @@ use Rattle.mb_world.specs.declared.report.Note.{Note}
 use Rattle.mb_world.specs.declared.report.Note.TheVariants.{Lost, Took, Undecided}
 use Rattle.mb_world.specs.Imports.{Gave, Head, History, IsClaimPrefix, Item, Link, ObjectTurn, PoolAccess, Reader, Stage, part}
 use Rattle.mb_world.specs.Fitting.{EndsAs, HasRead, parts_of}
-use Rattle.mb_world.specs.Report.{DiaryView, LaneView}
+use Rattle.mb_world.specs.Theorem.{DiaryView, LaneView}
 use Rattle.mb_world.specs.Reporting.{IsDiaryOf, IsReportOf, lane_view}
 use Rattle.mb_world.specs.PathExamples.{first_step, two_cells}
 use Rattle.mb_world.specs.WorldExamples.{IsNoDiary, IsNoReport, all_histories, all_reported, claim_missing, diary_with, item_missing, loss_unnoted}

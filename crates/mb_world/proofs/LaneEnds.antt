@@ -2,10 +2,9 @@
 use Rattle.std.proofs.Common.{◌≡◌, ◌⊎◌, ℕ, suc, ◌<◌, ◌≤◌, true, List, [], ◌∷◌, ◌++◌, length, refl, sym, subst, inl, inr, arith, eqb-true}
 use Rattle.std.proofs.lemmas.Bool.{cases_lt}
 use Rattle.mb_world.specs.Imports.{Counter, END, Gave, Has, HasLoaded, HasMet, Head, IsLinkWord, Item, Link, Reader, Word, is_of_lane, linked_cells, part, place_past}
-use Rattle.mb_world.specs.Plan.{Histories, Plan, consumers_of}
-use Rattle.mb_world.specs.Report.{DiaryView}
+use Rattle.mb_world.specs.Plan.{HasMetEnd, Histories, Plan, consumers_of}
+use Rattle.mb_world.specs.Theorem.{DiaryView}
 use Rattle.mb_world.specs.Reporting.{IsDiaryOf, values_put}
-use Rattle.mb_world.specs.Headline.{HasMetEnd}
 use Rattle.mb_world.proofs.Cells.{cell-of_true}
 use Rattle.mb_world.proofs.Diaries.{met_at, passed, values_length}
 use Rattle.mb_world.specs.Known.{Known}

@@ -3,13 +3,12 @@ use Rattle.std.proofs.Common.{◌≡◌, ◌≢◌, ℕ, ◌<◌, true, Option, 
 use Rattle.std.proofs.lemmas.Option.{slice_get-get_or}
 use Rattle.mb_world.specs.declared.report.Note.{Note}
 use Rattle.mb_world.specs.declared.report.Note.TheVariants.{Took, Lost, Undecided}
-use Rattle.mb_world.specs.Plan.{Histories, Plan}
-use Rattle.mb_world.specs.Report.{ReportView, items_put, is_begun, note, notes}
-use Rattle.mb_world.specs.Agreement.{AreAllTaken, HasCompeted, HasTaken, IsFinished, IsLeftBesideBegun}
-use Rattle.mb_world.specs.Headline.{IsHonest}
+use Rattle.mb_world.specs.Plan.{Histories}
+use Rattle.mb_world.specs.Theorem.{HasCompeted, HasTaken, IsFinished, MainTheorem, ReportView, is_begun, items_put, note, notes}
+use Rattle.mb_world.specs.Agreement.{AreAllTaken, IsLeftBesideBegun}
 
 -- the report agrees with one assignment, and has no undecided note
-module _ (plan : Plan) (hs : Histories) (r : ReportView) (honest : IsHonest plan hs r)
+module _ (hs : Histories) (r : ReportView) (main_theorem : MainTheorem hs.pool hs.reader_of r)
     (decided : (c p j : ℕ) → note c p j r ≢ Some Undecided) where
   -- an unfinished claim on an item that nobody took has no note
   no_note : (d p j : ℕ) → ((e : ℕ) → HasTaken e p j r → ⊥) → (IsFinished d p j r → ⊥) → (n : Note)
@@ -29,19 +28,19 @@ module _ (plan : Plan) (hs : Histories) (r : ReportView) (honest : IsHonest plan
   -- so an item that was competed for and that nobody took is left beside a begun claim
   pub beside : IsLeftBesideBegun r
   beside c p j inside competed none =
-      let s = honest.settled c p j inside competed none in
+      let s = main_theorem.settled c p j inside competed none in
       let next = begun_next s.0 p j none s.2 s.1 in
       (s.0, next.0, next.1)
 
   -- on a lane without a begun claim, an item that was competed for is taken, whatever the assignment has for it
   taken_by : (p : ℕ) → ((d : ℕ) → is_begun d p r ≡ true → ⊥) → (c j : ℕ) → j < length (items_put p r)
-      → HasCompeted c p j r → (given : Option ℕ) → honest.assignment p j ≡ given → (d : ℕ) × HasTaken d p j r
-  taken_by p idle c j inside competed (Some d) e = (d, (honest.given.taken d p j).1 e)
+      → HasCompeted c p j r → (given : Option ℕ) → main_theorem.assignment p j ≡ given → (d : ℕ) × HasTaken d p j r
+  taken_by p idle c j inside competed (Some d) e = (d, (main_theorem.given.taken d p j).1 e)
   taken_by p idle c j inside competed None e =
       let b = beside c p j inside competed
-      (λ d has. let both : None ≡ Some d = sym e ∙ (honest.given.taken d p j).0 has in cc) in
+      (λ d has. let both : None ≡ Some d = sym e ∙ (main_theorem.given.taken d p j).0 has in cc) in
       absurd (idle b.0 b.2)
 
   -- so on a lane without a begun claim each item that was competed for is taken
   pub taken : AreAllTaken r
-  taken p idle c j inside competed = taken_by p idle c j inside competed (honest.assignment p j) refl
+  taken p idle c j inside competed = taken_by p idle c j inside competed (main_theorem.assignment p j) refl

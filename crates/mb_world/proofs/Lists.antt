@@ -6,8 +6,7 @@ use Rattle.std.specs.Option.{is_none}
 use Rattle.std.specs.List.{filter_map}
 use Rattle.mb_world.specs.declared.report.Note.{Note}
 use Rattle.mb_world.specs.declared.report.Note.TheVariants.{Took, Lost, Undecided}
-use Rattle.mb_world.specs.Assignment.{items_where}
-use Rattle.mb_world.specs.Agreement.{item_taken}
+use Rattle.mb_world.specs.Theorem.{item_taken, items_where}
 use Rattle.mb_world.specs.Reporting.{is_took, any_below}
 
 -- two tests that agree choose the same items

@@ -4,9 +4,9 @@ use Rattle.std.specs.Option.{option_map_or}
 use Rattle.std.specs.List.{filter_map}
 use Rattle.std.proofs.lemmas.Bool.{cases_lt, false≢true, ne_eqb}
 use Rattle.mb_world.specs.declared.report.Note.TheVariants.{Took, Lost}
-use Rattle.mb_world.specs.Report.{DiaryView, ReportView, diary, is_begun, items_left, items_put, notes}
-use Rattle.mb_world.specs.Assignment.{Assignment, is_consumer, rest, share}
-use Rattle.mb_world.specs.Agreement.{AgreesWith, HasCompeted, HasLostTo, HasTaken, IsLossTo, item_taken, ledger}
+use Rattle.mb_world.specs.Theorem.{Assignment, DiaryView, HasCompeted, HasLostTo, HasTaken, IsLossTo, ReportView, diary, is_begun, is_consumer, item_taken, items_left, items_put, ledger, notes, rest}
+use Rattle.mb_world.specs.Theorem.{share}
+use Rattle.mb_world.specs.Agreement.{AgreesWith}
 use Rattle.mb_world.specs.ReportExamples.{report_of}
 use Rattle.mb_world.proofs.Lists.{items_where-none}
 use Rattle.mb_world.proofs.ReportLists.{no_diary, no_lane, not_noted}

@@ -9,7 +9,7 @@ use Rattle.mb_world.specs.declared.report.Note.TheVariants.{Lost, Took, Undecide
 use Rattle.mb_world.specs.Imports.{Item, Stage, claim_part}
 use Rattle.mb_world.specs.Plan.{Histories, Plan, consumers_of}
 use Rattle.mb_world.specs.Fitting.{EndsAs, HasStageIn, parts_of}
-use Rattle.mb_world.specs.Report.{DiaryView, LaneView, ReportView}
+use Rattle.mb_world.specs.Theorem.{DiaryView, LaneView, ReportView}
 use Rattle.mb_world.specs.Reporting.{IsDiaryOf, IsReportOf, lane_view}
 use Rattle.mb_world.specs.Known.{Known}
 use Rattle.mb_world.proofs.Positions.{HasPosition, at_has, at_one, has_at, reverse_at}

@@ -1,12 +1,12 @@
 -- The notes of a report of lawful histories whose consumers' parts fit are right.
-use Rattle.std.proofs.Common.{◌≡◌, ◌≢◌, ◌⊎◌, ℕ, ◌<◌, ◌≤◌, true, false, not, length, Some, refl, subst, inl, inr, arith}
+use Rattle.std.proofs.Common.{◌≡◌, ◌≢◌, ◌⊎◌, ℕ, ◌<◌, ◌≤◌, true, false, not, length, Some, None, refl, subst, inl, inr, arith}
 use Rattle.std.specs.Prelude.{slice_get, IsSome}
 use Rattle.std.proofs.lemmas.Bool.{cases_lt}
 use Rattle.std.proofs.lemmas.Option.{slice_get-get_or}
 use Rattle.mb_claim.specs.declared.access.Stage.TheVariants as stage
 use Rattle.mb_claim.specs.Claiming.{HasStage}
 use Rattle.mb_claim.specs.Winner.{StageNames}
-use Rattle.mb_world.specs.Vocabulary.{Note, Stage, linked_cells, Histories, Plan, consumers_of, DiaryView, ReportView, is_begun, items_left, items_put, note, notes, items_where, HasCompeted}
+use Rattle.mb_world.specs.Vocabulary.{Note, Stage, linked_cells, Histories, Plan, consumers_of, DiaryView, ReportView, diary, is_begun, items_left, items_put, note, notes, items_where, HasCompeted}
 use Rattle.mb_world.specs.Vocabulary.{EndsAs, parts_of, IsDiaryOf, IsReportOf, is_taken, HasMetEnd, Known}
 use Rattle.mb_world.specs.declared.report.Note.TheVariants.{Took, Lost, Undecided}
 use Rattle.mb_world.proofs.Assigned.{AreNotesRight, winner_named}
@@ -153,9 +153,12 @@ module _ (plan : Plan) (hs : Histories) (known : Known plan hs) where
     }
 
     -- past an end mark there are all notes
-    pub noted : (c p j : ℕ) → c < consumers_of plan → p < plan.lanes → HasMetEnd (hs.reader_of c) p hs.pool
+    pub noted : (c p j : ℕ) → IsSome (diary c p r) → HasMetEnd (hs.reader_of c) p hs.pool
         → j < length (items_put p r) → IsSome (note c p j r)
-    noted c p j cs ps end before =
+    noted c p j some end before =
+        let there = inside plan hs r is c p (λ none. let q : false ≡ true = rw none at some in cc) in
+        let cs = there.0 in
+        let ps = there.1 in
         let d = is.diary c p cs ps in
         let less = ends_noted plan hs known c p cs d.0 d.2 j end (rw (put_is plan hs r is p ps) at before) in
         rw (notes_is plan hs r is c p cs ps, slice_get-get_or d.0.notes j Undecided less) refl

@@ -5,8 +5,7 @@ use Rattle.std.specs.Option.{option_map_or}
 use Rattle.std.proofs.lemmas.Bool.{false≢true, le-ltb}
 use Rattle.std.proofs.lemmas.Option.{slice_get_past}
 use Rattle.mb_world.specs.declared.report.Note.{Note}
-use Rattle.mb_world.specs.Report.{DiaryView, ReportView, diary, is_begun, note, notes}
-use Rattle.mb_world.specs.Agreement.{HasCompeted}
+use Rattle.mb_world.specs.Theorem.{DiaryView, HasCompeted, ReportView, diary, is_begun, note, notes}
 use Rattle.mb_world.specs.ReportExamples.{report_of}
 
 -- the diary of consumer c on lane 0 stands at position c

@@ -9,7 +9,7 @@ use Rattle.std.proofs.Math.Nat.{mul-le-mul_right}
 use Rattle.mb_world.specs.declared.report.Note.{Note}
 use Rattle.mb_world.specs.declared.report.Note.TheVariants.{Undecided}
 use Rattle.mb_world.specs.Plan.{Histories, Plan, consumers_of}
-use Rattle.mb_world.specs.Report.{DiaryView, ReportView, diary, is_begun, items_left, items_put, note, notes}
+use Rattle.mb_world.specs.Theorem.{DiaryView, ReportView, diary, is_begun, items_left, items_put, note, notes}
 use Rattle.mb_world.specs.Fitting.{EndsAs, parts_of}
 use Rattle.mb_world.specs.Reporting.{IsReportOf, lane_view, values_put}
 

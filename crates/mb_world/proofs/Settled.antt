@@ -2,9 +2,8 @@
 use Rattle.std.proofs.Common.{◌≡◌, ℕ, Option, Some, None, refl, sym, ◌∙◌, inl, inr}
 use Rattle.mb_world.specs.declared.report.Note.{Note}
 use Rattle.mb_world.specs.declared.report.Note.TheVariants.{Took, Lost, Undecided}
-use Rattle.mb_world.specs.Report.{ReportView, note}
-use Rattle.mb_world.specs.Assignment.{Assignment}
-use Rattle.mb_world.specs.Agreement.{AgreesWith, HasCompeted, HasTaken, IsFinished, IsLossTo, IsSettled}
+use Rattle.mb_world.specs.Theorem.{Assignment, HasCompeted, HasTaken, IsFinished, IsLossTo, IsSettled, ReportView, note}
+use Rattle.mb_world.specs.Agreement.{AgreesWith}
 
 -- some competitor's claim on the item is unfinished
 abbrev IsContested : ℕ → ℕ → ReportView → Type 0

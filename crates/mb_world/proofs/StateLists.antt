@@ -7,7 +7,7 @@ use Rattle.mb_cells.specs.declared.cursor.Cursor.TheVariants.{Head}
 use Rattle.mb_world.specs.declared.place.Place.{Place}
 use Rattle.mb_world.specs.declared.place.Place.TheVariants.{Before}
 use Rattle.mb_world.specs.Places.{AreAtHeads}
-use Rattle.mb_world.specs.Report.{DiaryView, LaneView}
+use Rattle.mb_world.specs.Theorem.{DiaryView, LaneView}
 use Rattle.mb_world.specs.Setups.{plan_in}
 use Rattle.mb_world.specs.StateReport.{AreDiariesTold, AreLanesTold, IsDiaryTold, IsLaneTold}
 use Rattle.mb_world.specs.WorldState.{WorldState}

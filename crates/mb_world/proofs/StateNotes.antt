@@ -10,7 +10,7 @@ use Rattle.mb_world.specs.declared.report.Note.{Note}
 use Rattle.mb_world.specs.declared.report.Note.TheVariants.{Took}
 use Rattle.mb_world.specs.Imports.{Entry, Has, History, linked_cells, put_list}
 use Rattle.mb_cells.specs.Lanes.{entry_at}
-use Rattle.mb_world.specs.Assignment.{items_where}
+use Rattle.mb_world.specs.Theorem.{items_where}
 use Rattle.mb_world.specs.Reporting.{any_below, is_took}
 use Rattle.mb_world.proofs.Tracks.{AreEnds}
 use mathlib.Core.List.{reverse-cons}

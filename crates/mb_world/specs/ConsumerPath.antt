@@ -4,7 +4,7 @@ use Rattle.mb_claim.specs.declared.access.Stage.TheVariants as stage
 use Rattle.mb_world.specs.declared.report.Note.{Note}
 use Rattle.mb_world.specs.declared.report.Note.TheVariants.{Took, Lost, Undecided}
 use Rattle.mb_world.specs.Imports.{ClaimAccess, Claims, END, IsClaimPrefix, Item, ObjectTurn, Stage, load, place_past}
-use Rattle.mb_world.specs.Report.{DiaryView}
+use Rattle.mb_world.specs.Theorem.{DiaryView}
 use Rattle.mb_world.specs.World.{ToCells, ToClaims, WorldAccess, WorldHistory}
 
 -- the note of a claim that came to this stage with its last access. A claim that goes on has none. One that is won gets

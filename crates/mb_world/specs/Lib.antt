@@ -1,12 +1,10 @@
 pub mod Imports
-pub mod Report
-pub mod Assignment
-pub mod Agreement
 pub mod Plan
+pub mod Theorem
+pub mod Agreement
 pub mod Fitting
 pub mod Sound
 pub mod Reporting
-pub mod Headline
 pub mod World
 pub mod ConsumerPath
 pub mod Worlds

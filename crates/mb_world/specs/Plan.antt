@@ -1,8 +1,8 @@
 -- What a mailbox is made of, and what was done to its words, as plain data.
-use Rattle.std.specs.Prelude.{ℕ, ◌≡◌, List, [], ◌∷◌, ◌++◌}
+use Rattle.std.specs.Prelude.{ℕ, ◌≡◌, true, List, [], ◌∷◌, ◌++◌}
 use Rattle.mb_deciding.specs.declared.object.Kind.{Kind}
 use Rattle.mb_deciding.specs.declared.object.Kind.TheVariants.{LastObject}
-use Rattle.mb_world.specs.Imports.{ClaimAccess, Claims, History, PoolSize, pool_size}
+use Rattle.mb_world.specs.Imports.{ClaimAccess, Claims, END, HasLoaded, History, IsLinkWord, PoolSize, Word, is_of_lane, linked_cells, pool_size}
 
 -- what a mailbox is made of: the claims on its cells, whose quorum table has the consumers as its values, and how many
 -- lanes it has
@@ -29,3 +29,8 @@ pub record Histories : Type 0 where
   pub claims : List ClaimAccess
   pub pool : History
   pub reader_of : ℕ → ℕ
+
+-- reader q has loaded the end mark of lane p, from its head or from the link of one of its cells
+abbrev pub HasMetEnd : ℕ → ℕ → History → Type 0
+HasMetEnd q p pool =
+    (w : Word) × IsLinkWord w × (is_of_lane p (linked_cells p pool) w ≡ true) × HasLoaded q w END pool

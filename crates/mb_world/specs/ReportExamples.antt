@@ -2,8 +2,7 @@
 use Rattle.std.specs.Prelude.{ℕ, zero, suc, Bool, true, false, Some, None, List, [], ◌∷◌}
 use Rattle.mb_world.specs.declared.report.Note.{Note}
 use Rattle.mb_world.specs.declared.report.Note.TheVariants.{Took, Lost, Undecided}
-use Rattle.mb_world.specs.Report.{DiaryView, ReportView}
-use Rattle.mb_world.specs.Assignment.{Assignment}
+use Rattle.mb_world.specs.Theorem.{Assignment, DiaryView, ReportView}
 
 -- consumer c has these notes on lane 0, and perhaps a begun claim after them
 abbrev pub diary_of : ℕ → List Note → Bool → DiaryView

@@ -4,8 +4,7 @@ use Rattle.mb_world.specs.Imports.{Gave, Has, HasMet, History, Reader, has_ended
 use Rattle.mb_world.specs.declared.report.Note.{Note}
 use Rattle.mb_world.specs.declared.report.Note.TheVariants.{Took, Lost, Undecided}
 use Rattle.mb_world.specs.Plan.{Histories, Plan, consumers_of}
-use Rattle.mb_world.specs.Report.{DiaryView, LaneView, ReportView, note}
-use Rattle.mb_world.specs.Assignment.{items_where}
+use Rattle.mb_world.specs.Theorem.{DiaryView, LaneView, ReportView, items_where, note}
 use Rattle.mb_world.specs.Fitting.{EndsAs, parts_of}
 
 -- ---- what is reported of a lane

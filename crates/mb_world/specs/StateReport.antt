@@ -7,7 +7,7 @@ use Rattle.mb_world.specs.declared.report.Note.{Note}
 use Rattle.mb_world.specs.Imports.{Entry, History, has_ended, put_list}
 use Rattle.mb_world.specs.Places.{has_begun_at}
 use Rattle.mb_world.specs.Plan.{consumers_of}
-use Rattle.mb_world.specs.Report.{DiaryView, LaneView}
+use Rattle.mb_world.specs.Theorem.{DiaryView, LaneView}
 use Rattle.mb_world.specs.Reporting.{any_below, is_took, values_put}
 use Rattle.mb_world.specs.Setups.{plan_in}
 use Rattle.mb_world.specs.WorldState.{WorldState}

@@ -6,7 +6,7 @@ use Rattle.mb_claim.specs.Examples.{won_and_lost}
 use Rattle.mb_world.specs.declared.report.Note.{Note, TheVariants.Took, TheVariants.Lost}
 use Rattle.mb_world.specs.Imports.{END, Entry, Head, Item, Link, ObjectTurn, Word, claim_part}
 use Rattle.mb_world.specs.Plan.{Histories, Plan}
-use Rattle.mb_world.specs.Report.{DiaryView, ReportView}
+use Rattle.mb_world.specs.Theorem.{DiaryView, ReportView}
 use Rattle.mb_world.specs.Reporting.{IsDiaryOf, IsReportOf}
 use Rattle.mb_world.specs.World.{ToCells, WorldAccess, WorldHistory, histories_of}
 use Rattle.mb_world.specs.ConsumerPath.{claim_step, item_load, link_load}

@@ -1,9 +1,9 @@
 //! Laws of mailboxes and their reports. The functions compute nothing: their contracts are the laws. Their bodies name
 //! the laws of claims and of cells that they use. Their proofs are in `proofs/laws/`, one folder for each. They use the
 //! lemmas of `proofs/`.
-ghost use Rattle.std.specs.Prelude.{ℕ, ◌+◌, ◌^◌, ◌≡◌, ◌≢◌, ◌↔◌, ◌<◌, List, [], ◌∷◌, ◌++◌, Option, Some, true, false, reverse, slice_get};
-ghost use Rattle.mb_world.specs.Vocabulary.{ReportView, note, Assignment, AgreesWith, AreAllTaken, HasCompeted, IsLeftBesideBegun, IsSettled, HasLastObject, Histories, Plan, consumers_of};
-ghost use Rattle.mb_world.specs.Vocabulary.{cells_met, parts_of, AreSound, HasMetAll, IsDiaryOf, IsReportOf, IsHonest, Claims, IsQuorumTable, ObjectTurn, claim_part, linked_cells, Note};
+ghost use Rattle.std.specs.Prelude.{ℕ, ◌+◌, ◌^◌, ◌≡◌, ◌≢◌, ◌↔◌, ◌<◌, List, [], ◌∷◌, ◌++◌, IsSome, Option, Some, true, false, reverse, slice_get};
+ghost use Rattle.mb_world.specs.Vocabulary.{ReportView, diary, note, Assignment, AgreesWith, AreAllTaken, HasCompeted, IsLeftBesideBegun, IsSettled, HasLastObject, Histories, Plan, consumers_of};
+ghost use Rattle.mb_world.specs.Vocabulary.{cells_met, parts_of, AreSound, HasMetAll, IsDiaryOf, IsReportOf, MainTheorem, Claims, IsQuorumTable, ObjectTurn, claim_part, linked_cells, Note};
 ghost use Rattle.mb_world.specs.Vocabulary.{Setup, plan_in, shape_in, shaped_plan, ConsumerPath, diary_at, Answer, Event, EventKnown, IsAccessOf, HasAnswer, IsRefused, IsRefusedOrMade};
 ghost use Rattle.mb_world.specs.Vocabulary.{IsReplay, WorldAccess, WorldHistory, claim_accesses, histories_of, lane_part, pool_accesses, HasFoundNone, HasPending, has_ended, HasNothing};
 ghost use Rattle.mb_world.specs.Vocabulary.{IsWorldLawful, Undecided};
@@ -31,11 +31,18 @@ use mb_deciding::laws::objects_keep_their_promises;
 /// random words.
 pub fn reports_have_one_assignment()
     ensures { (plan : Plan) (hs : Histories) (r : ReportView) → AreSound plan hs
-        → IsReportOf plan hs r → IsHonest plan hs r }
+        → IsReportOf plan hs r → MainTheorem hs.pool hs.reader_of r }
 {
     sound_histories_are_known();
     end_marks_are_last();
 }
+
+/// A report has a diary exactly of each consumer of its mailbox on each lane. So the main theorem's point on end marks
+/// speaks of all of them.
+pub fn reports_have_all_diaries()
+    ensures { (plan : Plan) (hs : Histories) (r : ReportView) (c p : ℕ) → IsReportOf plan hs r
+        → IsSome (diary c p r) ↔ ((c < consumers_of plan) × (p < plan.lanes)) }
+{}
 
 /// There is at most one report of what was done.
 pub fn histories_have_one_report()
@@ -103,9 +110,9 @@ pub fn parts_tell_cells_met()
 pub fn worlds_are_sound()
     ensures sound { (plan : Plan) (h : WorldHistory) → IsQuorumTable plan.claims.table
         → IsWorldLawful plan h → AreSound plan (histories_of h) }
-    ensures honest { (plan : Plan) (h : WorldHistory) (r : ReportView)
+    ensures main_theorem { (plan : Plan) (h : WorldHistory) (r : ReportView)
         → IsQuorumTable plan.claims.table → IsWorldLawful plan h
-        → IsReportOf plan (histories_of h) r → IsHonest plan (histories_of h) r }
+        → IsReportOf plan (histories_of h) r → MainTheorem (pool_accesses h) (λ c. c) r }
 {
     worlds_are_known();
     readers_keep_to_lanes();

@@ -48,7 +48,7 @@ pub struct Report<A: Allocator + Drop> {
 
 // Clauses see what a report has of a lane as plain lists.
 impl<A: Allocator + Drop> Model for LaneReport<A> {
-    ghost use Rattle.mb_world.specs.Report.{LaneView};
+    ghost use Rattle.mb_world.specs.Theorem.{LaneView};
 
     ghost Value = { LaneView };
 
@@ -57,7 +57,7 @@ impl<A: Allocator + Drop> Model for LaneReport<A> {
 
 // Clauses see a diary as plain numbers and a plain list.
 impl<A: Allocator + Drop> Model for Diary<A> {
-    ghost use Rattle.mb_world.specs.Report.{DiaryView};
+    ghost use Rattle.mb_world.specs.Theorem.{DiaryView};
 
     ghost Value = { DiaryView };
 
@@ -71,7 +71,7 @@ impl<A: Allocator + Drop> Model for Diary<A> {
 
 // Clauses see a report as plain lists of lanes and diaries.
 impl<A: Allocator + Drop> Model for Report<A> {
-    ghost use Rattle.mb_world.specs.Report.{ReportView};
+    ghost use Rattle.mb_world.specs.Theorem.{ReportView};
 
     ghost Value = { ReportView };
 

@@ -29,7 +29,7 @@ pub enum SetupFault {
     BadProducers,
     /// The number of consumers is 0 or above 64.
     BadConsumers,
-    /// There are more cells than the call takes: 256 for [`Setup::new`], 2^24 for [`Setup::large`].
+    /// There are more cells than the call takes: 256 for [`Setup::new`], 2^24 for the others.
     BadCells,
     /// The number of pairs of deciding objects is 0 or above 8.
     BadRounds,
@@ -52,7 +52,7 @@ impl Setup {
     ghost use Rattle.std.specs.Prelude.{◌≡◌, ◌≤◌, true, IsOk, IfOk, Err, MatchOption};
     ghost use Rattle.std.specs.Prelude.{ℕ};
     ghost use Rattle.mb_quorum.specs.declared.table.TableName.{TableName};
-    ghost use Rattle.mb_claim.specs.Layouts.{plain, with_last};
+    ghost use Rattle.mb_claim.specs.Layouts.{most_accesses, plain, with_last};
     ghost use Rattle.mb_quorum.specs.declared.table.TableName.TheVariants.{Bits};
     ghost use Rattle.mb_claim.specs.declared.layout.TheConstants.{MAX_LARGE_CELLS};
     ghost use Rattle.mb_claim.specs.declared.shape.Shape.{Shape};
@@ -110,6 +110,9 @@ impl Setup {
             (λ setup. plan_in setup ≡ shaped_plan with_last producers consumers cells 0 Bits) }
         ensures pairs { IfOk result (λ setup. pairs_in setup ≡ 0) }
         ensures shape { IfOk result (λ setup. shape_in setup ≡ with_last) }
+
+        // So a poll with a budget of 3 is never spent, and none is undecided.
+        ensures bound { IfOk result (λ setup. most_accesses (layout_of setup) ≡ 1) }
     {
         if !(1..=MAX_PRODUCERS).contains(&producers) {
             return Err(SetupFault::BadProducers);
@@ -172,8 +175,8 @@ impl Setup {
         ensures cells { (plan_in result).claims.cells ≡ (plan_in self.now).claims.cells }
         ensures lanes { (plan_in result).lanes ≡ (plan_in self.now).lanes }
         ensures plan { (s : Shape) (p c m k : ℕ) (t : TableName)
-            → plan_in self.now ≡ shaped_plan s p c m k t → pairs_in self.now ≡ k → 1 ≤ k
-            → plan_in result ≡ shaped_plan shape p c m k t }
+            → plan_in self.now ≡ shaped_plan s p c m k t → pairs_in self.now ≡ k
+            → 1 ≤ pairs_in self.now → plan_in result ≡ shaped_plan shape p c m k t }
         ensures pairs { pairs_in result ≡ pairs_in self.now }
         ensures shape { 1 ≤ pairs_in self.now → shape_in result ≡ shape }
         ensures alone { pairs_in self.now ≡ 0

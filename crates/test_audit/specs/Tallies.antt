@@ -1,7 +1,7 @@
 -- What a tally counts.
 use Rattle.std.specs.Prelude.{ℕ, ◌≡◌, ◌+◌, ◌%◌, ◌^◌, ◌≤◌, length}
 use Rattle.std.specs.List.{All, sum_by}
-use Rattle.mb_world.specs.Report.{LaneView, ReportView}
+use Rattle.mb_world.specs.Theorem.{LaneView, ReportView}
 use Rattle.test_audit.specs.declared.rules.Tally.{Tally}
 
 -- a tally of these numbers

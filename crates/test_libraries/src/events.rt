@@ -7,7 +7,7 @@ use crate::worlds::{ends, one_pair};
 use mb_cells::{Finish, Look, Offer, Push};
 use mb_claim::Stage;
 use mb_deciding::Reg;
-use mb_world::{Answer, Event, Note};
+use mb_world::{Answer, Event};
 
 /// The events by which an item is put into the first lane and taken by the only consumer, with their answers.
 pub(crate) fn take_seven() -> [(Event, Answer); 10] {
@@ -65,8 +65,7 @@ fn a_lane_is_looked_for_before_a_consumer(rt: HostRuntime) {
     ends(
         &rt,
         world,
-        &[(&[5], false, &[5])],
-        &[(0, 0, &[], true), (1, 0, &[Note::Lost(0)], false)],
+        "lane 0 open put 5\nleft 0 5\ndiary 0 0 begun\ndiary 1 0 lost 0\n",
     );
 }
 
@@ -116,15 +115,15 @@ pub(crate) fn share_two() -> [(Event, Answer); 34] {
 fn two_consumers_on_two_lanes(rt: HostRuntime) {
     let mut world = one_pair(&rt, 2, 2, 2);
     make(&rt, &mut world, &share_two());
-    ends(
-        &rt,
-        world,
-        &[(&[5], false, &[]), (&[6], true, &[])],
-        &[
-            (0, 0, &[Note::Took(5)], false),
-            (0, 1, &[], true),
-            (1, 0, &[Note::Lost(0)], false),
-            (1, 1, &[Note::Took(6)], false),
-        ],
-    );
+    let want = "\
+lane 0 open put 5
+left 0
+lane 1 ended put 6
+left 1
+diary 0 0 took 5
+diary 0 1 begun
+diary 1 0 lost 0
+diary 1 1 took 6
+";
+    ends(&rt, world, want);
 }

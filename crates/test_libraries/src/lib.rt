@@ -35,8 +35,6 @@ mod refused_memory;
 #[cfg(test)]
 mod refusing;
 #[cfg(test)]
-mod reports;
-#[cfg(test)]
 mod scripts;
 #[cfg(test)]
 mod shapes;

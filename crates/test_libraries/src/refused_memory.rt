@@ -10,13 +10,12 @@ use crate::{cells, shared_cells, shared_claims};
 use mb_claim::Stage;
 use mb_deciding::{Out, conciliate, ratify};
 use mb_quorum::TableName;
-use mb_script::Fault;
-use mb_world::{Note, Report, Setup, World};
+use mb_script::{Fault, report_text};
+use mb_world::{Report, Setup, World};
 use std::alloc::Global;
 use std::process::Abort;
 use std::test::Fail;
 use test_alloc::{FaultyHeap, Refuse, growths_refused};
-use test_support::check_report;
 
 /// The allocator of all lists of a call.
 type Alloc<'r> = &'r FaultyHeap<Global>;
@@ -49,13 +48,13 @@ fn play_is_served(rt: &impl Abort, alloc: Alloc<'_>) -> bool {
 }
 
 /// Checks that by the report the only item was taken by the only consumer.
-fn tells_seven(rt: &impl Abort, report: &Report<Alloc<'_>>) {
-    let told = check_report(
-        report,
-        &[(&[7], false, &[])],
-        &[(0, 0, &[Note::Took(7)], false)],
+fn tells_seven<'a>(rt: &impl Abort, report: &Report<Alloc<'a>>, ample: Alloc<'a>) {
+    let text = report_text(ample, report).expect(rt, "no text");
+    same(
+        rt,
+        &text.as_str(),
+        &"lane 0 open put 7\nleft 0\ndiary 0 0 took 7\n",
     );
-    same(rt, &told, &Ok(()));
 }
 
 /// Whether the allocator serves the report of that world. If not, another allocator serves it.
@@ -67,11 +66,12 @@ fn report_is_served<'a>(
 ) -> bool {
     match world.report(alloc) {
         Ok(report) => {
-            tells_seven(rt, &report);
+            tells_seven(rt, &report, ample);
             true
         }
         Err(_) => {
-            tells_seven(rt, &world.report(ample).expect(rt, "no report"));
+            let report = world.report(ample).expect(rt, "no report");
+            tells_seven(rt, &report, ample);
             false
         }
     }

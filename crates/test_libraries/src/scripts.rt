@@ -1,7 +1,7 @@
 //! Replay scripts: what is read, and the first fault if a script is refused.
 
 use crate::compare::{same, same_at};
-use crate::shapes::{BOTH, FAST, LAST};
+use crate::shapes::{BOTH, FAST};
 use mb_claim::Shape;
 use mb_quorum::TableName;
 use mb_script::{
@@ -60,7 +60,7 @@ fn the_last_word_is_a_shape(rt: HostRuntime) {
     for (text, shape, most) in &[
         ("setup 1 2 1 1 bits", Shape::PLAIN, 9),
         ("setup 1 2 1 1 bits fast", FAST, 17),
-        ("setup 1 2 1 1 bits last", LAST, 10),
+        ("setup 1 2 1 1 bits last", Shape::LAST, 10),
         ("setup 1 2 1 1 bits fastlast", BOTH, 18),
     ] {
         let layout = script(&rt, *text).setup.layout();
@@ -374,7 +374,7 @@ fn tables_have_names(rt: HostRuntime) {
 fn shapes_have_words(rt: HostRuntime) {
     for (word, want) in &[
         ("fast", Some(FAST)),
-        ("last", Some(LAST)),
+        ("last", Some(Shape::LAST)),
         ("fastlast", Some(BOTH)),
         ("plain", None),
         ("", None),

@@ -1,21 +1,16 @@
 //! Layouts of each shape, and claims on their cells: worked examples.
 
 use crate::claims::{loaded, one_pair, plays, steps_of, stored};
-use crate::compare::same;
-use mb_claim::{ClaimEntry, Layout, Shape, Stage};
+use crate::compare::{same, same_at};
+use mb_claim::{BadLayout, ClaimEntry, Layout, Shape, Stage};
 use mb_deciding::{Act, Reg};
 use mb_quorum::TableName;
+use std::process::Abort;
 
 /// A fast path alone.
 pub(crate) const FAST: Shape = Shape {
     fast: true,
     last: false,
-};
-
-/// A last object alone.
-pub(crate) const LAST: Shape = Shape {
-    fast: false,
-    last: true,
 };
 
 /// A fast path and a last object.
@@ -25,7 +20,7 @@ pub(crate) const BOTH: Shape = Shape {
 };
 
 /// Each shape.
-pub(crate) static SHAPES: [Shape; 4] = [Shape::PLAIN, FAST, LAST, BOTH];
+pub(crate) static SHAPES: [Shape; 4] = [Shape::PLAIN, FAST, Shape::LAST, BOTH];
 
 /// The stages if consumer 0 has won and consumer 1 has lost to it.
 const WON_AND_LOST: [Stage; 2] = [Stage::Won, Stage::Lost(0)];
@@ -72,7 +67,7 @@ fn words_and_most_accesses_of_each_shape(rt: HostRuntime) {
     for (shape, words, most) in &[
         (BOTH, 11, 18),
         (FAST, 10, 17),
-        (LAST, 5, 10),
+        (Shape::LAST, 5, 10),
         (Shape::PLAIN, 4, 9),
     ] {
         layout = layout.shaped(*shape);
@@ -146,7 +141,7 @@ fn a_conciliator_comes_after_the_fast_path(rt: HostRuntime) {
 // With pairs alone both stay undecided after the first fourteen of these steps.
 #[test]
 fn a_last_object_decides(rt: HostRuntime) {
-    let layout = one_pair(&rt, 2).shaped(LAST);
+    let layout = one_pair(&rt, 2).shaped(Shape::LAST);
     let steps = steps_of([0, 1, 0, 0, 1, 1, 0, 1, 0, 1, 0, 0, 1, 1, 0, 1, 0]);
     let entries = [
         loaded(0, 1, Reg::Quorum(1), 1),
@@ -157,4 +152,60 @@ fn a_last_object_decides(rt: HostRuntime) {
         ClaimEntry::Done { consumer: 0 },
     ];
     plays(&rt, &layout, &steps, (11, &entries), &WON_AND_LOST);
+}
+
+/// The layout for so many consumers whose cells have a last object alone.
+fn exchange(rt: &impl Abort, consumers: u64) -> Layout {
+    Layout::exchange(consumers).expect(rt, "no layout")
+}
+
+#[test]
+fn words_of_a_last_object_alone(rt: HostRuntime) {
+    let layout = exchange(&rt, 64);
+    let told = (layout.shape(), layout.consumers(), layout.words(7));
+    same(&rt, &told, &(Shape::LAST, 64, 7));
+    let told = (layout.address(5, 0, Reg::Last), layout.max_steps());
+    same(&rt, &told, &(5, 1));
+}
+
+#[test]
+fn consumers_of_a_last_object_alone(rt: HostRuntime) {
+    for consumers in &[0, 65, u64::MAX] {
+        same_at(
+            &rt,
+            &Layout::exchange(*consumers),
+            &Err(BadLayout::BadConsumers),
+            consumers,
+        );
+    }
+}
+
+// Two ratifiers with three words each come before the one word, and take four accesses each.
+#[test]
+fn a_last_object_alone_stays(rt: HostRuntime) {
+    let mut layout = exchange(&rt, 2);
+    for (shape, kept, words, most) in &[
+        (Shape::PLAIN, Shape::LAST, 1, 1),
+        (FAST, BOTH, 7, 9),
+        (BOTH, BOTH, 7, 9),
+        (Shape::LAST, Shape::LAST, 1, 1),
+    ] {
+        layout = layout.shaped(*shape);
+        same(
+            &rt,
+            &(layout.shape(), layout.words(1), layout.max_steps()),
+            &(*kept, *words, *most),
+        );
+    }
+}
+
+#[test]
+fn an_exchange_decides_alone(rt: HostRuntime) {
+    let entries = [
+        exchanged(0, 0, 1, 0),
+        exchanged(1, 0, 2, 1),
+        ClaimEntry::Done { consumer: 0 },
+    ];
+    let steps = steps_of([0, 1, 0]);
+    plays(&rt, &exchange(&rt, 2), &steps, (0, &entries), &WON_AND_LOST);
 }

@@ -248,3 +248,13 @@ fn straight_accesses_are_those_of_steps(rt: HostRuntime) {
         play_twice(&rt, &layout.shaped(shape), begins, dice);
     }
 }
+
+#[test]
+fn straight_exchanges_are_those_of_steps(rt: HostRuntime) {
+    for consumers in 1..=16 {
+        let layout = Layout::exchange(consumers).expect(&rt, "no layout");
+        for round in 1..=MOST {
+            play_twice(&rt, &layout, [0; OBJECTS], next_word(round));
+        }
+    }
+}

@@ -2,11 +2,12 @@
 
 use crate::compare::{same, same_at};
 use crate::shapes::BOTH;
+use mb_claim::Shape;
 use mb_quorum::TableName::{self, Bits, Middle};
-use mb_world::{Report, Setup, SetupFault, World};
+use mb_script::report_text;
+use mb_world::{Setup, SetupFault, World};
 use std::alloc::Global;
 use std::process::Abort;
-use test_support::{DiaryTold, LaneTold, check_report};
 
 /// The bit table's world of so many producers, consumers and cells, with one pair for each cell.
 pub(crate) fn one_pair<R: Abort + AllocGlobal>(rt: &R, p: u64, c: u64, m: u64) -> World<Global> {
@@ -14,20 +15,11 @@ pub(crate) fn one_pair<R: Abort + AllocGlobal>(rt: &R, p: u64, c: u64, m: u64) -
     World::new(rt.alloc(), setup).expect(rt, "no world")
 }
 
-/// The report of a world, which goes away.
-pub(crate) fn reported<R: Abort + AllocGlobal>(rt: &R, world: World<Global>) -> Report<Global> {
-    world.report(rt.alloc()).expect(rt, "no report")
-}
-
-/// Checks that the report of a world has these lanes and these diaries. The world goes away.
-pub(crate) fn ends<R: Abort + AllocGlobal>(
-    rt: &R,
-    world: World<Global>,
-    lanes: &[LaneTold<'_>],
-    diaries: &[DiaryTold<'_>],
-) {
-    let report = reported(rt, world);
-    same(rt, &check_report(&report, lanes, diaries), &Ok(()));
+/// Checks that the report of a world has this text. The world goes away.
+pub(crate) fn ends<R: Abort + AllocGlobal>(rt: &R, world: World<Global>, want: &str) {
+    let report = world.report(rt.alloc()).expect(rt, "no report");
+    let text = report_text(rt.alloc(), &report).expect(rt, "no text");
+    same(rt, &text.as_str(), &want);
 }
 
 // Producers are looked at first, then consumers, cells and pairs.
@@ -91,6 +83,33 @@ fn a_large_setup_tells_its_numbers(rt: HostRuntime) {
     same(&rt, &told, &(64, MOST, BOTH));
 }
 
+// There are no pairs to look at.
+#[test]
+fn an_exchange_is_refused_in_the_same_order(rt: HostRuntime) {
+    for (p, c, m, want) in &[
+        (0, 0, ABOVE, SetupFault::BadProducers),
+        (17, 65, ABOVE, SetupFault::BadProducers),
+        (16, 0, ABOVE, SetupFault::BadConsumers),
+        (1, 65, ABOVE, SetupFault::BadConsumers),
+        (1, 64, ABOVE, SetupFault::BadCells),
+    ] {
+        same_at(&rt, &Setup::exchange(*p, *c, *m), &Err(*want), &(p, c, m));
+    }
+}
+
+#[test]
+fn an_exchange_tells_its_numbers(rt: HostRuntime) {
+    for (p, c, m) in &[(1, 1, 0), (16, 64, MOST)] {
+        let setup = Setup::exchange(*p, *c, *m).expect(&rt, "no setup");
+        let told = (setup.producers(), setup.consumers(), setup.cells());
+        same(&rt, &told, &(*p, *c, *m));
+        same(&rt, &setup.layout().max_steps(), &1);
+        // Another shape leaves the last object.
+        let shape = setup.shaped(Shape::PLAIN).layout().shape();
+        same(&rt, &shape, &Shape::LAST);
+    }
+}
+
 #[test]
 fn a_setup_tells_its_numbers(rt: HostRuntime) {
     let setup = Setup::new(16, 3, 256, 8, Bits).expect(&rt, "no setup");
@@ -120,15 +139,15 @@ fn a_setup_is_shaped(rt: HostRuntime) {
 #[test]
 fn nothing_is_done_in_a_new_world(rt: HostRuntime) {
     let world = one_pair(&rt, 2, 2, 4);
-    ends(
-        &rt,
-        world,
-        &[(&[], false, &[]), (&[], false, &[])],
-        &[
-            (0, 0, &[], false),
-            (0, 1, &[], false),
-            (1, 0, &[], false),
-            (1, 1, &[], false),
-        ],
-    );
+    let want = "\
+lane 0 open put
+left 0
+lane 1 open put
+left 1
+diary 0 0
+diary 0 1
+diary 1 0
+diary 1 1
+";
+    ends(&rt, world, want);
 }

@@ -1,5 +1,5 @@
-//! Random mailboxes that are played twice with the same random words: by polls of any budget, and by as many polls of
-//! budget 1. Both come to the same.
+//! Random mailboxes that are played twice with the same random words: by polls and takes of any budget, and by as many
+//! polls of budget 1. Both come to the same.
 
 use crate::compare::{same, same_at};
 use crate::trial::Trial;
@@ -64,6 +64,23 @@ impl<A: Allocator + Copy + Drop> Play<A> {
         self.poll(place, lane, 1)
     }
 
+    /// One take.
+    fn take(&mut self, place: usize, lane: u64, most: u64) -> Option<Poll> {
+        self.trial.take(place, lane, most, &mut self.words)
+    }
+
+    /// As many polls of budget 1, or fewer if one is neither spent nor lost. Returns the last answer. If each is spent or
+    /// lost, that is the answer of a poll with nothing left.
+    fn take_by_ones(&mut self, place: usize, lane: u64, most: u64) -> Option<Poll> {
+        for _ in 0..most.min(ONES) {
+            match self.poll(place, lane, 1) {
+                Some(Poll::Spent | Poll::Lost(_)) => {}
+                told => return told,
+            }
+        }
+        self.poll(place, lane, 0)
+    }
+
     /// Takes the consumer at this place in, also in the midst of a claim. The next one comes in its place, if one is
     /// left.
     fn change(&mut self, alloc: A, place: usize) -> bool {
@@ -89,7 +106,11 @@ fn any_setup(rt: &impl Abort, dice: &mut ChaCha8Rng) -> Setup {
         last: roll(dice) % 2 == 0,
     };
     let (producers, consumers) = (1 + roll(dice) % 3, 1 + roll(dice) % 8);
-    let (cells, pairs) = (1 + roll(dice) % 12, 1 + roll(dice) % 3);
+    let (cells, pairs) = (1 + roll(dice) % 12, roll(dice) % 4);
+    if pairs == 0 {
+        let setup = Setup::exchange(producers, consumers, cells).expect(rt, "no setup");
+        return setup.shaped(shape);
+    }
     let setup = Setup::new(producers, consumers, cells, pairs, name).expect(rt, "no setup");
     setup.shaped(shape)
 }
@@ -103,8 +124,8 @@ fn any_budget(dice: &mut ChaCha8Rng) -> u64 {
     }
 }
 
-/// Makes a random poll of the one mailbox, and as many polls of budget 1 of the other. Checks that the answer is the
-/// same.
+/// Makes a random poll or take of the one mailbox, and as many polls of budget 1 of the other. Checks that the answer is
+/// the same.
 fn poll_both<A: Allocator + Copy + Drop>(
     rt: &impl Abort,
     dice: &mut ChaCha8Rng,
@@ -114,9 +135,15 @@ fn poll_both<A: Allocator + Copy + Drop>(
     let place = (roll(dice) % 2) as usize;
     let lane = roll(dice) % 2;
     let budget = any_budget(dice);
-    let told = one.poll(place, lane, budget);
-    let want = other.poll_by_ones(place, lane, budget);
-    same_at(rt, &told, &want, &(place, lane, budget));
+    if roll(dice) % 3 == 0 {
+        let told = one.take(place, lane, budget);
+        let want = other.take_by_ones(place, lane, budget);
+        same_at(rt, &told, &want, &(place, lane, budget));
+    } else {
+        let told = one.poll(place, lane, budget);
+        let want = other.poll_by_ones(place, lane, budget);
+        same_at(rt, &told, &want, &(place, lane, budget));
+    }
 }
 
 /// Makes a random call of both mailboxes. Checks that the answer is the same.

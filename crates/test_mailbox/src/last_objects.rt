@@ -154,16 +154,14 @@ fn settle_all<R: Abort + AllocGlobal + Threads + Sync>(
     take_in(rt, mailbox, hub, settlers);
 }
 
-/// All consumers settle all items of a mailbox with a fast path and a last object on each cell. Checks that the report
-/// tells that each item was taken.
-fn are_all_taken<R: Abort + AllocGlobal + Threads + Sync>(rt: &R, seed: u64) {
-    let shape = Shape {
-        fast: true,
-        last: true,
-    };
-    let setup = Setup::new(1, CONSUMERS, ITEMS, 1, TableName::Bits).expect(rt, "no setup");
-    let setup = setup.shaped(shape);
-    let budget = setup.layout().max_steps().wrapping_add(2);
+/// All consumers settle all items of a mailbox with a last object on each cell, by polls of this budget. Checks that
+/// the report tells that each item was taken.
+fn are_all_taken<R: Abort + AllocGlobal + Threads + Sync>(
+    rt: &R,
+    setup: Setup,
+    budget: u64,
+    seed: u64,
+) {
     let (mailbox, mut hub) = Mailbox::new(rt.alloc(), setup).expect(rt, "no mailbox");
     settle_all(rt, &mailbox, &mut hub, budget, seed);
     let report = gathered(rt, rt.alloc(), mailbox, hub);
@@ -180,7 +178,23 @@ fn are_all_taken<R: Abort + AllocGlobal + Threads + Sync>(rt: &R, seed: u64) {
 
 #[test]
 fn each_poll_settles_its_item(rt: HostRuntime) {
+    let shape = Shape {
+        fast: true,
+        last: true,
+    };
     for seed in 0..MAILBOXES {
-        are_all_taken(&rt, seed);
+        let setup = Setup::new(1, CONSUMERS, ITEMS, 1, TableName::Bits).expect(&rt, "no setup");
+        let setup = setup.shaped(shape);
+        let budget = setup.layout().max_steps().wrapping_add(2);
+        are_all_taken(&rt, setup, budget, seed);
+    }
+}
+
+// A poll loads a link, makes one exchange, and loads an item.
+#[test]
+fn each_poll_of_three_settles_its_item(rt: HostRuntime) {
+    for seed in 0..MAILBOXES {
+        let setup = Setup::exchange(1, CONSUMERS, ITEMS).expect(&rt, "no setup");
+        are_all_taken(&rt, setup, 3, seed);
     }
 }

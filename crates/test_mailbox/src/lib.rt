@@ -30,6 +30,8 @@ mod rounds;
 #[cfg(test)]
 mod scenes;
 #[cfg(test)]
+mod takes;
+#[cfg(test)]
 mod texts;
 #[cfg(test)]
 mod trial;

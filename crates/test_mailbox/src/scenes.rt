@@ -20,7 +20,8 @@ type Answered<'a> = (&'a str, Option<u64>);
 /// | Call | What is called |
 /// |---|---|
 /// | `producer`, `consumer` | the hub gives one |
-/// | `put PLACE ITEM`, `finish PLACE`, `poll PLACE LANE BUDGET` | the one at this place |
+/// | `put PLACE ITEM`, `finish PLACE` | the producer at this place |
+/// | `poll PLACE LANE BUDGET`, `take PLACE LANE MOST` | the consumer at this place |
 /// | `spend PLACE BUDGET TIMES` | so many polls of lane 0: how many of them are spent |
 /// | `drawn` | how many words the polls of these lines have drawn, all of them 0 |
 /// | `take_producer PLACE` | the hub takes it in |
@@ -99,6 +100,7 @@ fn make<'a, A: Allocator + Copy + Drop>(
         "put" => put(trial.put(place, second)),
         "finish" => finished(trial.finish(place)),
         "poll" => polled(trial.poll(place, second, third, words)),
+        "take" => polled(trial.take(place, second, third, words)),
         "spend" => spent(trial, words, place, second, third),
         "drawn" => ("words", Some(words.given)),
         "take_producer" => taken(trial.take_producer(place)),

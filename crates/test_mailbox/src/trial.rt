@@ -120,6 +120,21 @@ impl<A: Allocator + Clone + Drop> Trial<A> {
         }
     }
 
+    /// The answer of a take by the consumer at this place, if there is one.
+    pub(crate) fn take<R: Rng>(
+        &mut self,
+        place: usize,
+        lane: u64,
+        most: u64,
+        words: &mut R,
+    ) -> Option<Poll> {
+        match place {
+            0 => take_by(&mut self.first_consumer, &self.mailbox, lane, most, words),
+            1 => take_by(&mut self.second_consumer, &self.mailbox, lane, most, words),
+            _ => None,
+        }
+    }
+
     /// Takes the producer at this place in. Returns whether there was one.
     pub(crate) fn take_producer(&mut self, place: usize) -> bool {
         let producer = match place {
@@ -249,6 +264,23 @@ fn poll_by<A: Allocator + Drop, R: Rng>(
 {
     match consumer {
         Some(consumer) => Some(consumer.poll(mailbox, lane, budget, words)),
+        None => None,
+    }
+}
+
+/// The answer of a take by this consumer, if there is one.
+fn take_by<A: Allocator + Drop, R: Rng>(
+    consumer: &mut Option<Consumer<A>>,
+    mailbox: &Mailbox<A>,
+    lane: u64,
+    most: u64,
+    words: &mut R,
+) -> Option<Poll>
+    requires of { IfSome consumer.old (IsConsumerOf mailbox.now) }
+    ensures of { IfSome consumer.new (IsConsumerOf mailbox.now) }
+{
+    match consumer {
+        Some(consumer) => Some(consumer.take(mailbox, lane, most, words)),
         None => None,
     }
 }

@@ -19,7 +19,7 @@
 //! the word back into the value has to be the only one. These proved clauses of the archive's calls say so. The comments
 //! name them `ownership`:
 //!
-//! - `hz_gather`: `headline`, which is that of `Mailbox::gather`. One assignment explains the whole report: each item put
+//! - `hz_gather`: `main_theorem`, which is that of `Mailbox::gather`. One assignment explains the whole report: each item put
 //!   goes to at most one consumer, and each that was not taken is left, once.
 //! - `hz_poll`: `polled`, and `hz_take`: `taken`. The answer is that of the poll, or of the last of the take's polls. So a
 //!   consumer is told `HZ_TOOK` of an item exactly if it gets the note of it, which the report has.

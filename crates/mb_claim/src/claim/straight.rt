@@ -7,7 +7,7 @@ use crate::access::{ClaimOp, Stage};
 use crate::layout::Layout;
 use crate::steps::places_show_prefixes;
 use mb_deciding::steps::paths_are_short;
-use mb_deciding::{Drawing, Kind, through_conciliator, through_ratifier};
+use mb_deciding::{Drawing, Kind, through_conciliator, through_last, through_ratifier};
 use mb_quorum::Quorums;
 
 /// No claim makes more accesses to one object.
@@ -53,8 +53,8 @@ impl Claim {
     }
 
     /// Makes the accesses of a new claim on a cell whose words begin at `begin`. It goes object by object, as long as
-    /// 10 accesses and 2 for each quorum register are left. It stops before a last object. These are the accesses of as
-    /// many calls of [`Claim::step`].
+    /// 10 accesses and 2 for each quorum register are left. For a last object one is enough. These are the accesses of
+    /// as many calls of [`Claim::step`].
     #[inline(always)]
     pub fn straight<M: Drawing>(
         layout: &Layout,
@@ -95,7 +95,7 @@ impl Claim {
         };
         'objects: while at.left >= room {
             if !Claim::agree(layout, memory, begin, consumer, &mut at) {
-                return at;
+                return Claim::settle(layout, memory, begin, consumer, at);
             }
             if at.left < room {
                 return at;
@@ -104,7 +104,7 @@ impl Claim {
                 return at;
             }
         }
-        at
+        Claim::settle(layout, memory, begin, consumer, at)
     }
 
     /// How much of the budget has to be left before an object.
@@ -148,8 +148,8 @@ impl Claim {
         ensures value { at.new.value < consumer_count layout.now }
         ensures next { result ≡ true
             → slice_get (kinds_of layout.now) at.new.object ≡ Some Ratifier }
-        ensures last { result ≡ false
-            → slice_get (kinds_of layout.now) at.new.object ≡ Some LastObject }
+        ensures last { result ≡ false → (at.new ≡ at.old)
+            × (slice_get (kinds_of layout.now) at.old.object ≡ Some LastObject) }
         ensures steps { (start : Claim)
             → IsStanding layout.now consumer at.old.object at.old.value start
             → (n : ℕ) × (mid : Claim) × (n + at.new.left ≡ at.old.left)
@@ -223,6 +223,59 @@ impl Claim {
             return false;
         }
         true
+    }
+
+    /// Makes the exchange, if the claim stands before a last object and an access is left.
+    #[inline(always)]
+    fn settle<M: Drawing>(
+        layout: &Layout,
+        memory: &mut M,
+        begin: usize,
+        consumer: u32,
+        at: Stretch,
+    ) -> Stretch
+        requires going { at.stage ≡ Going }
+        requires object { at.object < length (kinds_of layout.now) }
+        requires value { at.value < consumer_count layout.now }
+        requires begin { begin + cell_words layout.now < 2 ^ 64 }
+        requires may { (start : Claim)
+            → IsStanding layout.now consumer at.object at.value start
+            → (n word : ℕ) (at : Claim) (before mid : M) (next : ClaimOp)
+            → AreClaimSteps layout.now (DrawsAndMakesNext M.draws M.makes) start memory.old n
+            at before
+            → claim_stage at ≡ Going → M.draws before word mid → IsNextOp layout.now at next
+            → M.can_make_at mid (site_of layout.now begin next.object) next.op }
+        ensures object { result.object < length (kinds_of layout.now) }
+        ensures stays { result.stage ≡ Going → result ≡ at }
+        ensures ends { slice_get (kinds_of layout.now) at.object ≡ Some LastObject → at.left ≢ 0
+            → result.stage ≢ Going }
+        ensures value { result.value < consumer_count layout.now }
+        ensures steps { (start : Claim)
+            → IsStanding layout.now consumer at.object at.value start
+            → (n : ℕ) × (end : Claim) × (n + result.left ≡ at.left)
+            × AreClaimSteps layout.now (DrawsAndMakesNext M.draws M.makes) start memory.old n
+            end memory.new
+            × HasEnd layout.now consumer result end }
+    {
+        places_show_prefixes();
+        if at.left == 0 {
+            return at;
+        }
+        match layout.kind_of(at.object) {
+            Kind::Conciliator { .. } => at,
+            Kind::Ratifier => at,
+            Kind::LastObject => {
+                let site = layout.site(begin, at.object);
+                let mut left = at.left;
+                let value = through_last(&layout.table, memory, site, at.value, &mut left);
+                Stretch {
+                    stage: Claim::stage_for(consumer, value),
+                    object: at.object,
+                    value,
+                    left,
+                }
+            }
+        }
     }
 }
 

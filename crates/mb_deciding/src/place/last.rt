@@ -10,7 +10,7 @@ pub struct LastPlace {
 }
 
 impl LastPlace {
-    ghost use Rattle.std.specs.Prelude.{◌≡◌, ◌<◌};
+    ghost use Rattle.std.specs.Prelude.{◌≡◌, ◌<◌, true};
     ghost use Rattle.mb_quorum.specs.Vocabulary.{QuorumTable};
     ghost use Rattle.mb_deciding.specs.{IsLastOp, LastReaches};
     ghost use Rattle.mb_deciding.specs.declared.place.pc.Next.TheVariants as leads;
@@ -29,6 +29,7 @@ impl LastPlace {
     pub(crate) fn after(self, values: u32, seen: u64) -> Out
         requires { self.input < values }
         ensures fits { result.value < values }
+        ensures decided { result.decided ≡ true }
         ensures reached { (t : QuorumTable) → t.values ≡ values
             → LastReaches t self seen (leads.Out result) }
     {

@@ -1,10 +1,11 @@
 //! What one process does in a whole object, from its first access to its output. Its budget has room for all of that.
 //! No place is kept between the accesses.
-ghost use Rattle.std.specs.Prelude.{◌≡◌, ◌<◌, ◌≤◌, ◌+◌, ℕ, false};
-ghost use Rattle.mb_deciding.specs.{Op, Pc, Conciliator, Ratifier, InRatifier, Announce, IsOpAt, AreSteps};
+ghost use Rattle.std.specs.Prelude.{◌≡◌, ◌<◌, ◌≤◌, ◌+◌, ℕ, true, false};
+ghost use Rattle.mb_deciding.specs.{Op, Pc, Conciliator, Ratifier, LastObject, InRatifier, Announce, IsOpAt, AreSteps};
 ghost use Rattle.mb_deciding.specs.{DrawsAndMakes, first_place, most_turns, answer, checks_of};
 ghost use Rattle.mb_deciding.specs.declared.place.pc.Next.TheVariants as leads;
 
+use super::last::LastPlace;
 use super::mask::{least, without};
 use crate::access::{Op, Reg};
 use crate::memory::{Drawing, Site};
@@ -151,4 +152,32 @@ fn prefer<Q: Quorums, M: Drawing>(
     memory.draw();
     memory.perform_at(site, Op::Store(Reg::Proposal, u64::from(input) + 1));
     input
+}
+
+/// Goes through a last object with this input. Returns the value of the output.
+#[inline(always)]
+pub fn through_last<Q: Quorums, M: Drawing>(
+    q: &Q,
+    memory: &mut M,
+    site: Site,
+    input: u32,
+    left: &mut u64,
+) -> u32
+    requires input { input < (Q.table q.now).values }
+    requires room { 1 ≤ left.old }
+    requires may { (n word : ℕ) (at : Pc) (before mid : M) (op : Op)
+        → AreSteps (Q.table q.now) (DrawsAndMakes M.draws M.makes site.object)
+        (first_place (Q.table q.now) LastObject input) memory.old n (leads.Go at) before
+        → M.draws before word mid → IsOpAt (Q.table q.now) at op → M.can_make_at mid site op }
+    ensures value { result < (Q.table q.now).values }
+    ensures steps { (n : ℕ) × (n + left.new ≡ left.old)
+        × AreSteps (Q.table q.now) (DrawsAndMakes M.draws M.makes site.object)
+        (first_place (Q.table q.now) LastObject input) memory.old n
+        (leads.Out (answer true result)) memory.new }
+{
+    let place = LastPlace { input };
+    *left -= 1;
+    memory.draw();
+    let seen = memory.perform_at(site, place.next());
+    place.after(q.values(), seen).value
 }

@@ -16,7 +16,7 @@ use std::snapshot::Snapshot;
 use std::sync::atomic::Ordering;
 use std::thread::Scope;
 
-/// Starts a producer's thread. If no thread can be made, all workers are made to stop, and this one ends here.
+/// Starts a producer's thread. If no thread can be made, the worker ends here and puts nothing.
 fn start_put<'s, E: 's, A: Allocator + Drop + Send + Sync + 's, G: Gate + 's>(
     scope: &Scope<'s, E>,
     shared: &Shared<'s, A, G>,
@@ -68,7 +68,7 @@ pub(super) fn start_puts<'s, E: 's, A: Allocator + Drop + Send + Sync + 's, G: G
     begun
 }
 
-/// Starts a consumer's thread. If no thread can be made, all workers are made to stop, and this one ends here.
+/// Starts a consumer's thread. If no thread can be made, the worker ends here and polls nothing.
 fn start_poll<
     's,
     E: 's,

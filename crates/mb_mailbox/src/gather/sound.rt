@@ -3,7 +3,7 @@
 ghost use Rattle.std.specs.Prelude.{◌≡◌};
 ghost use Rattle.mb_shared_cells.specs.Vocabulary.{IsRollOf};
 ghost use Rattle.mb_shared_claims.specs.Vocabulary.{AreOfOneHistory, count_out, taken_part};
-ghost use Rattle.mb_world.specs.Report.{ReportView};
+ghost use Rattle.mb_world.specs.Theorem.{ReportView};
 ghost use Rattle.mb_mailbox.specs.Imports.{History, claims_in, consumer_count};
 ghost use Rattle.mb_mailbox.specs.Gathering.{FullTakesAll, IsGathered, IsReportIn, UndecidedHasCompany, count_missing};
 ghost use Rattle.mb_mailbox.specs.Hubs.{HubView, IsHub, IsHubOf};
@@ -20,7 +20,7 @@ use mb_world::laws::{
 };
 use mb_world::steps::parts_fit_on;
 
-/// If no producer and no consumer is missing, what is gathered is sound, and its report is honest.
+/// If no producer and no consumer is missing, what is gathered is sound, and the main theorem holds of its report.
 pub(super) fn gathering_is_sound()
     // If no consumer is missing, no seat of the claims is out.
     ensures all_in { (h : HubView) → IsHub h → count_missing h.ledgers ≡ 0
@@ -28,7 +28,7 @@ pub(super) fn gathering_is_sound()
 
     // The tables, once closed, have one history each, in which all parts are those that the hub has taken in. The
     // report of what the hub has taken in is that of these histories.
-    ensures headline { (m : MailboxView) (h : HubView) (r : ReportView) (pool : History)
+    ensures main_theorem { (m : MailboxView) (h : HubView) (r : ReportView) (pool : History)
         → IsMailbox m → IsHub h → IsHubOf m h
         → count_missing h.puts ≡ 0 → count_missing h.ledgers ≡ 0
         → AreOfOneHistory (claims_in m.claims.layout m.claims.cells) (taken_part h.claims.roll)

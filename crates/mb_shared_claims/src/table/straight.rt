@@ -22,9 +22,9 @@ impl<A: Allocator + Drop> SharedClaims<A> {
     ghost use Rattle.mb_shared_claims.specs.{Claim, Going, name_of, AreSeatSteps};
 
     /// Makes the accesses of a new claim of the seat's consumer on a cell, each with the next word of `rng`. It goes
-    /// object by object, as long as 10 of `most` accesses and 2 for each quorum register are left. It stops before a
-    /// last object. As many calls of [`SharedClaims::step`] make the same accesses. The rest is for
-    /// that call, with the claim of [`Claim::standing`].
+    /// object by object, as long as 10 of `most` accesses and 2 for each quorum register are left. For a last object one
+    /// is enough. As many calls of [`SharedClaims::step`] make the same accesses. The rest is for that call, with the
+    /// claim of [`Claim::standing`].
     #[inline(always)]
     pub fn straight<R: Rng>(
         &self,

@@ -4,7 +4,7 @@ ghost use Rattle.mb_claim.specs.declared.access.Stage.TheVariants as stage;
 ghost use Rattle.mb_world.specs.PathExamples.{first_step, two_cells};
 ghost use Rattle.mb_world.specs.WorldExamples.{IsNoDiary, IsNoReport, all_done, all_histories, all_reported, claim_missing, diary_with};
 ghost use Rattle.mb_world.specs.WorldExamples.{item_missing, loss_taken, loss_unnoted, nothing_told, offered_late, report_with, two_by_two, unwon_taken};
-ghost use Rattle.mb_world.specs.Vocabulary.{AreSound, ConsumerPath, IsClaimPrefix, IsReportOf, IsWorldLawful, Lost, NothingFollowsEnds, Took, histories_of, lane_part};
+ghost use Rattle.mb_world.specs.Vocabulary.{AreSound, ConsumerPath, IsClaimPrefix, IsReportOf, IsWorldLawful, Lost, NothingFollowsEnds, Took, lane_part, pool_accesses};
 
 use crate::laws::{places_tell_diaries, worlds_are_sound};
 use crate::steps::history_extends;
@@ -46,7 +46,7 @@ pub fn worlds_are_reported()
 
     // Each consumer's parts fit, and nothing follows the end mark.
     ensures sound { AreSound two_by_two all_histories }
-    ensures ends { NothingFollowsEnds two_by_two all_histories all_reported }
+    ensures ends { NothingFollowsEnds all_histories.pool all_histories.reader_of all_reported }
 {
     named_tables_are_lawful();
     worlds_are_sound();
@@ -80,8 +80,8 @@ pub fn worlds_are_not_misreported()
 
 /// What breaks the rule of end marks: a note that is missing, and an access of the lane's producer after its mark.
 pub fn end_marks_are_not_passed()
-    ensures unnoted { NothingFollowsEnds two_by_two all_histories
+    ensures unnoted { NothingFollowsEnds all_histories.pool all_histories.reader_of
         (report_with (6 ∷ []) loss_unnoted) → ⊥ }
-    ensures late { NothingFollowsEnds two_by_two
-        (histories_of (offered_late ∷ all_done)) all_reported → ⊥ }
+    ensures late { NothingFollowsEnds (pool_accesses (offered_late ∷ all_done))
+        all_histories.reader_of all_reported → ⊥ }
 {}

@@ -21,11 +21,11 @@ impl<A: Allocator + Clone + Drop> World<A> {
     ghost use Rattle.std.specs.Prelude.{ℕ, ◌≡◌, ◌<◌, ◌*◌, true, IfOk, All};
     ghost use Rattle.mb_world.specs.Agreement.{AreAllTaken, IsLeftBesideBegun};
     ghost use Rattle.mb_world.specs.WorldState.{IsWorldAfter};
-    ghost use Rattle.mb_world.specs.World.{WorldHistory, histories_of};
+    ghost use Rattle.mb_world.specs.World.{WorldHistory, histories_of, pool_accesses};
     ghost use Rattle.mb_world.specs.Plan.{consumers_of};
     ghost use Rattle.mb_world.specs.Setups.{plan_in, shape_in};
     ghost use Rattle.mb_world.specs.Reporting.{IsReportOf};
-    ghost use Rattle.mb_world.specs.Headline.{IsHonest};
+    ghost use Rattle.mb_world.specs.Theorem.{MainTheorem};
     ghost use Rattle.mb_world.specs.StateReport.{AreDiariesTold, AreLanesTold, IsDiaryTold, IsLaneTold};
     ghost use Rattle.mb_world.specs.StateReport.{IsWalked, begun_on, is_taken_on, note_on};
 
@@ -36,8 +36,8 @@ impl<A: Allocator + Clone + Drop> World<A> {
             → IsReportOf (plan_in self.now.setup) (histories_of h) r) }
 
         // One assignment agrees with the report, and nothing follows an end mark.
-        ensures honest { IfOk result (λ r. (h : WorldHistory) → IsWorldAfter h self.now
-            → IsHonest (plan_in self.now.setup) (histories_of h) r) }
+        ensures main_theorem { IfOk result (λ r. (h : WorldHistory) → IsWorldAfter h self.now
+            → MainTheorem (pool_accesses h) (λ c. c) r) }
 
         // If each cell has a last object, an item that was competed for is left only beside a begun claim. On a lane
         // without a begun claim each such item is taken.

@@ -1,7 +1,7 @@
 -- Proof of `laws::claims_are_bounded`: a claim makes at most the accesses that its objects allow together.
-use Rattle.std.proofs.Common.{◌≤◌, length, subst, arith}
+use Rattle.std.proofs.Common.{◌≡◌, ◌≤◌, ◌∙◌, ◌+◌, true, false, length, subst, arith}
 use Rattle.mb_deciding.specs.Vocabulary.{object_of}
-use Rattle.mb_claim.specs.{part_on, quorums_of}
+use Rattle.mb_claim.specs.{part_on, quorums_of, most_accesses, fast_steps, max_steps, last_steps}
 use Rattle.mb_claim.proofs.LayoutObjects.{quorums_lawful}
 use Rattle.mb_claim.proofs.Bounds.{claim_bounded, pairs_steps, row_steps}
 use Rattle.mb_claim.proofs.laws.claims_are_bounded.Goals as goal
@@ -35,3 +35,10 @@ returns-clause-fast c t n last = omega arith
 
 pub returns-clause-last : goal.returns-clause-last
 returns-clause-last c t n fast = omega arith
+
+pub returns-clause-alone : goal.returns-clause-alone
+returns-clause-alone c layout none slow =
+    let t = quorums_of layout in
+    let same : most_accesses layout ≡ fast_steps t false + (max_steps t 0 + last_steps true) =
+    λ i. fast_steps t (slow i) + (max_steps t (none i) + last_steps (layout.some none i)) in
+    let one : fast_steps t false + (max_steps t 0 + last_steps true) ≡ 1 = omega arith in same ∙ one

@@ -2,8 +2,7 @@ use Rattle.std.proofs.Common.{◌≡◌, ◌≢◌, ◌⊎◌, ℕ, zero, suc, �
 use Rattle.std.proofs.lemmas.Bool.{false≢true, le-ltb}
 use Rattle.std.specs.Prelude.{Option, Some, None, slice_get}
 use Rattle.std.specs.Option.{option_map_or}
-use Rattle.mb_world.specs.Agreement.{HasCompeted}
-use Rattle.mb_world.specs.Report.{DiaryView, diary, note}
+use Rattle.mb_world.specs.Theorem.{DiaryView, HasCompeted, diary, note}
 use Rattle.mb_mailbox.specs.Imports.{Note, Undecided}
 use Rattle.mb_mailbox.specs.GatheringExamples.{diary_of, one_left, two_undecided}
 use Rattle.mb_mailbox.proofs.laws.reports_by_example.Goals as goal

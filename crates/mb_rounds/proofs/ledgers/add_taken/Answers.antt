@@ -1,6 +1,6 @@
 -- Proof of `add_taken`: adds the items that these notes say were taken.
 use Rattle.std.proofs.Common.{◌≡◌, ◌∙◌, ap, sym, refl, rules, Option, Some, None}
-use Rattle.mb_world.specs.Agreement.{item_taken}
+use Rattle.mb_world.specs.Theorem.{item_taken}
 use Rattle.mb_rounds.proofs.Reading.{read_none, read_some}
 use Rattle.mb_rounds.proofs.ledgers.add_taken.Goals as goal
 use Rattle.mb_rounds.proofs.ledgers.add_taken.Goals.{in-Some+in_ok-push, in_default}

@@ -2,7 +2,7 @@
 -- were not put.
 use Rattle.std.proofs.Common.{◌≡◌, ◌∙◌, ◌<◌, ◌≤◌, ◌++◌, ap, append_assoc, arith, drop, length, get_or, rules, sym}
 use Rattle.mb_mailbox.specs.Worked.{lists_in}
-use Rattle.mb_world.specs.Report.{LaneView, ReportView}
+use Rattle.mb_world.specs.Theorem.{LaneView, ReportView}
 use Rattle.mb_rounds.proofs.Fronts.{get_map_at}
 use Rattle.mb_rounds.proofs.Reading.{stays_more, stays_whole}
 use Rattle.mb_rounds.proofs.leftovers.stay.Goals as goal

@@ -35,4 +35,4 @@ returns-clause-played g c =
     (c.in_ok-mailbox.ensures.plan ∙ copied) (c.in_ok-mailbox.ensures.size ∙ ap size_of copied)
     (sym long ∙ count_lists items)
     c.in_ok-mailbox.ensures.empty c.work.ensures.of c.in-Ok.ensures.called
-    c.in-Ok-gather.ensures.lists c.in-Ok-gather.ensures.headline c.in-Ok-gather.ensures.full
+    c.in-Ok-gather.ensures.lists c.in-Ok-gather.ensures.main_theorem c.in-Ok-gather.ensures.full

@@ -9,4 +9,4 @@ returns g c =
     (c.in_ok-push_transcript.ensures.added [] c.in_ok-world.ensures.empty)
     c.new-text.ensures.bytes
     (c.in_ok-push_transcript.ensures.setup ∙ c.in_ok-world.ensures.setup)
-    c.in_ok-report.ensures.exact c.in_ok-report.ensures.honest c.in_ok-push_report.ensures
+    c.in_ok-report.ensures.exact c.in_ok-report.ensures.main_theorem c.in_ok-push_report.ensures

@@ -20,10 +20,10 @@ returns-clause-notes c plan hs r d p j last sound is e =
 
 pub returns-clause-beside : goal.returns-clause-beside
 returns-clause-beside c plan hs r last sound is =
-    beside plan hs r (c.reports_have_one_assignment.ensures plan hs r sound is)
+    beside hs r (c.reports_have_one_assignment.ensures plan hs r sound is)
     (λ d p j. returns-clause-notes c plan hs r d p j last sound is)
 
 pub returns-clause-taken : goal.returns-clause-taken
 returns-clause-taken c plan hs r last sound is =
-    taken plan hs r (c.reports_have_one_assignment.ensures plan hs r sound is)
+    taken hs r (c.reports_have_one_assignment.ensures plan hs r sound is)
     (λ d p j. returns-clause-notes c plan hs r d p j last sound is)

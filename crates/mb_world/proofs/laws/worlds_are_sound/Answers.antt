@@ -17,6 +17,6 @@ returns-clause-sound c plan h table lawful =
       fit = λ d ds. fit plan h lawful known d ds;
     }
 
-pub returns-clause-honest : goal.returns-clause-honest
-returns-clause-honest c plan h r table lawful is =
+pub returns-clause-main_theorem : goal.returns-clause-main_theorem
+returns-clause-main_theorem c plan h r table lawful is =
     c.reports_have_one_assignment.ensures plan (histories_of h) r (returns-clause-sound c plan h table lawful) is

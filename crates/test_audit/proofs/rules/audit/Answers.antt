@@ -2,7 +2,7 @@
 use Rattle.std.proofs.Common.{ap, arith, rules, ◌∙◌, ◌≡◌, ◌<◌, ◌≤◌, length, slice_index_or, subst}
 use Rattle.std.proofs.lemmas.Grind.{common_steps}
 use Rattle.std.proofs.lemmas.List.Elements.{All-more}
-use Rattle.mb_world.specs.Report.{LaneView, ReportView}
+use Rattle.mb_world.specs.Theorem.{LaneView, ReportView}
 use Rattle.test_audit.proofs.rules.audit.Goals as goal
 
 pub loop-number-preserved : goal.loop-number-preserved

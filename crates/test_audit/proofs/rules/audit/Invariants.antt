@@ -1,7 +1,7 @@
 -- What the loop over the lanes of a report keeps.
 use Rattle.std.specs.Prelude.{◌≡◌, ◌+◌, ◌%◌, ◌^◌, ◌≤◌, length, take}
 use Rattle.std.specs.List.{All, sum_by}
-use Rattle.mb_world.specs.Report.{LaneView}
+use Rattle.mb_world.specs.Theorem.{LaneView}
 use Rattle.test_audit.proofs.rules.audit.Given as goal
 
 -- the tally counts the items put and left on the lanes before this one, modulo 2^64. None of these has more items left

@@ -17,14 +17,14 @@ returns-in-Ok-try_unwrap-clause-lists g c =
     subst (λ (z : MailboxView × HubView). IsReportIn z.0.cells.size.lanes (consumer_count z.0.claims.layout) z.1
     c.gather_with.result) (λ j. (m j, h j)) c.gather_with.ensures.lists
 
-pub returns-in-Ok-try_unwrap-clause-headline : goal.returns-in-Ok-try_unwrap-clause-headline
-returns-in-Ok-try_unwrap-clause-headline g c =
+pub returns-in-Ok-try_unwrap-clause-main_theorem : goal.returns-in-Ok-try_unwrap-clause-main_theorem
+returns-in-Ok-try_unwrap-clause-main_theorem g c =
     let m : c.in-Ok-try_unwrap.mailbox ≡ c.args.self.mailbox = c.in-Ok-try_unwrap.ensures.ok
     ∙ ap (λ (x : BoundHubView). x.mailbox) c.self.view_is in
     let h : c.in-Ok.draft ≡ c.args.self.hub = c.in-Ok.ensures.drafted
     ∙ ap (λ (x : BoundHubView). x.hub) c.self.view_is in
     subst (λ (z : MailboxView × HubView). IsGathered z.0 z.1 c.gather_with.result)
-    (λ j. (m j, h j)) c.gather_with.ensures.headline
+    (λ j. (m j, h j)) c.gather_with.ensures.main_theorem
 
 pub returns-in-Ok-try_unwrap-clause-full : goal.returns-in-Ok-try_unwrap-clause-full
 returns-in-Ok-try_unwrap-clause-full g c =

@@ -2,7 +2,7 @@
 use Rattle.std.proofs.Common.{◌∙◌, arith}
 use Rattle.std.specs.Prelude.{Option}
 use Rattle.std.specs.Option.{option_map}
-use Rattle.mb_world.specs.Report.{DiaryView}
+use Rattle.mb_world.specs.Theorem.{DiaryView}
 use Rattle.mb_mailbox.specs.Hubs.{ConsumerRecordView}
 use Rattle.mb_mailbox.proofs.Diaries.{outlines_more}
 use Rattle.mb_mailbox.proofs.gather.reports.add_outlines.Goals as goal

@@ -33,8 +33,8 @@ path : (m : MailboxView) (d : ℕ) (claim : Claim) (xs : List ObjectTurn)
     → IsClaimPrefix (plan_at m).claims d xs (claim_stage claim)
 path m d claim xs is own = subst (λ e. IsClaimPrefix (plan_at m).claims e xs (claim_stage claim)) own is.prefix
 
-pub returns-clause-headline : goal.returns-clause-headline
-returns-clause-headline c m h r pool mailbox i of puts ledgers one is rep =
+pub returns-clause-main_theorem : goal.returns-clause-main_theorem
+returns-clause-main_theorem c m h r pool mailbox i of puts ledgers one is rep =
     let plan = plan_at m in
     let hs = histories_in one.0 pool in
     let table = c.layouts_are_sound.ensures.table m.claims.layout in
@@ -63,7 +63,7 @@ returns-clause-headline c m h r pool mailbox i of puts ledgers one is rep =
       pool = is;
       sound = sound;
       report = report;
-      honest = c.reports_have_one_assignment.ensures plan hs r sound report;
+      main_theorem = c.reports_have_one_assignment.ensures plan hs r sound report;
     }
 
 pub returns-clause-full : goal.returns-clause-full

@@ -1,5 +1,5 @@
 use Rattle.std.proofs.Common.{◌≡◌, not, take}
-use Rattle.mb_world.specs.Assignment.{items_where}
+use Rattle.mb_world.specs.Theorem.{items_where}
 use Rattle.mb_mailbox.specs.Gathering.{is_taken_in}
 use Rattle.mb_mailbox.proofs.hub.Hub.lane_report.Given as goal
 

@@ -1,5 +1,5 @@
 use Rattle.std.proofs.Common.{◌≡◌, ◌∙◌, ap, arith, subst, sym}
-use Rattle.mb_world.specs.Report.{ReportView}
+use Rattle.mb_world.specs.Theorem.{ReportView}
 use Rattle.mb_mailbox.specs.Gathering.{count_missing, IsGathered, IsOutlineIn, IsReportIn}
 use Rattle.mb_mailbox.specs.Imports.{claims_at, consumer_count, name_of}
 use Rattle.mb_mailbox.specs.Hubs.{HubView, IsHub, IsHubOf}
@@ -63,8 +63,8 @@ returns-clause-lists g c =
     (λ j. (c.self.view_is j, is j))
     (report_of m h o r.lanes of out c.fill_lanes.ensures)
 
-pub returns-clause-headline : goal.returns-clause-headline
-returns-clause-headline g c =
+pub returns-clause-main_theorem : goal.returns-clause-main_theorem
+returns-clause-main_theorem g c =
     let h : HubView = record {
       cells = c.hub.inside.cells;
       claims = c.hub.inside.claims;
@@ -84,7 +84,7 @@ returns-clause-headline g c =
     subst (λ (z : MailboxView × HubView). IsReportIn z.0.cells.size.lanes (consumer_count z.0.claims.layout) z.1 r)
     (λ j. (sym c.self.view_is j, sym is j)) (returns-clause-lists g c) in
     let told : IsGathered m h r =
-    c.gathering_is_sound.ensures.headline m h r c.close.ensures.0 c.self.invariant.0 c.hub.invariant.0 of
+    c.gathering_is_sound.ensures.main_theorem m h r c.close.ensures.0 c.self.invariant.0 c.hub.invariant.0 of
     puts ledgers c.close-2.ensures c.close.ensures.1 rep in
     subst (λ (z : MailboxView × HubView). IsGathered z.0 z.1 r) (λ j. (c.self.view_is j, is j)) told
 
@@ -93,9 +93,9 @@ returns-clause-full g c =
     let i : IsHub c.args.draft = subst IsHub (c.hub.view_is ∙ c.draft.view_is) c.hub.invariant.0 in
     let r : ReportView = record { lanes = c.fill_lanes.new.lanes.items; diaries = c.outline.inside.diaries.items } in
     c.gathering_is_sound.ensures.full c.args.self c.args.draft r i c.requires.of
-    c.requires.producers (returns-clause-headline g c)
+    c.requires.producers (returns-clause-main_theorem g c)
 
 pub returns-clause-undecided : goal.returns-clause-undecided
 returns-clause-undecided g c =
     let r : ReportView = record { lanes = c.fill_lanes.new.lanes.items; diaries = c.outline.inside.diaries.items } in
-    c.gathering_is_sound.ensures.undecided c.args.self c.args.draft r (returns-clause-headline g c)
+    c.gathering_is_sound.ensures.undecided c.args.self c.args.draft r (returns-clause-main_theorem g c)

@@ -2,8 +2,7 @@
 use Rattle.std.proofs.Common.{◌≡◌, ◌⊎◌, ℕ, zero, suc, ◌∷◌, [], List, Bool, Option, Some, None, false, true, refl, sym, ◌∙◌, inl, inr, arith}
 use Rattle.std.specs.Prelude.{if◌then◌else◌}
 use Rattle.std.specs.Option.{is_none}
-use Rattle.mb_world.specs.Agreement.{HasCompeted}
-use Rattle.mb_world.specs.Assignment.{is_consumer}
+use Rattle.mb_world.specs.Theorem.{HasCompeted, is_consumer}
 use Rattle.mb_world.specs.ReportExamples.{diary_of, left_omitted, winner_stayed_away}
 use Rattle.mb_world.proofs.ReportLists.{no_diary, not_competing}
 use Rattle.mb_world.proofs.examples.reports.reports_disagree.Goals as goal

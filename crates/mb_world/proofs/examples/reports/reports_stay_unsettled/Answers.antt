@@ -2,8 +2,7 @@
 -- took it, and all claims on it are finished.
 use Rattle.std.proofs.Common.{◌≡◌, ℕ, zero, suc, ◌∷◌, [], false, None, refl, inl, inr, arith}
 use Rattle.mb_world.specs.declared.report.Note.TheVariants.{Took, Lost}
-use Rattle.mb_world.specs.Agreement.{HasCompeted, HasTaken, IsFinished}
-use Rattle.mb_world.specs.Report.{diary}
+use Rattle.mb_world.specs.Theorem.{HasCompeted, HasTaken, IsFinished, diary}
 use Rattle.mb_world.specs.ReportExamples.{diary_of, lost_to_each_other}
 use Rattle.mb_world.proofs.ReportLists.{no_diary, not_competing, not_noted}
 use Rattle.mb_world.proofs.examples.reports.reports_stay_unsettled.Goals as goal

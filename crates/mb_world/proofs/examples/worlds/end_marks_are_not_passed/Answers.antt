@@ -10,7 +10,7 @@ use Rattle.mb_world.proofs.examples.worlds.end_marks_are_not_passed.Goals as goa
 -- consumer 1 has loaded the end mark of lane 0, so it would have a note on the item there
 pub returns-clause-unnoted : goal.returns-clause-unnoted
 returns-clause-unnoted c ends =
-    let none : false ≡ true = ends.noted 1 0 0 (omega arith) (omega arith) (Link 0, tt, refl, inl refl) (omega arith) in
+    let none : false ≡ true = ends.noted 1 0 0 refl (Link 0, tt, refl, inl refl) (omega arith) in
     cc
 
 -- after the end mark producer 0 would make no access

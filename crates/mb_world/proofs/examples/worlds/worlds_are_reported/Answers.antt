@@ -26,6 +26,6 @@ returns-clause-sound c = c.worlds_are_sound.ensures.sound two_by_two all_done
 
 pub returns-clause-ends : goal.returns-clause-ends
 returns-clause-ends c =
-    (c.worlds_are_sound.ensures.honest two_by_two all_done all_reported
+    (c.worlds_are_sound.ensures.main_theorem two_by_two all_done all_reported
     (c.named_tables_are_lawful.ensures.lawful Unary 2 (omega arith)) c.worlds_go_on.ensures.all
     (returns-clause-report c)).ends

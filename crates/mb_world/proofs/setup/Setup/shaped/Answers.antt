@@ -1,5 +1,5 @@
 -- Proof of `Setup::shaped`: this setup, but with this shape for each cell.
-use Rattle.std.proofs.Common.{◌≡◌, ◌≤◌, ℕ, ap, ◌∙◌, List, arith}
+use Rattle.std.proofs.Common.{◌≡◌, ℕ, ap, ◌∙◌, List}
 use Rattle.mb_quorum.specs.Quorum.{QuorumTable}
 use Rattle.mb_quorum.specs.Tables.{table_of}
 use Rattle.mb_quorum.specs.TablesLaw.{named_values}
@@ -33,6 +33,6 @@ returns-clause-plan c s p d m k t same pairs some =
     let table : quorums_of c.args.self.now.layout ≡ table_of t d = ap (λ plan. plan.claims.table) same in
     let made = c.shaped.ensures in
     same_plan _ _ _ _ _ _ _ _ (made.quorums ∙ table)
-    (same_row _ _ _ _ _ _ (made.shape (omega (arith, pairs, some)))
+    (same_row _ _ _ _ _ _ (made.shape some)
     (ap (λ q. q.values) (made.quorums ∙ table) ∙ named_values t d) (made.pairs ∙ pairs))
     (ap (λ plan. plan.claims.cells) same) (ap (λ plan. plan.lanes) same)

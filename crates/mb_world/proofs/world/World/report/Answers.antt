@@ -5,7 +5,7 @@ use Rattle.mb_claim.specs.Layouts.{kinds_of, pair_count, shape_of}
 use Rattle.mb_deciding.specs.Spread.{spread}
 use Rattle.mb_world.specs.Plan.{consumers_of}
 use Rattle.mb_world.specs.Setups.{plan_in}
-use Rattle.mb_world.specs.Report.{ReportView}
+use Rattle.mb_world.specs.Theorem.{ReportView}
 use Rattle.mb_world.specs.World.{histories_of}
 use Rattle.mb_world.proofs.FreshClaims.{fresh_goes, some_row}
 use Rattle.mb_world.proofs.StateReports.{report_is}
@@ -28,10 +28,10 @@ returns-clause-exact g c h is =
     c.in_ok-lanes.ensures c.in_ok-diaries.ensures
 
 -- so one assignment agrees with the report
-pub returns-clause-honest : goal.returns-clause-honest
-returns-clause-honest g c h is =
+pub returns-clause-main_theorem : goal.returns-clause-main_theorem
+returns-clause-main_theorem g c h is =
     let s = c.args.self.now in
-    c.worlds_are_sound.ensures.honest (plan_in s.setup) h
+    c.worlds_are_sound.ensures.main_theorem (plan_in s.setup) h
     (record { lanes = c.in_ok-lanes.field-0.items; diaries = c.in_ok-diaries.field-0.items })
     (c.layouts_are_sound.ensures.table s.setup.layout) is.lawful (returns-clause-exact g c h is)
 

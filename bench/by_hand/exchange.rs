@@ -1,0 +1,73 @@
+//! A consumer of cells on which a claim is one exchange. One call goes on past the items that it loses.
+
+use crate::layout::CELLS;
+use crate::mailbox::{END, LANES, Mailbox};
+use std::sync::atomic::Ordering::SeqCst;
+
+/// The note on an item that the consumer took. That on one that it lost is the winner's number.
+const TOOK: u8 = 255;
+
+/// What a take comes to.
+pub enum Take {
+    Took(u64),
+    Nothing,
+    Ended,
+    Spent,
+}
+
+/// Where a consumer stands on a lane, and its notes there: a byte each, and a word for each item that it took.
+struct Lane {
+    /// The link to the last cell that it met, 0 before the first.
+    at: u64,
+    notes: Box<[u8]>,
+    noted: usize,
+    items: Vec<u64>,
+}
+
+pub struct Taker {
+    number: u32,
+    lanes: Vec<Lane>,
+}
+
+impl Taker {
+    pub fn new(number: u32) -> Taker {
+        let lane = || Lane { at: 0, notes: Box::new([0; CELLS]), noted: 0, items: Vec::with_capacity(CELLS) };
+        Taker { number, lanes: (0..LANES).map(|_| lane()).collect() }
+    }
+
+    /// Goes on past the items that it loses, until it takes one, nothing more is linked, or it has made `most` accesses.
+    #[inline(never)]
+    pub fn take(&mut self, mailbox: &Mailbox, p: usize, most: u64) -> Take {
+        let Lane { at, notes, noted, items } = &mut self.lanes[p];
+        let links = &mailbox.links[..];
+        let claims = &mailbox.claims[..links.len()];
+        let mine = u64::from(self.number) + 1;
+        let (mut last, mut count, mut left) = (*at, *noted, most);
+        let mut link = if last == 0 { &mailbox.heads[p] } else { &links[last as usize - 1] }.load(SeqCst);
+        let end = loop {
+            let cell = link.wrapping_sub(1) as usize;
+            if cell >= links.len() {
+                break if link == END { Take::Ended } else { Take::Nothing };
+            }
+            // (an exchange, and a link or an item)
+            if left < 3 {
+                break Take::Spent;
+            }
+            left -= 2;
+            last = link;
+            if let Err(found) = claims[cell].compare_exchange(0, mine, SeqCst, SeqCst) {
+                notes[count] = (found - 1) as u8;
+                count += 1;
+                link = links[cell].load(SeqCst);
+                continue;
+            }
+            let item = mailbox.items[cell].load(SeqCst);
+            notes[count] = TOOK;
+            count += 1;
+            items.push(item);
+            break Take::Took(item);
+        };
+        (*at, *noted) = (last, count);
+        end
+    }
+}

@@ -1,2 +1,0 @@
-mod FirstDifferences
-mod Notes
