@@ -1,5 +1,5 @@
 -- What a call does to what its handles lead to, and the numbers with which C names tables and results.
-use Rattle.std.specs.Prelude.{◌≡◌, ℕ, if◌then◌else◌, nat_eq, replicate, List, Option, None, Some, slice_get}
+use Rattle.std.specs.Prelude.{◌≡◌, ℕ, if◌then◌else◌, nat_eq, List, Option, None, Some, slice_get}
 use Rattle.rand_core.specs.Steps.{steps_u32, stream_of}
 use Rattle.rand_core.specs.Stream.{Stream}
 use Rattle.rand_chacha.specs.ChaCha.{ChaCha, next_word, of_seed}
@@ -12,6 +12,7 @@ use Rattle.mb_bound.specs.Bound.{BoundHubView, BoundProducerView}
 use Rattle.mb_mailbox.specs.Hubs.{with_taken_consumer, with_taken_producer}
 use Rattle.mb_mailbox.specs.declared.consumer.Poll.{Poll}
 use Rattle.mb_mailbox.specs.declared.consumer.Poll.TheVariants as poll
+use Rattle.hazbultra.specs.Zeros.{zeros}
 use Rattle.hazbultra.specs.declared.thing.Thing.{Thing}
 use Rattle.hazbultra.specs.declared.thing.Thing.TheVariants.{OfConsumer, OfHub}
 use Rattle.hazbultra.specs.declared.thing.Thing.TheVariants.{OfProducer, OfReport}
@@ -107,10 +108,6 @@ HasTakenBack h (Some (OfConsumer c)) k =
 HasTakenBack h _ k = ⊥
 
 -- ---- random words
--- each word is 0
-abbrev pub zeros : Stream
-zeros = record { u32_after = λ _. 0; u64_after = λ _. 0; bytes_after = λ _ n. replicate n 0 }
-
 -- the words that a consumer draws from now on: those of its generator of eight rounds, if it has one
 abbrev pub words_of : Option ChaCha → Stream
 words_of None = zeros

@@ -6,3 +6,4 @@ pub mod Reports
 pub mod Handles
 pub mod Defaults
 pub mod Lending
+pub mod Zeros

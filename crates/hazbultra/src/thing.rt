@@ -10,7 +10,7 @@ use std::alloc::Global;
 pub struct Zeros;
 
 impl Rng for Zeros {
-    ghost use Rattle.hazbultra.specs.Calls.{zeros};
+    ghost use Rattle.hazbultra.specs.Zeros.{zeros};
 
     ghost stream = { λ _. zeros };
 

@@ -3,7 +3,7 @@ pub use base.Fml.{Fml, GName}
 pub use base.Fraction.{full_share}
 pub use base.Logic.{sep}
 pub use denote.Follow.{Part, follows, lends_Part}
-unfoldable pub use denote.Memory.{cell_at, mem, part_at, part_of}
+pub use denote.Memory.{cell_at, mem, part_at}
 pub use denote.RattleType.{owns}
 pub use denote.Ref.{MutRef, mut_Tells, mut_vals}
 pub use denote.Signature.{mut_ref_to}

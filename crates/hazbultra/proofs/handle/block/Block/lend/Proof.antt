@@ -9,7 +9,8 @@ use Rattle.hazbultra.proofs.Steps.{no, heard, nothing, block_ptr, token, plain, 
 use Rattle.hazbultra.proofs.Steps.{stay_dropped, walk_Meets, walk_of, B, D, R, τ, word, box_in, box_out}
 use Rattle.hazbultra.proofs.Steps.{Env, Fml, GName, MutRef, Part, addr, cell_at, follows, frame, fsplit3, full_share}
 use Rattle.hazbultra.proofs.Steps.{group, handle, keep, lends_Part, load, look_in, mem, mut_Tells, mut_ref_to, mut_vals}
-use Rattle.hazbultra.proofs.Steps.{named, opens, owns, part_at, part_of, sep, sets_last, through, walked, Goes-spent_ref}
+use Rattle.hazbultra.proofs.Steps.{named, opens, owns, part_at, sep, sets_last, through, walked, Goes-spent_ref}
+use denote.Memory.{part_of}
 use Rattle.std.specs.Prelude.{ℕ, IsSome, Option}
 use Rattle.hazbultra.specs.Lending.{leading_to}
 use Rattle.hazbultra.specs.contracts.handle.block.Block.{the_row as Block}
@@ -93,7 +94,7 @@ module _ {M : Type 1} {𝓤 : Ura M} (𝓛 : Logic 𝓤) (heap : Memory → SPro
       raw (Part 𝓛 Block Thing (leading_to it) (named 0) κ q rb ro b o γ rest home x γ'))))
       (lends_Part 𝓛 Block Thing (leading_to it) (named 0) κ q rb ro b o γ rest home c c x) $
       await ! tt $ pick ! (λ γ'.
-      let lent = record { ref_ptr = (b, o); ghost_name = γ'; now = x } in
+      let lent : (MutRef (named 0) κ Thing).Denot = record { ref_ptr = (b, o); ghost_name = γ'; now = x } in
       returns ! (look_at ! 0 refl) $ free_all ! refl $ keep ! (0 ∷ []) $
       use1 𝓛 (‵ ((MutRef (named 0) κ Thing).own_val lent (vptr b o ∷ [])) ⊛ ‵ (flft κ q)
       ⊛ ‵ (follows Block Thing γ γ' (leading_to it))) (id⊢ 𝓤 _) $
