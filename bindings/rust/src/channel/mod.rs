@@ -36,8 +36,8 @@
 //!
 //! Each of the first 16 senders writes a *chain* of its own: segment after segment, each a [`Mailbox`](crate::Mailbox) with
 //! one lane. Each of the first 64 receivers has a consumer of its own in the segment that it stands in. It goes first to
-//! one chain, and if nothing is there to the others. The items are the numbers of slots, so no value is boxed. A table in
-//! the crate's README says what is proved, and what is tested.
+//! one chain, and if nothing is there to the others. A claim is one compare-exchange. The items are the numbers of slots, so
+//! no value is boxed. A table in the crate's README says what is proved, and what is tested.
 //!
 //! It has no `select!`, no channel without room (`bounded(0)`), and ends with the process.
 mod audit;

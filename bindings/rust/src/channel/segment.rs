@@ -31,21 +31,8 @@ pub(super) enum Look<T> {
 /// How a mailbox of so many cells is built.
 fn mailbox(cells: usize) -> Builder<u64> {
     let builder = Mailbox::numbers().cells(cells).consumers(SEATS);
-    // (it draws no random words of worth, so one seed does)
-    builder.shape(Shape::Last).pairs(1).seed([0; 32])
-}
-
-/// The next number that this consumer takes: it goes past those that it loses. `Err` says whether no more comes.
-#[inline]
-fn next_of(consumer: &mut Consumer<u64>) -> Result<u64, bool> {
-    loop {
-        match consumer.poll(0) {
-            Poll::Took(number) => return Ok(number),
-            Poll::Ended => return Err(true),
-            Poll::Nothing => return Err(false),
-            _ => {}
-        }
-    }
+    // (it draws no random words, so one seed does)
+    builder.shape(Shape::Exchange).seed([0; 32])
 }
 
 pub(super) struct Segment<T> {
@@ -178,8 +165,8 @@ impl<T> Reader<T> {
         let Some(consumer) = &mut self.consumer else {
             return self.begin(who, is_end);
         };
-        match next_of(consumer) {
-            Ok(number) => {
+        match consumer.take(0) {
+            Poll::Took(number) => {
                 // Those before it were decided before it.
                 self.segment.taken.0.store(number + 1, Release);
                 // (an item is put as the number of a slot, so it fits)
@@ -194,11 +181,11 @@ impl<T> Reader<T> {
                 }
                 Look::Took(value.expect("one consumer alone takes each number"))
             }
-            Err(true) => {
+            Poll::Ended => {
                 self.end(is_end);
                 Look::Over
             }
-            Err(false) => Look::Nothing,
+            _ => Look::Nothing,
         }
     }
 
