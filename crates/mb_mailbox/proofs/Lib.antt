@@ -32,7 +32,6 @@ pub mod ShortPolls
 pub mod Taking
 pub mod Meeting
 pub mod Takes
-pub mod ShortPolls
 -- A consumer at the end of a lane
 pub mod Endings
 pub mod EndsMet
