@@ -15,7 +15,7 @@ pub fn words_and_views_agree()
     // Nothing was done yet.
     ensures new { IsStateOfOne (0 ∷ 0 ∷ 0 ∷ 0 ∷ 0 ∷ []) (new_hub ∷ []) }
 
-    // The lane was given, and its producer has put the item 8.
+    // The lane was issued, and its producer has put the item 8.
     ensures put { IsStateOfOne (1 ∷ 1 ∷ 0 ∷ 8 ∷ 1 ∷ [])
         (hub_of_one ∷ lane_with one_put ∷ []) }
 {
@@ -34,7 +34,7 @@ pub fn words_and_views_disagree()
     ensures twice { IsStateOfOne (1 ∷ 1 ∷ 0 ∷ 8 ∷ 1 ∷ [])
         (hub_of_one ∷ lane_with one_put ∷ lane_with one_put ∷ []) → ⊥ }
 
-    // A number on the roster that was not given, and one given that is not on the roster.
+    // A number on the roster that was not issued, and one issued that is not on the roster.
     ensures not_given { IsStateOfOne (0 ∷ 0 ∷ 0 ∷ 0 ∷ 1 ∷ []) (new_hub ∷ []) → ⊥ }
     ensures not_drawn { IsStateOfOne (0 ∷ 0 ∷ 0 ∷ 0 ∷ 0 ∷ [])
         (hub_of_one ∷ lane_with [] ∷ []) → ⊥ }

@@ -7,7 +7,7 @@ use Rattle.mb_shared_cells.specs.Examples.{hub_of_one, lane_with, one_by_one}
 use Rattle.mb_shared_cells.specs.Views.{first_view}
 use Rattle.mb_shared_cells.proofs.examples.words_and_views_disagree.Goals as goal
 
--- no lane was given, so producer 0 did nothing, and the head of its lane holds 0
+-- no lane was issued, so producer 0 did nothing, and the head of its lane holds 0
 pub returns-clause-made_up : goal.returns-clause-made_up
 returns-clause-made_up c = λ s.
     let t = s.0 in

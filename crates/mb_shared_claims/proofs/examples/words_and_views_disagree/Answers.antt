@@ -20,7 +20,7 @@ absent k zero xs p =
     absurd (cc)
 absent k (suc seat) xs p = absurd (some-ne-none p.0 (sym p.1))
 
--- no number was given, so the history is empty and leaves 0
+-- no number was issued, so the history is empty and leaves 0
 pub returns-clause-made_up : goal.returns-clause-made_up
 returns-clause-made_up c = λ k o reg words some has held state.
     let plan = state.0 in
