@@ -67,7 +67,7 @@ impl<A: Allocator + Clone + Drop> Mailbox<A> {
             → IfErr result (λ e. e ≡ (NoMemory, self, hub)) }
         ensures same { IfErr result (λ e. (e.1 ≡ self) × (e.2 ≡ hub)) }
 
-        // The lists and diaries are those of what was taken in.
+        // The lists and diaries are those of what was returned.
         ensures lists { IfOk result (λ r.
             IsReportIn self.cells.size.lanes (consumer_count self.claims.layout) hub r) }
 

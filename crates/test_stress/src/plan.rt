@@ -18,7 +18,7 @@ pub enum Stops {
     HalfOfTheConsumers(u64),
 }
 
-/// The plan of a run: the numbers of its setup, and what its workers are given.
+/// The plan of a run: the numbers of its setup, and what its workers get.
 #[derive(Clone, Copy, Debug)]
 pub struct Plan {
     pub producers: u64,
