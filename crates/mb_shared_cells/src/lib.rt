@@ -20,9 +20,9 @@
 //! of what threads did, whatever the order of their steps.
 #![tactic(auto)]
 
-pub mod examples;
 pub mod laws;
 mod rule;
+pub mod samples;
 mod table;
 mod views;
 

@@ -22,10 +22,10 @@
 //!   winners. [`rule`] has the rule itself, and [`view`] what a seat knows. Programs need none of these three.
 #![tactic(auto)]
 
-pub mod examples;
 mod hub;
 pub mod laws;
 pub mod rule;
+pub mod samples;
 mod seat;
 mod table;
 pub mod view;

@@ -1,4 +1,4 @@
--- Proof of `examples::words_and_views_agree`: words and views of a table of one lane and one cell.
+-- Proof of `samples::words_and_views_agree`: words and views of a table of one lane and one cell.
 -- The words are, in this order, the counter, the head, the link, the item and the roster.
 use Rattle.std.proofs.Common.{Some, None, [], arith, refl, sym, ◌∷◌, ◌≡◌, subst, suc, zero, ℕ, slice_index, nat_eq, false}
 use Rattle.std.proofs.Math.Dec.{eqb-suc-zero}
@@ -10,11 +10,11 @@ use Rattle.mb_cells.specs.declared.access.Process.TheVariants.{Producer, Reader}
 use Rattle.mb_cells.specs.declared.access.Word.{Word}
 use Rattle.mb_cells.specs.declared.access.Word.TheVariants.{Counter, Head, Item, Link}
 use Rattle.mb_shared_cells.specs.Rule.{FitsView, IsEnrolled, IsHub, Seating, StandsAt}
-use Rattle.mb_shared_cells.specs.Examples.{hub_of_one, lane_with, one_by_one}
+use Rattle.mb_shared_cells.specs.Samples.{hub_of_one, lane_with, one_by_one}
 use Rattle.mb_shared_cells.specs.Views.{empty_roll, first_view, roll_at}
 use Rattle.mb_shared_cells.specs.declared.views.Roll.{Roll}
 use Rattle.mb_shared_cells.specs.declared.views.View.{View}
-use Rattle.mb_shared_cells.proofs.examples.words_and_views_agree.Goals as goal
+use Rattle.mb_shared_cells.proofs.samples.words_and_views_agree.Goals as goal
 
 -- ---- nothing was done
 -- the seating of a new table: the hub is at seat 0, and nobody is issued

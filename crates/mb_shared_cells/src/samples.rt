@@ -1,8 +1,8 @@
-//! The rule of the table by example: what it admits, and what only looks right. The functions compute nothing: their
-//! contracts are the examples. Their proofs are in `proofs/examples/`, one folder for each.
+//! Samples of the rule of the table: what it admits, and what only looks right. The functions compute nothing: their
+//! contracts are the samples.
 ghost use Rattle.std.specs.Prelude.{[], ◌∷◌};
 ghost use Rattle.mb_cells.specs.Vocabulary.{one_put};
-ghost use Rattle.mb_shared_cells.specs.Examples.{IsStateOfOne, hub_of_one, lane_with, new_hub};
+ghost use Rattle.mb_shared_cells.specs.Samples.{IsStateOfOne, hub_of_one, lane_with, new_hub};
 
 use crate::laws::processes_stand_once;
 use mb_cells::examples::one_item_is_put_and_read;

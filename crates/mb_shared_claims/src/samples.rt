@@ -1,5 +1,5 @@
-//! The rule of the table by example: what it admits, and what only looks right. The functions compute nothing: their
-//! contracts are the examples. Their proofs are in `proofs/examples/`, one folder for each.
+//! Samples of the rule of the table: what it admits, and what only looks right. The functions compute nothing: their
+//! contracts are the samples.
 ghost use Rattle.std.specs.Prelude.{ℕ, ◌≡◌, ◌+◌, ◌<◌, List, None, [], ◌∷◌, replicate, slice_index};
 ghost use Rattle.mb_claim.specs.Vocabulary.{IsWordIn, address_in};
 ghost use Rattle.mb_shared_claims.specs.{Handing, IsClaimsState, Reg, Standing, TableSize, View, claims_of_size, roster};
