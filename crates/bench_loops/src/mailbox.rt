@@ -124,7 +124,7 @@ fn put_all<A: Allocator + Drop>(
     linked
 }
 
-/// Each consumer that the hub can still give polls the lane, or takes there, until nothing more comes.
+/// Each consumer that the hub can still issue polls the lane, or takes there, until nothing more comes.
 fn read_all<A: Allocator + Copy + Drop, R: Rng>(
     alloc: A,
     mailbox: &Mailbox<A>,

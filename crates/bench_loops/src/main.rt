@@ -8,11 +8,11 @@ use std::io;
 use std::process::ExitCode;
 
 pub mod choice;
-pub mod examples;
 pub mod mailbox;
 pub mod passed;
 pub mod relay;
 pub mod run;
+pub mod samples;
 pub mod source;
 
 use choice::Choice;

@@ -23,7 +23,7 @@ fn main(rt: HostRuntime) -> Result<()> {
     let first = one.poll(&mailbox, 0, 1000, &mut source);
     let second = two.poll(&mailbox, 0, 1000, &mut source);
 
-    // The hub takes back what it gave out. Then `gather` ends the mailbox and returns the report.
+    // The hub takes back what it issued. Then `gather` ends the mailbox and returns the report.
     hub.take_producer(&mailbox, producer);
     hub.take_consumer(&mailbox, one);
     hub.take_consumer(&mailbox, two);

@@ -4,6 +4,10 @@
 //! Each call is an export over `mb_bound`. A handle is the address of a box, and leads to a hub, a
 //! producer, a consumer, a report or nothing. It lends to a call what it leads to, so no call loses
 //! that.
+//!
+//! `hz_mailbox_new`, `hz_producer_new` and `hz_consumer_new` take memory for one box each, beside what `mb_bound`
+//! takes. `hz_gather` takes memory for the report, and puts it into the hub's box. No other call takes memory.
+//! `hz_next_id` is in `bindings/c/heap.c`.
 #![tactic(auto)]
 
 mod boundary;

@@ -8,7 +8,7 @@ use std::alloc::{AllocError, Allocator};
 use std::marker::Model;
 use std::sync::Arc;
 
-/// A mailbox with its hub, which gives producers and consumers out and takes them back.
+/// A mailbox with its hub, which issues producers and consumers and takes them back.
 #[derive(Drop)]
 pub struct BoundHub<A: Allocator + Drop> {
     pub(crate) id: u64,
@@ -52,14 +52,14 @@ impl<A: Allocator + Drop> BoundHub<A> {
         self.mailbox.max_steps()
     }
 
-    /// How many lanes have no producer given yet.
+    /// How many lanes were not issued yet.
     pub fn lanes_left(&self) -> usize
         ensures { result ≡ self.now.mailbox.cells.size.lanes - length self.now.hub.puts }
     {
         lanes_left(&self.mailbox, &self.hub)
     }
 
-    /// How many consumers were not given yet.
+    /// How many consumers were not issued yet.
     pub fn consumers_left(&self) -> usize
         ensures { result ≡ consumer_count self.now.mailbox.claims.layout
             - length self.now.hub.ledgers }
@@ -74,8 +74,8 @@ impl<A: Allocator + Drop> BoundHub<A> {
         let _ = &self.hub;
     }
 
-    /// The producer of the next lane, as [`Hub::producer`] gives it. The error is `AllGiven` exactly if each lane's
-    /// producer was given, and else `NoMemory`. After an error nothing has changed.
+    /// Issues the producer of the next lane, as [`Hub::producer`] does, with the same errors. After an error nothing has
+    /// changed.
     pub fn producer(&mut self, alloc: A) -> Result<BoundProducer<A>, HubFault>
         ensures all_given { (result ≡ Err AllGiven)
             ↔ (self.old.mailbox.cells.size.lanes ≤ length self.old.hub.puts) }
@@ -102,8 +102,8 @@ impl<A: Allocator + Drop> BoundHub<A> {
         })
     }
 
-    /// Takes a producer back, as [`Hub::take_producer`] does. If its mailbox has another number, the producer is
-    /// returned as the error.
+    /// Takes a producer back, as [`Hub::take_producer`] does. If its mailbox has another number, the producer comes
+    /// back as the error. It needs that equal numbers mean one mailbox.
     pub fn take_producer(&mut self, producer: BoundProducer<A>) -> Result<(), BoundProducer<A>>
         requires { AreNamedApart self.old.id self.old.mailbox producer.id producer.mailbox }
         ensures taken { IsOk result ↔ (self.old.id ≡ producer.id) }
@@ -127,8 +127,8 @@ impl<A: Allocator + Drop> BoundHub<A> {
         Ok(())
     }
 
-    /// Takes a consumer back, as [`Hub::take_consumer`] does. If its mailbox has another number, the consumer is
-    /// returned as the error.
+    /// Takes a consumer back, as [`Hub::take_consumer`] does. If its mailbox has another number, the consumer comes
+    /// back as the error. It needs that equal numbers mean one mailbox.
     pub fn take_consumer(&mut self, consumer: BoundConsumer<A>) -> Result<(), BoundConsumer<A>>
         requires { AreNamedApart self.old.id self.old.mailbox consumer.id consumer.mailbox }
         ensures taken { IsOk result ↔ (self.old.id ≡ consumer.id) }
@@ -164,8 +164,9 @@ impl<A: Allocator + Clone + Drop> BoundHub<A> {
     ghost use Rattle.mb_mailbox.specs.Hubs.{IsNewConsumer, hub_empty, with_consumer};
     ghost use Rattle.mb_mailbox.specs.Mailboxes.{plan_at};
 
-    /// A new mailbox of this setup, and its hub. `id` is its number. No other mailbox whose producers or consumers may
-    /// come to this hub may have the same number. The error is [`NoMemory`] if the allocator refuses a part.
+    /// A new mailbox of this setup, and its hub. `id` is its number. If producers or consumers of another mailbox may
+    /// come to this hub, that mailbox needs another number. The prover asks for this only when one is taken back. The
+    /// error is [`NoMemory`] if memory is refused.
     pub fn new(alloc: A, id: u64, setup: Setup) -> Result<BoundHub<A>, NoMemory>
         ensures id { IfOk result (λ made. made.id ≡ id) }
         ensures plan { IfOk result (λ made. plan_at made.mailbox ≡ plan_in setup) }
@@ -180,8 +181,8 @@ impl<A: Allocator + Clone + Drop> BoundHub<A> {
         }
     }
 
-    /// The consumer of the next number, as [`Hub::consumer`] gives it. The error is `AllGiven` exactly if all consumers
-    /// were given, and else `NoMemory`. After an error nothing has changed.
+    /// Issues the consumer of the next number, as [`Hub::consumer`] does, with the same errors. After an error nothing
+    /// has changed.
     pub fn consumer(&mut self, alloc: A) -> Result<BoundConsumer<A>, HubFault>
         ensures all_given { (result ≡ Err AllGiven)
             ↔ (consumer_count self.old.mailbox.claims.layout ≤ length self.old.hub.ledgers) }
@@ -207,8 +208,8 @@ impl<A: Allocator + Clone + Drop> BoundHub<A> {
         })
     }
 
-    /// Ends the mailbox, and returns a report of what its producers and consumers did, as [`Mailbox::gather`] does.
-    /// With an error the hub is returned as it was. If all were taken back, the error is [`GatherFault::NoMemory`].
+    /// Ends the mailbox, and returns the report of what its producers and consumers did, as [`Mailbox::gather`] does.
+    /// After an error the hub comes back as it was. If all were returned, the error is [`GatherFault::NoMemory`].
     pub fn gather(self, alloc: A) -> Result<Report<A>, (GatherFault, BoundHub<A>)>
         ensures missing { 0 < count_missing self.hub.puts + count_missing self.hub.ledgers
             → result ≡ Err

@@ -70,7 +70,7 @@ kept_there [] n x e = absurd (cc)
 kept_there (o ∷ xs) zero x e = ap Some (sym e)
 kept_there (o ∷ xs) (suc n) x e = kept_there xs n x e
 
--- each consumer that a hub has taken in has notes on each lane
+-- each consumer that a hub has taken back has notes on each lane
 pub notes_full : (h : HubView) (c : ℕ) (l : ConsumerRecordView) → IsHub h → Some l ≡ kept_at h.ledgers c
     → length l.notes ≡ h.cells.table.size.lanes
 notes_full h c l i e = (i.taken c l (kept_there h.ledgers c l e)).2.2.notes_count
@@ -220,7 +220,7 @@ pub outlined : (c n : ℕ) (ds all : List DiaryView) (told kept here : Option Co
 outlined c n ds all told kept here is e f =
     is ∙ ap (λ (o : Option ConsumerRecordView). ds ++ outline_row c o n) (e ∙ sym f)
 
--- if the outlines `part` of a consumer that was taken in are written over by `filled`, which has its notes, its diaries
+-- if the outlines `part` of a consumer that was returned are written over by `filled`, which has its notes, its diaries
 -- are added
 pub row_filled : {Z : Type 0} (w c : ℕ) (h : HubView) (l : ConsumerRecordView) (v : Vec DiaryView Z)
     (ds part filled : List DiaryView) (first : ℕ) (notes : List (List Note)) → AreDiaries w h (c * w) ds

@@ -1,4 +1,4 @@
--- A hub gives a producer or a consumer, and takes it in.
+-- A hub issues a producer or a consumer, and takes it back.
 use Rattle.std.proofs.Common.{◌≡◌, ◌≢◌, ◌⊎◌, ℕ, ◌<◌, ◌≤◌, List, [], ◌∷◌, ◌++◌, length, refl, sym, ap, ◌∙◌, subst, inl, inr, ⊎_elim, arith}
 use Rattle.std.specs.Prelude.{Option, Some, None, slice_get, slice_set}
 use Rattle.std.proofs.lemmas.List.{length-append, length-set}
@@ -70,7 +70,7 @@ gave_producer h i low = record {
   taken = i.taken;
 }
 
--- a producer whose seat is out is not taken in
+-- a producer whose seat is out is not returned
 pub is_out : (h : HubView) (p : ℕ) → IsHub h → slice_get h.cells.roll.lanes p ≡ Some None
     → slice_get h.puts p ≡ Some None
 is_out h p i out =
@@ -91,7 +91,7 @@ pub kept_list : (s : ProducerView) → IsProducer s
     → IsPutList s.seat.table.size.cells s.seat.lane s.seat.part (put_list_of s)
 kept_list s own linked = record { items = own.items; ended = refl; linked = linked }
 
--- a hub that has taken in a producer keeps what hubs keep
+-- a hub that has taken back a producer keeps what hubs keep
 pub took_producer : (h : HubView) (s : ProducerView) → IsHub h
     → IsPutList h.cells.table.size.cells s.seat.lane s.seat.part (put_list_of s)
     → slice_get h.cells.roll.lanes s.seat.lane ≡ Some None
@@ -141,7 +141,7 @@ gave_consumer h i low = record {
   put = i.put;
 }
 
--- a consumer whose seat is out is not taken in
+-- a consumer whose seat is out is not returned
 pub seat_is_out : (h : HubView) (c : ℕ) → IsHub h → slice_get h.claims.roll c ≡ Some None
     → slice_get h.ledgers c ≡ Some None
 seat_is_out h c i out =
@@ -155,7 +155,7 @@ seat_is_out h c i out =
         let f : None ≡ Some t.2.0 = some_same None (Some t.2.0) (sym out ∙ t.2.1) in
         absurd (cc)
 
--- a hub that has taken in a consumer keeps what hubs keep
+-- a hub that has taken back a consumer keeps what hubs keep
 pub took_consumer : (h : HubView) (s : ConsumerView) → IsHub h → IsConsumer s → s.seat.table ≡ h.claims.table
     → s.reader.table ≡ h.cells.table → slice_get h.cells.roll.readers s.reader.reader ≡ Some None
     → slice_get h.claims.roll s.seat.consumer ≡ Some None

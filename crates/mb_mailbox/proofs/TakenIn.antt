@@ -1,4 +1,4 @@
--- What a hub has taken in, beside the histories that have its parts.
+-- What a hub has taken back, beside the histories that have its parts.
 use Rattle.std.proofs.Common.{◌≡◌, ℕ, zero, suc, ◌<◌, ◌≤◌, false, List, [], ◌∷◌, length, map, refl, sym, ap, ◌∙◌, subst, arith}
 use Rattle.std.specs.Prelude.{Option, Some, None, slice_get}
 use Rattle.std.specs.Option.{option_map_or}
@@ -20,13 +20,13 @@ use Rattle.mb_mailbox.specs.Mailboxes.{MailboxView, plan_at}
 use Rattle.mb_world.specs.declared.place.Place.{Place}
 use Rattle.mb_mailbox.proofs.Lists.{some_same}
 
--- ---- lists whose places are out or taken in
--- at this place something was taken in, or the place is past the list
+-- ---- lists whose places are out or returned
+-- at this place something was returned, or the place is past the list
 pub data At {X : Type 0} (xs : List (Option X)) (n : ℕ) : Type 0 where
   here : (x : X) → slice_get xs n ≡ Some (Some x) → At xs n
   past : slice_get xs n ≡ None → length xs ≤ n → At xs n
 
--- if nothing is missing, something was taken in at each place, or the place is past the list
+-- if nothing is missing, something was returned at each place, or the place is past the list
 pub at : {X : Type 0} (xs : List (Option X)) (n : ℕ) → count_missing xs ≡ 0 → At xs n
 at [] n e = past refl (omega arith)
 at (Some x ∷ xs) zero e = here x refl
@@ -48,7 +48,7 @@ none_out (None ∷ roll) all =
     let e : None ≡ Some t.0 = some_same None (Some t.0) t.1 in
     absurd (cc)
 
--- the part at a place of the roll is the part taken in
+-- the part at a place of the roll is the part returned
 taken_is : (roll : Roll) (c : ℕ) (done : List ClaimAccess) → slice_get roll c ≡ Some (Some done)
     → taken_part roll c ≡ done
 taken_is [] c done e = absurd (cc)
@@ -57,7 +57,7 @@ taken_is (None ∷ roll) zero done e = let f : None ≡ Some done = some_same No
 taken_is (Some d ∷ roll) (suc c) done e = taken_is roll c done e
 taken_is (None ∷ roll) (suc c) done e = taken_is roll c done e
 
--- no part was taken in past the roll
+-- no part was returned past the roll
 taken_none : (roll : Roll) (c : ℕ) → length roll ≤ c → taken_part roll c ≡ []
 taken_none [] c low = refl
 taken_none (x ∷ roll) zero low = absurd (omega arith)
@@ -69,7 +69,7 @@ abbrev pub kept_of : {X : Type 0} → Option (Option X) → Option X
 kept_of {X} o = option_map_or (λ (z : Option X). z) o None
 
 -- ---- consumers
--- consumer c's parts of the histories determine what the hub keeps of it. A consumer that was never given has done
+-- consumer c's parts of the histories determine what the hub keeps of it. A consumer that was never issued has done
 -- nothing
 pub data Keeps (m : MailboxView) (h : HubView) (hs : Histories) (c : ℕ) : Type 0 where
   was_in : (l : ConsumerRecordView) → kept_at h.ledgers c ≡ Some l
@@ -92,12 +92,12 @@ module _ (m : MailboxView) (h : HubView) (claims : List ClaimAccess) (pool : His
   abbrev hs : Histories
   hs = histories_in claims pool
 
-  -- the steps on a cell are those of the part that was taken in
+  -- the steps on a cell are those of the part that was returned
   steps : (c : ℕ) (done : List ClaimAccess) → taken_part h.claims.roll c ≡ done → (k : ℕ)
       → part_on c k done ≡ part_on c k claims
   steps c done e k = ap (λ l. part_on c k l) (sym (made c ∙ e)) ∙ cut c k claims
 
-  -- what the hub keeps of a consumer that was taken in is right by the histories
+  -- what the hub keeps of a consumer that was returned is right by the histories
   kept : (c : ℕ) (l : ConsumerRecordView) (reads : History) (done : List ClaimAccess)
       → slice_get h.ledgers c ≡ Some (Some l)
       → part (Reader c) pool ≡ reads → taken_part h.claims.roll c ≡ done
@@ -159,7 +159,7 @@ module _ (m : MailboxView) (h : HubView) (pool : History) (i : IsHub h) (of : Is
   values : (p : ℕ) (done : History) → part (Producer p) pool ≡ done → values_put p done ≡ values_put p pool
   values p done e = ap (λ (l : List Entry). map (λ (z : Entry). z.value) l) (ap (put_list p) (sym e) ∙ sym (put p))
 
-  -- what the hub keeps of a producer that was taken in is right by the history
+  -- what the hub keeps of a producer that was returned is right by the history
   told : (p : ℕ) (l : PutListView) (done : History) → slice_get h.puts p ≡ Some (Some l) → part (Producer p) pool ≡ done
       → IsPutList h.cells.table.size.cells p done l → Tells m h pool p
   told p l done e d k = record {
@@ -172,7 +172,7 @@ module _ (m : MailboxView) (h : HubView) (pool : History) (i : IsHub h) (of : Is
         (subst (λ (t : CellsName). entry.cell < t.size.cells) (sym of.cells) low));
   }
 
-  -- a lane that was never given has no items, and no end mark
+  -- a lane that was never issued has no items, and no end mark
   silent : (p : ℕ) → slice_get h.puts p ≡ None → part (Producer p) pool ≡ [] → Tells m h pool p
   silent p e none = record {
     items = ap (λ o. option_map_or (λ (l : PutListView). l.items) (kept_of o) []) e ∙ values p [] none;

@@ -16,7 +16,7 @@ abbrev pub changed_from : {X Y : Type 0} → (Y → X → X) → ℕ → List Y 
 changed_from change n [] xs = xs
 changed_from change n (y ∷ ys) xs = changed_at (changed_from change (suc n) ys xs) n (change y)
 
--- the lane with the items of its producer, if the producer was taken in
+-- the lane with the items of its producer, if the producer was returned
 abbrev pub with_items : Option PutListView → LaneView → LaneView
 with_items None l = l
 with_items (Some k) l = record l { put = k.items }

@@ -1,4 +1,4 @@
--- The report of what a hub has taken in.
+-- The report of what a hub has taken back.
 use Rattle.std.specs.Prelude.{ℕ, zero, suc, ◌≡◌, ◌≢◌, ◌+◌, ◌*◌, ◌<◌, Bool, false, not, List}
 use Rattle.std.specs.Prelude.{[], ◌∷◌, ◌++◌, Option, Some, None, length, slice_get, sum_by}
 use Rattle.std.specs.Option.{option_map_or}
@@ -14,36 +14,36 @@ use Rattle.mb_mailbox.specs.Hubs.{ConsumerRecordView, HubView}
 use Rattle.mb_mailbox.specs.Mailboxes.{MailboxView, plan_at}
 
 -- ---- what is missing
--- how many of those given were not taken in
+-- how many of those issued were not returned
 abbrev pub count_missing : {X : Type 0} → List (Option X) → ℕ
 count_missing [] = 0
 count_missing (Some x ∷ xs) = count_missing xs
 count_missing (None ∷ xs) = suc (count_missing xs)
 
--- ---- what was taken in, by numbers. Nothing stands at the number of one that was not taken in
+-- ---- what was returned, by numbers. Nothing stands at the number of one that was not returned
 -- what stands at this number, if there is anything
 abbrev pub kept_at : {X : Type 0} → List (Option X) → ℕ → Option X
 kept_at xs n = option_map_or (λ o. o) (slice_get xs n) None
 
--- the items of the producer of lane p, or none if it was not taken in
+-- the items of the producer of lane p, or none if it was not returned
 abbrev pub items_in : ℕ → HubView → List ℕ
 items_in p h = option_map_or (λ l. l.items) (kept_at h.puts p) []
 
--- whether the producer of lane p was taken in and has ended the lane
+-- whether the producer of lane p was returned and has ended the lane
 abbrev pub ended_in : ℕ → HubView → Bool
 ended_in p h = option_map_or (λ l. l.ended) (kept_at h.puts p) false
 
--- the notes of consumer c on lane p, or none if it was not taken in
+-- the notes of consumer c on lane p, or none if it was not returned
 abbrev pub notes_in : ℕ → ℕ → HubView → List Note
 notes_in c p h =
     option_map_or (λ l. option_map_or (λ ns. ns) (slice_get l.notes p) []) (kept_at h.ledgers c) []
 
 -- whether a consumer of which this is kept holds a claim on lane p that has made an access. One of which nothing is
--- kept was not taken in
+-- kept was not returned
 abbrev pub begun_of : ℕ → Option ConsumerRecordView → Bool
 begun_of p kept = option_map_or (λ l. option_map_or has_begun_at (slice_get l.places p) false) kept false
 
--- whether consumer c was taken in with a claim on lane p that has made an access
+-- whether consumer c was returned with a claim on lane p that has made an access
 abbrev pub begun_in : ℕ → ℕ → HubView → Bool
 begun_in c p h = begun_of p (kept_at h.ledgers c)
 
@@ -99,7 +99,7 @@ pub record IsOutlineIn (lanes consumers : ℕ) (h : HubView) (r : ReportView) : 
   pub each_lane : AreLanesOutlined consumers h lanes r.lanes
   pub each_diary : AreDiaries lanes h (consumers * lanes) r.diaries
 
--- this is the report of what the hub has taken in: each lane is that of its producer, and each diary that of its
+-- this is the report of what the hub has taken back: each lane is that of its producer, and each diary that of its
 -- consumer. Each is in its place
 pub record IsReportIn (lanes consumers : ℕ) (h : HubView) (r : ReportView) : Type 0 where
   pub lanes_count : length r.lanes ≡ lanes
@@ -109,12 +109,12 @@ pub record IsReportIn (lanes consumers : ℕ) (h : HubView) (r : ReportView) : T
       → slice_get r.diaries (c * lanes + p) ≡ Some (diary_in c p h)
 
 -- ---- what a report shows
--- all that were taken in made two histories which are sound, and the main theorem holds of the report
+-- all that were returned made two histories which are sound, and the main theorem holds of the report
 pub record IsGathered (m : MailboxView) (h : HubView) (r : ReportView) : Type 0 where
   -- what was done to the words of the claims and to those of the cells; consumer c is reader c
   pub histories : Histories
   pub reader : (c : ℕ) → histories.reader_of c ≡ c
-  -- each part of these histories is what the hub has taken in
+  -- each part of these histories is what the hub has taken back
   pub claims : (c : ℕ) → consumer_part c histories.claims ≡ taken_part h.claims.roll c
   pub pool : IsRollOf m.cells.size h.cells.roll histories.pool
   -- both histories are lawful, and the two parts of each consumer fit
@@ -128,7 +128,7 @@ pub record IsGathered (m : MailboxView) (h : HubView) (r : ReportView) : Type 0 
 abbrev pub put_count : ReportView → ℕ
 put_count r = sum_by (λ l. length l.put) r.lanes
 
--- if a producer that was taken in found no cell, as many items are put as there are cells
+-- if a producer that was returned found no cell, as many items are put as there are cells
 abbrev pub FullTakesAll : MailboxView → HubView → ReportView → Type 0
 FullTakesAll m h r =
     (p : ℕ) (done : History) → slice_get h.cells.roll.lanes p ≡ Some (Some done)

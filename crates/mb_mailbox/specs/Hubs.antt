@@ -1,4 +1,4 @@
--- The hub of a mailbox: what it gave, and what it has taken in.
+-- The hub of a mailbox: what it issued, and what it has taken back.
 use Rattle.std.specs.Prelude.{ℕ, ◌≡◌, ◌<◌, ◌≤◌, Bool, List, [], ◌∷◌, ◌++◌, Option, Some, None, length, slice_get, slice_set}
 use Rattle.mb_cells.specs.Vocabulary.{Entry, fetch, new_lane}
 use Rattle.mb_shared_cells.specs.Vocabulary.{CellHubView, empty_roll, roll_with_lane, roll_with_part, roll_with_reader}
@@ -11,12 +11,12 @@ use Rattle.mb_mailbox.specs.Consumers.{ConsumerView, StandsOn}
 use Rattle.mb_mailbox.specs.Producers.{ProducerView}
 use Rattle.mb_world.specs.declared.place.Place.{Place}
 
--- what is kept of a producer that was taken in: its items, and whether it has ended its lane
+-- what is kept of a producer that was returned: its items, and whether it has ended its lane
 pub record PutListView : Type 0 where
   pub items : List ℕ
   pub ended : Bool
 
--- what is kept of a consumer that was taken in: its place on each lane, and its notes there. Names here call this
+-- what is kept of a consumer that was returned: its place on each lane, and its notes there. Names here call this
 -- record a ledger
 pub record ConsumerRecordView : Type 0 where
   pub places : List Place
@@ -27,7 +27,7 @@ abbrev pub parts_by : ℕ → History → List ClaimAccess → Parts
 parts_by c reads done = record { reads = reads; claimed = λ k. part_on c k done }
 
 -- a hub: the hubs of both tables, the put lists of producers, and the records of consumers. Place n of a list is that
--- of number n. It is empty until the producer or consumer of that number is taken in
+-- of number n. It is empty until the producer or consumer of that number is returned
 pub record HubView : Type 0 where
   pub cells : CellHubView
   pub claims : ClaimHubView
@@ -72,10 +72,10 @@ pub record IsHub (h : HubView) : Type 0 where
   pub lanes : length h.puts ≡ length h.cells.roll.lanes
   pub readers : length h.ledgers ≡ length h.cells.roll.readers
   pub seats : length h.ledgers ≡ length h.claims.roll
-  -- no more lanes were given than the mailbox has, and no more consumers
+  -- no more lanes were issued than the mailbox has, and no more consumers
   pub few_lanes : length h.puts ≤ h.cells.table.size.lanes
   pub few_consumers : length h.ledgers ≤ (claims_at h.claims.table).table.values
-  -- the part of a producer that was taken in determines its put list. The two parts of a consumer that was taken in
+  -- the part of a producer that was returned determines its put list. The two parts of a consumer that was returned
   -- determine its record
   pub put : (p : ℕ) (l : PutListView) → slice_get h.puts p ≡ Some (Some l)
       → (done : History) × (slice_get h.cells.roll.lanes p ≡ Some (Some done))
@@ -90,7 +90,7 @@ pub record IsHubOf (m : MailboxView) (h : HubView) : Type 0 where
   pub cells : h.cells.table ≡ m.cells
   pub claims : h.claims.table ≡ name_of m.claims
 
--- ---- what a hub gives
+-- ---- what a hub issues
 -- the producer of lane p, which has done nothing
 abbrev pub new_producer : MailboxView → ℕ → ProducerView
 new_producer m p = record {
@@ -98,7 +98,7 @@ new_producer m p = record {
   items = [];
 }
 
--- the hub after it has given one more producer
+-- the hub after it has issued one more producer
 abbrev pub with_producer : HubView → HubView
 with_producer h = record h {
   cells = record { table = h.cells.table; roll = roll_with_lane h.cells.roll };
@@ -106,7 +106,7 @@ with_producer h = record h {
 }
 
 -- the consumer has the hub's next number, and has done nothing. Its reader's seat knows the parts of the lanes that
--- the hub has taken in
+-- the hub has taken back
 pub record IsNewConsumer (m : MailboxView) (h : HubView) (s : ConsumerView) : Type 0 where
   pub reader : s.reader ≡ record {
     table = m.cells;
@@ -117,7 +117,7 @@ pub record IsNewConsumer (m : MailboxView) (h : HubView) (s : ConsumerView) : Ty
   pub seat : s.seat ≡ record { table = name_of m.claims; consumer = length h.ledgers; part = [] }
   pub notes : (p : ℕ) (notes : List Note) → slice_get s.notes p ≡ Some notes → notes ≡ []
 
--- the hub after it has given one more consumer
+-- the hub after it has issued one more consumer
 abbrev pub with_consumer : HubView → HubView
 with_consumer h = record h {
   cells = record { table = h.cells.table; roll = roll_with_reader h.cells.roll };
@@ -134,7 +134,7 @@ put_list_of s = record { items = s.items; ended = has_ended s.seat.lane s.seat.p
 abbrev pub ledger_of : ConsumerView → ConsumerRecordView
 ledger_of s = record { places = s.places; notes = s.notes }
 
--- the hub after it has taken in this producer
+-- the hub after it has taken back this producer
 abbrev pub with_taken_producer : ProducerView → HubView → HubView
 with_taken_producer s h = record h {
   cells = record {
@@ -144,7 +144,7 @@ with_taken_producer s h = record h {
   puts = slice_set h.puts s.seat.lane (Some (put_list_of s));
 }
 
--- the hub after it has taken in this consumer
+-- the hub after it has taken back this consumer
 abbrev pub with_taken_consumer : ConsumerView → HubView → HubView
 with_taken_consumer s h = record h {
   cells = record {

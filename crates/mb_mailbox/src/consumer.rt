@@ -27,12 +27,12 @@ pub enum Poll {
     Lost(u32),
     /// This consumer's claim on the item at which it stood ended undecided: another may have won it, or nobody.
     Undecided,
-    /// The consumer found no further item linked. If the producer was not taken in before, it may have linked one by
+    /// The consumer found no further item linked. If the producer was not returned before, it may have linked one by
     /// now.
     Nothing,
     /// The lane has ended: no further item comes.
     Ended,
-    /// The poll made as many accesses as the budget allows, and none of them had another result.
+    /// The poll made as many accesses as the budget allows, and came to no other result.
     Spent,
     /// There is no such lane.
     NoLane,

@@ -14,8 +14,8 @@ impl<A: Allocator + Clone + Drop> Mailbox<A> {
     ghost use Rattle.mb_mailbox.specs.Hubs.{IsHubOf, hub_empty};
     ghost use Rattle.mb_mailbox.specs.Mailboxes.{plan_at};
 
-    /// Makes a mailbox of this setup, in which nothing was done, and its hub, which has given no number. [`NoMemory`]
-    /// comes if the allocator refuses a part of what both need.
+    /// Makes a mailbox of this setup, in which nothing was done, and its hub, which has issued nobody. [`NoMemory`]
+    /// comes if the allocator refuses what one of them needs.
     pub fn new(alloc: A, setup: Setup) -> Result<(Mailbox<A>, Hub<A>), NoMemory>
         ensures plan { IfOk result (λ made. plan_at made.0 ≡ plan_in setup) }
         ensures size { IfOk result (λ made. made.0.cells.size ≡ size_of (plan_in setup)) }

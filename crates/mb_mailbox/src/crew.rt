@@ -41,27 +41,27 @@ use threads::{end_all, run};
 /// What the workers of a run came to.
 #[derive(Clone, Copy, PartialEq, Eq, Debug)]
 pub struct Worked {
-    /// Items that the producers that were not stopped did not put: for each a put returned `Full`, or it follows
-    /// such an item. It stays at 2^64 - 1 once there.
+    /// How many items producers that were not stopped did not put: a put returned `Full` for the item, or for one
+    /// before it in its list. The count goes up to 2^64 - 1.
     pub full: u64,
-    /// Workers that were stopped. Each was stopped before call 2^64 - 1, or before a call at which the gate may stop
-    /// it.
+    /// How many workers were stopped. Each was stopped before call 2^64 - 1, or before a call at which the gate may
+    /// stop it.
     pub stopped: u64,
 }
 
 /// Why no run came to its end.
 #[derive(Clone, Copy, PartialEq, Eq, Debug)]
 pub enum WorkFault {
-    /// There are more lists than lanes that were not given yet, or more sources than numbers of consumers that were
-    /// not. Nothing was given.
+    /// There are more lists than lanes not yet issued, or more sources than consumers not yet issued. Nothing has
+    /// changed.
     AllGiven,
-    /// The budget is 0. Nothing was given.
+    /// The budget is 0. Nothing has changed.
     BadBudget,
-    /// The allocator refused what the run needs. Each producer given has ended its lane, and all that was given is
-    /// taken in.
+    /// The allocator refused what the run needs. Each producer issued has ended its lane, and all that the call issued
+    /// is returned. The hub keeps what was returned before.
     NoMemory,
-    /// A thread could not be started. It comes only if there is a list or a source. Each producer given has ended its
-    /// lane, and all that was given is taken in.
+    /// A thread could not be started, for whatever reason: it is started without the caller's allocator. It comes only
+    /// if there is a list or a source. Else as after `NoMemory`.
     NoThread,
 }
 
@@ -78,19 +78,19 @@ impl fmt::Display for WorkFault {
 
 impl Error for WorkFault {}
 
-/// Runs one thread for each list, and one for each source of random words. The first are producers. Each puts its
-/// list in order up to the first `Full`, and then ends its lane. The others are consumers, which are started after
-/// the producers. They poll the lanes given in this call in rising order, round and round, each until it has ended.
-/// Numbers are given in the order of the lists and of the sources. Before its n-th put or poll each worker asks the
-/// gate. It stops if the gate does not let it through.
+/// Runs a thread for each list, and one for each source of random words. The first are producers. Each puts its list in
+/// order up to the first `Full`, and then ends its lane. The others are consumers, which are started after the
+/// producers. They poll the lanes issued in this call in rising order, round and round, each until it has ended.
+/// Numbers are issued in the order of the lists and of the sources. Before its n-th put or poll each worker asks the
+/// gate, and stops if that returns `false`.
 ///
-/// It hands items out and runs none. Each `Took` note of the report that [`Mailbox::gather`] gives is an item to be
-/// run, once. So is each item that the report leaves. What was not put is in no report: it is the rest of a list
-/// after the items that its lane has put. So keep a copy of the lists.
+/// It runs no item. Each `Took` note of the report that [`Mailbox::gather`] returns is an item to be run, once. So is
+/// each item that is left. What was not put is in no report: it is the rest of a list after the items that its lane has
+/// put. So keep a copy of the lists.
 ///
 /// `budget` is the most accesses of one poll, at least 1. A claim that is cut short is kept and goes on at the next
 /// poll. So with a small budget the gate is asked more often, and a poll costs more. Each consumer draws its random
-/// words from its own source. The first consumer given in this call has the first of `rngs`, and so on.
+/// words from its own source. The first consumer issued in this call has the first of `rngs`, and so on.
 ///
 /// Faults are decided in the order of [`WorkFault`]. After `NoMemory` and `NoThread` some items may have been taken:
 /// a report says which. The call may wait for its threads, and for nobody else.
@@ -151,7 +151,7 @@ pub fn work<
     work_with(rt, mailbox, hub, load, gate, memory)
 }
 
-/// How many lanes were not given yet.
+/// How many lanes were not issued yet.
 pub fn lanes_left<A: Allocator + Drop, B: Allocator + Drop>(
     mailbox: &Mailbox<B>,
     hub: &Hub<A>,
@@ -161,7 +161,7 @@ pub fn lanes_left<A: Allocator + Drop, B: Allocator + Drop>(
     (mailbox.lanes as usize).saturating_sub(hub.puts.len())
 }
 
-/// How many numbers of consumers were not given yet.
+/// How many consumers were not issued yet.
 pub fn consumers_left<A: Allocator + Drop, B: Allocator + Drop>(
     mailbox: &Mailbox<B>,
     hub: &Hub<A>,
@@ -171,7 +171,7 @@ pub fn consumers_left<A: Allocator + Drop, B: Allocator + Drop>(
     (mailbox.claims.layout().consumers() as usize).saturating_sub(hub.ledgers.len())
 }
 
-/// How many lanes the hub has given.
+/// How many lanes the hub has issued.
 fn lanes_given<A: Allocator + Drop>(hub: &Hub<A>) -> usize
     ensures { result ≡ length hub.now.puts }
 {

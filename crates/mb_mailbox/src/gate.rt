@@ -10,21 +10,24 @@ pub enum Who {
     Consumer(u32),
 }
 
-/// A gate is asked before each put or poll of a worker, and is called again after it. The calls of a worker have the
-/// numbers 1, 2, .. in order. All workers share the gate. So one that waits in [`Gate::enter`] may wait for the
-/// others. It must not wait for ever.
+/// [`work`](crate::work) asks a gate before each put and poll of a worker ([`Gate::enter`]), and tells it after
+/// ([`Gate::leave`]). The calls of a worker have the numbers 1, 2, .. in order. So a gate that returns `call <= 3` lets
+/// each worker make three. All workers share the gate. So one that waits in `enter` may wait for the others. Both calls
+/// have to return.
+///
+/// Two ghost members say whom `enter` may stop before which call (`may_stop`), and whom it may let pass (`may_pass`).
+/// By default each names every worker before every call. Then `worked` of `work` does not say that each list was put
+/// whole. `called` uses `may_pass`. [`OpenGate`] stops nobody. No clause says that `leave` is called: that is tested.
 pub trait Gate: Sync {
     ghost use Rattle.mb_mailbox.specs.declared.gate.Who.{Who};
 
-    // Before which calls it may stop which worker. If an implementation says nothing, it may stop each before any.
+    // before which calls it may stop which worker
     ghost may_stop: { Self → Who → ℕ → Type 0 } = { λ _ _ _. Unit {0} };
 
-    // Before which calls it may let which worker pass. If an implementation says nothing, it may let each pass before
-    // any.
+    // before which calls it may let which worker pass
     ghost may_pass: { Self → Who → ℕ → Type 0 } = { λ _ _ _. Unit {0} };
 
-    /// Whether the worker may make its call of this number. If not, the worker stops. It returns `false` only if
-    /// `may_stop` holds, and `true` only if `may_pass` holds.
+    /// Whether the worker may make its call of this number. If not, the worker stops, and does not make it.
     fn enter(&self, who: Who, call: u64) -> bool
         ensures stop { result ≡ false → may_stop self.now who call }
         ensures pass { result ≡ true → may_pass self.now who call };

@@ -1,4 +1,4 @@
-//! The end of a mailbox: the report of all that was taken in.
+//! The end of a mailbox: the report of all that was returned.
 mod draft;
 mod fill;
 mod reports;
@@ -21,7 +21,7 @@ use std::fmt;
 /// Why there is no report.
 #[derive(Clone, Copy, PartialEq, Eq, Debug)]
 pub enum GatherFault {
-    /// This many producers, and this many consumers, were given and not taken in.
+    /// This many producers, and this many consumers, were issued and not returned.
     Missing(u32, u32),
     /// The allocator refused room for the report.
     NoMemory,
@@ -48,10 +48,10 @@ impl<A: Allocator + Clone + Drop> Mailbox<A> {
     ghost use Rattle.mb_mailbox.specs.Gathering.{FullTakesAll, IsGathered, IsReportIn, UndecidedHasCompany, count_missing};
     ghost use Rattle.mb_mailbox.specs.Hubs.{IsHubOf};
 
-    /// Ends the mailbox, and returns what all that were taken in did: the items put, the notes, and what is left.
-    /// [`GatherFault::Missing`] comes exactly if a producer or a consumer was given and not taken in. It is decided
-    /// first. All room for the report is taken before the tables are closed. So after a fault both values come back
-    /// as they were, and `gather` may be called again.
+    /// Ends the mailbox, and returns the report: the items put, the notes, and what is left. The fault is
+    /// [`GatherFault::Missing`] exactly if a producer or consumer was issued and not returned. Else it can only be
+    /// [`GatherFault::NoMemory`]. After a fault mailbox and hub come back as they were, and `gather` may be called
+    /// again.
     pub fn gather(
         self,
         alloc: A,
@@ -67,7 +67,7 @@ impl<A: Allocator + Clone + Drop> Mailbox<A> {
             → IfErr result (λ e. e ≡ (NoMemory, self, hub)) }
         ensures same { IfErr result (λ e. (e.1 ≡ self) × (e.2 ≡ hub)) }
 
-        // The lists and diaries are those of what was taken in.
+        // The lists and diaries are those of what was returned.
         ensures lists { IfOk result (λ r.
             IsReportIn self.cells.size.lanes (consumer_count self.claims.layout) hub r) }
 
@@ -89,7 +89,7 @@ impl<A: Allocator + Clone + Drop> Mailbox<A> {
         }
     }
 
-    /// How many producers, and how many consumers, were given and not taken in.
+    /// How many producers, and how many consumers, were issued and not returned.
     pub fn missing(&self, hub: &Hub<A>) -> (u32, u32)
         requires of { IsHubOf self.now hub.now }
         ensures producers { result.0 ≡ count_missing hub.now.puts }
@@ -104,8 +104,8 @@ impl<A: Allocator + Clone + Drop> Mailbox<A> {
         )
     }
 
-    /// Makes the report of what was taken in so far, but for the items put, with all the room that it needs. If the
-    /// memory is refused, the hub comes back as it was.
+    /// Makes the report of what was returned so far, but for the items put, with all the room that it needs. If memory
+    /// is refused, the hub comes back as it was.
     pub fn draft(&self, alloc: A, hub: Hub<A>) -> Result<Draft<A>, Hub<A>>
         requires of { IsHubOf self.now hub }
         ensures drafted { IfOk result (λ draft. draft ≡ hub) }
@@ -118,7 +118,7 @@ impl<A: Allocator + Clone + Drop> Mailbox<A> {
         }
     }
 
-    /// Ends the mailbox with a draft that was made after all were taken in. It takes no memory, so it cannot fail.
+    /// Ends the mailbox with a draft that was made after all were returned. It takes no memory, so it cannot fail.
     pub fn gather_with(self, draft: Draft<A>) -> Report<A>
         requires of { IsHubOf self draft }
         requires producers { count_missing draft.puts ≡ 0 }
@@ -159,7 +159,7 @@ impl<A: Allocator + Clone + Drop> Mailbox<A> {
     }
 }
 
-/// How many of those given were not taken in.
+/// How many of those issued were not returned.
 fn missing<T: Drop>(given: &[Option<T>]) -> u32
     requires { length given.now ≤ 64 }
     ensures { result ≡ count_missing given.now }

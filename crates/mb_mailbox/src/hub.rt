@@ -1,4 +1,4 @@
-//! The hub of a mailbox, which gives producers and consumers and takes them in.
+//! The hub of a mailbox, which issues producers and consumers and takes them back.
 ghost use Rattle.std.specs.Prelude.{◌≡◌, ◌≤◌, []};
 ghost use Rattle.mb_mailbox.specs.NewConsumers.{AreHeads};
 
@@ -21,10 +21,10 @@ use std::error::Error;
 use std::fmt;
 use std::marker::Model;
 
-/// Why no producer or consumer was given.
+/// Why no producer or consumer was issued.
 #[derive(Clone, Copy, PartialEq, Eq, Debug)]
 pub enum HubFault {
-    /// All numbers of the setup were given.
+    /// The hub has issued all numbers of the setup.
     AllGiven,
     /// The allocator refused the memory that the producer or consumer needs.
     NoMemory,
@@ -41,7 +41,7 @@ impl fmt::Display for HubFault {
 
 impl Error for HubFault {}
 
-/// The hub gives producers and consumers by their numbers, and takes them in.
+/// The hub issues producers and consumers by their numbers, and takes them back.
 #[derive(Drop)]
 pub struct Hub<A: Allocator + Drop> {
     pub(crate) cells: CellHub,
@@ -84,8 +84,8 @@ impl<A: Allocator + Drop> Hub<A> {
     ghost use Rattle.mb_mailbox.specs.Hubs.{with_taken_consumer, with_taken_producer};
     ghost use Rattle.mb_mailbox.specs.Producers.{IsProducerOf};
 
-    /// This holds of every hub. The parts of the cells that it has taken in are those of one lawful history. This
-    /// computes nothing: its contract is a law of all hubs.
+    /// The parts of the cells that were returned to a hub are those of one lawful history. This computes nothing: its
+    /// contract is a law of all hubs.
     pub fn has_history(&self)
         ensures kept { IsHub self.now }
         ensures pool { (pool : History)
@@ -94,9 +94,9 @@ impl<A: Allocator + Drop> Hub<A> {
         self.cells.has_history();
     }
 
-    /// Gives the producer of the next lane, which has put nothing. Numbers are given in order, from 0 on.
-    /// [`HubFault::AllGiven`] comes exactly if each lane of the mailbox was given, and is decided first. Any other error
-    /// is [`HubFault::NoMemory`]. After an error nothing has changed.
+    /// Issues the producer of the next lane, which has put nothing. Lanes are issued in order, from 0 on.
+    /// [`HubFault::AllGiven`] comes exactly if each lane of the mailbox was issued. Else the error can only be
+    /// [`HubFault::NoMemory`]. After an error nothing has changed.
     pub fn producer<B: Allocator + Drop>(
         &mut self,
         alloc: A,
@@ -124,8 +124,8 @@ impl<A: Allocator + Drop> Hub<A> {
         Ok(Producer { seat, items })
     }
 
-    /// Takes a producer in, even before its lane has ended. Its part and its items then belong to the hub, as they
-    /// are, for the report. Its number is not given again. Room that its list does not need goes back to the
+    /// Takes a producer back, even before its lane has ended. Its part and its items then belong to the hub, as they
+    /// are, for the report. Its number is not issued again. Memory that its list does not need goes back to the
     /// allocator.
     pub fn take_producer<B: Allocator + Drop>(
         &mut self,
@@ -150,8 +150,8 @@ impl<A: Allocator + Drop> Hub<A> {
         self.puts[lane as usize] = Some(PutList { items, ended });
     }
 
-    /// Takes a consumer in, even while it holds claims. Its parts, its places and its notes then belong to the hub,
-    /// as they are, for the report. Its number is not given again. Room that its notes do not need goes back to the
+    /// Takes a consumer back, even while it holds claims. Its parts, its places and its notes then belong to the hub,
+    /// as they are, for the report. Its number is not issued again. Memory that its notes do not need goes back to the
     /// allocator.
     pub fn take_consumer<B: Allocator + Drop>(
         &mut self,
@@ -184,9 +184,9 @@ impl<A: Allocator + Clone + Drop> Hub<A> {
     ghost use Rattle.mb_mailbox.specs.Imports.{consumer_count};
     ghost use Rattle.mb_mailbox.specs.Hubs.{IsHubOf, IsNewConsumer, with_consumer};
 
-    /// Gives the consumer of the next number, which has done nothing. Numbers are given in order, from 0 on.
-    /// [`HubFault::AllGiven`] comes exactly if all numbers of the mailbox were given, and is decided first. Any other
-    /// error is [`HubFault::NoMemory`]. After an error nothing has changed.
+    /// Issues the consumer of the next number, which has done nothing. Numbers are issued in order, from 0 on.
+    /// [`HubFault::AllGiven`] comes exactly if all numbers of the mailbox were issued. Else the error can only be
+    /// [`HubFault::NoMemory`]. After an error nothing has changed.
     pub fn consumer<B: Allocator + Drop>(
         &mut self,
         alloc: A,

@@ -1,4 +1,4 @@
-//! Laws of polls, of what a hub has taken in, and of what is gathered. The functions compute nothing: their contracts
+//! Laws of polls, of what a hub has taken back, and of what is gathered. The functions compute nothing: their contracts
 //! are the laws.
 ghost use Rattle.std.specs.Prelude.{ℕ, ◌≡◌, ◌≢◌, ◌≤◌, ◌<◌, ◌+◌, List, [], ◌∷◌, Some, None, false, true, length, map, slice_get};
 ghost use Rattle.mb_claim.specs.Vocabulary.{most_accesses, shape_of};
@@ -40,7 +40,7 @@ pub fn polls_are_short()
     prefixes_have_one_stage();
 }
 
-/// A lane that was never given is open and empty. A consumer that was never given has noted and begun nothing.
+/// A lane that was never issued is open and empty. A consumer that was never issued has noted and begun nothing.
 pub fn what_was_not_given_is_empty()
     ensures items { (h : HubView) (p : ℕ) → length h.puts ≤ p → items_in p h ≡ [] }
     ensures ended { (h : HubView) (p : ℕ) → length h.puts ≤ p → ended_in p h ≡ false }
@@ -48,7 +48,7 @@ pub fn what_was_not_given_is_empty()
     ensures begun { (h : HubView) (c p : ℕ) → length h.ledgers ≤ c → begun_in c p h ≡ false }
 {}
 
-/// The report has what was taken in: the producer's own items, and the consumer's own notes.
+/// The report has what was returned: the producer's own items, and the consumer's own notes.
 pub fn what_was_taken_in_is_told()
     ensures items { (h : HubView) (s : ProducerView)
         → slice_get h.puts s.seat.lane ≡ Some None
@@ -65,7 +65,7 @@ pub fn what_was_taken_in_is_told()
 {}
 
 /// If a consumer has a note on each cell that it met on a lane, it holds no claim there. This holds after each poll
-/// of the lane that is not spent. If the consumer is taken in then, its diary of the lane has no claim begun.
+/// of the lane that is not spent. If the consumer is returned then, its diary of the lane has no claim begun.
 pub fn noted_lanes_hold_no_claim()
     ensures place { (s : ConsumerView) (p k : ℕ) (claim : Claim) → IsConsumer s → HasNoteOnEach p s
         → slice_get s.places p ≢ Some (At k claim) }
@@ -115,7 +115,7 @@ pub fn takes_by_example()
         → IsTakeOf p 2 Spent s t old old → ⊥ }
 {}
 
-/// What was taken in has one report.
+/// What was returned has one report.
 pub fn hubs_have_one_report()
     ensures { (lanes consumers : ℕ) (h : HubView) (r s : ReportView)
         → IsReportIn lanes consumers h r → IsReportIn lanes consumers h s → r ≡ s }

@@ -18,13 +18,19 @@
 //!    link.
 //! 3. [`Producer::finish`] stores an end mark in place of the next link. A consumer that meets it has met the whole
 //!    lane.
-//! 4. The [`Hub`] takes everybody in, and [`Mailbox::gather`] makes the report of what each of them kept.
+//! 4. All return to the [`Hub`], and [`Mailbox::gather`] makes the report of what each of them kept.
 //!
 //! # Why at most one takes an item
 //!
 //! If a ratifier decides on a number for one consumer, it returns that number to all that come through it. So does a
 //! last object. So all claims on a cell that are decided name one winner. Lanes and claims need no common order:
 //! docs/MODEL.md says why.
+//!
+//! # What the calls need
+//!
+//! Each needs that the producer, consumer or hub is of the mailbox (`IsProducerOf`, `IsConsumerOf`, `IsHubOf`). The
+//! setup, its faults and the report are types of `mb_world`, `TableName` is of `mb_quorum`, `Finish` and `NoMemory` of
+//! `mb_cells`.
 //!
 //! # How to read the bodies
 //!

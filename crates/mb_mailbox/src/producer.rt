@@ -13,8 +13,8 @@ use std::marker::Model;
 pub enum Put {
     /// The item was linked: it is the last of the lane.
     Linked,
-    /// No cell was left for the item. The item is still the caller's, and in no report. No cell comes back, so each
-    /// further put of this producer returns `Full`, up to its finish.
+    /// No cell was left for the item. The item is still the caller's, and in no report. The items put before stay. No
+    /// cell comes back, so each further put of this producer returns `Full`, up to its finish.
     Full,
     /// This producer's own finish has ended the lane.
     Closed,
@@ -55,7 +55,8 @@ impl<A: Allocator + Drop> Producer<A> {
     }
 
     /// Puts an item, any number, at the end of the lane. It takes a cell, stores the item there, and links the cell.
-    /// It makes at most these three accesses, waits for nobody and takes no memory.
+    /// These are three accesses. The first put that returns [`Put::Full`] makes the fetch-add alone, and any put after
+    /// it makes none. Nor does one that returns [`Put::Closed`]. It takes no lock and no memory.
     #[inline(always)]
     pub fn put<B: Allocator + Drop>(&mut self, mailbox: &Mailbox<B>, x: u64) -> Put
         requires of { IsProducerOf mailbox.now self.old }
@@ -89,8 +90,9 @@ impl<A: Allocator + Drop> Producer<A> {
         }
     }
 
-    /// Ends the lane: no item comes after those that it has. It returns `Ended`, or `Closed` if the lane had ended
-    /// before. It never returns `Busy`, since each item put is linked.
+    /// Ends the lane by one store: no item comes after those that it has. It returns `Ended`. If the lane had ended
+    /// before, it returns `Closed` and makes no access. It never returns `Busy`, since each item put is linked. It takes
+    /// no lock and no memory.
     pub fn finish<B: Allocator + Drop>(&mut self, mailbox: &Mailbox<B>) -> Finish
         requires of { IsProducerOf mailbox.now self.old }
         ensures ended { result ≡ finish.Ended → IsEndOfLane self.old self.new }

@@ -114,7 +114,7 @@ fn read_bytes<A: Allocator + Copy>(alloc: A, bytes: &[u8]) -> Result<RatifyScrip
     read_lines(alloc, text)
 }
 
-/// The script that the bytes spell, or their first fault.
+/// The script that the bytes spell, or their first fault, in the order of [`RatifyFault`], or `NoMemory`.
 pub fn read_script<A: Allocator + Copy>(
     alloc: A,
     bytes: &[u8],

@@ -22,8 +22,12 @@ use std::thread::Threads;
 /// Does what the words of the command line ask for, from `reader` to `writer`.
 ///
 /// The line of a fault goes to `errors`, and so does the reason why clap refuses the words. Help that was asked for
-/// goes to `writer`. `words` begin with the program's name. Returns how the program ends: `Done`, `Failed` or
-/// `Refused`.
+/// goes to `writer`. `words` begin with the program's name.
+///
+/// Returns how the program ends. `Refused` comes only by a kind that clap's rules give, if no command is named, or if
+/// memory runs out. Else it is `Done`, or `Failed` with the command's fault. `NonUtf8Args` and `ArgsUnavailable` never
+/// come. At most 1,048,577 bytes are read. The call may wait for its threads. After `Done` nothing went to `errors`.
+/// After `Refused` nothing was read, and one of the two writers is as before.
 pub fn run<
     R: AllocGlobal + Threads + Wait + Sync,
     S: AsStr,

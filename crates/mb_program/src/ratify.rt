@@ -44,7 +44,10 @@ impl ScriptCommand for Ratify {
 
 /// Reads a ratifier script to its end, runs the ratifier, and writes the trace and nothing else.
 ///
-/// The whole text is made before the first write. No error of a device is retried.
+/// It reads at most 1,048,577 bytes. The whole text is made before the first write. No error of a device is retried.
+///
+/// While it reads, `ReadFault`, `TooLong` and `NoMemory` come, whichever is met first. Then come the other faults of
+/// the script, in the order of [`RatifyFault`], then `NoMemory`, then `WriteFault`.
 pub fn ratify_text<A: Allocator + Copy, R: CountedRead, W: CountedWrite>(
     alloc: A,
     reader: &mut R,

@@ -98,7 +98,8 @@ pub struct Workload<A: Allocator + Drop> {
     pub rngs: Vec<ChaCha8Rng, A>,
 }
 
-/// What the workers get under these options. `run_threads` passes it to `work`.
+/// What the workers get under these options, of at most 16 producers, 64 consumers and 256 items. `run_threads` passes
+/// it to `work`.
 pub fn workload_of<A: Allocator + Copy + Drop>(
     alloc: A,
     options: Options,
@@ -176,7 +177,10 @@ fn report_of<A: Allocator + Copy + Drop + Send + Sync, T: Threads + Wait + Sync>
 /// all lanes have ended, each with the random words of its [`source_of`]. There is a cell for each item. More than 256
 /// cells are refused, also if their number is past 2^64 - 1.
 ///
-/// The whole text is made before the first write. No failed write is tried again.
+/// The budget has to be at least 1. The whole text is made before the first write. No failed write is tried again. The
+/// call may wait for its threads.
+///
+/// `BadSetup` comes first, then `NoMemory` or `NoThread`, whichever is met first, and then `WriteFault`.
 pub fn run_threads<
     A: Allocator + Copy + Drop + Send + Sync,
     T: Threads + Wait + Sync,

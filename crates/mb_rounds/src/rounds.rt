@@ -14,7 +14,7 @@ pub struct Round<A: Allocator + Drop> {
     /// For each consumer of the setup, in the order of their numbers, the items that it took: those of lane 0 first,
     /// and those of each lane in the order put.
     pub taken: Vec<Vec<u64, A>, A>,
-    /// How many workers were stopped, and for how many items there was no cell. There is one for each item dealt.
+    /// How many workers were stopped, and for how many items there was no cell: none, since each item dealt has one.
     pub worked: Worked,
     /// The report of the round's mailbox. Each item that it says is left is carried.
     pub report: Report<A>,

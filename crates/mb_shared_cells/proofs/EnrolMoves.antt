@@ -36,17 +36,17 @@ known_by : Process → Roll → PartList
 known_by (Producer p) roll = []
 known_by (Reader r) roll = roll.lanes
 
--- how many lanes are enrolled with this process, if n were before
+-- how many lanes are issued with this process, if n were before
 lanes_after : Process → ℕ → ℕ
 lanes_after (Producer p) n = n + 1
 lanes_after (Reader r) n = n
 
--- how many readers are enrolled with this process, if n were before
+-- how many readers are issued with this process, if n were before
 readers_after : Process → ℕ → ℕ
 readers_after (Producer p) n = n
 readers_after (Reader r) n = n + 1
 
--- the seating with this process enrolled, at seat `to`
+-- the seating with this process issued, at seat `to`
 seating_after : Process → ℕ → Seating → Seating
 seating_after who to t = record {
   history = t.history;
@@ -56,7 +56,7 @@ seating_after who to t = record {
   seat_of = moved who to t.seat_of;
 }
 
--- a process that was enrolled before still is
+-- a process that was issued before still is
 still_enrolled : (who : Process) (to : ℕ) (t : Seating) (x : Process) → IsEnrolled t x
     → IsEnrolled (seating_after who to t) x
 unfolding lanes_after readers_after seating_after
@@ -65,21 +65,21 @@ still_enrolled (Producer p) to t (Reader q) e = e
 still_enrolled (Reader p) to t (Producer q) e = e
 still_enrolled (Reader p) to t (Reader q) e = omega arith
 
--- the process of that seating is enrolled in it
+-- the process of that seating is issued in it
 next_enrolled : (size : PoolSize) (seat : ℕ) (own : PoolSize) (roll : Roll) (who : Process) (to : ℕ) (t : Seating)
     → IsHub size t seat own roll → IsNext who roll → IsEnrolled (seating_after who to t) who
 unfolding lanes_after readers_after seating_after IsNext
 next_enrolled size seat own roll (Producer p) to t h is = let n = h.lanes in omega arith
 next_enrolled size seat own roll (Reader r) to t h is = let n = h.readers in omega arith
 
--- a process with the next number was not enrolled before
+-- a process with the next number was not issued before
 next_not_enrolled : (size : PoolSize) (seat : ℕ) (own : PoolSize) (roll : Roll) (who : Process) (t : Seating)
     → IsHub size t seat own roll → IsNext who roll → IsEnrolled t who → ⊥
 unfolding IsNext
 next_not_enrolled size seat own roll (Producer p) t h is e = let n = h.lanes in omega arith
 next_not_enrolled size seat own roll (Reader r) t h is e = let n = h.readers in omega arith
 
--- each process enrolled in that seating was enrolled before, or is the new one
+-- each process issued in that seating was issued before, or is the new one
 enrolled_before : (size : PoolSize) (seat : ℕ) (own : PoolSize) (roll : Roll) (who : Process) (to : ℕ) (t : Seating)
     (x : Process) → IsHub size t seat own roll → IsNext who roll → IsEnrolled (seating_after who to t) x
     → (IsEnrolled t x) ⊎ (who ≡ x)
@@ -93,14 +93,14 @@ enrolled_before size seat own roll (Reader p) to t (Reader q) h is e =
     let n = h.readers in
     elim (cases_eq q t.readers) [ inl same ↦ inr (ap Reader (is ∙ n ∙ sym same)) | inr other ↦ inl (omega arith) ]
 
--- the roll with that number has a place for each lane enrolled
+-- the roll with that number has a place for each lane issued
 grown_lanes : (who : Process) (roll : Roll) (n : ℕ) → length roll.lanes ≡ n
     → length (grown who roll).lanes ≡ lanes_after who n
 unfolding lanes_after grown
 grown_lanes (Producer p) roll n e = omega (arith, length-append roll.lanes (None ∷ []))
 grown_lanes (Reader r) roll n e = e
 
--- the roll with that number has a place for each reader enrolled
+-- the roll with that number has a place for each reader issued
 grown_readers : (who : Process) (roll : Roll) (n : ℕ) → length roll.readers ≡ n
     → length (grown who roll).readers ≡ readers_after who n
 unfolding readers_after grown
@@ -123,7 +123,7 @@ unfolding before grown
 before_keeps (Producer p) own roll x h = (h.0, with_lane-has roll x (Some h.0) h.1)
 before_keeps (Reader p) own roll x h = (h.0, with_reader-has roll x (Some h.0) h.1)
 
--- if the hub's view before the split fits, it is the hub's, and the roster counts the lanes enrolled with the process
+-- if the hub's view before the split fits, it is the hub's, and the roster counts the lanes issued with the process
 before_fits : (size : PoolSize) (t : Seating) (roster seat : ℕ) (who : Process) (own : PoolSize) (roll : Roll)
     → FitsView size t roster seat (before who own roll)
     → IsHub size t seat own roll × (roster ≡ lanes_after who t.lanes)
@@ -131,7 +131,7 @@ unfolding lanes_after before
 before_fits size t roster seat (Producer p) own roll h = h
 before_fits size t roster seat (Reader r) own roll h = h
 
--- each lane of which a new seat gets the part was taken in
+-- each lane of which a new seat gets the part was returned
 newcomer_knows : (size : PoolSize) (t : Seating) (seat : ℕ) (own : PoolSize) (roll : Roll) (who : Process)
     → IsHub size t seat own roll → KnowsTaken t (known_by who roll)
 unfolding known_by

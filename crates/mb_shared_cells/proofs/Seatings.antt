@@ -62,7 +62,7 @@ pub record Spares (t u : Seating) (roster more seat : ℕ) : Type 0 where
   pub stand : (who : Process) → IsEnrolled t who → (t.seat_of who ≡ seat) ⊎ (t.seat_of who ≡ t.hub)
       → (u.seat_of who ≡ t.seat_of who) × (part who u.history ≡ part who t.history)
 
--- a process with a place in the roll was enrolled
+-- a process with a place in the roll was issued
 pub roll_enrolled : (size : PoolSize) (t : Seating) (seat : ℕ) (own : PoolSize) (roll : Roll) (who : Process)
     (b : Option History) → IsHub size t seat own roll → roll_at who roll ≡ Some b → IsEnrolled t who
 roll_enrolled size t seat own roll (Producer p) b h e =
@@ -70,7 +70,7 @@ roll_enrolled size t seat own roll (Producer p) b h e =
 roll_enrolled size t seat own roll (Reader r) b h e =
     let low = slice_get_within roll.readers r b e in let is = h.readers in omega arith
 
--- the seat of a process that was enrolled is out, or was taken in
+-- the seat of a process that was issued is out, or was returned
 pub enrolled_out : (size : PoolSize) (t : Seating) (seat : ℕ) (own : PoolSize) (roll : Roll) (who : Process)
     → IsHub size t seat own roll → IsEnrolled t who
     → (roll_at who roll ≡ Some None) ⊎ ((done : History) × (roll_at who roll ≡ Some (Some done)))
@@ -153,7 +153,7 @@ pub stands_longer : (views : List View) (new : View) (seat : ℕ) (who : Process
     → StandsAt (views ++ new ∷ []) seat who
 stands_longer views new seat who h = (h.0, at_longer views (new ∷ []) seat h.0 h.1, h.2)
 
--- a process that was enrolled has a number in range
+-- a process that was issued has a number in range
 pub enrolled_fits : (t : Seating) (lanes roster : ℕ) (who : Process) → IsEnrolled t who → t.lanes ≤ roster
     → roster ≤ lanes → ProcessFits lanes who
 enrolled_fits t lanes roster (Producer p) low drawn few = omega arith

@@ -129,7 +129,7 @@ loaded_keeps who own done roll x out (d, inl e) = (
 )
 loaded_keeps who own done roll x out (d, inr e) = with_part-has who done roll x d e
 
--- a process without a place in the roll was not enrolled
+-- a process without a place in the roll was not issued
 not_enrolled : (size : PoolSize) (t : Seating) (seat : ℕ) (own : PoolSize) (roll : Roll) (who : Process)
     → IsHub size t seat own roll → roll_at who roll ≡ None → IsEnrolled t who → ⊥
 not_enrolled size t seat own roll (Producer p) h none e =

@@ -87,7 +87,7 @@ set_has (x ∷ xs) zero (suc k) done d e = (d, e)
 set_has (x ∷ xs) (suc i) zero done d e = (d, e)
 set_has (x ∷ xs) (suc i) (suc k) done d e = set_has xs i k done d e
 
--- a number in the list is out, or was taken in
+-- a number in the list is out, or was returned
 pub out_or_in : (xs : PartList) (k : ℕ) → k < length xs
     → (slice_get xs k ≡ Some None) ⊎ ((done : History) × (slice_get xs k ≡ Some (Some done)))
 out_or_in [] k low = absurd (omega arith)

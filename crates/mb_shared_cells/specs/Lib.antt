@@ -5,7 +5,7 @@ pub mod Rule
 pub mod Shown
 pub mod Calls
 pub mod Seats
-pub mod Examples
+pub mod Samples
 pub mod Vocabulary
 -- the names that clauses use, also for the crates above
 pub use Vocabulary.*

@@ -16,7 +16,7 @@ use Rattle.mb_shared_cells.specs.declared.views.View.TheVariants.{Empty, Hub, Hu
 abbrev pub roster_of : PoolSize → ℕ
 roster_of size = pool_words size
 
--- how the parts of one history are seated: the history, how many lanes and readers were enrolled, and which seat is the
+-- how the parts of one history are seated: the history, how many lanes and readers were issued, and which seat is the
 -- hub's. For each process it has the one seat with its part
 pub record Seating : Type 0 where
   pub history : History
@@ -25,12 +25,12 @@ pub record Seating : Type 0 where
   pub hub : ℕ
   pub seat_of : Process → ℕ
 
--- the process was enrolled
+-- the process was issued
 abbrev pub IsEnrolled : Seating → Process → Type 0
 IsEnrolled t (Producer p) = p < t.lanes
 IsEnrolled t (Reader r) = r < t.readers
 
--- the view is the hub's: its roll has a place for each process enrolled, and the parts in it are those of the history
+-- the view is the hub's: its roll has a place for each process issued, and the parts in it are those of the history
 pub record IsHub (size : PoolSize) (t : Seating) (seat : ℕ) (own : PoolSize) (roll : Roll) : Type 0 where
   pub sized : own ≡ size
   pub here : seat ≡ t.hub
@@ -39,13 +39,13 @@ pub record IsHub (size : PoolSize) (t : Seating) (seat : ℕ) (own : PoolSize) (
   pub parts : (who : Process) (done : History) → roll_at who roll ≡ Some (Some done)
       → (t.seat_of who ≡ seat) × (done ≡ part who t.history)
 
--- each lane of which the list has a part was taken in, and that part is the one of the history
+-- each lane of which the list has a part was returned, and that part is the one of the history
 abbrev pub KnowsTaken : Seating → PartList → Type 0
 KnowsTaken t known =
     (p : ℕ) (theirs : History) → slice_get known p ≡ Some (Some theirs)
     → (p < t.lanes) × (t.seat_of (Producer p) ≡ t.hub) × (theirs ≡ part (Producer p) t.history)
 
--- the process was enrolled, this is its seat, and the part is that of the history
+-- the process was issued, this is its seat, and the part is that of the history
 pub record HasPart (t : Seating) (seat : ℕ) (who : Process) (done : History) : Type 0 where
   pub here : t.seat_of who ≡ seat
   pub enrolled : IsEnrolled t who
@@ -94,9 +94,9 @@ pub record IsTableState (size : PoolSize) (words : List ℕ) (views : List View)
   -- there are no more numbers than lanes
   pub few : slice_index words (roster_of size) ≤ size.lanes
   pub drawn : t.lanes ≤ slice_index words (roster_of size)
-  -- a process that was not enrolled did nothing
+  -- a process that was not issued did nothing
   pub nobody_else : (who : Process) → (IsEnrolled t who → ⊥) → part who t.history ≡ []
-  -- a process that was enrolled is in the view of its seat, and what each view says of a part is true
+  -- a process that was issued is in the view of its seat, and what each view says of a part is true
   pub stands : (who : Process) → IsEnrolled t who → StandsAt views (t.seat_of who) who
   pub fits : (seat : ℕ) (v : View) → IsViewAt views seat v
       → FitsView size t (slice_index words (roster_of size)) seat v

@@ -64,7 +64,7 @@ abbrev pub name_in : TableId → SeatState → CellsName
 name_in id me = record { id = id; size = size_in me.0 }
 
 -- ---- what is kept, and how callers see it
--- what is kept in the hub: it counts the lanes' numbers that it gave, and the parts that it took in are those of some
+-- what is kept in the hub: it counts the lanes' numbers that it issued, and the parts that it took back are those of some
 -- lawful history
 pub record IsHubSeat (me : SeatState) (given : ℕ) : Type 0 where
   pub is : me ≡ (Hub (size_in me.0) (roll_in me.0), [])

@@ -13,7 +13,7 @@ pub record CellsName : Type 0 where
   pub id : TableId
   pub size : PoolSize
 
--- the hub: of which table it is, and its roll, with the parts that it has taken in
+-- the hub: of which table it is, and its roll, with the parts that it has taken back
 pub record CellHubView : Type 0 where
   pub table : CellsName
   pub roll : Roll
@@ -25,7 +25,7 @@ pub record LaneSeatView : Type 0 where
   pub place : Lane
   pub part : History
 
--- a reader's seat: its number, the parts of the lanes that were taken in before it was enrolled, and its own part
+-- a reader's seat: its number, the parts of the lanes that were returned before it was issued, and its own part
 pub record ReaderSeatView : Type 0 where
   pub table : CellsName
   pub reader : ℕ

@@ -21,7 +21,7 @@ PartList = List (Option History)
 abbrev pub SeatState : Type 0
 SeatState = Me (Unit {0}) View
 
--- the roll of a hub that has enrolled nobody
+-- the roll of a hub that has issued nobody
 abbrev pub empty_roll : Roll
 empty_roll = record { lanes = []; readers = [] }
 
@@ -72,7 +72,7 @@ MayComeNext size words a done =
     (h : History) → IsMemoryOf size words h → part a.process h ≡ done
     → ProcessFits size.lanes a.process → IsPoolLawful size (a ∷ h)
 
--- the history is lawful and has the parts that were taken in. A process whose number was not issued did nothing
+-- the history is lawful and has the parts that were returned. A process whose number was not issued did nothing
 pub record IsRollOf (size : PoolSize) (roll : Roll) (h : History) : Type 0 where
   pub lawful : IsPoolLawful size h
   pub parts : (who : Process) (done : History) → roll_at who roll ≡ Some (Some done) → part who h ≡ done
@@ -119,7 +119,7 @@ hub_after_split (HubJoins size roll who done) = HubJoins size roll who done
 hub_after_split (Member size who known done) = Member size who known done
 hub_after_split Empty = Empty
 
--- the view of the seat that was split off. A reader's has the parts of the lanes that the hub has taken in
+-- the view of the seat that was split off. A reader's has the parts of the lanes that the hub has taken back
 abbrev pub newcomer : View → View
 newcomer (Hub size roll) = Member size (Reader (length roll.readers)) roll.lanes []
 newcomer (HubDraws size roll) = Member size (Producer (length roll.lanes)) [] []

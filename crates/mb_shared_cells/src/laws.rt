@@ -53,7 +53,7 @@ pub fn states_have_one_history()
 {}
 
 /// Each kind of step leads from a state to a state. It changes only the view of the seat that makes it, with two
-/// exceptions: giving a lane or a reader adds the view of its seat, and a seat taken in has no part any more.
+/// exceptions: issuing a lane or a reader adds the view of its seat, and a seat returned has no part any more.
 pub fn steps_keep_states()
     // A table begins with zeros and its hub. The end mark is the link of none of its cells.
     ensures new { (size : PoolSize) → size.cells < END
@@ -68,8 +68,8 @@ pub fn steps_keep_states()
         → IsCellsState size (block_after size a words)
         (slice_set views id (Member own a.process known (a ∷ done))) }
 
-    // The hub draws a lane's number by a fetch-add on the roster. Then it gives the number out, by a split of its view.
-    // A reader's number it gives out by a split alone. That seat knows the parts of the lanes that were taken in.
+    // The hub draws a lane's number by a fetch-add on the roster. Then it issues the number, by a split of its view.
+    // A reader's number it issues by a split alone. That seat knows the parts of the lanes that were returned.
     ensures draw { (size own : PoolSize) (words : List ℕ) (views : List View) (id : ℕ) (roll : Roll)
         → IsCellsState size words views → IsViewAt views id (Hub own roll)
         → length roll.lanes < size.lanes
@@ -85,7 +85,7 @@ pub fn steps_keep_states()
         → IsCellsState size words (slice_set views id (Hub own (roll_with_reader roll))
         ++ Member own (Reader (length roll.readers)) roll.lanes [] ∷ []) }
 
-    // The hub takes a seat in by a join of its view. The load after it puts the seat's part into the roll.
+    // The hub takes a seat back by a join of its view. The load after it puts the seat's part into the roll.
     ensures take { (size own its : PoolSize) (words : List ℕ) (views : List View) (id other : ℕ)
         (roll : Roll) (who : Process) (known : PartList) (done : History)
         → IsCellsState size words views → IsViewAt views id (Hub own roll)
@@ -147,7 +147,7 @@ pub fn processes_stand_once()
         → StandsAt views one who → StandsAt views other who → one ≡ other }
 {}
 
-/// What a reader finds on a lane that was taken in before the reader was enrolled. It finds nothing only past all cells
+/// What a reader finds on a lane that was returned before the reader was issued. It finds nothing only past all cells
 /// of a lane that has not ended. It finds the end mark only past all cells of a lane that has ended. It finds no cell
 /// but the next.
 pub fn known_lanes_are_read_whole()

@@ -4,8 +4,9 @@
 //!
 //! # Seats
 //!
-//! - [`SharedCells`] owns the words. All its calls but [`SharedCells::new`] take no memory, and none waits.
-//! - [`CellHub`] issues seats, and takes them in again with what was done on them.
+//! - [`SharedCells`] owns the words. All its calls but [`SharedCells::new`] take no memory, and none waits. Each needs
+//!   that hub and seat are of this table.
+//! - [`CellHub`] issues seats, and takes them back with what was done on them.
 //! - [`LaneSeat`] is what a producer offers, pushes and finishes with. It keeps the producer's place as a
 //!   [`mb_cells::Lane`], and goes through it as `mb_cells::Pool` does.
 //! - [`ReaderSeat`] is what a reader looks and loads items with.
@@ -15,13 +16,13 @@
 //! Each access is one atomic step, whatever the other seats do. At every moment some lawful history of the pool leaves
 //! the words as they are. Its parts are those that the seats and the hub have (`specs/Rule.antt`). The holder of a seat
 //! knows its part. Each call says which access it made, after some lawful history in which the seat had done its part.
-//! In the end [`SharedCells::close`] gives one history for all parts that were taken in. So all laws of `mb_cells` hold
+//! In the end [`SharedCells::close`] gives one history for all parts that were returned. So all laws of `mb_cells` hold
 //! of what threads did, whatever the order of their steps.
 #![tactic(auto)]
 
-pub mod examples;
 pub mod laws;
 mod rule;
+pub mod samples;
 mod table;
 mod views;
 

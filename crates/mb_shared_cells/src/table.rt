@@ -49,7 +49,7 @@ fn roster(size: PoolSize) -> usize
     1 + size.lanes as usize + size.cells as usize + size.cells as usize
 }
 
-/// The hub of a table. It issues the seats, and takes them in with what was done on them.
+/// The hub of a table. It issues the seats, and takes them back with what was done on them.
 #[derive(Drop)]
 pub struct CellHub {
     seat: Seat<(), View>,
@@ -67,7 +67,7 @@ impl Model for CellHub {
     ghost invariant = { λ h. IsHubSeat h.seat.me h.given };
 }
 
-/// All lanes of the table were given.
+/// All lanes of the table were issued.
 #[derive(Clone, Copy, PartialEq, Eq, Debug)]
 pub struct AllGiven;
 
@@ -139,7 +139,7 @@ impl<A: Allocator + Drop> SharedCells<A> {
     ghost use Rattle.mb_cells.specs.Vocabulary.{History};
     ghost use Rattle.mb_shared_cells.specs.{IsRollOf};
 
-    /// Ends the table. All parts that the hub has taken in are those of one lawful history.
+    /// Ends the table. All parts that the hub has taken back are those of one lawful history.
     pub fn close(self, hub: CellHub)
         requires { hub.table ≡ self }
         ensures { (h : History) × IsRollOf self.size hub.roll h }
@@ -154,7 +154,7 @@ impl CellHub {
     ghost use Rattle.mb_cells.specs.Vocabulary.{History};
     ghost use Rattle.mb_shared_cells.specs.{IsRollOf};
 
-    /// The parts that were taken in are those of one lawful history.
+    /// The parts that were returned are those of one lawful history.
     pub fn has_history(&self)
         ensures { (h : History) × IsRollOf self.now.table.size self.now.roll h }
     {

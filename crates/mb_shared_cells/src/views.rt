@@ -2,7 +2,7 @@
 use mb_cells::{PoolAccess, PoolSize, Process};
 use std::collections::LinkedList;
 
-/// What the hub has taken in, by the numbers that it gave: a part, the newest access first, or `None` if the seat is
+/// What the hub has taken back, by the numbers that it issued: a part, the newest access first, or `None` if the seat is
 /// out. A reader's number is its place here.
 pub struct Roll {
     /// The parts of the lanes.
@@ -13,7 +13,7 @@ pub struct Roll {
 
 /// What a seat knows: the size of the table, and more that depends on whose seat it is.
 pub enum View {
-    /// The hub, and what it has taken in.
+    /// The hub, and what it has taken back.
     Hub(PoolSize, Roll),
     /// The hub, which has drawn a lane's number from the roster, and has not split the seat off yet.
     HubDraws(PoolSize, Roll),
@@ -21,6 +21,6 @@ pub enum View {
     HubJoins(PoolSize, Roll, Process, LinkedList<PoolAccess>),
     /// The seat of a lane or reader: the process, the parts of lanes that it knows, and its own part.
     Member(PoolSize, Process, LinkedList<Option<LinkedList<PoolAccess>>>, LinkedList<PoolAccess>),
-    /// A seat that was taken in.
+    /// A seat that was returned.
     Empty,
 }

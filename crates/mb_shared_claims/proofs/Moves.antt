@@ -80,7 +80,7 @@ access_allows own_part other_parts k size slots id own at done f access within g
       ),
     )
 
--- ---- the hub gives a seat out
+-- ---- the hub issues a seat
 -- a word after those of the cells is none of the claims'
 abbrev pub OtherWords : TableSize → Type 0
 OtherWords k =
@@ -112,14 +112,14 @@ draw_allows k size others slots id roll room small state held _ is _ =
       (counted, refl),
     )
 
--- the hub may give the number drawn to a new seat
+-- the hub may issue the number drawn with a new seat
 pub give_allows :
     (k size : TableSize) (id : ℕ) (roll : Roll)
     → Splits (rule_of k) id (Drawing size roll) (Handing size (roll ++ None ∷ [])) (Standing size (length roll) [])
 give_allows k size id roll state held is =
     (_, after_giving k state.words state.views held.0 held.1 size id roll is)
 
--- ---- the hub takes a seat in
+-- ---- the hub takes a seat back
 -- the hub may join a consumer's seat
 pub take_allows :
     (k size its : TableSize) (id other own : ℕ) (roll : Roll) (done : List ClaimAccess)
@@ -208,7 +208,7 @@ draw_asked key k size others slots id at me roll same is is_at room small =
     Allows (rule_of z.0) slots id z.1 z.2 (λ n. (n + 1) % 2 ^ 64) (λ found now. draws found z.1 now))
     (λ i. (sym same i, sym is i, sym is_at i)) (draw_allows k size others slots id roll room small)
 
--- the hub may give the number drawn to a new seat
+-- the hub may issue the number drawn with a new seat
 pub give_asked :
     (key size : TableSize) (id : ℕ) (v : View) (roll : Roll) → v ≡ Drawing size roll
     → Splits (rule_of key) id v (given_out v) (newcomer v)

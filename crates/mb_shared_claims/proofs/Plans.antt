@@ -35,7 +35,7 @@ fits_apart k plan other drawn more seat apart Spent f = f
 abbrev pub longer : ClaimAccess → Plan → Plan
 longer a plan = record { history = a ∷ plan.history; given = plan.given; hub = plan.hub; place = plan.place }
 
--- the plan with one number more given, whose part is at this seat
+-- the plan with one number more issued, whose part is at this seat
 abbrev pub with_number : ℕ → Plan → Plan
 with_number seat plan = record {
   history = plan.history;
@@ -68,7 +68,7 @@ module _ (k : TableSize) (words : List ℕ) (views : List View) (plan : Plan) (s
     abbrev after : View
     after = Standing size own (a ∷ done)
 
-    -- the seat's number was given, and the plan has the part at this seat
+    -- the seat's number was issued, and the plan has the part at this seat
     mine : (own < plan.given) × (plan.place own ≡ id) × (done ≡ part own plan.history)
     mine = s.parts id own done (before, is, (refl, refl))
 
@@ -160,7 +160,7 @@ module _ (k : TableSize) (words : List ℕ) (views : List View) (plan : Plan) (s
           (hub_fits.0, hub_fits.1, is_more ∙ ap suc hub_fits.2));
     }
 
-  -- ---- the hub gives out a drawn number: `left` is its view then, `right` the new seat's, `seats` all but `right`
+  -- ---- the hub issues a drawn number: `left` is its view then, `right` the new seat's, `seats` all but `right`
   module _ (size : TableSize) (id : ℕ) (roll : Roll) (is : IsViewAt views id (Drawing size roll)) where
     drawing_fits : FitsTable k plan count id (Drawing size roll)
     drawing_fits = s.fits id (Drawing size roll) is
@@ -225,7 +225,7 @@ module _ (k : TableSize) (words : List ℕ) (views : List View) (plan : Plan) (s
         (omega arith, moved-here plan.place plan.given (length seats), sym (s.others plan.given (le_refl plan.given))))
         seat has.0 has.1 c xs has.2
 
-    -- after a number is given the plan with it explains the table
+    -- after a number is issued the plan with it explains the table
     pub after_giving : IsStateOf k words (seats ++ right ∷ []) given_plan
     after_giving =
         let counted : count ≡ suc plan.given = drawing_fits.2 in
@@ -249,7 +249,7 @@ module _ (k : TableSize) (words : List ℕ) (views : List View) (plan : Plan) (s
               drawing_fits.0;
         }
 
-  -- ---- the hub takes a seat in: its view, all views and the plan then, whose seat that was, and where all parts are
+  -- ---- the hub takes a seat back: its view, all views and the plan then, whose seat that was, and where all parts are
   module _ (size its : TableSize) (id other own : ℕ) (roll : Roll) (done : List ClaimAccess) (apart : other ≢ id)
       (is : IsViewAt views id (Handing size roll))
       (there : IsViewAt (set views id (Taking size roll own done)) other (Standing its own done)) where
@@ -274,7 +274,7 @@ module _ (k : TableSize) (words : List ℕ) (views : List View) (plan : Plan) (s
     handing_fits : FitsTable k plan count id (Handing size roll)
     handing_fits = s.fits id (Handing size roll) is
 
-    -- a number whose part is at another seat than the one taken in is another number
+    -- a number whose part is at another seat than the one returned is another number
     elsewhere : (j d : ℕ) → j ≢ other → plan.place d ≡ j → d ≢ own
     elsewhere j d far at same = far (sym at ∙ ap plan.place same ∙ theirs.1)
 
@@ -355,7 +355,7 @@ module _ (k : TableSize) (words : List ℕ) (views : List View) (plan : Plan) (s
           tt;
     }
 
-  -- ---- the hub puts the part of the seat taken in into its roll: which parts the roll then has
+  -- ---- the hub puts the part of the seat returned into its roll: which parts the roll then has
   module _ (size : TableSize) (id own : ℕ) (roll : Roll) (done : List ClaimAccess)
       (is : IsViewAt views id (Taking size roll own done)) where
     taking_fits : FitsTable k plan count id (Taking size roll own done)

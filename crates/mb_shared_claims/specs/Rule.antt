@@ -1,5 +1,5 @@
 -- The rule of a table: its words and its views together are a state of the claims. Some lawful history of claims leaves
--- the words, and its parts are those of the views. The views together are one finite map from the numbers given to
+-- the words, and its parts are those of the views. The views together are one finite map from the numbers issued to
 -- parts, and no number is in it twice.
 use Rattle.std.specs.Prelude.{ℕ, suc, ◌≡◌, ◌+◌, ◌<◌, ◌≤◌, List, [], length, slice_index}
 use Rattle.mb_claim.specs.Vocabulary.{part, words_in, consumer_count, IsMemoryOf}
@@ -14,19 +14,19 @@ roster size = words_in (claims_of_size size)
 pub record Plan : Type 0 where
   -- the history of all claims
   pub history : List ClaimAccess
-  -- how many numbers were given: 0, 1, .. below this
+  -- how many numbers were issued: 0, 1, .. below this
   pub given : ℕ
   -- which seat is the hub's
   pub hub : ℕ
   -- which seat has the part of each number
   pub place : ℕ → ℕ
 
--- the seat is the hub's, and its roll has a place for each number given
+-- the seat is the hub's, and its roll has a place for each number issued
 abbrev pub IsHub : Plan → ℕ → Roll → Type 0
 IsHub plan seat roll = (seat ≡ plan.hub) × (length roll ≡ plan.given)
 
--- the view of a seat has the table's size. The hub's view fits the plan, too: the roster counts the numbers given, and
--- one more while the hub enrolls. The seat that the hub is taking in was out
+-- the view of a seat has the table's size. The hub's view fits the plan, too: the roster counts the numbers issued, and
+-- one more while the hub issues. The seat that the hub is taking back was out
 abbrev pub FitsTable : TableSize → Plan → ℕ → ℕ → View → Type 0
 FitsTable k plan drawn seat (Handing size roll) = (size ≡ k) × IsHub plan seat roll × (drawn ≡ plan.given)
 FitsTable k plan drawn seat (Drawing size roll) = (size ≡ k) × IsHub plan seat roll × (drawn ≡ suc plan.given)
@@ -43,11 +43,11 @@ pub record IsStateOf (k : TableSize) (words : List ℕ) (views : List View) (pla
   pub wide : length words ≡ roster k + 1
   -- there are at most as many numbers as consumers
   pub few : slice_index words (roster k) ≤ consumer_count k.layout
-  -- each number given was drawn
+  -- each number issued was drawn
   pub drawn : plan.given ≤ slice_index words (roster k)
-  -- each number given has its part of the history at its seat
+  -- each number issued has its part of the history at its seat
   pub stands : (c : ℕ) → c < plan.given → HasPartAt views (plan.place c) c (part c plan.history)
-  -- each part that a seat has is that of a given number, which has its place there and nowhere else
+  -- each part that a seat has is that of an issued number, which has its place there and nowhere else
   pub parts :
       (seat c : ℕ) (xs : List ClaimAccess) → HasPartAt views seat c xs
       → (c < plan.given) × (plan.place c ≡ seat) × (xs ≡ part c plan.history)

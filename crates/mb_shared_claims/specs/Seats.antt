@@ -50,7 +50,7 @@ count_out [] = 0
 count_out (Some done ∷ rest) = count_out rest
 count_out (None ∷ rest) = suc (count_out rest)
 
--- the part of consumer c that was taken in, or nothing if none was
+-- the part of consumer c that was returned, or nothing if none was
 abbrev pub taken_part : Roll → ℕ → List ClaimAccess
 taken_part [] c = []
 taken_part (Some done ∷ rest) zero = done
@@ -85,7 +85,7 @@ pub record IsTable (id : TableId) (key size : TableSize) : Type 0 where
   pub slots : id.slots ≡ 0
   pub cells : size.cells ≤ MAX_LARGE_CELLS
 
--- what is kept in the hub: its seat has the hub's view, and it counts the numbers given and the seats that are out
+-- what is kept in the hub: its seat has the hub's view, and it counts the numbers issued and the seats that are out
 pub record IsHubSeat (me : Seated) (given out : ℕ) : Type 0 where
   pub size : TableSize
   pub is : me ≡ (Handing size (roll_of me.0), [])

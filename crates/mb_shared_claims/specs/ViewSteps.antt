@@ -43,13 +43,13 @@ ComesAfterView a v = Unit {0}
 abbrev pub makes : ClaimAccess → Seated → Seated → Type 0
 makes a me now = (now ≡ (with_one_more a me.0, me.1)) × ComesAfterView a me.0
 
--- ---- how a seat is given out
+-- ---- how a seat is issued
 -- the view of the hub after it has drawn the next number
 abbrev pub drawn : View → View
 drawn (Handing size roll) = Drawing size roll
 drawn v = v
 
--- the view of the hub after it has given that number out: its place in the roll is empty
+-- the view of the hub after it has issued that number: its place in the roll is empty
 abbrev pub given_out : View → View
 given_out (Drawing size roll) = Handing size (roll ++ None ∷ [])
 given_out v = v
@@ -63,7 +63,7 @@ newcomer v = Spent
 abbrev pub draws : ℕ → Seated → Seated → Type 0
 draws found me now = (found ≡ length (roll_of me.0)) × (now ≡ (drawn me.0, me.1))
 
--- ---- how a seat is taken in
+-- ---- how a seat is returned
 -- the view of the hub after a seat was joined to it: the seat's part is beside the roll
 abbrev pub took_in : View → View → View
 took_in (Handing size roll) (Standing other own done) = Taking size roll own done
@@ -74,7 +74,7 @@ abbrev pub settled : View → View
 settled (Taking size roll own done) = Handing size (slice_set roll own (Some done))
 settled v = v
 
--- the seat that is being taken in was out
+-- the seat that is being returned was out
 abbrev pub WasOut : View → Type 0
 WasOut (Taking size roll own done) = IsOut roll own
 WasOut v = Unit {0}

@@ -9,15 +9,15 @@ use Rattle.mb_shared_claims.specs.Types.{ClaimAccess, TableSize, View, Handing, 
 abbrev pub claims_of_size : TableSize → Claims
 claims_of_size size = claims_in size.layout size.cells
 
--- a hub's roll: for each number given the part of that consumer if its seat was taken in, else none
+-- a hub's roll: for each number issued the part of that consumer if its seat was returned, else none
 abbrev pub Roll : Type 0
 Roll = List (Option (List ClaimAccess))
 
--- the seat of consumer c was taken in, with this part
+-- the seat of consumer c was returned, with this part
 abbrev pub WasTaken : Roll → ℕ → List ClaimAccess → Type 0
 WasTaken roll c xs = slice_get roll c ≡ Some (Some xs)
 
--- the number c was given, and its seat is out
+-- the number c was issued, and its seat is out
 abbrev pub IsOut : Roll → ℕ → Type 0
 IsOut roll c = slice_get roll c ≡ Some None
 

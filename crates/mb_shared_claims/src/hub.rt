@@ -1,11 +1,11 @@
-//! The hub, which gives out consumers' numbers.
+//! The hub, which issues consumers' numbers.
 use crate::view::View;
 use atomic_table::Seat;
 use std::error::Error;
 use std::fmt;
 use std::marker::Model;
 
-/// A table's hub. It gives each consumer's number out with its seat, and takes the seats in again.
+/// A table's hub. It issues each consumer's number with its seat, and takes the seats back.
 #[derive(Drop)]
 pub struct ClaimHub {
     pub(crate) seat: Seat<(), View>,
@@ -31,14 +31,14 @@ impl ClaimHub {
     ghost use Rattle.std.specs.Prelude.{◌≡◌, length};
     ghost use Rattle.mb_shared_claims.specs.{count_out};
 
-    /// How many numbers were given.
+    /// How many numbers were issued.
     pub fn given(&self) -> u32
         ensures { result ≡ length self.now.roll }
     {
         self.given
     }
 
-    /// How many seats are out: given, and not taken in.
+    /// How many seats are out: issued, and not returned.
     pub fn out(&self) -> u32
         ensures { result ≡ count_out self.now.roll }
     {
@@ -46,7 +46,7 @@ impl ClaimHub {
     }
 }
 
-/// Each number of the layout's consumers was given.
+/// Each number of the layout's consumers was issued.
 #[derive(Clone, Copy, PartialEq, Eq, Debug)]
 pub struct AllGiven;
 

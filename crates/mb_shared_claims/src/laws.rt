@@ -44,7 +44,7 @@ pub fn states_have_one_history()
 {}
 
 /// Each kind of step leads from a state to a state. It changes only the view of the seat that makes it, with two
-/// exceptions: giving a number adds the view of its seat, and a seat taken in has no part any more.
+/// exceptions: issuing a number adds the view of its seat, and a seat returned has no part any more.
 pub fn steps_keep_states()
     // A table begins with zeros and its hub.
     ensures new { (k : TableSize)
@@ -61,7 +61,7 @@ pub fn steps_keep_states()
         → IsClaimsState k (words_after cs cell next.object next.op words)
         (slice_set views id (Standing size own (a ∷ done))) }
 
-    // The hub draws a number by a fetch-add on the roster. Then it gives the number out, by a split of its view.
+    // The hub draws a number by a fetch-add on the roster. Then it issues the number, by a split of its view.
     ensures draw { (k size : TableSize) (words : List ℕ) (views : List View) (id : ℕ) (roll : Roll)
         → IsClaimsState k words views → IsViewAt views id (Handing size roll)
         → length roll < consumer_count k.layout
@@ -72,7 +72,7 @@ pub fn steps_keep_states()
         → IsClaimsState k words (slice_set views id (Handing size (roll ++ None ∷ []))
         ++ Standing size (length roll) [] ∷ []) }
 
-    // The hub takes a seat in by a join of its view. The load after it puts the seat's part into the roll.
+    // The hub takes a seat back by a join of its view. The load after it puts the seat's part into the roll.
     ensures take { (k size its : TableSize) (words : List ℕ) (views : List View) (id other own : ℕ)
         (roll : Roll) (done : List ClaimAccess)
         → IsClaimsState k words views → other ≢ id → IsViewAt views id (Handing size roll)

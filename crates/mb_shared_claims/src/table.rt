@@ -41,8 +41,8 @@ impl<A: Allocator + Clone + Drop> SharedClaims<A> {
     ghost use Rattle.std.specs.Prelude.{◌≡◌, ◌≤◌, [], IfOk};
     ghost use Rattle.mb_shared_claims.specs.{MAX_LARGE_CELLS, name_of};
 
-    /// A table of this layout with `cells` cells, all words 0, and its hub, which has given no number. It allocates
-    /// here all that the table will ever need. The error is [`NoMemory`] if the allocator refuses a part of that.
+    /// A table of this layout with `cells` cells, at most 2^24, all words 0, and its hub, which has issued no number. It
+    /// allocates all that the table will ever need. The error is [`NoMemory`] if the allocator refuses a part of that.
     pub fn new(
         alloc: A,
         layout: Layout,
@@ -88,8 +88,9 @@ impl<A: Allocator + Drop> SharedClaims<A> {
         self.size.cells
     }
 
-    /// The seat of the next number: 0 first, then 1, and so on to the last of the layout's consumers. The error is
-    /// [`AllGiven`] exactly if that was given, and then nothing changes.
+    /// Issues the seat of the next number: 0 first, then 1, and so on to the last of the layout's consumers. One
+    /// fetch-add of the roster draws it, which no history has. The error is [`AllGiven`] exactly if the last was issued,
+    /// and then nothing changes.
     pub fn enroll(&self, hub: &mut ClaimHub) -> Result<ClaimSeat, AllGiven>
         requires { hub.old.table ≡ name_of self.now }
         ensures all_given { IsErr result ↔ (consumer_count self.now.layout ≤ length hub.old.roll) }
@@ -123,7 +124,7 @@ impl<A: Allocator + Drop> SharedClaims<A> {
         })
     }
 
-    /// Takes a seat in. Its part goes to the hub, to the place of its number.
+    /// Takes a seat back. Its part goes to the hub, to the place of its number. It makes one load, which no history has.
     pub fn take_in(&self, hub: &mut ClaimHub, seat: ClaimSeat)
         requires hub { hub.old.table ≡ name_of self.now }
         requires seat { seat.table ≡ name_of self.now }
@@ -139,7 +140,7 @@ impl<A: Allocator + Drop> SharedClaims<A> {
         hub.out -= 1;
     }
 
-    /// Ends the table, once all seats that were given are taken in. The parts of all consumers are then those of one
+    /// Ends the table, once all seats that were issued are returned. The parts of all consumers are then those of one
     /// lawful history of claims.
     pub fn close(self, hub: ClaimHub)
         requires table { hub.table ≡ name_of self }

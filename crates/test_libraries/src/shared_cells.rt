@@ -103,7 +103,7 @@ fn put_one_item<A: Allocator + Drop>(
     same(rt, &told, &(0, 8, Finish::Ended, Look::Ended));
 }
 
-/// Enrolls the only lane, once, and a reader. One item is put and read, and both seats are taken in.
+/// Issues the only lane, once, and a reader. One item is put and read, and both seats are returned.
 fn enroll_and_put<A: Allocator + Drop>(rt: &impl Abort, table: &SharedCells<A>, hub: &mut CellHub)
     requires hub { hub.old.table ≡ table.now }
     requires some { 0 < table.now.size.lanes }

@@ -238,7 +238,7 @@ fn win_and_lose<A: Allocator + Drop>(
     same(rt, &(wins, loses), &((7, Stage::Won), (4, Stage::Lost(0))));
 }
 
-/// Whether the allocator serves a table of one cell for two consumers. Then both numbers are given, the first consumer
+/// Whether the allocator serves a table of one cell for two consumers. Then both numbers are issued, the first consumer
 /// wins the cell and the second loses it.
 pub(crate) fn one_wins<A: Allocator + Clone + Drop>(rt: &impl Abort, alloc: A) -> bool {
     let layout = one_pair(rt, 2);
@@ -263,7 +263,7 @@ pub(crate) fn one_wins<A: Allocator + Clone + Drop>(rt: &impl Abort, alloc: A) -
     true
 }
 
-// Two numbers are given and no third. One consumer wins, the other loses, and the hub takes both seats in.
+// Two numbers are issued and no third. One consumer wins, the other loses, and the hub takes both seats back.
 #[test]
 fn numbers_and_ends(rt: HostRuntime) {
     assert!(rt; one_wins(&rt, rt.alloc()));

@@ -63,7 +63,7 @@ static SETUPS: [(SetupFault, &str); 4] = [
     (SetupFault::BadRounds, "the number of pairs is out of range"),
 ];
 
-// Bad values, numbers that were all given, faults of schedules, layouts, runs and setups.
+// Bad values, numbers that were all issued, faults of schedules, layouts, runs and setups.
 #[test]
 fn texts_of_refusals(rt: HostRuntime) -> Result<(), Fail> {
     check_display(&rt, &BadValues, "the number of values is out of range")?;

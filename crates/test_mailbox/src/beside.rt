@@ -15,7 +15,7 @@ use std::process::Abort;
 use std::thread::{Threads, join};
 use test_support::Zeros;
 
-/// The report of a mailbox whose producers and consumers were all taken in. If one was not, the test fails.
+/// The report of a mailbox whose producers and consumers were all returned. If one was not, the test fails.
 pub(crate) fn gathered(
     rt: &impl Abort,
     alloc: Global,
@@ -70,7 +70,7 @@ fn put_one(
     (producer, put)
 }
 
-/// The hub gives a producer and a consumer.
+/// The hub issues a producer and a consumer.
 fn give_both(
     rt: &impl Abort,
     alloc: Global,
@@ -263,7 +263,7 @@ fn take_both(
     hub.take_consumer(mailbox, consumer);
 }
 
-/// Two producers and two consumers share two lanes, and are taken in.
+/// Two producers and two consumers share two lanes, and are returned.
 fn share_all<R: Abort + Threads + Sync>(
     rt: &R,
     alloc: Global,

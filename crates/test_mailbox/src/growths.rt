@@ -17,7 +17,7 @@ use test_alloc::{FaultyHeap, Refuse, growths_refused};
 #[derive(Clone, Copy)]
 enum Call {
     New,
-    /// The hub gives a producer. Then the calls of these lines are made, and the report has this text.
+    /// The hub issues a producer. Then the calls of these lines are made, and the report has this text.
     Producer(&'static str, &'static str),
     Consumer,
     /// A report is gathered after this scene.
@@ -65,7 +65,7 @@ diary 0 0 took 7
 ",
 );
 
-/// An item is put, the lane ends, and the item is taken after the producer was taken in.
+/// An item is put, the lane ends, and the item is taken after the producer was returned.
 const ENDED_LANE: Call = Call::Producer(
     "\
 put 0 7: linked
@@ -127,7 +127,7 @@ diary 1 1 begun
 
 /// Each call with its name, and the least number of its allocations.
 const CALLS: &[(&str, Call, u64)] = &[
-    // The lists of what is taken in, the words of the cells, the zeros and the words of the claims.
+    // The lists of what is returned, the words of the cells, the zeros and the words of the claims.
     ("new", Call::New, 5),
     // At least the list of the producer's items.
     ("producer", OPEN_LANE, 1),

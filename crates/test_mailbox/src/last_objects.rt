@@ -129,7 +129,7 @@ fn take_in(
     }
 }
 
-/// All consumers poll at one time, each in a thread of its own, and are taken in.
+/// All consumers poll at one time, each in a thread of its own, and are returned.
 fn settle_all<R: Abort + AllocGlobal + Threads + Sync>(
     rt: &R,
     mailbox: &Mailbox<Global>,

@@ -54,7 +54,7 @@ diary 0 0
 ",
 );
 
-/// The report names all lanes and consumers of the setup, also those that were not given.
+/// The report names all lanes and consumers of the setup, also those that were not issued.
 const NOBODY_IS_GIVEN: Scene = (
     [1, 2, 1],
     "",
@@ -66,7 +66,7 @@ diary 1 0
 ",
 );
 
-/// The second producer finds no cell for its items, and ends its lane without one. No consumer is given.
+/// The second producer finds no cell for its items, and ends its lane without one. No consumer is issued.
 const TWO_PRODUCERS_WANT_THE_ONLY_CELL: Scene = (
     [2, 1, 1],
     "\
@@ -90,7 +90,7 @@ diary 0 1
 ",
 );
 
-/// The consumer is given after the producer was taken in.
+/// The consumer is issued after the producer was returned.
 const AN_ENDED_LANE_IS_READ_BY_A_CONSUMER_GIVEN_LATER: Scene = (
     [1, 1, 1],
     "\
@@ -141,8 +141,8 @@ fn back_from_gather<A: Allocator + Clone + Drop>(
     }
 }
 
-/// Makes the calls of the scene, by which one producer and so many consumers are given. `gather` is refused before
-/// anybody is taken in, and again while one consumer is out. After all are taken in, the report has the scene's text.
+/// Makes the calls of the scene, by which one producer and so many consumers are issued. `gather` is refused before
+/// anybody is returned, and again while one consumer is out. After all are returned, the report has the scene's text.
 fn is_gathered_at_last<R: Abort + AllocGlobal>(rt: &R, scene: Scene, consumers: u32) {
     let (sizes, lines, report) = scene;
     let alloc = rt.alloc();
@@ -154,7 +154,7 @@ fn is_gathered_at_last<R: Abort + AllocGlobal>(rt: &R, scene: Scene, consumers: 
     ends(rt, alloc, back_from_gather(rt, alloc, trial, 0, 1), report);
 }
 
-/// The hub gives one producer and one consumer, and no more.
+/// The hub issues one producer and one consumer, and no more.
 const ALL_NUMBERS_ARE_GIVEN: Scene = (
     [1, 1, 1],
     "\
@@ -170,7 +170,7 @@ diary 0 0
 ",
 );
 
-/// Consumer 0 begins a claim on the only item, and is taken in last.
+/// Consumer 0 begins a claim on the only item, and is returned last.
 const A_LATER_CONSUMER_LOSES_TO_ONE_THAT_WENT_AWAY: Scene = (
     [1, 2, 1],
     "\

@@ -72,7 +72,7 @@ fn a_budget_cuts_polls_short(rt: HostRuntime) {
     }
 }
 
-/// Eight polls are spent in all, before another consumer is given or after it. The claim has seven accesses.
+/// Eight polls are spent in all, before another consumer is issued or after it. The claim has seven accesses.
 const PARTED_POLLS: &[Scene] = &[
     (
         [1, 2, 1],

@@ -10,7 +10,7 @@ use std::process::Abort;
 use std::sync::Wait;
 use std::thread::Threads;
 
-/// Whether a producer's number is left. If so, this producer is given, and is taken in without an access.
+/// Whether a producer's number is left. If so, this producer is issued, and is returned without an access.
 fn has_lane<'r>(trial: &mut Trial<Alloc<'r>>, ample: Alloc<'r>) -> bool {
     trial.producer(ample).is_ok() && trial.take_producer(0)
 }
@@ -37,7 +37,7 @@ fn is_done<'r, R: Abort + Threads + Wait + Sync>(
 }
 
 /// One worker puts two items and another takes both, in a mailbox of these two. If the first allocator does not serve
-/// them, all that was given is taken in, and a lane that was given has ended. Returns whether it serves them.
+/// them, all that was issued is returned, and a lane that was issued has ended. Returns whether it serves them.
 pub(crate) fn two_are_served<'r, R: Abort + Threads + Wait + Sync>(
     rt: &R,
     alloc: Alloc<'r>,
@@ -57,7 +57,7 @@ pub(crate) fn two_are_served<'r, R: Abort + Threads + Wait + Sync>(
 
 /// One worker puts two items and another polls, in a mailbox with numbers for two more. If the first allocator does not
 /// serve them, the call is made again with memory, and is done. Checks that the report has the items and the notes of
-/// the call that was done. They are under the second numbers if the first call was refused after it had given both
+/// the call that was done. They are under the second numbers if the first call was refused after it had issued both
 /// first ones. Returns whether the first call was done.
 pub(crate) fn second_call_is_done<'r, R: Abort + Threads + Wait + Sync>(
     rt: &R,
@@ -140,7 +140,7 @@ diary 1 1
 }
 
 /// Two workers put two items each and two others poll, in a mailbox of these four. If the allocator does not serve
-/// them, all that was given is taken in, and exactly the lanes given have ended. Returns whether it serves them.
+/// them, all that was issued is returned, and exactly the lanes issued have ended. Returns whether it serves them.
 pub(crate) fn four_are_served<'r, R: Abort + Threads + Wait + Sync>(
     rt: &R,
     alloc: Alloc<'r>,

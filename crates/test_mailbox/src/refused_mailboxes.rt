@@ -37,7 +37,7 @@ poll 0 0 100: took 7
     }
 }
 
-/// Returns whether a producer or consumer was given. Checks that else there was no memory for it.
+/// Returns whether a producer or consumer was issued. Checks that else there was no memory for it.
 fn is_given(rt: &impl Abort, told: Result<(), HubFault>) -> bool {
     if told.is_ok() {
         return true;
@@ -47,7 +47,7 @@ fn is_given(rt: &impl Abort, told: Result<(), HubFault>) -> bool {
 }
 
 /// Whether the first allocator serves the only producer of a new mailbox of one cell. A refusal uses no number up: the
-/// producer is then given over the second one. Then the calls of these lines are made, and the report has this text.
+/// producer is then issued with the second one. Then the calls of these lines are made, and the report has this text.
 pub(crate) fn producer_is_served<'a>(
     rt: &impl Abort,
     alloc: Alloc<'a>,
@@ -65,7 +65,7 @@ pub(crate) fn producer_is_served<'a>(
     served
 }
 
-/// Whether the first allocator serves the only consumer. A refusal uses no number up: the consumer is then given over
+/// Whether the first allocator serves the only consumer. A refusal uses no number up: the consumer is then issued with
 /// the second one, and after it none is. Then an item is put and taken.
 pub(crate) fn consumer_is_served<'a>(rt: &impl Abort, alloc: Alloc<'a>, ample: Alloc<'a>) -> bool {
     let mut trial = new_trial(rt, ample, 1, 1, 1);
@@ -80,7 +80,7 @@ pub(crate) fn consumer_is_served<'a>(rt: &impl Abort, alloc: Alloc<'a>, ample: A
     served
 }
 
-/// The calls of the scene are made, and all are taken in. Returns whether the first allocator then serves the report,
+/// The calls of the scene are made, and all are returned. Returns whether the first allocator then serves the report,
 /// which has the scene's text. If it refuses, mailbox and hub come back, and the second allocator serves the report.
 pub(crate) fn gather_is_served<'a>(
     rt: &impl Abort,

@@ -19,12 +19,12 @@ type Answered<'a> = (&'a str, Option<u64>);
 ///
 /// | Call | What is called |
 /// |---|---|
-/// | `producer`, `consumer` | the hub gives one |
+/// | `producer`, `consumer` | the hub issues one |
 /// | `put PLACE ITEM`, `finish PLACE` | the producer at this place |
 /// | `poll PLACE LANE BUDGET`, `take PLACE LANE MOST` | the consumer at this place |
 /// | `spend PLACE BUDGET TIMES` | so many polls of lane 0: how many of them are spent |
 /// | `drawn` | how many words the polls of these lines have drawn, all of them 0 |
-/// | `take_producer PLACE` | the hub takes it in |
+/// | `take_producer PLACE` | the hub takes it back |
 pub(crate) fn play<A: Allocator + Copy + Drop>(
     rt: &impl Abort,
     trial: &mut Trial<A>,

@@ -15,7 +15,7 @@ use std::marker::Model;
 use std::sync::Wait;
 use std::thread::Threads;
 
-/// A mailbox and its hub, with at most two producers and two consumers that were given and not taken in.
+/// A mailbox and its hub, with at most two producers and two consumers that were issued and not returned.
 #[derive(Drop)]
 pub(crate) struct Trial<A: Allocator + Drop> {
     mailbox: Mailbox<A>,
@@ -44,7 +44,7 @@ impl<A: Allocator + Drop> Model for Trial<A> {
 }
 
 impl<A: Allocator + Clone + Drop> Trial<A> {
-    /// A mailbox of this setup, which has given nothing.
+    /// A mailbox of this setup, which has issued nobody.
     pub(crate) fn new(alloc: A, setup: Setup) -> Result<Trial<A>, NoMemory> {
         let (mailbox, hub) = Mailbox::new(alloc, setup)?;
         Ok(Trial {
@@ -57,7 +57,7 @@ impl<A: Allocator + Clone + Drop> Trial<A> {
         })
     }
 
-    /// Has the hub give a producer, which goes to the first empty place, or else to place 1, where it drops the one
+    /// Has the hub issue a producer, which goes to the first empty place, or else to place 1, where it drops the one
     /// before.
     pub(crate) fn producer(&mut self, alloc: A) -> Result<(), HubFault> {
         let producer = self.hub.producer(alloc, &self.mailbox)?;
@@ -69,7 +69,7 @@ impl<A: Allocator + Clone + Drop> Trial<A> {
         Ok(())
     }
 
-    /// Has the hub give a consumer, which goes to the first empty place, or else to place 1, where it drops the one
+    /// Has the hub issue a consumer, which goes to the first empty place, or else to place 1, where it drops the one
     /// before.
     pub(crate) fn consumer(&mut self, alloc: A) -> Result<(), HubFault> {
         let consumer = self.hub.consumer(alloc, &self.mailbox)?;

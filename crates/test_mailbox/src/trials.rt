@@ -41,7 +41,7 @@ pub(crate) fn reads<A: Allocator + Drop, B: Allocator + Drop>(
     same(rt, &text.as_str(), &want);
 }
 
-/// The report of a trial whose producers and consumers were all taken in. If one was not, the test fails.
+/// The report of a trial whose producers and consumers were all returned. If one was not, the test fails.
 pub(crate) fn gathered<A: Allocator + Clone + Drop>(
     rt: &impl Abort,
     alloc: A,

@@ -198,7 +198,7 @@ fn sources_have_known_words(rt: HostRuntime) {
     }
 }
 
-// A report does not show the seed or the budget. So the budget and the sources that the workers are given are compared.
+// A report does not show the seed or the budget. So the budget and the sources that the workers get are compared.
 #[test]
 fn workers_are_handed_what_is_asked(rt: HostRuntime) {
     for (seed, budget, want) in [

@@ -114,8 +114,8 @@ fn there_is_what_was_asked_for(rt: HostRuntime) -> Result<(), Fail> {
     comes_to(&rt, &plan, &[lane; 16], &[], (0, 1), diaries)
 }
 
-/// What the check after a refusal finds. The only producer was given, and put an item. It ended its lane if `ends`, and
-/// was taken in if `comes_in`.
+/// What the check after a refusal finds. The only producer was issued, and put an item. It ended its lane if `ends`, and
+/// was returned if `comes_in`.
 fn after_refusal<R: AllocGlobal>(
     rt: &R,
     ends: bool,

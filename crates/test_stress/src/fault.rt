@@ -9,16 +9,16 @@ use test_audit::Flaw;
 pub enum Fault {
     /// The plan's setup was refused.
     Setup,
-    /// `work` was refused with this fault. All that it had given was taken in, with its lanes ended. So many workers
+    /// `work` was refused with this fault. All that it had issued was returned, with its lanes ended. So many workers
     /// have done something before that.
     Work(WorkFault, u64),
     /// Memory ran out.
     NoMemory,
-    /// The mailbox gave no report.
+    /// There was no report.
     NoReport,
     /// The report has this flaw.
     Report(Flaw),
-    /// A lane that was given has not ended, or one that was not given has.
+    /// A lane that was issued has not ended, or one that was not issued has.
     NotEnded,
     /// A lane's items are not the first ones of its list.
     OtherItems,

@@ -7,7 +7,7 @@ use mb_mailbox::{Hub, HubFault, Mailbox};
 use mb_world::Report;
 use std::alloc::Global;
 
-/// Has the hub give all producers that are left, and takes them in again. Returns how many there were.
+/// Has the hub issue all producers that are left, and takes them back. Returns how many there were.
 fn count_left(
     alloc: Global,
     mailbox: &Mailbox<Global>,
@@ -43,7 +43,7 @@ fn count_busy(report: &Report<Global>) -> u64 {
     busy
 }
 
-/// Checks that all that was given was taken in, and that exactly the lanes that were given have ended. Returns how many
+/// Checks that all that was issued was returned, and that exactly the lanes that were issued have ended. Returns how many
 /// workers have done something.
 pub fn check_refused(
     alloc: Global,

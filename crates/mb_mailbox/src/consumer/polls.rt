@@ -23,7 +23,7 @@ impl<A: Allocator + Drop> Consumer<A> {
     /// from 0. It draws one word from the source for each access of a claim. A claim that the budget cuts short is kept,
     /// and the next poll of the lane goes on with it. With a budget of 0 it is [`Poll::Spent`], and with one of at least
     /// [`max_steps`](mb_claim::Layout::max_steps) plus 2 it never is. [`Poll::NoLane`] comes first, if there is no such
-    /// lane, and changes nothing. It waits for nobody and takes no memory.
+    /// lane, and changes nothing. It takes no lock and no memory.
     pub fn poll<B: Allocator + Drop, R: Rng>(
         &mut self,
         mailbox: &Mailbox<B>,

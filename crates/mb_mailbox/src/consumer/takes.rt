@@ -18,9 +18,9 @@ impl<A: Allocator + Drop> Consumer<A> {
 
     /// Makes accesses on a lane until it takes an item, or until it has made `most` of them. It goes on past items that
     /// it loses, and each of them gets its note. It is the same as calls of [`Consumer::poll`] one after another, as
-    /// long as the answer is [`Poll::Lost`], each with what is left of `most`. So it is never `Lost`. It ends undecided
-    /// on an item as a poll does. [`Poll::Spent`] comes only after `most` accesses. [`Poll::NoLane`] comes first, if
-    /// there is no such lane, and changes nothing. It waits for nobody and takes no memory.
+    /// long as these return [`Poll::Lost`], each with what is left of `most`. So it never returns `Lost`. It returns
+    /// [`Poll::Undecided`] as a poll does. [`Poll::Spent`] comes only after `most` accesses. [`Poll::NoLane`] comes
+    /// first, if there is no such lane, and changes nothing. It takes no lock and no memory.
     ///
     /// An item that is lost takes one access for its link and at most [`max_steps`](mb_claim::Layout::max_steps) for
     /// its claim. An item that is taken takes one more.

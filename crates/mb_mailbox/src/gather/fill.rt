@@ -20,7 +20,7 @@ pub(super) fn fill_lanes<A: Allocator + Drop>(
     }
 }
 
-/// Moves the items of a producer, if it was taken in, into its lane.
+/// Moves the items of a producer, if it was returned, into its lane.
 fn fill_lane<A: Allocator + Drop>(lane: &mut LaneReport<A>, kept: Option<PutList<A>>)
     ensures { lane.new ≡ with_items kept lane.old }
 {

@@ -1,4 +1,4 @@
-//! The outline of the report of what a hub has taken in: all of it except the items put, whose lists the hub keeps.
+//! The outline of the report of what a hub has taken back: all of it except the items put, whose lists the hub keeps.
 ghost use Rattle.std.specs.Prelude.{◌≡◌, ◌+◌, ◌<◌, ◌≤◌, ◌++◌, [], IfOk, slice_get, vec_capacity, vec_len};
 ghost use Rattle.std.specs.Option.{option_map, option_map_or};
 ghost use Rattle.mb_world.specs.Reporting.{any_below, is_took};
@@ -17,7 +17,7 @@ impl<A: Allocator + Drop> Hub<A> {
     ghost use Rattle.std.specs.Option.{option_map};
     ghost use Rattle.mb_mailbox.specs.Gathering.{ended_in, items_in, kept_at};
 
-    /// The items that the producer of lane `p` put, or none if it was not taken in.
+    /// The items that the producer of lane `p` put, or none if it was not returned.
     fn items(&self, p: u32) -> &[u64]
         ensures { result.now ≡ items_in p self.now }
     {
@@ -27,7 +27,7 @@ impl<A: Allocator + Drop> Hub<A> {
         }
     }
 
-    /// Whether the producer of lane `p` was taken in and has ended its lane.
+    /// Whether the producer of lane `p` was returned and has ended its lane.
     fn ended(&self, p: u32) -> bool
         ensures { result ≡ ended_in p self.now }
     {
@@ -37,7 +37,7 @@ impl<A: Allocator + Drop> Hub<A> {
         }
     }
 
-    /// What the hub keeps of consumer `c`, if it was taken in.
+    /// What the hub keeps of consumer `c`, if it was returned.
     fn ledger(&self, c: u32) -> Option<&ConsumerRecord<A>>
         ensures { option_map (λ k. k.now) result ≡ kept_at self.now.ledgers c }
     {

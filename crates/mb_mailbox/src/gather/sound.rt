@@ -26,8 +26,8 @@ pub(super) fn gathering_is_sound()
     ensures all_in { (h : HubView) → IsHub h → count_missing h.ledgers ≡ 0
         → count_out h.claims.roll ≡ 0 }
 
-    // The tables, once closed, have one history each, in which all parts are those that the hub has taken in. The
-    // report of what the hub has taken in is that of these histories.
+    // The tables, once closed, have one history each, in which all parts are those that the hub has taken back. The
+    // report of what the hub has taken back is that of these histories.
     ensures main_theorem { (m : MailboxView) (h : HubView) (r : ReportView) (pool : History)
         → IsMailbox m → IsHub h → IsHubOf m h
         → count_missing h.puts ≡ 0 → count_missing h.ledgers ≡ 0

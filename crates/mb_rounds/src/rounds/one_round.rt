@@ -30,9 +30,9 @@ impl<A: Allocator + Clone + Drop + Send + Sync> Rounds<A> {
     /// stops if it is not let through. Items that were not put or not taken are carried, in front of those that were
     /// not dealt.
     ///
-    /// Of the faults [`RoundFault::TooManySources`] is decided first, and then [`RoundFault::BadBudget`]. After any
-    /// fault nothing was given out. This holds also if consumers took items before a thread could not be started: the
-    /// caller does not get these.
+    /// [`RoundFault::TooManySources`] comes first, then [`RoundFault::BadBudget`], and then `NoMemory` or `NoThread`,
+    /// whichever is met first. After any fault nothing was given out. This holds also if consumers took items before a
+    /// thread could not be started: the caller does not get these.
     pub fn round<W: Threads + Wait + Sync, R: Rng + Send + Drop, G: Gate>(
         &mut self,
         rt: &W,

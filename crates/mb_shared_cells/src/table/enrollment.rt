@@ -1,4 +1,4 @@
-//! The hub issues seats and takes them in.
+//! The hub issues seats and takes them back.
 use super::{AllGiven, CellHub, LaneSeat, ReaderSeat, SharedCells, roster};
 use crate::rule::{Draws, Parts, TakesIn};
 use mb_cells::Lane;
@@ -11,8 +11,9 @@ impl<A: Allocator + Drop> SharedCells<A> {
     ghost use Rattle.mb_cells.specs.declared.access.Process.TheVariants.{Producer, Reader};
     ghost use Rattle.mb_shared_cells.specs.{roll_with_lane, roll_with_part, roll_with_reader};
 
-    /// The seat of the next lane, with an empty part. Lanes have the numbers 0, 1, .. in this order. The error is
-    /// [`AllGiven`] if all lanes of the table were given.
+    /// Issues the seat of the next lane, with an empty part. Lanes have the numbers 0, 1, .. in this order. One
+    /// fetch-add of the roster draws the number, which no history has. The error is [`AllGiven`] if all lanes of the
+    /// table were issued, and then nothing changes.
     pub fn enroll_lane(&self, hub: &mut CellHub) -> Result<LaneSeat, AllGiven>
         requires { hub.old.table ≡ self.now }
         ensures all_given { IsErr result ↔ (self.now.size.lanes ≤ length hub.old.roll.lanes) }
@@ -46,7 +47,8 @@ impl<A: Allocator + Drop> SharedCells<A> {
         })
     }
 
-    /// The seat of a new reader, with an empty part. It knows the parts of the lanes that the hub has taken in so far.
+    /// Issues the seat of a new reader, with an empty part. It knows the parts of the lanes that were returned so far.
+    /// Nothing is drawn for it.
     pub fn enroll_reader(&self, hub: &mut CellHub) -> ReaderSeat
         requires { hub.old.table ≡ self.now }
         ensures seat { result ≡ record {
@@ -63,7 +65,8 @@ impl<A: Allocator + Drop> SharedCells<A> {
         }
     }
 
-    /// Takes a lane's seat in, at any time. The hub then has its part as it is.
+    /// Takes a lane's seat back, at any time. The hub then has its part as it is. It makes one load of the table's first
+    /// word, which no history has.
     pub fn take_lane(&self, hub: &mut CellHub, seat: LaneSeat)
         requires hub { hub.old.table ≡ self.now }
         requires seat { seat.table ≡ self.now }
@@ -82,7 +85,7 @@ impl<A: Allocator + Drop> SharedCells<A> {
         self.table.shared.load::<TakesIn>(&mut hub.seat, 0);
     }
 
-    /// Takes a reader's seat in, at any time. The hub then has its part as it is.
+    /// Takes a reader's seat back, as [`take_lane`](SharedCells::take_lane) does.
     pub fn take_reader(&self, hub: &mut CellHub, seat: ReaderSeat)
         requires hub { hub.old.table ≡ self.now }
         requires seat { seat.table ≡ self.now }

@@ -9,8 +9,9 @@ impl<A: Allocator + Drop> SharedCells<A> {
     ghost use Rattle.std.specs.Prelude.{◌≡◌};
     ghost use Rattle.mb_shared_cells.specs.{FinishMakes, OfferMakes, PushMakes};
 
-    /// Takes the next cell for item `x`, by one fetch-add of the counter. If the producer's place refuses the offer, no
-    /// access is made.
+    /// Takes the next cell for item `x`, by one fetch-add of the counter. It is refused as `Pool::offer` of `mb_cells`
+    /// is, without an access: `Closed` after the end mark, `Busy` while an item waits for its link. `Full` comes after a
+    /// fetch-add that found no cell, and then without one.
     pub fn offer(&self, seat: &mut LaneSeat, x: u64) -> Offer
         requires { seat.old.table ≡ self.now }
         ensures makes { OfferMakes seat.old x result seat.new }
@@ -47,7 +48,8 @@ impl<A: Allocator + Drop> SharedCells<A> {
         answer
     }
 
-    /// Stores the end mark of the lane. If the producer's place refuses that, no access is made.
+    /// Stores the end mark of the lane. It is refused without an access: `Closed` after the end mark, `Busy` while an
+    /// item waits for its link.
     pub fn finish(&self, seat: &mut LaneSeat) -> Finish
         requires { seat.old.table ≡ self.now }
         ensures makes { FinishMakes seat.old result seat.new }

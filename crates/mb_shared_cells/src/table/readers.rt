@@ -29,7 +29,7 @@ impl<A: Allocator + Drop> SharedCells<A> {
         ensures gave { (k : ℕ) → result ≡ look.Cell k → Gave k seat.new.part }
         ensures within { (k : ℕ) → result ≡ look.Cell k → k < self.now.size.cells }
 
-        // On a lane that was taken in before the reader was enrolled, the result is what that lane's producer left.
+        // On a lane that was returned before the reader was issued, the result is what that lane's producer left.
         ensures known { (p : ℕ) (theirs : History) → slice_get seat.old.known p ≡ Some (Some theirs)
             → is_of_lane p (linked_cells p theirs) (word_of cursor) ≡ true
             → result ≡ look_after cursor theirs }
@@ -60,7 +60,7 @@ impl<A: Allocator + Drop> SharedCells<A> {
         ensures reader { seat.new.reader ≡ seat.old.reader }
         ensures known_lanes { seat.new.known ≡ seat.old.known }
 
-        // On a lane that was taken in before the reader was enrolled, the result is what that lane's producer left.
+        // On a lane that was returned before the reader was issued, the result is what that lane's producer left.
         ensures known { (p : ℕ) (theirs : History) → slice_get seat.old.known p ≡ Some (Some theirs)
             → is_of_lane p (linked_cells p theirs) (Item k) ≡ true
             → result ≡ value_in (Item k) theirs }

@@ -1,5 +1,5 @@
--- Proof of `laws::known_lanes_are_read_whole`: what a reader finds on a lane that was taken in before the reader was
--- enrolled.
+-- Proof of `laws::known_lanes_are_read_whole`: what a reader finds on a lane that was returned before the reader was
+-- issued.
 use Rattle.std.proofs.Common.{sym}
 use Rattle.mb_cells.specs.Vocabulary.{word_of}
 use Rattle.mb_shared_cells.proofs.KnownLanes.{ReadLaws, cell_found, end_found, found, nothing_found}

@@ -6,7 +6,7 @@ use Rattle.mb_shared_cells.proofs.DrawMoves.{draw_asked}
 use Rattle.mb_shared_cells.proofs.EnrolMoves.{lane_splits}
 use Rattle.mb_shared_cells.proofs.table.SharedCells.enroll_lane.Goals as goal
 
--- the hub may draw the next number, since fewer lanes were enrolled than there are
+-- the hub may draw the next number, since fewer lanes were issued than there are
 pub fetch_add-requires : goal.fetch_add-requires
 fetch_add-requires g c =
     let me = c.hub.inside.seat.me in

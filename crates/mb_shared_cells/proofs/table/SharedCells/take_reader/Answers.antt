@@ -1,4 +1,4 @@
--- Proof of `SharedCells::take_reader`: takes a reader's seat in, at any time.
+-- Proof of `SharedCells::take_reader`: takes a reader's seat back, at any time.
 use Rattle.std.proofs.Common.{ap, arith, sym, ◌∙◌}
 use Rattle.mb_cells.specs.declared.access.Process.TheVariants.{Reader}
 use Rattle.mb_shared_cells.specs.Seats.{done_in, known_in, number_in, roll_in, size_in}

@@ -1,4 +1,4 @@
--- Proof of `SharedClaims::close`: ends the table, once all seats that were given are taken in.
+-- Proof of `SharedClaims::close`: ends the table, once all seats that were issued are returned.
 use Rattle.std.proofs.Common.{ap, ◌∙◌, subst}
 use mathlib.Core.Option.{some}
 use Rattle.mb_shared_claims.specs.Types.{TableSize}

@@ -11,7 +11,7 @@ use Rattle.mb_shared_claims.proofs.Moves.{draw_asked, give_asked}
 use Rattle.mb_shared_claims.proofs.Closing.{count_out-snoc, count_out_le}
 use Rattle.mb_shared_claims.proofs.table.SharedClaims.enroll.Goals as goal
 
--- the hub may draw the next number, since fewer were given than there are consumers
+-- the hub may draw the next number, since fewer were issued than there are consumers
 pub fetch_add-number-requires : goal.fetch_add-number-requires
 fetch_add-number-requires g c =
     let hub = c.hub.invariant in
@@ -41,7 +41,7 @@ has_given : (size : TableSize) (me now after : Seated) → now ≡ (Drawing size
     → after ≡ (given_out now.0, now.1) → after ≡ (Handing size (roll_of me.0 ++ None ∷ []), [])
 has_given size me now after is e = e ∙ ap (λ (z : Seated). (given_out z.0, z.1)) is
 
--- the hub, which has drawn the number, may give it out
+-- the hub, which has drawn the number, may issue it
 pub split_seat-seat-requires : goal.split_seat-seat-requires
 split_seat-seat-requires g c =
     let e = c.fetch_add-number.ensures in
@@ -52,7 +52,7 @@ split_seat-seat-requires g c =
     let now = has_drawn hub.size c.hub.inside.seat.me c.fetch_add-number.new.seat.me hub.is e.2.1 in
     (e.0 ∙ same, omega arith, give_asked _ hub.size _ _ (roll_of c.hub.inside.seat.me.0) (ap (λ (z : Seated). z.0) now))
 
--- no more seats are out than numbers were given, so the count does not wrap
+-- no more seats are out than numbers were issued, so the count does not wrap
 pub overflow_add-hub-2 : goal.overflow_add-hub-2
 overflow_add-hub-2 g c =
     let few = c.if-hub-consumers.false in

@@ -1,4 +1,4 @@
--- Proof of `SharedClaims::take_in`: takes a seat in.
+-- Proof of `SharedClaims::take_in`: takes a seat back.
 use Rattle.std.proofs.Common.{sym, ap, ◌∙◌, subst, [], Some, length-set, arith}
 use Rattle.mb_shared_claims.specs.Types.{Handing}
 use Rattle.mb_shared_claims.specs.ViewSteps.{Seated, roll_of, part_of, took_in, settled, WasOut}

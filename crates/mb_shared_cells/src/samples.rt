@@ -1,8 +1,8 @@
-//! The rule of the table by example: what it admits, and what only looks right. The functions compute nothing: their
-//! contracts are the examples. Their proofs are in `proofs/examples/`, one folder for each.
+//! Samples of the rule of the table: what it admits, and what only looks right. The functions compute nothing: their
+//! contracts are the samples.
 ghost use Rattle.std.specs.Prelude.{[], ◌∷◌};
 ghost use Rattle.mb_cells.specs.Vocabulary.{one_put};
-ghost use Rattle.mb_shared_cells.specs.Examples.{IsStateOfOne, hub_of_one, lane_with, new_hub};
+ghost use Rattle.mb_shared_cells.specs.Samples.{IsStateOfOne, hub_of_one, lane_with, new_hub};
 
 use crate::laws::processes_stand_once;
 use mb_cells::samples::one_item_is_put_and_read;
@@ -15,7 +15,7 @@ pub fn words_and_views_agree()
     // Nothing was done yet.
     ensures new { IsStateOfOne (0 ∷ 0 ∷ 0 ∷ 0 ∷ 0 ∷ []) (new_hub ∷ []) }
 
-    // The lane was given, and its producer has put the item 8.
+    // The lane was issued, and its producer has put the item 8.
     ensures put { IsStateOfOne (1 ∷ 1 ∷ 0 ∷ 8 ∷ 1 ∷ [])
         (hub_of_one ∷ lane_with one_put ∷ []) }
 {
@@ -34,7 +34,7 @@ pub fn words_and_views_disagree()
     ensures twice { IsStateOfOne (1 ∷ 1 ∷ 0 ∷ 8 ∷ 1 ∷ [])
         (hub_of_one ∷ lane_with one_put ∷ lane_with one_put ∷ []) → ⊥ }
 
-    // A number on the roster that was not given, and one given that is not on the roster.
+    // A number on the roster that was not issued, and one issued that is not on the roster.
     ensures not_given { IsStateOfOne (0 ∷ 0 ∷ 0 ∷ 0 ∷ 1 ∷ []) (new_hub ∷ []) → ⊥ }
     ensures not_drawn { IsStateOfOne (0 ∷ 0 ∷ 0 ∷ 0 ∷ 0 ∷ [])
         (hub_of_one ∷ lane_with [] ∷ []) → ⊥ }

@@ -1,4 +1,4 @@
--- Proof of `examples::words_and_views_agree`: words and views of a table of one lane and one cell.
+-- Proof of `samples::words_and_views_agree`: words and views of a table of one lane and one cell.
 -- The words are, in this order, the counter, the head, the link, the item and the roster.
 use Rattle.std.proofs.Common.{Some, None, [], arith, refl, sym, ◌∷◌, ◌≡◌, subst, suc, zero, ℕ, slice_index, nat_eq, false}
 use Rattle.std.proofs.Math.Dec.{eqb-suc-zero}
@@ -10,14 +10,14 @@ use Rattle.mb_cells.specs.declared.access.Process.TheVariants.{Producer, Reader}
 use Rattle.mb_cells.specs.declared.access.Word.{Word}
 use Rattle.mb_cells.specs.declared.access.Word.TheVariants.{Counter, Head, Item, Link}
 use Rattle.mb_shared_cells.specs.Rule.{FitsView, IsEnrolled, IsHub, Seating, StandsAt}
-use Rattle.mb_shared_cells.specs.Examples.{hub_of_one, lane_with, one_by_one}
+use Rattle.mb_shared_cells.specs.Samples.{hub_of_one, lane_with, one_by_one}
 use Rattle.mb_shared_cells.specs.Views.{empty_roll, first_view, roll_at}
 use Rattle.mb_shared_cells.specs.declared.views.Roll.{Roll}
 use Rattle.mb_shared_cells.specs.declared.views.View.{View}
-use Rattle.mb_shared_cells.proofs.examples.words_and_views_agree.Goals as goal
+use Rattle.mb_shared_cells.proofs.samples.words_and_views_agree.Goals as goal
 
 -- ---- nothing was done
--- the seating of a new table: the hub is at seat 0, and nobody is enrolled
+-- the seating of a new table: the hub is at seat 0, and nobody is issued
 abbrev nothing : Seating
 nothing = record { history = []; lanes = 0; readers = 0; hub = 0; seat_of = λ who. 0 }
 
@@ -38,7 +38,7 @@ nobody_in : (who : Process) (done : History) → roll_at who empty_roll ≡ Some
 nobody_in (Producer p) done e = absurd (cc)
 nobody_in (Reader r) done e = absurd (cc)
 
--- each process that is enrolled has a seat: there is no such process
+-- each process that is issued has a seat: there is no such process
 nobody_stands : (who : Process) → IsEnrolled nothing who → StandsAt (first_view one_by_one ∷ []) 0 who
 nobody_stands (Producer p) low = absurd (omega (arith, low))
 nobody_stands (Reader r) low = absurd (omega (arith, low))
@@ -100,7 +100,7 @@ none_taken (Producer zero) done e = absurd (cc)
 none_taken (Producer (suc p)) done e = absurd (cc)
 none_taken (Reader r) done e = absurd (cc)
 
--- whoever was not enrolled did nothing
+-- whoever was not issued did nothing
 nobody_else : (who : Process) → (IsEnrolled putting who → ⊥) → part who one_put ≡ []
 nobody_else (Producer zero) out = absurd (out (omega arith))
 nobody_else (Producer (suc p)) out = let e : nat_eq (suc p) 0 ≡ false = eqb-suc-zero p in cc

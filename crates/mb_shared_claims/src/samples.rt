@@ -1,5 +1,5 @@
-//! The rule of the table by example: what it admits, and what only looks right. The functions compute nothing: their
-//! contracts are the examples. Their proofs are in `proofs/examples/`, one folder for each.
+//! Samples of the rule of the table: what it admits, and what only looks right. The functions compute nothing: their
+//! contracts are the samples.
 ghost use Rattle.std.specs.Prelude.{ℕ, ◌≡◌, ◌+◌, ◌<◌, List, None, [], ◌∷◌, replicate, slice_index};
 ghost use Rattle.mb_claim.specs.Vocabulary.{IsWordIn, address_in};
 ghost use Rattle.mb_shared_claims.specs.{Handing, IsClaimsState, Reg, Standing, TableSize, View, claims_of_size, roster};
@@ -24,14 +24,14 @@ pub fn words_and_views_disagree()
         → slice_index words (address_in (claims_of_size k) 0 o reg) ≡ 1
         → IsClaimsState k words (Handing k [] ∷ []) → ⊥ }
 
-    // A number on the roster that was not given, and a given number that is not on the roster.
+    // A number on the roster that was not issued, and an issued number that is not on the roster.
     ensures not_given { (k : TableSize) (words : List ℕ) → slice_index words (roster k) ≡ 1
         → IsClaimsState k words (Handing k [] ∷ []) → ⊥ }
     ensures not_drawn { (k : TableSize) (words : List ℕ) (views : List View)
         → slice_index words (roster k) ≡ 0
         → IsClaimsState k words (Handing k (None ∷ []) ∷ views) → ⊥ }
 
-    // A given number whose seat is nowhere, and one with two seats.
+    // An issued number whose seat is nowhere, and one with two seats.
     ensures gone { (k : TableSize) (words : List ℕ)
         → IsClaimsState k words (Handing k (None ∷ []) ∷ []) → ⊥ }
     ensures twice { (k : TableSize) (words : List ℕ)

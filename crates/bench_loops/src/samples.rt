@@ -1,4 +1,4 @@
-//! The definition of `specs` by example. The function computes nothing: its contract is the example.
+//! A sample of the definition of `specs`. The function computes nothing: its contract is the sample.
 ghost use Rattle.std.specs.Prelude.{◌≡◌};
 ghost use Rattle.bench_loops.specs.Shifts.{word_after};
 

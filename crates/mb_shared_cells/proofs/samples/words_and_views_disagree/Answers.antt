@@ -1,13 +1,13 @@
--- Proof of `examples::words_and_views_disagree`: words and views that no history and no hub made.
+-- Proof of `samples::words_and_views_disagree`: words and views that no history and no hub made.
 use Rattle.std.proofs.Common.{[], arith, ap, refl, sym, ◌≡◌, ◌∙◌, ◌<◌}
 use Rattle.mb_cells.specs.Vocabulary.{one_put, part, value_in}
 use Rattle.mb_cells.specs.declared.access.Process.TheVariants.{Producer}
 use Rattle.mb_cells.specs.declared.access.Word.TheVariants.{Head}
-use Rattle.mb_shared_cells.specs.Examples.{hub_of_one, lane_with, one_by_one}
+use Rattle.mb_shared_cells.specs.Samples.{hub_of_one, lane_with, one_by_one}
 use Rattle.mb_shared_cells.specs.Views.{first_view}
-use Rattle.mb_shared_cells.proofs.examples.words_and_views_disagree.Goals as goal
+use Rattle.mb_shared_cells.proofs.samples.words_and_views_disagree.Goals as goal
 
--- no lane was given, so producer 0 did nothing, and the head of its lane holds 0
+-- no lane was issued, so producer 0 did nothing, and the head of its lane holds 0
 pub returns-clause-made_up : goal.returns-clause-made_up
 returns-clause-made_up c = λ s.
     let t = s.0 in

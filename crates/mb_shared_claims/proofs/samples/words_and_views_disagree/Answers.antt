@@ -1,10 +1,10 @@
--- Proof of `examples::words_and_views_disagree`: words and views that do not come from a history and a hub.
+-- Proof of `samples::words_and_views_disagree`: words and views that do not come from a history and a hub.
 use Rattle.std.proofs.Common.{[], arith, ap, refl, sym, ◌∷◌, ◌≡◌, ◌∙◌, ℕ, List, subst, suc, zero, Some, None}
 use mathlib.Core.Option.{some-injective, some-ne-none}
 use Rattle.mb_claim.specs.Vocabulary.{held_at, part}
 use Rattle.mb_shared_claims.specs.Types.{ClaimAccess, Handing, Standing, TableSize}
 use Rattle.mb_shared_claims.specs.Views.{HasPart, HasPartAt}
-use Rattle.mb_shared_claims.proofs.examples.words_and_views_disagree.Goals as goal
+use Rattle.mb_shared_claims.proofs.samples.words_and_views_disagree.Goals as goal
 
 -- a history in which each consumer's part is empty is empty
 nothing : ((a : ClaimAccess) (h : List ClaimAccess) → part a.consumer (a ∷ h) ≡ a ∷ part a.consumer h)
@@ -20,7 +20,7 @@ absent k zero xs p =
     absurd (cc)
 absent k (suc seat) xs p = absurd (some-ne-none p.0 (sym p.1))
 
--- no number was given, so the history is empty and leaves 0
+-- no number was issued, so the history is empty and leaves 0
 pub returns-clause-made_up : goal.returns-clause-made_up
 returns-clause-made_up c = λ k o reg words some has held state.
     let plan = state.0 in

@@ -1,4 +1,4 @@
--- A table of one lane and one cell, by example: its hub, and the seat of its lane.
+-- A sample: a table of one lane and one cell, its hub, and the seat of its lane.
 use Rattle.std.specs.Prelude.{List, None, [], ◌∷◌, ℕ}
 use Rattle.mb_cells.specs.Vocabulary.{History, pool_size}
 use Rattle.mb_cells.specs.declared.access.Process.TheVariants.{Producer}
