@@ -35,7 +35,7 @@ refusals-bound cells (suc n) h =
     cond_both (has_refused n cells h) 1 0 (λ z. z + refusals cells n h ≤ suc n)
     (λ _. omega (arith, refusals-bound cells n h)) (λ _. omega (arith, refusals-bound cells n h))
 
--- who was refused stays refused
+-- a producer with a fetch-add that found no cell has one after a further access, too
 refused-more : (p cells : ℕ) (a : PoolAccess) (h : History) → has_refused p cells h ≡ true
     → has_refused p cells (a ∷ h) ≡ true
 refused-more p cells a h is =

@@ -25,31 +25,31 @@ same_list h k q cells items =
     ap (λ ks. reverse (map (entry_of (λ j. item_of j k)) ks)) cells
     ∙ ap reverse (same_map (λ j. item_of j k) (λ j. item_of j h) (linked_cells q h) items)
 
--- a store that links nothing leaves the put lists
+-- a store that links nothing leaves the put lists as they are
 pub put_list-kept : (h : History) (p q : ℕ) (w : Word) (v : ℕ) → link_of w (Store v) ≡ None
     → put_list q (store p w v ∷ h) ≡ put_list q h
 put_list-kept h p q w v none =
     same_list h (store p w v ∷ h) q (kept_cells p q w v h none) (λ j has. item_of-store p w v j h)
 
--- the end mark leaves the put list
+-- the end mark leaves the put list as it is
 pub put_list-end : (h : History) (p q : ℕ) (w : Word) → IsLinkWord w → put_list q (store p w END ∷ h) ≡ put_list q h
 put_list-end h p q Counter link = absurd link
 put_list-end h p q (Head j) link = put_list-kept h p q (Head j) END refl
 put_list-end h p q (Link j) link = put_list-kept h p q (Link j) END refl
 put_list-end h p q (Item j) link = absurd link
 
--- a store of another lane leaves the put list
+-- a store of another lane leaves the put list as it is
 pub put_list-other : (h : History) (p q v : ℕ) (w : Word) → p ≢ q → put_list q (store p w v ∷ h) ≡ put_list q h
 put_list-other h p q v w ne =
     let other : nat_eq q p ≡ false = ne_eqb q p (λ e. ne (sym e)) in
     same_list h (store p w v ∷ h) q (rw other refl) (λ j has. item_of-store p w v j h)
 
--- a load leaves the put list
+-- a load leaves the put list as it is
 pub put_list-load : (h : History) (r q v : ℕ) (w : Word) → put_list q (load r w v ∷ h) ≡ put_list q h
 put_list-load h r q v w =
     same_list h (load r w v ∷ h) q refl (λ j has. same_twice (is_same_word w Counter) (item_of j h))
 
--- a fetch-add leaves the put list
+-- a fetch-add leaves the put list as it is
 pub put_list-fetch : (size : PoolSize) (h : History) (p q : ℕ) (e : Entry) → IsPoolLawful size (fetch p e ∷ h)
     → put_list q (fetch p e ∷ h) ≡ put_list q h
 put_list-fetch size h p q e l =

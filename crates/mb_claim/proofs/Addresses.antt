@@ -25,7 +25,7 @@ in_object r LastObject Value h = absurd h
 in_object r LastObject Proposal h = absurd h
 in_object r LastObject (Quorum i) h = absurd h
 
--- two words of an object lie in two places
+-- two words of an object lie in two positions
 same_word : (r : ℕ) (k : Kind) (p q : Reg) → HasReg r k p → HasReg r k q → offset p ≡ offset q → p ≡ q
 same_word r (Conciliator s) Value Value h g e = refl
 same_word r (Conciliator s) Value Proposal h g e = absurd g
@@ -64,7 +64,7 @@ in_cell r [] o reg p = absurd (none-some p.0 p.1)
 in_cell r (k ∷ ks) zero reg p = let h = in_object r k reg (first_word r k ks reg p) in omega arith
 in_cell r (k ∷ ks) (suc o) reg p = let h = in_cell r ks o reg p in omega arith
 
--- two words of a cell lie in two places
+-- two words of a cell lie in two positions
 apart :
     (r : ℕ) (kinds : List Kind) (o n : ℕ) (p q : Reg) → IsWordOf r kinds o p → IsWordOf r kinds n q
     → words_before r kinds o + offset p ≡ words_before r kinds n + offset q → (o ≡ n) × (p ≡ q)
@@ -75,7 +75,7 @@ apart r (k ∷ ks) zero (suc n) p q a b e = let h = in_object r k p (first_word 
 apart r (k ∷ ks) (suc o) zero p q a b e = let h = in_object r k q (first_word r k ks q b) in absurd (omega arith)
 apart r (k ∷ ks) (suc o) (suc n) p q a b e = let h = apart r ks o n p q a b (omega arith) in (ap suc h.0, h.1)
 
--- no place in a row is a place in a later row
+-- no position in a row is one in a later row
 row_before : (w k n a b : ℕ) → k < n → a < w → k * w + a ≡ n * w + b → ⊥
 row_before w k n a b l h e =
     let m : suc k * w ≤ n * w = mul-le-mul_right w l in
@@ -174,7 +174,7 @@ words_before-pairs_of r s (suc n) zero j (suc (suc o)) e f h = absurd (omega ari
 words_before-pairs_of r s (suc n) (suc i) j (suc (suc o)) e f h =
     let g = words_before-pairs_of r s n i j o (omega arith) f (omega arith) in omega arith
 
--- the address of a word of object j of pair i, by its place in that object
+-- the address of a word of object j of pair i, by its position in that object
 pub pair_address :
     (r s n k i j : ℕ) (reg : Reg) → i < n → j < 2
     → address_of r (pairs_of s n) k (2 * i + j) reg ≡ k * (n * (2 + r)) + i * (2 + r) + (j + offset reg)

@@ -9,7 +9,7 @@ use Rattle.mb_claim.proofs.KindLaws.{OfKind, AreDeciding, AreRatifying}
 use Rattle.mb_claim.proofs.Turns.{has_turns}
 use Rattle.mb_claim.proofs.Family.{Family, step, acted, lawful_here, next, passed}
 
--- a process has come to object n with input u, which E says, and has stored in a register of u's write quorum
+-- a process with input u to object n, as E says, has stored in a register of u's write quorum
 pub record Shown (t : QuorumTable) (hs : ℕ → List Access) (E : ℕ → ℕ → ℕ → Type 0) (n u : ℕ) : Type 0 where
   pub process : ℕ
   pub register : ℕ
@@ -60,7 +60,7 @@ module _
         two = λ q. other.1 (sym other.2.2 ∙ ap fam.input (sym q) ∙ found.0.2);
       }
 
-  -- who comes to a later object from the next one on has come there from this one on
+  -- if the way from object o + 1 to a later object follows an undecided output of object o, it is a way from object o
   pub enter_next :
       (law' : OfKind t k) (c n w : ℕ) → (next t k ks o hs P fam law').rest c ≢ []
       → Enters t ks (suc o) ((next t k ks o hs P fam law').input c) ((next t k ks o hs P fam law').rest c) n w

@@ -185,7 +185,7 @@ cell_small layout =
     omega (arith, row_words-few r kinds, mul-le (length kinds) (1 + r) MAX_OBJECTS 65 few (omega (arith, quorum.limit)))
 
 -- ---- objects that are read, left and copied
--- if two rows have the same object at a place, what is read from the second is the object of the first
+-- if two rows have the same object at a position, what is read from the second is the object of the first
 pub told_by_row :
     (xs ys : List Kind) (o : ℕ) (d : Kind) → o < length xs → slice_get xs o ≡ slice_get ys o
     → slice_get xs o ≡ Some (get_or ys o d)

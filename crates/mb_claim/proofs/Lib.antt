@@ -46,8 +46,8 @@ pub mod LastObjects
 -- Plays
 pub mod PlaySteps
 pub mod OnePlay
--- Examples
-pub mod LawfulExamples
-pub mod ShapedExamples
-pub mod AloneExamples
-pub mod Counterexamples
+-- Samples
+pub mod LawfulSamples
+pub mod ShapedSamples
+pub mod AloneSamples
+pub mod UnlawfulSamples

@@ -85,12 +85,12 @@ pub get_behind : {A : Type 0} (xs : List A) (a : A) (ys : List A)
 get_behind [] a ys = refl
 get_behind (x ∷ xs) a ys = get_behind xs a ys
 
--- a list with an element at place 0 begins with it
+-- a list with an element at position 0 begins with it
 pub first_of : {A : Type 0} (ys : List A) (a : A) → slice_get ys 0 ≡ Some a → (rest : List A) × (ys ≡ a ∷ rest)
 first_of [] a e = absurd (none-some a e)
 first_of (y ∷ ys) a e = (ys, ap (λ b. b ∷ ys) (same_Some y a e))
 
--- a list without an element at place 0 is empty
+-- a list without an element at position 0 is empty
 pub none_of : {A : Type 0} (ys : List A) → slice_get ys 0 ≡ None → ys ≡ []
 none_of [] e = refl
 none_of (y ∷ ys) e = absurd (none-some y (sym e))
@@ -106,7 +106,7 @@ pub all_push :
     → P (length xs) y → (k : ℕ) (d : A) → k < length (xs ++ y ∷ []) → P k (get_or (xs ++ y ∷ []) k d)
 all_push P xs y all p k d below = by_place (cases_lt k (length xs))
   where
-    -- P holds of the element at place k, by whether k is a place of the shorter list
+    -- P holds of the element at position k, by whether k is a position of the shorter list
     by_place : (k < length xs) ⊎ (length xs ≤ k) → P k (get_or (xs ++ y ∷ []) k d)
     by_place (inl l) = subst (P k) (sym (get_or_append_left xs (y ∷ []) d k l)) (all k d l)
     by_place (inr l) =

@@ -7,7 +7,7 @@ use Rattle.mb_deciding.specs.Vocabulary.{spread}
 use Rattle.mb_claim.specs.{Kind, Conciliator, Ratifier, LastObject, Layout, pairs_of, fast_row, last_row, quorums_of, kinds_of}
 use Rattle.mb_claim.proofs.LayoutObjects.{quorums_lawful}
 
--- what is known of a conciliator at place o of these objects: its last attempt is s, and a ratifier is next
+-- what is known of a conciliator at position o of these objects: its last attempt is s, and a ratifier is next
 abbrev IsPaired : ℕ → ℕ → ℕ → List Kind → Type 0
 IsPaired s k o kinds = (k ≡ s) × (slice_get kinds (suc o) ≡ Some Ratifier)
 

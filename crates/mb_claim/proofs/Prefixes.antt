@@ -45,7 +45,7 @@ whole_path t (kind ∷ kinds) o v =
     (all.0 ++ turns_on o first.0, all.1, all.2)
 
 -- ---- each prefix of a claim begins a whole path
--- a part that goes on within its first object is completed
+-- a part that has not come to the end of its first object is completed to a whole path
 completed_open :
     (t : QuorumTable) (kind : Kind) (kinds : List Kind) (o v : ℕ) (xs : List ObjectTurn) (turns : List Turn)
     → xs ≡ turns_on o turns → IsOpen t kind v turns
@@ -82,7 +82,7 @@ IsCut {A} later xs rest back =
     ((front : List A) × (xs ≡ front ++ back) × (rest ≡ later ++ front))
     ⊎ ((first : A) × (more : List A) × (back ≡ (first ∷ more) ++ xs))
 
--- with one more later element in both ways, they compare as before
+-- two ways to cut a list compare in the same way if both later parts have one more element
 cut_more :
     {A : Type 0} (y z : A) (ys xs zs back : List A) → y ≡ z → IsCut ys xs zs back → IsCut (y ∷ ys) xs (z ∷ zs) back
 cut_more y z ys xs zs back e (inl (front, p, q)) = inl (front, p, ap₂ (λ a zs. a ∷ zs) (sym e) q)

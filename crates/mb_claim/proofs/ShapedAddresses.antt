@@ -61,7 +61,7 @@ row_words-row_of r s n shape =
       last_words r shape.last,
     )
 
--- an address is the words of the cells before, of the objects before in the row, and the place in the object
+-- an address is the words of the cells before, of the objects before in the row, and the position in the object
 address_in_row :
     (r s n k o : ℕ) (shape : Shape) (reg : Reg) (before : ℕ) → words_before r (row_of shape s n) o ≡ before
     → address_of r (row_of shape s n) k o reg ≡ k * shaped_words r shape n + (before + offset reg)

@@ -49,7 +49,7 @@ module _ (t : QuorumTable) (kinds : List Kind) (c object : ℕ) (pc : Pc) (xs : 
       (subst (λ n. IsClaimPrefixFrom t c (p.kind ∷ p.after) n p.input ys s) (p.number ∙ (omega arith)) q))
 
   module _ (x : Turn) where
-    -- the claim's turns with one more on its object
+    -- the claim's turns, with one more turn on its object
     abbrev longer : List ObjectTurn
     longer = record { object = object; turn = x } ∷ xs
 

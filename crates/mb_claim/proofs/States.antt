@@ -16,7 +16,7 @@ use Rattle.mb_claim.proofs.Words.{own_place, other_place, same_act, same_find}
 module _
     (cs : Claims) (words : List ℕ) (h : List ClaimAccess) (memory : IsMemoryOf cs words h) (c k object : ℕ) (op : Op)
     (word : ℕ) (cell : k < cs.cells) (place : IsWordIn cs object (reg_of op)) where
-  -- the address of the word of the access
+  -- the address of the word to which the access goes
   abbrev address : ℕ
   address = address_in cs k object (reg_of op)
 

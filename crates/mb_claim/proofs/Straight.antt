@@ -55,14 +55,14 @@ module _ (layout : Layout) (c o v : ℕ) where
   is_standing kind claim at is =
       subst (λ k. MatchOption k ⊥ (λ kind. claim ≡ standing layout c o v kind)) (sym at) is
 
-  -- there is one such claim, by the kind of the object
+  -- there is one claim before its first access to an object, by the kind of the object
   pub standing_is :
       (kind : Kind) (claim : Claim) → slice_get (kinds_of layout) o ≡ Some kind → IsStanding layout c o v claim
       → claim ≡ standing layout c o v kind
   standing_is kind claim at is =
       subst (λ k. MatchOption k ⊥ (λ kind. claim ≡ standing layout c o v kind)) at is
 
-  -- it fits the layout
+  -- a claim before its first access to an object fits the layout
   pub standing_fits :
       (kind : Kind) → slice_get (kinds_of layout) o ≡ Some kind → IsFitKind kind → v < consumer_count layout
       → FitsLayout layout (standing layout c o v kind)
@@ -124,7 +124,8 @@ standing_end layout c stretch claim going below within stands =
 module _ {M : Type 0} (layout : Layout) (parts : PlacesMakeParts (quorums_of layout) (kinds_of layout))
     (draws : M → ℕ → M → Type 0) (makes : M → ℕ → Op → ℕ → M → Type 0)
     (c o v : ℕ) (kind : Kind) (start now : M) (n u : ℕ) where
-  -- if the object did not decide and there is one more, they lead to the claim before its first access to that one
+  -- accesses to an object that did not decide lead to the claim before its first access to the next object, if there is
+  -- one
   pub passed_on :
       (next : Kind) → slice_get (kinds_of layout) (suc o) ≡ Some next → IsFitKind next → u < consumer_count layout
       → AreSteps (quorums_of layout) (DrawsAndMakes draws makes o) (first_place (quorums_of layout) kind v) start n
@@ -142,7 +143,7 @@ module _ {M : Type 0} (layout : Layout) (parts : PlacesMakeParts (quorums_of lay
       below (reaches p.kind p.input p.turns p.place) (Some next)
       (subst (λ k. slice_get (kinds_of layout) k ≡ Some next) m at) (refl, m, first_begins t next u fit below))
 
-  -- if it did not decide and there is no other, they lead to a claim that is undecided
+  -- accesses to the last object, if it did not decide, lead to an undecided claim
   pub passed_last :
       slice_get (kinds_of layout) (suc o) ≡ None → u < consumer_count layout
       → AreSteps (quorums_of layout) (DrawsAndMakes draws makes o) (first_place (quorums_of layout) kind v) start n
@@ -159,7 +160,7 @@ module _ {M : Type 0} (layout : Layout) (parts : PlacesMakeParts (quorums_of lay
       refl of.known refl below (reaches p.kind p.input p.turns p.place) None
       (subst (λ k. slice_get (kinds_of layout) k ≡ None) m at) refl)
 
-  -- if it decided, they lead to a claim that is won or lost
+  -- accesses to an object that decided lead to a claim that is won or lost
   pub decided_at :
       AreSteps (quorums_of layout) (DrawsAndMakes draws makes o) (first_place (quorums_of layout) kind v) start n
       (leads.Out (answer true u)) now
@@ -242,7 +243,7 @@ module _ {M : Type 0} (layout : Layout) (parts : PlacesMakeParts (quorums_of lay
               (ap (λ k. standing layout c k u next) (sym e)),
         )
 
-    -- if it did not decide and is the last one, the claim is undecided
+    -- if the last object did not decide, the claim is undecided
     pub led_out :
         (stretch : Stretch) → stretch.stage ≡ Undecided → slice_get (kinds_of layout) (suc o) ≡ None
         → u < consumer_count layout
@@ -258,7 +259,7 @@ module _ {M : Type 0} (layout : Layout) (parts : PlacesMakeParts (quorums_of lay
           closed_end layout c o v kind Undecided undecided_ended stretch is,
         )
 
-    -- if it decided, the claim is won or lost
+    -- if the object decided, the claim is won or lost
     pub led_to_end :
         (stretch : Stretch) → stretch.stage ≡ stage_for c u
         → AreSteps (quorums_of layout) (DrawsAndMakes draws makes site.object) (first_place (quorums_of layout) kind v)
@@ -292,13 +293,13 @@ first_claim layout c =
     let kind = some_kind layout 0 (has_first layout) in
     (standing layout c 0 c kind.0, is_standing layout c 0 c kind.0 (standing layout c 0 c kind.0) kind.1 refl)
 
--- that claim is the consumer's
+-- a consumer's new claim has that consumer
 pub first_owner : (layout : Layout) (c : ℕ) (claim : Claim) → IsStanding layout c 0 c claim → consumer_of claim ≡ c
 first_owner layout c claim stands =
     let kind = some_kind layout 0 (has_first layout) in
     ap consumer_of (standing_is layout c 0 c kind.0 claim kind.1 stands)
 
--- that claim has made no access
+-- a new claim has made no access
 pub first_path :
     ((cs : Claims) (c object : ℕ) (pc : Pc) (xs : List ObjectTurn) → ClaimsAreSound cs
     → StandsAt cs.table cs.kinds c object pc xs → IsClaimPrefix cs c xs Going)
@@ -327,7 +328,7 @@ AreLed layout makes c o v start most P now left =
     → (n : ℕ) × (follows : Claim) × (n + left ≡ most) × AreClaimSteps layout makes claim start n follows now
     × P follows
 
--- if Q follows from P, they led to one of which Q holds
+-- accesses that led to a claim of which P holds led to one of which Q holds, if Q follows from P
 pub led_as :
     {M : Type 0} (layout : Layout) (makes : M → ℕ → ClaimOp → ℕ → M → Type 0) (c o v : ℕ) (start : M) (most : ℕ)
     (P Q : Claim → Type 0) (now : M) (left : ℕ) → AreLed layout makes c o v start most P now left

@@ -21,7 +21,7 @@ pub record IsBoard (layout : Layout) (steps : List (ℕ × ℕ)) (board : BoardS
   pub memory : IsMemoryOf (claims_in layout 1) board.words (history_of steps board.entries)
   -- each consumer has a claim
   pub consumers : length board.claims ≡ consumer_count layout
-  -- the claim at place c is consumer c's
+  -- the claim at position c is consumer c's
   pub own : (c : ℕ) (d : Claim) → c < length board.claims
       → consumer_of (slice_index_or board.claims c d) ≡ c
   -- the claim of a consumer has made the consumer's part

@@ -15,10 +15,10 @@ pub mod Straight
 pub mod Refusals
 pub mod Plays
 pub mod Boards
-pub mod Examples
-pub mod ShapedExamples
+pub mod Samples
+pub mod ShapedSamples
 pub mod Vocabulary
--- clauses name these definitions after `Rattle.mb_claim.specs`
+-- clauses leave out the file of what these lines name: `Rattle.mb_claim.specs.NAME`
 pub use ObjectTypes.*
 pub use Types.*
 pub use History.*
@@ -35,5 +35,5 @@ pub use Straight.*
 pub use Refusals.*
 pub use Plays.*
 pub use Boards.*
-pub use Examples.*
-pub use ShapedExamples.*
+pub use Samples.*
+pub use ShapedSamples.*

@@ -5,7 +5,7 @@ use Rattle.mb_claim.specs.Types.{Claim, ClaimOp, Going, Layout}
 use Rattle.mb_deciding.specs.declared.access.Op.{Op}
 use Rattle.mb_claim.specs.OneClaim.{claim_stage, consumer_of, IsClaimStep}
 
--- the claim, but at this place on its object, and begun or not
+-- the claim with this place on its object, and with this mark whether it is begun
 abbrev pub stood_at : Pc → Bool → Claim → Claim
 stood_at pc begun claim =
     record { consumer = claim.consumer; object = claim.object; place = pc; stage = claim.stage; begun = begun }

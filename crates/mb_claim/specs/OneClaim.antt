@@ -44,7 +44,7 @@ FitsLayout layout claim = claim_stage claim ≡ Going → IsOnObject layout clai
 
 -- the claim makes this access next
 pub record IsNextOp (layout : Layout) (claim : Claim) (next : ClaimOp) : Type 0 where
-  -- the access is on the object on which the claim stands
+  -- the access is on the object where the claim stands
   pub object : next.object ≡ claim.object
   -- the access is the load, store or exchange of the claim's place there
   pub op : IsOpAt (quorums_of layout) claim.place next.op

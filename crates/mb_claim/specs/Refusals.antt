@@ -10,6 +10,6 @@ layout_refusal consumers pairs =
     else if nat_lt pairs 1 || nat_lt MAX_PAIRS pairs then Some BadRounds
     else None
 
--- the least place of a step of a consumer that is not below the bound, if there is one
+-- the position of the first step whose consumer is not below the bound, if there is one
 abbrev pub stranger_in : ℕ → List (ℕ × ℕ) → Option ℕ
 stranger_in consumers steps = position (λ step. nat_le consumers step.0) steps

@@ -39,7 +39,7 @@ width r (Conciliator s) = 1
 width r Ratifier = 1 + r
 width r LastObject = 1
 
--- the place of a word within its object
+-- where a word lies within its object
 abbrev pub offset : Reg → ℕ
 offset Value = 0
 offset Proposal = 0

@@ -42,13 +42,13 @@ pub struct ClaimStep {
 /// How far the claim of a consumer on a cell has come.
 #[derive(Clone, Copy, PartialEq, Eq, Debug)]
 pub enum Stage {
-    /// The next access is still to be made.
+    /// The claim goes on: its next access is still to be made.
     Going,
-    /// The objects decided the consumer's own number.
+    /// Won: an object decided the consumer's own number.
     Won,
-    /// The objects decided the number of this other consumer.
+    /// Lost: an object decided the number of this other consumer.
     Lost(u32),
-    /// No object decided.
+    /// Undecided: the claim went through all objects, and none decided.
     Undecided,
 }
 

@@ -31,7 +31,8 @@ impl<A: Allocator + Copy + Drop> Board<A> {
     ghost use Rattle.std.specs.Prelude.{◌≡◌, ◌<◌, ◌++◌, ◌∷◌, [], ℕ, List, IfOk, OnOk, map};
     ghost use Rattle.mb_claim.specs.{IsBoard, claim_stage, consumer_count};
 
-    /// A board with all words 0 and each claim before its first access, and room for `steps` entries.
+    /// The board before the first step: all words are 0, and no claim has made an access. It has room for `steps`
+    /// entries.
     pub fn begin(alloc: A, layout: &Layout, steps: usize) -> Result<Board<A>, AllocError>
         ensures { IfOk result (λ board. IsBoard layout.now [] board) }
     {

@@ -69,7 +69,7 @@ impl Claim {
         }
     }
 
-    /// The access that the claim makes next.
+    /// The access that the claim makes next. It needs a claim that is `Going`, and the layout that it was made with.
     #[inline(always)]
     pub fn next(&self, layout: &Layout) -> ClaimOp
         requires going { claim_stage self.now ≡ Going }
@@ -82,7 +82,8 @@ impl Claim {
         }
     }
 
-    /// Goes on after the next access, and returns how far the claim has come. `seen` is the value that a load or an
+    /// Goes on after the next access, and returns how far the claim has come. Its consumer stays. It needs what
+    /// [`Claim::next`] needs. `seen` is the value that a load or an
     /// exchange found. It does not count after a store. The random `word` counts only after a load of a conciliator's
     /// word. If the word cannot hold `seen`, nothing more is said of the stage, and the claim can still be used.
     #[inline(always)]
@@ -111,8 +112,9 @@ impl Claim {
         }
     }
 
-    /// Makes the next access in this memory, and returns how far the claim has come. The call is [`Claim::next`],
-    /// [`Memory::perform`] and [`Claim::after`].
+    /// Makes the next access in this memory, which is one access, and returns how far the claim has come. The call is
+    /// [`Claim::next`], [`Memory::perform`] and [`Claim::after`]. It needs what [`Claim::next`] needs, and a memory
+    /// that can make the access.
     #[inline(always)]
     pub fn step<M: Memory>(&mut self, layout: &Layout, memory: &mut M, word: u64) -> Stage
         requires going { claim_stage self.old ≡ Going }
@@ -148,8 +150,8 @@ impl Claim {
         self.begun
     }
 
-    /// Goes on with what an access on the claim's object led to. Either this is the output, or the claim has the new
-    /// place already.
+    /// Goes on with what an access on the claim's object led to: the output, if there is one. Else the claim has its
+    /// new place already.
     #[inline(always)]
     fn follow(&mut self, layout: &Layout, out: Option<Out>) -> Stage
         requires going { claim_stage self.old ≡ Going }

@@ -149,8 +149,8 @@ impl Layout {
         }
     }
 
-    /// The layout with the same table and pairs, and with this shape in place of its own. Without pairs it keeps its last
-    /// object, so that a cell has an object.
+    /// The layout with the same table and pairs, and with this shape in place of its own. Without pairs it keeps its
+    /// last object, so that a cell has an object.
     pub fn shaped(&self, shape: Shape) -> Layout
         ensures quorums { quorums_of result ≡ quorums_of self.now }
         ensures pairs { pair_count result ≡ pair_count self.now }
@@ -238,7 +238,7 @@ impl Layout {
         self.table.values()
     }
 
-    /// How many words `cells` cells have.
+    /// How many words `cells` cells have. It needs at most 2^24 cells.
     pub fn words(&self, cells: u32) -> usize
         requires { cells ≤ MAX_LARGE_CELLS }
         ensures exact { result ≡ cells * cell_words self.now }
@@ -249,7 +249,8 @@ impl Layout {
         cells as usize * self.words_of_cell()
     }
 
-    /// Where the word of the object of the cell lies, counted in words from the first word of cell 0.
+    /// Where this word of the object of the cell lies, counted in words from the first word of cell 0. It needs a cell
+    /// below 2^24, and a word that the object has.
     #[inline(always)]
     pub fn address(&self, cell: u32, object: u32, reg: Reg) -> usize
         requires cell { cell < MAX_LARGE_CELLS }
@@ -266,7 +267,7 @@ impl Layout {
         cell as usize * self.words_of_cell() + (begin + Layout::place_in_object(reg)) as usize
     }
 
-    /// Where the words of the cell begin.
+    /// Where the words of the cell begin, counted as in [`Layout::address`]. It needs a cell below 2^24.
     #[inline(always)]
     pub fn begin(&self, cell: u32) -> usize
         requires { cell < MAX_LARGE_CELLS }
@@ -279,7 +280,7 @@ impl Layout {
         cell as usize * words
     }
 
-    /// An object of a cell whose words begin at `begin`.
+    /// The site of an object, on a cell whose words begin at `begin`.
     #[inline(always)]
     pub(crate) fn site(&self, begin: usize, object: u32) -> Site
         requires object { object < length (kinds_of self.now) }
@@ -359,7 +360,7 @@ impl Layout {
         self.cell_size as usize
     }
 
-    /// The place of a word within its object.
+    /// Where a word lies within its object, counted from the object's first word. It needs a register below 2^32 - 1.
     #[inline(always)]
     pub fn place_in_object(reg: Reg) -> u32
         requires { offset reg < 2 ^ 32 }

@@ -26,18 +26,18 @@
 //! - [`play`] runs the claims of all consumers on one cell, step by step.
 //! - [`laws`] has what holds of every lawful history of claims, for all orders of accesses and all random words, and of
 //!   every layout and run. [`steps`] has what one access more changes, for callers that keep words and histories of
-//!   their own. [`examples`] has small histories. All are contracts of functions that compute nothing.
+//!   their own. [`samples`] has small histories. All are contracts of functions that compute nothing.
 #![tactic(auto)]
 
 mod access;
 mod board;
 mod claim;
 mod claim_words;
-pub mod examples;
 pub mod laws;
 mod layout;
 mod plays;
 mod run;
+pub mod samples;
 mod shape;
 pub mod steps;
 

@@ -11,9 +11,10 @@ use crate::run::{ClaimRun, PlayFault};
 use std::alloc::{AllocError, Allocator};
 
 /// Runs the claims of all consumers on one cell. Each pair of `steps` is a step of a consumer with its random word. A
-/// step of a consumer whose claim has ended makes no access.
+/// step of a consumer whose claim has ended makes no access. A consumer makes at most [`Layout::max_steps`] accesses.
 ///
-/// The error is `NoConsumer` if a step is of no consumer of the layout, and else `NoMemory` if memory ran out.
+/// The error is `NoConsumer` if a step is of no consumer of the layout (the first such), and else `NoMemory` if memory
+/// ran out.
 pub fn play<A: Allocator + Copy + Drop>(
     alloc: A,
     layout: &Layout,
@@ -59,7 +60,7 @@ fn played<A: Allocator + Copy + Drop>(
     board.finish(alloc)
 }
 
-/// The least place of a step whose consumer is not below `consumers`.
+/// The position of the first step whose consumer is not below `consumers`, if there is one.
 fn stranger(steps: &[(u64, u64)], consumers: u32) -> Option<usize>
     ensures { result ≡ stranger_in consumers steps.now }
 {

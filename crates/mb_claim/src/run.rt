@@ -36,10 +36,10 @@ pub struct ClaimRun<A: Allocator + Drop> {
     pub stages: Vec<Stage, A>,
 }
 
-/// Why there is no run. Places count from 0.
+/// Why there is no run. Positions in the steps count from 0.
 #[derive(Clone, Copy, PartialEq, Eq, Debug)]
 pub enum PlayFault {
-    /// The step at this place is of no consumer of the layout. It is the first such step.
+    /// The step at this position is of no consumer of the layout. It is the first such step.
     NoConsumer(usize),
     /// Memory ran out.
     NoMemory,

@@ -139,9 +139,9 @@ pub fn words_follow_steps()
     places_are_unfinished();
 }
 
-/// What a claim promises callers that make its accesses on words of their own.
+/// What a claim promises to callers that keep the words themselves, as a world or a table of shared words does.
 pub fn claims_make_steps()
-    // The claim of a consumer that has made these turns can be called.
+    // If a claim that is going belongs to a consumer that has made these turns, its calls may be made.
     ensures fits { (layout : Layout) (claim : Claim) (xs : List ObjectTurn)
         → IsClaimIn layout claim xs → FitsLayout layout claim }
 

@@ -14,7 +14,7 @@ use Rattle.mb_deciding.proofs.Sizes.{each_exact, each_size, largest_bound}
 use Rattle.mb_deciding.proofs.TurnsLeft.{attempts_left}
 
 -- ---- masks within others
--- one act more in the one list goes with one more in the other, so the first stays no longer
+-- a list that is no longer than another stays so if both get an act more, or the other alone
 cond_within :
     (x : Act) (xs ys : List Act) (p q : Bool) → (p ≡ true → q ≡ true) → length xs ≤ length ys
     → length (cond p (x ∷ xs) xs) ≤ length (cond q (x ∷ ys) ys)

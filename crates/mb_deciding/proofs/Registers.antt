@@ -109,7 +109,7 @@ skip_cond : (b : Bool) (x : Act) (xs : List Act) → b ≡ false → cond b (x �
 skip_cond true x xs e = cc
 skip_cond false x xs e = refl
 
--- if the test holds, the act is added
+-- if the test holds, the list gets the act in front
 take_cond : (b : Bool) (x : Act) (xs : List Act) → b ≡ true → cond b (x ∷ xs) xs ≡ x ∷ xs
 take_cond true x xs e = refl
 take_cond false x xs e = cc

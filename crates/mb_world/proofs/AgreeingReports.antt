@@ -3,7 +3,7 @@ use Rattle.std.proofs.Common.{◌≡◌, ◌↔◌, ℕ, zero, suc, ◌<◌, ◌
 use Rattle.mb_world.specs.declared.report.Note.TheVariants.{Took, Lost}
 use Rattle.mb_world.specs.Theorem.{DiaryView, HasCompeted, HasLostTo, HasTaken, IsLossTo, is_begun, ledger, notes, share}
 use Rattle.mb_world.specs.Agreement.{AgreesWith}
-use Rattle.mb_world.specs.ReportExamples.{diary_of, first_to, taken_and_lost, to_nobody, won_not_loaded}
+use Rattle.mb_world.specs.ReportSamples.{diary_of, first_to, taken_and_lost, to_nobody, won_not_loaded}
 use Rattle.mb_world.proofs.ReportLists.{no_diary, not_noted}
 use Rattle.mb_world.proofs.OneLaneReports.{agrees_on_lane}
 
@@ -47,7 +47,7 @@ taken_losses (suc zero) zero zero less e = record {
   another = λ f. cc;
   competed = inl (omega arith);
   only = taken_loser;
-  given = inl refl;
+  assigned = inl refl;
 }
 taken_losses (suc zero) (suc w) zero less e = absurd (cc)
 taken_losses (suc zero) w (suc j) less e = absurd (cc)
@@ -71,7 +71,7 @@ taken_begun zero less e = absurd (cc)
 taken_begun (suc zero) less e = absurd (cc)
 taken_begun (suc (suc c)) less e = absurd (omega (arith, less))
 
--- so the report agrees with the assignment that gives the item to consumer 0
+-- the report agrees with the assignment that gives the item to consumer 0
 pub taken_agrees : AgreesWith (first_to 0) taken_and_lost
 taken_agrees = agrees_on_lane (first_to 0) (5 ∷ []) [] taken_diaries (record {
   elsewhere = λ p j. refl;
@@ -112,7 +112,7 @@ won_losses (suc zero) zero zero less e = record {
   another = λ f. cc;
   competed = inr (refl, refl);
   only = won_loser;
-  given = inr refl;
+  assigned = inr refl;
 }
 won_losses (suc zero) (suc w) zero less e = absurd (cc)
 won_losses (suc zero) w (suc j) less e = absurd (cc)
@@ -136,7 +136,7 @@ won_begun zero less e = omega arith
 won_begun (suc zero) less e = absurd (cc)
 won_begun (suc (suc c)) less e = absurd (omega (arith, less))
 
--- so the report agrees with the assignment that gives nothing
+-- the report agrees with the assignment that gives nothing
 pub won_agrees : AgreesWith to_nobody won_not_loaded
 won_agrees = agrees_on_lane to_nobody (5 ∷ []) (5 ∷ []) won_diaries (record {
   elsewhere = λ p j. refl;

@@ -65,7 +65,7 @@ module _ (n : ℕ) (r : ReportView) (right : AreNotesRight n r) where
   share_test : (c p j : ℕ) → is_consumer c (taker p j) ≡ is_took (note c p j r)
   share_test c p j = at_taker (taker p j) refl (is_took (note c p j r)) refl
     where
-      -- this holds whatever the assignment has, and whether c's note says that it took the item or not
+      -- the test of a share agrees with c's note on the item, whatever the assignment has for it
       at_taker : (o : Option ℕ) → taker p j ≡ o → (b : Bool) → is_took (note c p j r) ≡ b → is_consumer c o ≡ b
       at_taker None o true b = absurd (let q = given_to c p j (is_took-at (note c p j r) b) in cc)
       at_taker None o false b = refl
@@ -88,7 +88,7 @@ module _ (n : ℕ) (r : ReportView) (right : AreNotesRight n r) where
     another = (right.lost c w p j lost).0;
     competed = (right.lost c w p j lost).1;
     only = λ d v other. right.one d c p j (Lost v) (Lost w) v w other lost refl refl;
-    given = whose (taker p j) refl;
+    assigned = whose (taker p j) refl;
   }
     where
       -- the item goes to the winner w, or to nobody
@@ -98,7 +98,7 @@ module _ (n : ℕ) (r : ReportView) (right : AreNotesRight n r) where
           let taken = has_taken d p j o in
           inl (ap Some (right.one d c p j (Took taken.0) (Lost w) d w taken.1 lost refl refl))
 
-  -- so the report agrees with the assignment `taker`
+  -- the report agrees with the assignment `taker`
   pub agrees : AgreesWith taker r
   agrees = record {
     given = record {

@@ -29,11 +29,11 @@ module _ (s : WorldState) (h : WorldHistory) (is : IsWorldAfter h s) (c p : ℕ)
   abbrev at : AtCell s h is c p cs ps known k claim here
   at = at_cell s h is c p cs ps known k claim here
 
-  -- the access, as one of the world
+  -- the step of the claim, as an access of the world
   abbrev a : WorldAccess
   a = claim_step c k x
 
-  -- the access, as one to the claims
+  -- the step of the claim, as an access to the claims
   abbrev step : ClaimAccess
   step = path.claim_access c k x
 
@@ -76,7 +76,7 @@ module _ (s : WorldState) (h : WorldHistory) (is : IsWorldAfter h s) (c p : ℕ)
       subst (λ xs. IsClaimPrefix (plan s h is).claims c xs stage.Going)
       (sym (part_is s h is c p cs ps known k claim here)) (prefix s h is c p cs ps known k claim here stage.Going going)
 
-  -- by that part, its stage after the step is that of the claim as it is now
+  -- by the consumer's part, the claim's stage after the step is that of the claim as it is now
   is_now : (r : Stage) → claim_stage now ≡ r
       → IsClaimPrefix (plan s h is).claims c (claim_part c k (claim_accesses (a ∷ h))) r
   is_now r e = subst (λ xs. IsClaimPrefix (plan s h is).claims c xs r) (sym part_now) (prefix_now r e)
@@ -87,7 +87,7 @@ module _ (s : WorldState) (h : WorldHistory) (is : IsWorldAfter h s) (c p : ℕ)
       → IsClaimPrefix (plan s h is).claims c (claim_part c k (claim_accesses g)) r → z ≡ r
   one_stage g z r = known.world.stage c (claim_part c k (claim_accesses g)) z r
 
-  -- if the claim has not ended after the step, every claim's end is as before
+  -- if the claim has not ended after the step, each claim has ended exactly if it had before, and in the same way
   ends_stay : ((n : Note) → Ends (plan s h is).claims (a ∷ h) c k n → ⊥) → (e j : ℕ) (n : Note)
       → Ends (plan s h is).claims h e j n ↔ Ends (plan s h is).claims (a ∷ h) e j n
   ends_stay still e j n = by (cases_eq e c) (cases_eq j k)

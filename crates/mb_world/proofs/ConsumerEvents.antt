@@ -25,7 +25,7 @@ module _ (plan : Plan) (h : WorldHistory) (known : EventKnown plan h) (c p word 
     pub consumer : c < consumers_of plan
     pub lane : p < plan.lanes
 
-  -- if an access for which a step asks keeps the history lawful, there are such a consumer and such a lane
+  -- if an access for which a step asks keeps the history lawful, the mailbox has the step's consumer and lane
   inside : (a : WorldAccess) → IsStep a → IsWorldLawful plan (a ∷ h) → IsInside a
   inside a made lawful =
       let there = lawful.no_others c a (inl refl) made.0 in
@@ -82,7 +82,7 @@ module _ (plan : Plan) (h : WorldHistory) (known : EventKnown plan h) (c p word 
           (random a made_a.2 k x e ∙ sym (random b made_b.2 k y f)));
     }
 
-    -- so two accesses for which the step asks are one
+    -- two accesses for which the step asks are one
     pub one_step_access : a ≡ b
     one_step_access =
         let i = inside a made_a la in

@@ -62,7 +62,7 @@ module _ (plan : Plan) (hs : Histories) (known : Known plan hs) where
   ended_or_not : (c k : ℕ) → claim_part c k hs.claims ≢ [] → ((n : Note) × Ends c k n) ⊎ ((n : Note) → Ends c k n → ⊥)
   ended_or_not c k some = let q = (known.claimant c k some).1 in by_stage q.0 q.1
     where
-      -- this holds for each stage of the claim, and if it is won, whether the item was loaded or not
+      -- whether a claim of this stage has ended can be told
       by_stage : (s : Stage) → Comes c k s → ((n : Note) × Ends c k n) ⊎ ((n : Note) → Ends c k n → ⊥)
       by_stage stage.Going q = inr (going_on c k q)
       by_stage stage.Won q = elim (read_or_not (parts_of c hs).reads (Item k)) [
@@ -83,7 +83,7 @@ module _ (plan : Plan) (hs : Histories) (known : Known plan hs) where
       read : HasRead (Link k) v (parts_of c hs).reads
       read = read-loaded (hs.reader_of c) hs.pool (Link k) v loaded
 
-      -- this holds for each stage but that of a claim that goes on
+      -- a claim of this stage, which is not `Going`, has ended if the consumer loaded its cell's link
       by_stage : (s : Stage) → Comes c k s → s ≢ stage.Going → (n : Note) × Ends c k n
       by_stage stage.Going q over = absurd (over refl)
       by_stage stage.Won q over = let item = fit.taken k v read q in (Took item.0, (q, item.1))

@@ -43,7 +43,7 @@ module _ (cs : Claims) (c : ℕ) (x : Parts) (f : Fits cs c x) where
       | inr old ↦ f.ended k u old
     ]
 
-    -- if one of these claims is won, the item of its cell was loaded
+    -- if a claim on a cell past which the consumer has looked is won, the item of the cell was loaded
     taken : (k u : ℕ) → HasRead (Link k) u (a ∷ x.reads) → HasStageIn cs c k stage.Won x
         → (y : ℕ) × HasRead (Item k) y (a ∷ x.reads)
     taken k u r won =
@@ -53,7 +53,7 @@ module _ (cs : Claims) (c : ℕ) (x : Parts) (f : Fits cs c x) where
         ] in
         (item.0, read-more a x.reads (Item k) item.0 item.1)
 
-    -- the parts fit with that load
+    -- the parts fit with the load of the link
     pub fits_past : Fits cs c (with_load a x)
     fits_past = record {
       follows = ((λ _. (p, refl)), f.follows);
@@ -72,7 +72,7 @@ module _ (cs : Claims) (c : ℕ) (x : Parts) (f : Fits cs c x) where
     abbrev b : PoolAccess
     b = load q (Item k) v
 
-    -- the parts fit with that load
+    -- the parts fit with the load of the item
     pub fits_taken : Fits cs c (with_load b x)
     fits_taken = record {
       follows = ((λ link. absurd link), f.follows);

@@ -35,7 +35,7 @@ some_pairs s (suc n) b some e = cc
 some_pairs s zero true some e = cc
 some_pairs s zero false some e = absurd (false≢true (some refl))
 
--- so the row of such a shape is not empty
+-- the row of a shape with pairs or a last object is not empty
 pub some_row : (shape : Shape) (s n : ℕ) → (n ≡ 0 → shape.last ≡ true) → row_of shape s n ≢ []
 some_row shape s n some =
     some_with shape.fast (pairs_of s n ++ last_row shape.last) (some_pairs s n shape.last some)

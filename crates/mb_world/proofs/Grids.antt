@@ -35,7 +35,7 @@ module _ {X : Type 0} (rows columns : ℕ) where
     -- one element changes: that at row c and column p
     module _ (c p : ℕ) (cs : c < rows) (ps : p < columns) (count : length xs ≡ rows * columns) (y : X) (new : Q c p y)
         (keeps : (d q : ℕ) (x : X) → d < rows → q < columns → (d ≡ c → q ≡ p → ⊥) → P d q x → Q d q x) where
-      -- that element stands within the list
+      -- the element that changes stands within the list
       inside : c * columns + p < length xs
       inside = omega (arith, count, position_within c p rows columns cs ps)
 

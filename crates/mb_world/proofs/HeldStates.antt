@@ -105,7 +105,7 @@ module _ (s : WorldState) (h : WorldHistory) (is : IsWorldAfter h s) (c p : ℕ)
   still_open xs (finds ne fresh path) = (stage.Going, fresh, refl)
   still_open xs (goes r q still path) = (r, q, still)
 
-  -- so the claim goes on, unless it is won
+  -- the claim goes on, unless it is won
   pub goes_unless_won : (claim_stage claim ≡ stage.Won → ⊥) → claim_stage claim ≡ stage.Going
   goes_unless_won not_won =
       let o = still_open at_cell.steps at_cell.path in

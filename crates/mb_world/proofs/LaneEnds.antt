@@ -53,7 +53,7 @@ module _ (plan : Plan) (hs : Histories) (known : Known plan hs) where
           met : HasMet q p (k ∷ chain.1.0) hs.pool
           met = subst (λ (i : ℕ). HasMet q i (k ∷ chain.1.0) hs.pool) same chain.1.1
 
-      -- this holds for each word from which the end mark was loaded
+      -- a reader that loaded the end mark of the lane from this word has met all cells of the lane
       by_word : (w : Word) → IsLinkWord w → is_of_lane p (linked_cells p hs.pool) w ≡ true → HasLoaded q w END hs.pool
           → HasMetLane q p
       by_word Counter link on loaded = absurd link
@@ -63,7 +63,7 @@ module _ (plan : Plan) (hs : Histories) (known : Known plan hs) where
       by_word (Item k) link on loaded = absurd link
 
   module _ (c p : ℕ) (cs : c < consumers_of plan) (d : DiaryView) (diary : IsDiaryOf plan c p hs d) where
-    -- so a consumer that has loaded the end mark has a note at each position
+    -- a consumer that has loaded the end mark has a note at each position
     pub ends_noted : (j : ℕ) → HasMetEnd (hs.reader_of c) p hs.pool → j < length (values_put p hs.pool)
         → j < length d.notes
     ends_noted j end inside = noted_there (cases_lt (suc j) (length (linked_cells p hs.pool)))

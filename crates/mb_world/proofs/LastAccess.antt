@@ -46,7 +46,7 @@ module _ (cs : Claims) (c p : ℕ) where
     pub path : ConsumerPath cs c p older was.cells was.notes was.held
     pub leads : Leads a was now
 
-  -- a path with an access came from such a place
+  -- a path with an access came from the place before that access
   pub came_from : {a : WorldAccess} {older : WorldHistory} {ks : List ℕ} {ns : List Note} {held : Option
       (List ObjectTurn)}
       → ConsumerPath cs c p (a ∷ older) ks ns held → CameFrom a older (path_end ks ns held)

@@ -4,28 +4,28 @@ use Rattle.std.proofs.lemmas.Option.{slice_get-get_or}
 use Rattle.mb_world.specs.declared.report.Note.{Note}
 use Rattle.mb_world.specs.declared.report.Note.TheVariants.{Took, Lost, Undecided}
 use Rattle.mb_world.specs.Plan.{Histories}
-use Rattle.mb_world.specs.Theorem.{HasCompeted, HasTaken, IsFinished, MainTheorem, ReportView, is_begun, items_put, note, notes}
+use Rattle.mb_world.specs.Theorem.{HasCompeted, HasTaken, HasTakenOrLost, MainTheorem, ReportView, is_begun, items_put, note, notes}
 use Rattle.mb_world.specs.Agreement.{AreAllTaken, IsLeftBesideBegun}
 
 -- the report agrees with one assignment, and has no undecided note
 module _ (hs : Histories) (r : ReportView) (main_theorem : MainTheorem hs.pool hs.reader_of r)
     (decided : (c p j : ℕ) → note c p j r ≢ Some Undecided) where
-  -- an unfinished claim on an item that nobody took has no note
-  no_note : (d p j : ℕ) → ((e : ℕ) → HasTaken e p j r → ⊥) → (IsFinished d p j r → ⊥) → (n : Note)
+  -- a competitor for an item that nobody took has no note on it if it did not lose it
+  no_note : (d p j : ℕ) → ((e : ℕ) → HasTaken e p j r → ⊥) → (HasTakenOrLost d p j r → ⊥) → (n : Note)
       → note d p j r ≡ Some n → ⊥
-  no_note d p j none unfinished (Took x) e = none d (x, e)
-  no_note d p j none unfinished (Lost w) e = unfinished (inr (w, e))
-  no_note d p j none unfinished Undecided e = decided d p j e
+  no_note d p j none neither (Took x) e = none d (x, e)
+  no_note d p j none neither (Lost w) e = neither (inr (w, e))
+  no_note d p j none neither Undecided e = decided d p j e
 
-  -- so such a claim is begun, and is the one after the notes of its diary
-  begun_next : (d p j : ℕ) → ((e : ℕ) → HasTaken e p j r → ⊥) → (IsFinished d p j r → ⊥) → HasCompeted d p j r
+  -- of an item that nobody took, the claim of a competitor that did not lose it is begun, after the notes of its diary
+  begun_next : (d p j : ℕ) → ((e : ℕ) → HasTaken e p j r → ⊥) → (HasTakenOrLost d p j r → ⊥) → HasCompeted d p j r
       → (length (notes d p r) ≡ j) × (is_begun d p r ≡ true)
-  begun_next d p j none unfinished (inl before) =
-      absurd (no_note d p j none unfinished (get_or (notes d p r) j Undecided)
+  begun_next d p j none neither (inl before) =
+      absurd (no_note d p j none neither (get_or (notes d p r) j Undecided)
       (slice_get-get_or (notes d p r) j Undecided before))
-  begun_next d p j none unfinished (inr next) = next
+  begun_next d p j none neither (inr next) = next
 
-  -- so an item that was competed for and that nobody took is left beside a begun claim
+  -- an item that was competed for and that nobody took is left beside a begun claim
   pub beside : IsLeftBesideBegun r
   beside c p j inside competed none =
       let s = main_theorem.settled c p j inside competed none in
@@ -41,6 +41,6 @@ module _ (hs : Histories) (r : ReportView) (main_theorem : MainTheorem hs.pool h
       (λ d has. let both : None ≡ Some d = sym e ∙ (main_theorem.given.taken d p j).0 has in cc) in
       absurd (idle b.0 b.2)
 
-  -- so on a lane without a begun claim each item that was competed for is taken
+  -- on a lane without a begun claim each item that was competed for is taken
   pub taken : AreAllTaken r
   taken p idle c j inside competed = taken_by p idle c j inside competed (main_theorem.assignment p j) refl

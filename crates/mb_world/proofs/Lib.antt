@@ -62,8 +62,8 @@ pub mod TakeStates
 pub mod CompeteStates
 pub mod ProducerStates
 pub mod ClaimNotes
--- Examples
+-- Samples
 pub mod OneLaneReports
 pub mod AgreeingReports
-pub mod ExampleWorlds
-pub mod ExampleReports
+pub mod SampleWorlds
+pub mod SampleReports

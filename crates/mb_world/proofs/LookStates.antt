@@ -94,7 +94,7 @@ module _ (s : WorldState) (h : WorldHistory) (is : IsWorldAfter h s) (c p : ℕ)
   within_by [] ns (cursor.Past j) path e = absurd (cc)
   within_by (k ∷ ks) ns (cursor.Head q) path e = absurd (cc)
 
-  -- so this consumer's cursor is within the pool
+  -- this consumer's cursor is within the pool
   pub within : IsWithin at s.pool
   within = within_by at_link.cells at_link.notes at at_link.path at_link.word
 
@@ -114,7 +114,7 @@ module _ (s : WorldState) (h : WorldHistory) (is : IsWorldAfter h s) (c p : ℕ)
   abbrev v : ℕ
   v = value_in (word_of at) (pool_accesses h)
 
-  -- the load of that word
+  -- the load of the word at the cursor
   abbrev a : WorldAccess
   a = loaded s h is c p cs ps known (word_of at) may
 

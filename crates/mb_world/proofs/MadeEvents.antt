@@ -38,7 +38,7 @@ module _ (plan : Plan) (h : WorldHistory) (p : ℕ) (ps : p < plan.lanes) (lane 
             ((n, refl), refl, goes (fetch p entry) refl (xs, small) refl (next entry e)),
           )
 
-      -- so each offer is refused or made
+      -- each offer is refused or made
       pub offer_made : IsRefusedOrMade plan (event.Offer p x) h
       offer_made = by_offer (offer_refusal lane) refl
 
@@ -73,7 +73,7 @@ module _ (plan : Plan) (h : WorldHistory) (p : ℕ) (ps : p < plan.lanes) (lane 
             ((w, v, is.0, refl), is.1.1, goes (store p w v) refl (fits w v e) tt (next (w, v) e)),
           )
 
-      -- so each push is refused or made
+      -- each push is refused or made
       pub push_made : IsRefusedOrMade plan (event.Push p) h
       push_made = by_push (push_store p lane) refl
 
@@ -102,6 +102,6 @@ module _ (plan : Plan) (h : WorldHistory) (p : ℕ) (ps : p < plan.lanes) (lane 
               ),
             )
 
-        -- so each finish is refused or made
+        -- each finish is refused or made
         pub finish_made : IsRefusedOrMade plan (event.Finish p) h
         finish_made = by_finish (finish_refusal lane) refl

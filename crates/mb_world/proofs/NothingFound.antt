@@ -157,7 +157,7 @@ module _ (plan : Plan) (h : WorldHistory) (lawful : IsWorldLawful plan h) (known
   module _ (one_place : (js : List ℕ) (ms : List Note) (held : Option (List ObjectTurn))
       → ConsumerPath plan.claims c p (lane_part c p h) js ms held → (ks : List ℕ) (ns : List Note)
       → ConsumerPath plan.claims c p (lane_part c p h) ks ns None → (js ≡ ks) × (ms ≡ ns) × (held ≡ None)) where
-    -- if there is nothing, the answer to each access of the consumer there says so
+    -- if there is nothing on the lane for the consumer, the answer to each access of the consumer there is `Nothing`
     finds_none : {was now : PathEnd} (x : WorldAccess) (r : Answer) → IsWorldLawful plan (x ∷ h)
         → AnswerNames plan r x h
         → HasNothing plan c p h

@@ -7,7 +7,7 @@ use Rattle.mb_world.specs.declared.report.Note.TheVariants.{Took, Lost}
 use Rattle.mb_world.specs.Theorem.{Assignment, DiaryView, HasCompeted, HasLostTo, HasTaken, IsLossTo, ReportView, diary, is_begun, is_consumer, item_taken, items_left, items_put, ledger, notes, rest}
 use Rattle.mb_world.specs.Theorem.{share}
 use Rattle.mb_world.specs.Agreement.{AgreesWith}
-use Rattle.mb_world.specs.ReportExamples.{report_of}
+use Rattle.mb_world.specs.ReportSamples.{report_of}
 use Rattle.mb_world.proofs.Lists.{items_where-none}
 use Rattle.mb_world.proofs.ReportLists.{no_diary, no_lane, not_noted}
 
@@ -116,7 +116,7 @@ module _ (t : Assignment) (xs ys : List ℕ) (ds : List DiaryView) where
     left zero = y.left
     left (suc p) = refl
 
-    -- so the report agrees with the assignment
+    -- the report agrees with the assignment t
     pub agrees_on_lane : AgreesWith t r
     agrees_on_lane = record {
       given = record {

@@ -33,7 +33,7 @@ one_list {A} (x ∷ xs) (y ∷ ys) f g =
     let tails = one_list xs ys (λ j z. f (suc j) z) (λ j z. g (suc j) z) in
     rw (heads, tails) refl
 
--- if there is a diary, there is a lane
+-- if there are diaries for n consumers and m lanes, there is a lane
 some_lanes : (n m i : ℕ) → i < n * m → 0 < m
 some_lanes n zero i less = omega (arith, less)
 some_lanes n (suc m) i less = omega arith

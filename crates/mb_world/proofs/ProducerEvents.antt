@@ -20,21 +20,21 @@ use Rattle.mb_world.specs.EventKnown.{EventKnown}
 abbrev stored : Word → ℕ → Option (Word × ℕ)
 stored w v = Some (w, v)
 
--- the word of such a store
+-- the word to which a store goes, if there is one
 abbrev stored_word : Option (Word × ℕ) → Word
 stored_word None = Counter
 stored_word (Some s) = s.0
 
--- the value of such a store
+-- the value that a store leaves, if there is one
 abbrev stored_value : Option (Word × ℕ) → ℕ
 stored_value None = 0
 stored_value (Some s) = s.1
 
--- if two such stores are equal, they are in one word
+-- equal stores go to one word
 first_same : (w u : Word) (v x : ℕ) → stored w v ≡ stored u x → w ≡ u
 first_same w u v x e = ap stored_word e
 
--- if two such stores are equal, they store one value
+-- equal stores store one value
 second_same : (w u : Word) (v x : ℕ) → stored w v ≡ stored u x → v ≡ x
 second_same w u v x e = ap stored_value e
 

@@ -105,7 +105,7 @@ module _ (plan : Plan) (h : WorldHistory) (lawful : IsWorldLawful plan h)
               (subst (λ (v : Word). is_of_lane l (linked_cells l (pool_accesses h)) v ≡ true) w here)))
       by (inr e) = rw e refl
 
-  -- so the parts of all consumers stay
+  -- the parts of all consumers stay
   pub parts_stay : (d q : ℕ) → lane_part d q (ToCells a ∷ h) ≡ lane_part d q h
   parts_stay d q =
       ap (λ (b : Bool). cond b (ToCells a ∷ filter (is_on d q (linked_cells q (a ∷ pool_accesses h))) h)
@@ -113,7 +113,7 @@ module _ (plan : Plan) (h : WorldHistory) (lawful : IsWorldLawful plan h)
       (is_on_none d q p (linked_cells q (a ∷ pool_accesses h)) a maker)
       ∙ by (cases_eq q p)
     where
-      -- this holds whether the access links a cell or not
+      -- the parts of all consumers stay, by whether the access links a cell
       by_link : (o : Option ℕ) → link_of a.word a.act ≡ o
           → filter (is_on d q (push_if o (linked_cells q (pool_accesses h)))) h ≡ lane_part d q h
       by_link None is = refl
@@ -127,7 +127,7 @@ module _ (plan : Plan) (h : WorldHistory) (lawful : IsWorldLawful plan h)
           ∙ by_link (link_of a.word a.act) refl
       by (inr ne) = ap (λ (ls : List ℕ). filter (is_on d q ls) h) (linked_other p q a (pool_accesses h) maker ne)
 
-  -- so the longer history is lawful
+  -- the longer history is lawful
   pub producer_goes_on : IsWorldLawful plan (ToCells a ∷ h)
   producer_goes_on = record {
     sized = lawful.sized;

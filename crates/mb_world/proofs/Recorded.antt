@@ -80,7 +80,7 @@ module _ (plan : Plan) (hs : Histories) (known : Known plan hs) where
     notes_within : (c p : ℕ) → length (notes c p r) ≤ length (items_put p r)
     notes_within c p = by_cases (cases_lt p plan.lanes) (cases_lt c (consumers_of plan))
       where
-        -- this holds whether there are such a consumer and such a lane or not
+        -- there are no more notes than items, by whether the mailbox has the consumer and the lane
         by_cases : (p < plan.lanes) ⊎ (plan.lanes ≤ p) → (c < consumers_of plan) ⊎ (consumers_of plan ≤ c)
             → length (notes c p r) ≤ length (items_put p r)
         by_cases (inl ps) (inl cs) =
@@ -107,7 +107,7 @@ module _ (plan : Plan) (hs : Histories) (known : Known plan hs) where
             × (slice_get (is.diary c p cs ps).0.notes j ≡ Some (Lost w))
         i = note_in plan hs r is c p j (Lost w) e
 
-        -- this holds whether the winner is one of the consumers or not
+        -- a loss names another consumer, which competed, by whether the mailbox has the one that is named
         by_winner : (w < consumers_of plan) ⊎ (consumers_of plan ≤ w) → (w ≢ c) × HasCompeted w p j r
         by_winner (inl ws) =
             let d = is.diary c p i.0 i.1 in
@@ -134,13 +134,13 @@ module _ (plan : Plan) (hs : Histories) (known : Known plan hs) where
     left_all : (p : ℕ) → items_left p r ≡ items_where (λ j. not (is_taken (consumers_of plan) p j r)) (items_put p r)
     left_all p = by_lane (cases_lt p plan.lanes)
       where
-        -- this holds whether there is such a lane or not
+        -- the items left are those without a note that they were taken, by whether the mailbox has the lane
         by_lane : (p < plan.lanes) ⊎ (plan.lanes ≤ p)
             → items_left p r ≡ items_where (λ j. not (is_taken (consumers_of plan) p j r)) (items_put p r)
         by_lane (inl ps) = rw (put_is plan hs r is p ps) (left_is plan hs r is p ps)
         by_lane (inr past) = rw (no_lane plan hs r is p past) refl
 
-    -- so the notes of the report are right
+    -- the notes of the report are right
     pub right : AreNotesRight (consumers_of plan) r
     right = record {
       value = value;

@@ -6,7 +6,7 @@ use Rattle.std.proofs.lemmas.Bool.{false≢true, le-ltb}
 use Rattle.std.proofs.lemmas.Option.{slice_get_past}
 use Rattle.mb_world.specs.declared.report.Note.{Note}
 use Rattle.mb_world.specs.Theorem.{DiaryView, HasCompeted, ReportView, diary, is_begun, note, notes}
-use Rattle.mb_world.specs.ReportExamples.{report_of}
+use Rattle.mb_world.specs.ReportSamples.{report_of}
 
 -- the diary of consumer c on lane 0 stands at position c
 pub at_position : (c : ℕ) (xs ys : List ℕ) (ds : List DiaryView) → diary c 0 (report_of xs ys ds) ≡ slice_get ds c

@@ -13,7 +13,7 @@ use Rattle.mb_world.specs.Theorem.{DiaryView, ReportView, diary, is_begun, items
 use Rattle.mb_world.specs.Fitting.{EndsAs, parts_of}
 use Rattle.mb_world.specs.Reporting.{IsReportOf, lane_view, values_put}
 
--- there are such a consumer and such a lane
+-- the mailbox has consumer c and lane p
 abbrev pub IsInside : Plan → ℕ → ℕ → Type 0
 IsInside plan c p = (c < consumers_of plan) × (p < plan.lanes)
 
@@ -61,11 +61,11 @@ module _ (plan : Plan) (hs : Histories) (r : ReportView) (is : IsReportOf plan h
   pub left_is : (p : ℕ) → p < plan.lanes → items_left p r ≡ (lane_view plan p hs r).left
   left_is p ps = rw (is.lane p ps) refl
 
-  -- if there is a diary, there are such a consumer and such a lane
+  -- if there is a diary, the mailbox has its consumer and its lane
   pub inside : (c p : ℕ) → (diary c p r ≡ None → ⊥) → IsInside plan c p
   inside c p some = by_cases (cases_lt c (consumers_of plan)) (cases_lt p plan.lanes)
     where
-      -- if there is no such consumer, or no such lane, there is no diary
+      -- if the mailbox lacks the consumer or the lane, there is no diary
       by_cases : (c < consumers_of plan) ⊎ (consumers_of plan ≤ c) → (p < plan.lanes) ⊎ (plan.lanes ≤ p)
           → IsInside plan c p
       by_cases (inl cs) (inl ps) = (cs, ps)

@@ -2,39 +2,40 @@
 use Rattle.std.proofs.Common.{◌≡◌, ℕ, Option, Some, None, refl, sym, ◌∙◌, inl, inr}
 use Rattle.mb_world.specs.declared.report.Note.{Note}
 use Rattle.mb_world.specs.declared.report.Note.TheVariants.{Took, Lost, Undecided}
-use Rattle.mb_world.specs.Theorem.{Assignment, HasCompeted, HasTaken, IsFinished, IsLossTo, IsSettled, ReportView, note}
+use Rattle.mb_world.specs.Theorem.{Assignment, HasCompeted, HasTaken, HasTakenOrLost, IsLossTo, IsSettled, ReportView, note}
 use Rattle.mb_world.specs.Agreement.{AgreesWith}
 
--- some competitor's claim on the item is unfinished
+-- some competitor neither took nor lost the item
 abbrev IsContested : ℕ → ℕ → ReportView → Type 0
-IsContested p j r = (d : ℕ) × HasCompeted d p j r × (IsFinished d p j r → ⊥)
+IsContested p j r = (d : ℕ) × HasCompeted d p j r × (HasTakenOrLost d p j r → ⊥)
 
--- a claim without a note is not finished
-unfinished_none : (c p j : ℕ) (r : ReportView) → note c p j r ≡ None → IsFinished c p j r → ⊥
-unfinished_none c p j r e (inl h) = let k = h.1 in cc
-unfinished_none c p j r e (inr h) = let k = h.1 in cc
+-- who has no note on an item neither took nor lost it
+neither_without_note : (c p j : ℕ) (r : ReportView) → note c p j r ≡ None → HasTakenOrLost c p j r → ⊥
+neither_without_note c p j r e (inl h) = let k = h.1 in cc
+neither_without_note c p j r e (inr h) = let k = h.1 in cc
 
--- a claim that ended undecided is not finished
-unfinished_undecided : (c p j : ℕ) (r : ReportView) → note c p j r ≡ Some Undecided → IsFinished c p j r → ⊥
-unfinished_undecided c p j r e (inl h) = let k = h.1 in cc
-unfinished_undecided c p j r e (inr h) = let k = h.1 in cc
+-- whose note on an item is undecided neither took nor lost it
+neither_if_undecided : (c p j : ℕ) (r : ReportView) → note c p j r ≡ Some Undecided → HasTakenOrLost c p j r → ⊥
+neither_if_undecided c p j r e (inl h) = let k = h.1 in cc
+neither_if_undecided c p j r e (inr h) = let k = h.1 in cc
 
 module _ (t : Assignment) (r : ReportView) (a : AgreesWith t r) where
-  -- if nobody has taken the item, the winner that a loss names has not finished
-  unfinished_winner : (c w p j : ℕ) → IsLossTo t c w p j r → ((d : ℕ) → HasTaken d p j r → ⊥) → IsFinished w p j r → ⊥
-  unfinished_winner c w p j l none (inl h) = none w h
-  unfinished_winner c w p j l none (inr h) = (a.given.losses w h.0 p j h.1).another (l.only w h.0 h.1)
+  -- if nobody has taken the item, the winner that a loss names neither took nor lost the item
+  winner_did_neither : (c w p j : ℕ) → IsLossTo t c w p j r → ((d : ℕ) → HasTaken d p j r → ⊥)
+      → HasTakenOrLost w p j r → ⊥
+  winner_did_neither c w p j l none (inl h) = none w h
+  winner_did_neither c w p j l none (inr h) = (a.given.losses w h.0 p j h.1).another (l.only w h.0 h.1)
 
   -- an item that was competed for and not taken is contested, whatever the competitor's note
   at_note : (c p j : ℕ) → HasCompeted c p j r → ((d : ℕ) → HasTaken d p j r → ⊥) → (n : Option Note)
       → note c p j r ≡ n → IsContested p j r
-  at_note c p j competed none None e = (c, competed, unfinished_none c p j r e)
+  at_note c p j competed none None e = (c, competed, neither_without_note c p j r e)
   at_note c p j competed none (Some (Took x)) e = absurd (none c (x, e))
   at_note c p j competed none (Some (Lost w)) e =
-      let loss = a.given.losses c w p j e in (w, loss.competed, unfinished_winner c w p j loss none)
-  at_note c p j competed none (Some Undecided) e = (c, competed, unfinished_undecided c p j r e)
+      let loss = a.given.losses c w p j e in (w, loss.competed, winner_did_neither c w p j loss none)
+  at_note c p j competed none (Some Undecided) e = (c, competed, neither_if_undecided c p j r e)
 
-  -- so the report is settled
+  -- the report is settled
   pub settled : IsSettled r
   settled c p j inside competed none = at_note c p j competed none (note c p j r) refl
 

@@ -165,7 +165,7 @@ module _ (s : WorldState) (h : WorldHistory) (is : IsWorldAfter h s) (known : Wo
       told_notes : (d : DiaryView) → IsDiaryTold s c p d → d.notes ≡ filter_map (note_on s c) (reverse (linked p))
       told_notes d t = t.notes ∙ ap (filter_map (note_on s c)) (walk_is p t.cells t.ended t.walked)
 
-      -- so a diary that the state tells is that of the consumer on the lane
+      -- a diary that the state tells is that of the consumer on the lane
       diary_told : (d : DiaryView) → IsDiaryTold s c p d → IsDiaryOf plan c p (histories_of h) d
       diary_told d t =
           let same : d.notes ≡ reverse at.notes = told_notes d t ∙ notes_along in
@@ -214,7 +214,7 @@ module _ (s : WorldState) (h : WorldHistory) (is : IsWorldAfter h s) (known : Wo
           (λ j k e. taken_is p j k ps (subst (λ (ls : List ℕ). slice_get ls j ≡ Some k) order e))
           ∙ ap (items_where (λ j. not (is_taken (consumers_of plan) p j r))) (sym w.values)))
 
-      -- so the report that the state tells is that of the history
+      -- the report that the state tells is that of the history
       pub report_is : IsReportOf plan (histories_of h) r
       report_is = record {
         lanes_count = lanes.count;

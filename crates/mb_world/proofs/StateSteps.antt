@@ -115,7 +115,7 @@ module _ (s : WorldState) (h : WorldHistory) (is : IsWorldAfter h s) where
         (λ e q x. IsPlaceAfter s.setup e q (a ∷ h) x) s.places is.place c p cs ps is.places_count d now
         (λ e q x _ _ other old. other_place e q x other old)
 
-    -- there are as many places as before
+    -- with one place changed there are as many places
     pub places_count : (d : Place) → length (slice_set s.places (place_position c p) d) ≡ consumers_of plan * plan.lanes
     places_count d = length-set s.places (place_position c p) d ∙ is.places_count
 
@@ -151,7 +151,7 @@ module _ (s : WorldState) (h : WorldHistory) (is : IsWorldAfter h s) where
             λ e. let one = only m e in cc,
           )
 
-      -- there are as many notes as before
+      -- with one note added there are as many positions for notes
       pub notes_count : length (slice_set s.notes (note_position c k) (Some n))
           ≡ consumers_of plan * plan.claims.cells
       notes_count = length-set s.notes (note_position c k) (Some n) ∙ is.notes_count

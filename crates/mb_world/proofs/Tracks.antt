@@ -141,7 +141,7 @@ module _ (cs : Claims) (c : ℕ) where
   module _ (k : ℕ) (ks : List ℕ) (ns : List Note) (xs : List ObjectTurn) (x : ObjectTurn) (older : WorldHistory)
       (once : IsOnceEach (k ∷ ks)) (z : Stage)
       (q : IsClaimPrefix cs c (x ∷ xs) z) (y : Tracks cs c older (k ∷ ks) ns (Some xs)) where
-    -- what was done, with the step
+    -- the consumer's history with the step
     abbrev Now : WorldHistory
     Now = claim_step c k x ∷ older
 

@@ -27,7 +27,7 @@ module _ (plan : Plan) (h : WorldHistory) (lawful : IsWorldLawful plan h) (known
       (λ a has. (of_part c (pool_accesses h) a (Has-of_filter (of_lane plan h lawful p) (loads plan h lawful c) a
       (subst (λ (d : History). Has d a) (loads_on plan h lawful c p) has))).0) (path_met plan.claims c y.path)
 
-  -- so the cells met stand on the lane
+  -- the cells met stand on the lane
   pub on_lane : (c p k : ℕ) (y : IsOnPath plan c p h) → Has y.cells k → Has (linked_cells p (pool_accesses h)) k
   on_lane c p k y has =
       let s = known.start c p y.cells (met_all c p y) in
@@ -69,7 +69,7 @@ module _ (plan : Plan) (h : WorldHistory) (lawful : IsWorldLawful plan h) (known
       → claim_part c k (claim_accesses (lane_part c p h)) ≡ claim_part c k (claim_accesses h)
   steps_there c p k here = claim_on c p (linked_cells p (pool_accesses h)) k h here
 
-  -- so the history of the claims is lawful
+  -- the history of the claims is lawful
   pub claims_lawful : IsClaimLawful plan.claims (claim_accesses h)
   claims_lawful = record {
     memory = lawful.claims_memory;

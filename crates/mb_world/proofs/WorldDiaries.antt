@@ -115,7 +115,7 @@ module _ (plan : Plan) (h : WorldHistory) (lawful : IsWorldLawful plan h) (known
           (z.1, (λ e. z.2 (sym (same_steps z.0 z.1) ∙ e)), (λ n e. z.3 n (ends_globally z.0 n z.1 e))),
     )
 
-    -- so the diary that the place tells is that of the consumer on the lane
+    -- the diary that the place tells is that of the consumer on the lane
     pub diary_is : IsDiaryOf plan c p (histories_of h) (diary_at c p ns held)
     diary_is = record {
       consumer = refl;

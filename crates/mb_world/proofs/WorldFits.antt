@@ -96,7 +96,7 @@ module _ (plan : Plan) (h : WorldHistory) (lawful : IsWorldLawful plan h) (known
         subst (λ xs. IsClaimPrefix plan.claims c xs stage.Won)
         (steps_there plan h lawful known c l.lane k l.here) (y.won k v l.read)
 
-    -- so the two parts of the consumer fit
+    -- the two parts of the consumer fit
     pub fit : Fits plan.claims c (parts_of c (histories_of h))
     fit = record {
       follows = follows plan h lawful known c cs;

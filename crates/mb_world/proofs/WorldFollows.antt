@@ -14,7 +14,7 @@ use Rattle.mb_world.proofs.WorldClaims.{on_lane}
 use Rattle.mb_world.specs.WorldKnown.{WorldKnown}
 use Rattle.mb_world.proofs.WorldPool.{load_lane, loads, loads_on, of_lane, on_word}
 
--- the link past cells of a lane is a word of it
+-- the link past cells of a lane is a word of that lane
 pub past_lane : (p : ℕ) (ks ls : List ℕ) → ((k : ℕ) → Has ks k → Has ls k) → is_of_lane p ls (place_past p ks) ≡ true
 past_lane p [] ls on = eq-eqb p p refl
 past_lane p (k ∷ ks) ls on = has_cell-true ls k (on k (inl refl))
@@ -82,7 +82,7 @@ module _ (plan : Plan) (h : WorldHistory) (lawful : IsWorldLawful plan h) (known
     pub follows : FollowsLane p (filter (of_lane plan h lawful p) d)
     pub linked : (k : ℕ) → Has (cells_met p (filter (of_lane plan h lawful p) d)) k → Has (cells_of p) k
 
-  -- if these loads follow the links of lane p so, the older ones do, too
+  -- if these loads follow the links of lane p, the older ones do, too
   older_links : (p : ℕ) (a : PoolAccess) (older : History) → IsOnLinks p (a ∷ older) → IsOnLinks p older
   older_links p a older y = record {
     follows = cond_both (of_lane plan h lawful p a) (a ∷ filter (of_lane plan h lawful p) older)
@@ -92,7 +92,7 @@ module _ (plan : Plan) (h : WorldHistory) (lawful : IsWorldLawful plan h) (known
     linked = older_linked p (cells_of p) a older y.linked;
   }
 
-  -- if loads of a consumer follow the links of each lane so, they follow links
+  -- if loads of a consumer follow the links of each lane, they follow links
   follows_all : (c : ℕ) (d : History) → ((a : PoolAccess) → Has d a → Has (loads plan h lawful c) a)
       → ((p : ℕ) → p < plan.lanes → IsOnLinks p d) → FollowsLinks d
   follows_all c [] among lanes = tt
@@ -117,14 +117,14 @@ module _ (plan : Plan) (h : WorldHistory) (lawful : IsWorldLawful plan h) (known
           subst (λ b. FollowsLane on.lane (cond b (a ∷ filter (of_lane plan h lawful on.lane) older)
           (filter (of_lane plan h lawful on.lane) older))) here links.follows
 
-      -- so the load is of the link past the cells met there
+      -- the load is of the link past the cells met there
       follows : IsLinkWord a.word → a.word ≡ place_past on.lane (cells_met on.lane older)
       follows link =
           first.0 link
           ∙ ap (place_past on.lane)
           (met_filter on.lane (cells_of on.lane) older (older_linked on.lane (cells_of on.lane) a older links.linked))
 
-  -- so all loads of a consumer follow the links
+  -- all loads of a consumer follow the links
   pub follows : (c : ℕ) → c < consumers_of plan → FollowsLinks (loads plan h lawful c)
   follows c cs = follows_all c (loads plan h lawful c) (λ a has. has) on_links
     where

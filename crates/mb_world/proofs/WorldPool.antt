@@ -30,7 +30,7 @@ module _ (plan : Plan) (h : WorldHistory) (lawful : IsWorldLawful plan h) where
   load_lane q a has =
       let own = of_part q (pool_accesses h) a has in lawful.no_others q (ToCells a) (pool_has h a own.0) own.1
 
-  -- that access is to a word of that lane
+  -- an access of a reader is to a word of the lane on which it is
   pub on_word : (q : ℕ) (a : PoolAccess) (on : IsOnLane plan q (ToCells a) h) → of_lane on.lane a ≡ true
   on_word q a on = (and_parts (is_same_process (Reader q) a.process) (of_lane on.lane a) on.on).1
 
@@ -85,7 +85,7 @@ module _ (plan : Plan) (h : WorldHistory) (lawful : IsWorldLawful plan h) where
   module _ (whole : (test : ℕ → PoolAccess → Bool) (done : History)
       → ((a : PoolAccess) → Has done a → (p : ℕ) × (test p a ≡ true))
       → ((p : ℕ) → IsReaderPath plan.lanes (filter (test p) done)) → IsReaderPath plan.lanes done) where
-    -- so what each reader did is a reader path
+    -- what each reader did is a reader path
     reads : (q : ℕ) → IsReaderPath plan.lanes (loads q)
     reads q = by (cases_lt q (consumers_of plan))
       where
@@ -95,7 +95,7 @@ module _ (plan : Plan) (h : WorldHistory) (lawful : IsWorldLawful plan h) where
             subst (λ (d : History). IsReaderPath plan.lanes d)
             (sym (nothing (loads q) (λ a has. let on = load_lane q a has in omega (arith, on.known)))) tt
 
-    -- so the history of the cells is lawful
+    -- the history of the cells is lawful
     pub pool_lawful : IsPoolLawful (size_of plan) (pool_accesses h)
     pool_lawful = record {
       sized = lawful.sized;

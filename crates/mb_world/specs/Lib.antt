@@ -8,11 +8,11 @@ pub mod Reporting
 pub mod World
 pub mod ConsumerPath
 pub mod Worlds
-pub mod ReportExamples
+pub mod ReportSamples
 pub mod Setups
 pub mod Replay
-pub mod PathExamples
-pub mod WorldExamples
+pub mod PathSamples
+pub mod WorldSamples
 pub mod PartSteps
 pub mod Places
 pub mod WorldState

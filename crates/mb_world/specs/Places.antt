@@ -13,7 +13,7 @@ abbrev pub has_begun_at : Place → Bool
 has_begun_at (Before at) = false
 has_begun_at (At k claim) = is_begun claim
 
--- the place of a consumer after a step of its claim on cell k, by that claim and its stage after the step
+-- the place of a consumer after a step of its claim on cell k, by that claim and the stage to which the step led it
 abbrev pub place_after : ℕ → Claim → Stage → Place
 place_after k claim stage.Going = At k claim
 place_after k claim stage.Won = At k claim

@@ -1,17 +1,17 @@
 -- The main theorem: what is proved of the report of every mailbox, whatever its threads did. Its points are README's.
--- A producer puts items into a *lane* of its own, and may end it by an *end mark*. Consumers compete for each item. A
--- report says of each lane which items were put and which are left. Of each consumer and lane it has a *diary*, whose
--- note at position j is on item j of the lane:
---     Took x       the consumer won the item, and loaded its value x
---     Lost w       only consumer w can have won it. It need not have: its claim may go on, or end undecided
---     Undecided    the consumer's claim ended, and told no winner
+-- A producer puts items into its *lane*, and may end it by an *end mark*. Consumers compete for each item. A report has
+-- of each lane the items put and those left, and of each consumer and lane a *diary*. Note j there is on item j:
+--     Took x       the consumer took the item, and its value is x
+--     Lost w       the consumer lost the item. No other than consumer w can take it, and w may never do so
+--     Undecided    the consumer is done with the item, and neither took it nor lost it
 -- c, d, v, w are consumers, p is a lane or its producer, j a position: numbers (ℕ) from 0 on. r: report, t: assignment.
 -- After `:` stands of what kind a name is, after `=` in the line below what it means. `f x y` is f of x and y, `λ x. e`
 -- the function from x to e. A record of statements says that all of them hold. Skip the lines `use`.
---     A → B      if A then B         (x : A) → B    for all x of A: B      A ↔ B    A exactly if B
---     A × B      A and B             (x : A) × B    for some x of A: B     A → ⊥    not A
---     A ⊎ B      A or B              ≡, ≢           equal, not equal       x ∷ xs   first x, then xs
---     slice_get xs j: Some of item j of xs, or None    option_map_or f o z: f of x if o is Some x, else z    suc j: j + 1
+--     A → B    if A then B; a function from A to B      (x : A) → B    for all x of A: B     A ↔ B    A exactly if B
+--     A × B    A and B             A ⊎ B    A or B      (x : A) × B    for some x of A: B    A → ⊥    not A
+--     ≡, ≢     equal, not equal    suc j    j + 1       xs ++ ys   first xs, then ys         x ∷ xs   first x, then xs
+--     nat_eq, nat_lt, is_none: whether =, <, None    IsSome o: o is not None    slice_get xs j: Some of item j, or None
+--     option_map_or f o z: f of x if o is Some x, else z     filter_map f xs: each y such that f of an item is Some y
 use Rattle.std.specs.Prelude.{ℕ, suc, ◌≡◌, ◌≢◌, ◌<◌, ◌≤◌, ◌↔◌, ◌⊎◌, ◌+◌, ◌*◌, Bool, true, false, nat_eq, nat_lt, List, [], ◌∷◌, ◌++◌, length, slice_get, Option, Some, None, IsSome, if◌then◌else◌}
 use Rattle.std.specs.{List.filter_map, Option.is_none, Option.option_map_or}
 use Rattle.mb_world.specs.declared.report.Note.{Note, TheVariants.Took, TheVariants.Lost, TheVariants.Undecided}
@@ -19,11 +19,11 @@ use Rattle.mb_world.specs.{Imports.History, Imports.Producer, Imports.has_ended,
 
 pub record LaneView : Type 0 where
   pub put : List ℕ  -- the items put
-  pub ended : Bool  -- whether the producer set its end mark
+  pub ended : Bool  -- whether the producer set its end mark (no point is about this field)
   pub left : List ℕ  -- the items that nobody took
 
 pub record DiaryView : Type 0 where
-  pub consumer : ℕ
+  pub consumer : ℕ  -- whose diary it is, and of which lane (no point is about these two)
   pub lane : ℕ
   pub notes : List Note
   pub begun : Bool  -- whether a claim on the item after these notes is begun: it has made an access
@@ -59,8 +59,8 @@ HasLostTo c w p j r = note c p j r ≡ Some (Lost w)
 abbrev pub HasCompeted : ℕ → ℕ → ℕ → ReportView → Type 0  -- c has a note there, or has begun a claim there
 HasCompeted c p j r = (j < length (notes c p r)) ⊎ ((length (notes c p r) ≡ j) × (is_begun c p r ≡ true))
 
-abbrev pub IsFinished : ℕ → ℕ → ℕ → ReportView → Type 0  -- c took the item or lost it. An undecided claim is unfinished
-IsFinished c p j r = HasTaken c p j r ⊎ ((w : ℕ) × HasLostTo c w p j r)
+abbrev pub HasTakenOrLost : ℕ → ℕ → ℕ → ReportView → Type 0
+HasTakenOrLost c p j r = HasTaken c p j r ⊎ ((w : ℕ) × HasLostTo c w p j r)
 
 abbrev pub item_taken : Note → Option ℕ
 item_taken (Took x) = Some x
@@ -70,7 +70,7 @@ item_taken Undecided = None
 abbrev pub ledger : ℕ → ℕ → ReportView → List ℕ  -- the values that c took from lane p, in the order of its notes
 ledger c p r = filter_map item_taken (notes c p r)
 
-abbrev pub Assignment : Type 0  -- to each item (lane, position) it gives one consumer, or None
+abbrev pub Assignment : Type 0  -- it gives each item (lane, position) to one consumer, or to nobody (None)
 Assignment = ℕ → ℕ → Option ℕ
 
 abbrev pub items_where : (ℕ → Bool) → List ℕ → List ℕ  -- the items at the positions that pass the test
@@ -87,12 +87,11 @@ share t c p r = items_where (λ j. is_consumer c (t p j)) (items_put p r)
 abbrev pub rest : Assignment → ℕ → ReportView → List ℕ  -- those that it gives to nobody
 rest t p r = items_where (λ j. is_none (t p j)) (items_put p r)
 
--- c lost item j of lane p to w: w is another and competed, all losses of it name w, and w alone may be given it
-pub record IsLossTo (t : Assignment) (c w p j : ℕ) (r : ReportView) : Type 0 where
+pub record IsLossTo (t : Assignment) (c w p j : ℕ) (r : ReportView) : Type 0 where  -- if c lost item j to w:
   pub another : w ≢ c
   pub competed : HasCompeted w p j r
-  pub only : (d v : ℕ) → HasLostTo d v p j r → v ≡ w
-  pub given : (t p j ≡ Some w) ⊎ (t p j ≡ None)
+  pub only : (d v : ℕ) → HasLostTo d v p j r → v ≡ w  -- each loss of the item names w
+  pub assigned : (t p j ≡ Some w) ⊎ (t p j ≡ None)  -- t gives it to w or to nobody
 
 pub record AreGiven (t : Assignment) (r : ReportView) : Type 0 where
   -- Point 1: an item is taken exactly by the consumer that t gives it to. Only items are given, only to competitors
@@ -107,21 +106,22 @@ pub record AreGiven (t : Assignment) (r : ReportView) : Type 0 where
 abbrev pub AreLeft : Assignment → ReportView → Type 0  -- Point 3: every other item put is reported as left
 AreLeft t r = (p : ℕ) → items_left p r ≡ rest t p r
 
--- Point 4, of `pool`: all accesses to the lanes' words, the newest first. After its end mark a producer makes none. A
--- consumer that has loaded the end mark of a lane, as reader `reader_of c`, has a note on each item there
+-- Point 4. `pool` has all accesses to lanes and their cells, the newest first. `part (Producer p) h`: those in h of
+-- producer p. `has_ended p h`: in h the end mark of lane p is stored. `HasMetEnd q p h`: in h the reader q loaded it.
+-- Consumer c loads from the pool as the reader of the number `reader_of c` (in `gather`: c)
 pub record NothingFollowsEnds (pool : History) (reader_of : ℕ → ℕ) (r : ReportView) : Type 0 where
   pub silent : (later older : History) (p : ℕ) → later ++ older ≡ pool → has_ended p older ≡ true
-      → part (Producer p) later ≡ []
+      → part (Producer p) later ≡ []  -- after its end mark a producer makes no access
   pub noted : (c p j : ℕ) → IsSome (diary c p r) → HasMetEnd (reader_of c) p pool
-      → j < length (items_put p r) → IsSome (note c p j r)
+      → j < length (items_put p r) → IsSome (note c p j r)  -- who met it has a note on each item
 
-abbrev pub IsSettled : ReportView → Type 0  -- Point 5: if nobody took an item competed for, a competitor is unfinished
+abbrev pub IsSettled : ReportView → Type 0  -- Point 5: if nobody took an item with competitors, not all of them lost it
 IsSettled r =
     (c p j : ℕ) → j < length (items_put p r) → HasCompeted c p j r → ((d : ℕ) → HasTaken d p j r → ⊥)
-    → (d : ℕ) × HasCompeted d p j r × (IsFinished d p j r → ⊥)
+    → (d : ℕ) × HasCompeted d p j r × (HasTakenOrLost d p j r → ⊥)
 
--- The main theorem. `Mailbox::gather` promises it by `IsGathered` (`specs/Gathering.antt` of mb_mailbox). That ties the
--- pool down: it is lawful, and just what the producers and consumers did. Of a pool made up point 4 would say little
+-- The main theorem. `Mailbox::gather` promises it by `IsGathered` (`specs/Gathering.antt` of mb_mailbox). There `pool`
+-- is lawful, and just what was done. Of a made-up `pool` point 4 would say little. Point 5 follows from `losses`
 pub record MainTheorem (pool : History) (reader_of : ℕ → ℕ) (r : ReportView) : Type 0 where
   pub assignment : Assignment
   pub given : AreGiven assignment r

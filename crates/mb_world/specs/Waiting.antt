@@ -8,7 +8,7 @@ use Rattle.mb_world.specs.ConsumerPath.{ConsumerPath}
 
 -- after a history, there is nothing for consumer c on lane p: no cell that c has not met, and no end mark
 pub record HasNothing (plan : Plan) (c p : ℕ) (h : WorldHistory) : Type 0 where
-  -- there are such a consumer and such a lane
+  -- the mailbox has the consumer and the lane
   pub consumer : c < consumers_of plan
   pub lane : p < plan.lanes
   -- the path of c has met all cells that are linked there, and c holds no claim

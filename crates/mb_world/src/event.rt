@@ -16,7 +16,7 @@ pub enum Event {
     Step { consumer: u64, lane: u64, word: u64 },
 }
 
-/// The answer to an event: the access that was made, or why none was.
+/// The answer to an event. It names the access that was made, or says why none was.
 #[derive(Clone, Copy, PartialEq, Eq, Debug)]
 pub enum Answer {
     /// There is no such lane. No access was made.
@@ -29,7 +29,7 @@ pub enum Answer {
     Pushed(Push),
     /// A finish: `Ended` if the end mark was stored, or a refusal.
     Finished(Finish),
-    /// A step of a consumer that holds no claim: what the link at its place says.
+    /// A step of a consumer that holds no claim: what the head or link at its cursor says.
     Looked(Look),
     /// A step of a claim on this cell: its act on a word of this object, and the claim's stage after it.
     Claimed {

@@ -1,5 +1,5 @@
-//! What the laws of claims and of cells give together, each as one record. The functions compute nothing: the laws of
-//! this crate stand on their contracts.
+//! What the laws of claims and of cells say of two histories, or of a world's history, gathered in one record each. The
+//! functions compute nothing: the laws of this crate stand on their contracts.
 ghost use Rattle.mb_world.specs.Imports.{IsPoolLawful, IsQuorumTable};
 ghost use Rattle.mb_world.specs.Known.{Known};
 ghost use Rattle.mb_world.specs.Plan.{Histories, Plan, size_of};
@@ -12,7 +12,7 @@ use mb_cells::laws::{
 };
 use mb_claim::laws::{claims_have_one_winner, prefixes_have_one_stage};
 
-/// What they give for two sound histories.
+/// What these laws say of two sound histories.
 pub fn sound_histories_are_known()
     ensures { (plan : Plan) (hs : Histories) → AreSound plan hs → Known plan hs }
 {
@@ -24,7 +24,7 @@ pub fn sound_histories_are_known()
     cells_stand_once();
 }
 
-/// What they give for a history of a world whose accesses to cells are lawful.
+/// What these laws say of a world's history whose accesses to cells are lawful.
 pub fn worlds_are_known()
     ensures { (plan : Plan) (h : WorldHistory) → IsQuorumTable plan.claims.table
         → IsPoolLawful (size_of plan) (pool_accesses h) → WorldKnown plan h }

@@ -52,7 +52,8 @@ pub fn histories_have_one_report()
     sound_histories_are_known();
 }
 
-/// A report that agrees with an assignment is settled: what was competed for is left only beside an unfinished claim.
+/// A report that agrees with an assignment is settled: an item that was competed for is left only if a
+/// competitor neither took nor lost it.
 pub fn agreeing_reports_are_settled()
     ensures { (t : Assignment) (r : ReportView) → AgreesWith t r → IsSettled r }
 {}

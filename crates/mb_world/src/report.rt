@@ -2,14 +2,15 @@
 use std::alloc::Allocator;
 use std::marker::Model;
 
-/// The end of a consumer's claim on an item.
+/// What a consumer notes of an item, once it is done with it.
 #[derive(Clone, Copy, PartialEq, Eq, Debug)]
 pub enum Note {
-    /// The consumer has won the item, and has loaded this value.
+    /// The consumer took the item: it won it, and loaded this value.
     Took(u64),
-    /// Only this other consumer can have won the item. It need not have: its claim may go on, or may be undecided.
+    /// The consumer lost the item. No other than this consumer can take it, and perhaps not even that one does: its
+    /// claim may stop midway, or end undecided.
     Lost(u32),
-    /// The consumer's own claim ended undecided: another may have won the item, or nobody.
+    /// The consumer's claim ended undecided, so it neither took nor lost the item. Another may have won it, or nobody.
     Undecided,
 }
 
@@ -33,7 +34,7 @@ pub struct Diary<A: Allocator + Drop> {
     pub lane: u32,
     /// The consumer's notes on the items of the lane, from the first item on.
     pub notes: Vec<Note, A>,
-    /// Whether the consumer's claim on the next item, which has no note yet, has made an access.
+    /// Whether the consumer has begun a claim on the next item, which has no note yet. A begun claim made an access.
     pub begun: bool,
 }
 

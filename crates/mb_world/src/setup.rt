@@ -62,7 +62,7 @@ impl Setup {
 
     /// The setup of `producers` (1 to 16), `consumers` (1 to 64) and `cells` (0 to 256). Each cell has `pairs` pairs of
     /// deciding objects (1 to 8) over the quorum table `name`, and nothing beside them. If several numbers are out of
-    /// range, the error is the first of their faults, in the order of [`SetupFault`].
+    /// range, the error is the first of these: `BadProducers`, `BadConsumers`, `BadCells`, `BadRounds` (the pairs).
     pub fn new(
         producers: u64,
         consumers: u64,
@@ -102,7 +102,8 @@ impl Setup {
     }
 
     /// The setup of `producers` (1 to 16), `consumers` (1 to 64) and `cells` (0 to 2^24) whose cells have a last object
-    /// alone. So a claim is one exchange. The fault is that of [`Setup::large`] with one pair.
+    /// alone. So a claim is one exchange. The faults are those of [`Setup::large`], but for `BadRounds`: there are no
+    /// pairs.
     pub fn exchange(producers: u64, consumers: u64, cells: u64) -> Result<Setup, SetupFault>
         ensures refused { MatchOption (large_refusal producers consumers cells 1) (IsOk result)
             (λ fault. result ≡ Err fault) }

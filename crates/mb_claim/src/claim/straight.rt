@@ -10,10 +10,10 @@ use mb_deciding::steps::paths_are_short;
 use mb_deciding::{Drawing, Kind, through_conciliator, through_last, through_ratifier};
 use mb_quorum::Quorums;
 
-/// No claim makes more accesses to one object.
+/// The most accesses that a claim can make to one object: no ratifier over any table takes more.
 const LONGEST: u64 = 138;
 
-/// A budget for the longest way through all objects of a cell, and more.
+/// A budget that is enough for the longest way through all objects of a cell.
 const AMPLE: u64 = 8192;
 
 /// Where straight accesses of a claim ended.
@@ -35,7 +35,8 @@ impl Claim {
     ghost use Rattle.mb_claim.specs.{quorums_of, kinds_of, consumer_count, cell_words, IsStanding, HasEnd, HasStopped, site_of};
     ghost use Rattle.mb_claim.specs.declared.claim.straight.TheConstants.{LONGEST};
 
-    /// The claim of a consumer before its first access to an object, with this value as its input there.
+    /// The claim of a consumer before its first access to an object, with this value as its input there. It needs an
+    /// object of the layout, and as value the number of one of its consumers.
     #[cold]
     #[inline(never)]
     pub fn standing(layout: &Layout, consumer: u32, object: u32, value: u32) -> Claim
@@ -53,8 +54,9 @@ impl Claim {
     }
 
     /// Makes the accesses of a new claim on a cell whose words begin at `begin`. It goes object by object, as long as
-    /// 10 accesses and 2 for each quorum register are left. For a last object one is enough. These are the accesses of
-    /// as many calls of [`Claim::step`].
+    /// 10 accesses and 2 for each quorum register are left. For a last object one is enough. It makes at most `most`
+    /// accesses, those of as many calls of [`Claim::step`]. It needs a consumer of the layout, words whose positions
+    /// are below 2^64, and a memory that can make each access.
     #[inline(always)]
     pub fn straight<M: Drawing>(
         layout: &Layout,

@@ -19,8 +19,13 @@ impl<A: Allocator + Drop> World<A> {
     ghost use Rattle.mb_world.specs.Waiting.{HasNothing};
     ghost use Rattle.mb_world.specs.EventSteps.{EventAdds};
 
-    /// Makes the one access that the event asks for, or none if the event is refused. Returns what was done. It takes
-    /// no memory, and its time depends neither on the setup nor on what was done before.
+    /// Makes the one access that the event asks for, or none if the event is refused. Returns what was done.
+    ///
+    /// It is refused by `NoLane` if there is no such lane, and else by `NoConsumer` if there is no such consumer. Else
+    /// a producer's event is refused as the call of [`mb_cells::Pool`]. A refused event makes no access and changes
+    /// nothing. But the first `Full` of a lane makes its fetch-add.
+    ///
+    /// The call takes no memory. Its time depends neither on the setup nor on what was done before.
     #[inline]
     pub fn apply(&mut self, event: Event) -> Answer
         // For every lawful history that leaves the world: the answer is that of the replay. The new world is left by

@@ -1,5 +1,5 @@
--- Proof of `laws::agreeing_reports_are_settled`: a report that agrees with an assignment is settled: what was competed
--- for is left only beside an unfinished claim.
+-- Proof of `laws::agreeing_reports_are_settled`: a report that agrees with an assignment is settled: an item that was
+-- competed for is left only if a competitor neither took nor lost it.
 use Rattle.mb_world.proofs.Settled.{settled}
 use Rattle.mb_world.proofs.laws.agreeing_reports_are_settled.Goals as goal
 

@@ -44,6 +44,6 @@ returns-clause-empty g c =
     c.in_ok-pool.pool c.in_ok-words.words c.in_ok-places.places.items c.in_ok-notes.notes.items
     (c.history_extends.ensures.empty plan sized) lanes cells c.in_ok-pool.ensures.empty words heads notes
 
--- so the new world is sound
+-- the new world is sound
 pub invariant_of-result : goal.invariant_of-result
 invariant_of-result g c = ([], returns-clause-empty g c)

@@ -1,0 +1,68 @@
+-- Histories of claims on one cell, for two consumers and one pair over the unary table, with a fast path or a last
+-- object. Some are lawful, and some are not.
+use Rattle.std.specs.Prelude.{ℕ, Bool, List, [], ◌∷◌}
+use Rattle.mb_quorum.specs.Unary.{unary_table}
+use Rattle.mb_claim.specs.AllClaims.{Claims, claims_of}
+use Rattle.mb_claim.specs.ObjectTypes.{Value, Proposal, Quorum, Last, Load, Store, Exchange}
+use Rattle.mb_claim.specs.Types.{ClaimAccess}
+use Rattle.mb_claim.specs.Rows.{row_of, with_last}
+use Rattle.mb_claim.specs.Samples.{access_at, both_undecided}
+
+-- the claims of two consumers on one cell of this shape, with one pair over the unary table
+abbrev pub two_with : Bool → Bool → Claims
+two_with fast last = claims_of (unary_table 2) (row_of (record { fast = fast; last = last }) 2 1) 1
+
+-- ---- a fast path
+-- lawful: consumer 0 comes alone, and the first ratifier decides
+abbrev pub won_at_once : List ClaimAccess
+won_at_once =
+    access_at 0 0 (Load (Quorum 1) 0) ∷ access_at 0 0 (Store Proposal 1) ∷ access_at 0 0 (Load Proposal 0)
+    ∷ access_at 0 0 (Store (Quorum 0) 1) ∷ []
+
+-- lawful: consumer 0 has won at once. Then consumer 1 comes. The first ratifier leaves it undecided with the winner's
+-- number, and the second decides that number
+abbrev pub lost_at_second : List ClaimAccess
+lost_at_second =
+    access_at 1 1 (Load (Quorum 1) 0) ∷ access_at 1 1 (Store Proposal 1) ∷ access_at 1 1 (Load Proposal 0)
+    ∷ access_at 1 1 (Store (Quorum 0) 1)
+    ∷ access_at 1 0 (Load (Quorum 1) 1) ∷ access_at 1 0 (Load Proposal 1) ∷ access_at 1 0 (Store
+    (Quorum 1) 1) ∷ won_at_once
+
+-- not lawful: consumer 0 begins with the conciliator
+abbrev pub skip_both_ratifiers : List ClaimAccess
+skip_both_ratifiers = access_at 0 2 (Load Value 0) ∷ []
+
+-- not lawful: consumer 1 goes to the conciliator after the first ratifier alone
+abbrev pub skip_one_ratifier : List ClaimAccess
+skip_one_ratifier =
+    access_at 1 2 (Load Value 0) ∷ access_at 1 0 (Load (Quorum 1) 1) ∷ access_at 1 0 (Load Proposal 1)
+    ∷ access_at 1 0 (Store (Quorum 1) 1) ∷ won_at_once
+
+-- ---- a last object
+-- lawful: the pair has left both undecided. Consumer 0 comes first to the last object and wins, and consumer 1 finds
+-- its number
+abbrev pub last_decides : List ClaimAccess
+last_decides =
+    access_at 1 2 (Exchange Last 2 1) ∷ access_at 0 2 (Exchange Last 1 0) ∷ both_undecided
+
+-- not lawful: both consumers find the last object's word empty
+abbrev pub last_found_empty_twice : List ClaimAccess
+last_found_empty_twice =
+    access_at 1 2 (Exchange Last 2 0) ∷ access_at 0 2 (Exchange Last 1 0) ∷ both_undecided
+
+-- not lawful: consumer 0 begins with the last object
+abbrev pub last_comes_first : List ClaimAccess
+last_comes_first = access_at 0 2 (Exchange Last 1 0) ∷ []
+
+-- ---- a last object alone
+-- the claims of two consumers on one cell with a last object alone
+abbrev pub two_alone : Claims
+two_alone = claims_of (unary_table 2) (row_of with_last 2 0) 1
+
+-- lawful: consumer 0 comes first and wins, and consumer 1 finds its number
+abbrev pub exchanged_once_each : List ClaimAccess
+exchanged_once_each = access_at 1 0 (Exchange Last 2 1) ∷ access_at 0 0 (Exchange Last 1 0) ∷ []
+
+-- not lawful: both consumers find the word empty
+abbrev pub both_found_empty : List ClaimAccess
+both_found_empty = access_at 1 0 (Exchange Last 2 0) ∷ access_at 0 0 (Exchange Last 1 0) ∷ []
