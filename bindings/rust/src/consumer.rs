@@ -145,7 +145,7 @@ impl<T> Consumer<T> {
         self.poll_within(lane, u64::MAX)
     }
 
-    /// The same with at most so many accesses. With a budget of 0 it makes none. After [`Poll::Spent`] the next poll of
+    /// The same with at most this many accesses. With a budget of 0 it makes none. After [`Poll::Spent`] the next poll of
     /// the lane goes on.
     pub fn poll_within(&mut self, lane: usize, budget: u64) -> Poll<T> {
         let polled = self.part.poll(lane as u64, budget);
@@ -175,7 +175,7 @@ impl<T> Consumer<T> {
         self.take_within(lane, u64::MAX)
     }
 
-    /// The same with at most so many accesses. After [`Poll::Spent`] the next call for the lane goes on.
+    /// The same with at most this many accesses. After [`Poll::Spent`] the next call for the lane goes on.
     pub fn take_within(&mut self, lane: usize, most: u64) -> Poll<T> {
         let taken = self.part.take(lane as u64, most);
         self.noted(lane, taken)
