@@ -120,8 +120,8 @@ impl<T> Builder<T> {
 impl<T: Send> Builder<T> {
     /// Builds a mailbox.
     ///
-    /// [`BuildError::NoMemory`] covers the archive alone: the `Arc` that the parts share comes from Rust's allocator,
-    /// which aborts the program if there is no memory.
+    /// [`BuildError::NoMemory`] covers the archive alone. The `Arc` that producers and consumers share comes from Rust's
+    /// allocator, which aborts the program if there is no memory.
     ///
     /// # Errors
     /// The first number that is out of range, or that there is not enough memory.

@@ -82,18 +82,18 @@ impl<T> fmt::Debug for Sweep<T> {
     }
 }
 
-/// A consumer, which competes for the items of all lanes. [`Mailbox::consumer`](crate::Mailbox::consumer) gives it.
+/// A consumer, which competes for the items of all lanes. [`Mailbox::consumer`](crate::Mailbox::consumer) issues it.
 ///
-/// When it is dropped, also by a panic, it goes home to its mailbox. It may go to another thread, but no two threads share
+/// When it is dropped, also by a panic, it returns to its mailbox. It may go to another thread, but no two threads share
 /// it, and it is not `Clone`.
 ///
 /// If it is dropped while its last poll of some lane was [`Poll::Spent`], the item that it competed for there may be
 /// left. No other consumer gets it, if this one had won it. The report has such an item. Otherwise a drop cuts
-/// no claim short. Its number is not given again.
+/// no claim short. Its number is not issued again.
 ///
 /// A value that it took is the caller's. If a thread panics while it has one, the value is dropped, and the report says
 /// that it was taken ([`Report::taker`](crate::Report::taker)).
-#[must_use = "its drop sends it home, and its number is not given again"]
+#[must_use = "its drop returns it, and its number is not issued again"]
 pub struct Consumer<T> {
     number: usize,
     next: usize,
@@ -220,8 +220,8 @@ impl<T> Consumer<T> {
     ///
     /// It never sleeps by itself: that is what `idle` is for. [`std::thread::yield_now`] lets other threads go on.
     ///
-    /// **It goes on for ever if a producer is never dropped or finished, or was never given.**
-    /// [`Mailbox::end_free_lanes`](crate::Mailbox::end_free_lanes) ends the lanes of those that were not given.
+    /// **It goes on for ever if a producer is never dropped or finished, or was never issued.**
+    /// [`Mailbox::end_free_lanes`](crate::Mailbox::end_free_lanes) ends the lanes of those that were not issued.
     /// To stop early, use [`sweep`](Consumer::sweep) in a loop: an adapter that takes a value and rejects it drops it.
     ///
     /// ```
