@@ -52,8 +52,8 @@ class Figures(unittest.TestCase):
             measuring.used(("sh", "-c", "exit 3"))
 
     def test_a_large_run_that_fails(self):
-        with mock.patch.object(large, "PROGRAM", "/bin/false"), self.assertRaisesRegex(SystemExit, "2 4 4 500 1: status 1"):
-            large.one_run(2, 4, 4, 500, None)
+        with mock.patch.object(large, "PROGRAM", "/bin/false"), self.assertRaisesRegex(SystemExit, "2 4 4 500 1 plain: status 1"):
+            large.one_run(2, 4, 4, 500, "plain", None)
 
     def test_the_memory_of_a_process_that_has_ended(self):
         self.assertTrue(all(float(it) > 0 for it in rounds.memory(os.getpid())))

@@ -144,22 +144,6 @@ fn a_take_goes_past_what_is_lost() {
     }
 }
 
-/// A link, an exchange that is lost, a link, an exchange that is won, and its item.
-#[test]
-fn a_take_spends_one_access_after_the_other() {
-    let mailbox = Mailbox::numbers().consumers(2).shape(Shape::Exchange);
-    let mailbox = mailbox.build().unwrap();
-    let mut producer = mailbox.producer().unwrap();
-    producer.put(70).unwrap();
-    producer.put(71).unwrap();
-    let (mut one, mut two) = (mailbox.consumer().unwrap(), mailbox.consumer().unwrap());
-    assert_eq!(two.take_within(0, 3), Poll::Took(70));
-    for _ in 0..4 {
-        assert_eq!(one.take_within(0, 1), Poll::Spent);
-    }
-    assert_eq!(one.take_within(0, 1), Poll::Took(71));
-}
-
 #[test]
 fn no_pairs_are_refused_but_of_exchanges() {
     for shape in [Shape::Plain, Shape::Fast, Shape::Last, Shape::FastLast] {

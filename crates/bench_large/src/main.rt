@@ -29,7 +29,7 @@ const BUDGET: u64 = 64;
 
 /// Printed if the command line is refused.
 const USAGE: &str = "usage: bench_large PRODUCERS CONSUMERS PAIRS ITEMS SEED \
-    [plain|fast|last|fastlast [chacha|cheap]]";
+    [plain|fast|last|fastlast|exchange [chacha|cheap]]";
 
 /// The program's status if the run failed or its report has a flaw.
 const FLAW: u8 = 1;
@@ -56,7 +56,8 @@ struct Plan {
     /// How many items and cells there are.
     items: u64,
     seed: u64,
-    shape: Shape,
+    /// If there is none, each cell has a last object alone, and no pairs.
+    shape: Option<Shape>,
     words: RandomWords,
 }
 
@@ -114,7 +115,7 @@ fn plan_of(words: &[String]) -> Option<Plan> {
         return None;
     };
     let (shape, words) = match more {
-        [] => (Shape::PLAIN, RandomWords::Chacha),
+        [] => (Some(Shape::PLAIN), RandomWords::Chacha),
         [shape] => (shape_of(shape.as_str())?, RandomWords::Chacha),
         [shape, words] => (shape_of(shape.as_str())?, words_of(words.as_str())?),
         _ => return None,
@@ -130,16 +131,17 @@ fn plan_of(words: &[String]) -> Option<Plan> {
     })
 }
 
-/// The shape of this name, if there is one.
-fn shape_of(name: &str) -> Option<Shape> {
+/// The shape of this name, if there is one. Cells of `exchange` have none.
+fn shape_of(name: &str) -> Option<Option<Shape>> {
     let (fast, last) = match name {
         "plain" => (false, false),
         "fast" => (true, false),
         "last" => (false, true),
         "fastlast" => (true, true),
+        "exchange" => return Some(None),
         _ => return None,
     };
-    Some(Shape { fast, last })
+    Some(Some(Shape { fast, last }))
 }
 
 /// The source of random words of this name, if there is one.
@@ -234,15 +236,14 @@ fn run<W: Threads + Wait + Clock + Sync>(
     plan: &Plan,
 ) -> Result<Outcome, Fault> {
     let start = Instant::now(rt)?;
-    let setup = Setup::large(
-        plan.producers,
-        plan.consumers,
-        plan.items,
-        plan.pairs,
-        TableName::Bits,
-    )
-    .map_err(Fault::Setup)?;
-    let (mailbox, mut hub) = Mailbox::new(alloc, setup.shaped(plan.shape))?;
+    let (producers, consumers, cells) = (plan.producers, plan.consumers, plan.items);
+    let setup = match plan.shape {
+        None => Setup::exchange(producers, consumers, cells).map_err(Fault::Setup)?,
+        Some(shape) => Setup::large(producers, consumers, cells, plan.pairs, TableName::Bits)
+            .map_err(Fault::Setup)?
+            .shaped(shape),
+    };
+    let (mailbox, mut hub) = Mailbox::new(alloc, setup)?;
     let made = start.elapsed(rt)?;
     let worked = match plan.words {
         RandomWords::Chacha => work_all::<ChaCha8Rng, W>(rt, alloc, plan, &mailbox, &mut hub)?,

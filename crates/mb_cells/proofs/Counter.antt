@@ -12,7 +12,7 @@ pub record IsCounted (h : History) : Type 0 where
   pub adds : (a : PoolAccess) (v : ℕ) → Has h a → a.word ≡ Counter → stored_by a.act ≡ Some v
       → is_fetch_add a.act ≡ true
 
--- without its newest access such a history still has a true memory and a counter that is only added to
+-- without its newest access a history that is true to memory, and only adds to the counter, is so still
 pub counted-tail : (a : PoolAccess) (h : History) → IsCounted (a ∷ h) → IsCounted h
 counted-tail a h c = record { memory = c.memory.1; adds = λ b v has. c.adds b v (inr has) }
 

@@ -208,7 +208,7 @@ record IsGiver (h : History) (k : ℕ) : Type 0 where
   pub has : Has h access
   pub leads : IsLeading k access.word access.act
 
--- each cell that was given has such an access
+-- each cell that a reader was given has an access that gave it
 gave-load : (h : History) (k : ℕ) → Gave k h → IsGiver h k
 gave-load [] k g = absurd g
 gave-load (a ∷ h) k (inl g) = record { access = a; has = inl refl; leads = gift-load k a.word a.act g }

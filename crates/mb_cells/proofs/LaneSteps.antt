@@ -33,7 +33,7 @@ same_lane cells p lane other done x y =
     let stage : lane.stage ≡ other.stage = x.stage ∙ ap stage_of one.1 ∙ sym y.stage in
     ap (λ z. record { last = z; stage = lane.stage }) last ∙ ap (λ z. record { last = other.last; stage = z }) stage
 
--- what a producer at such a place has done is a prefix of a lane path
+-- what a producer has done, if a lane as a plain value tells its place, is a prefix of a lane path
 pub lane_prefix : (cells p : ℕ) (lane : Lane) (done : History) → IsLaneAfter cells p lane done
     → IsLanePrefix cells p done
 lane_prefix cells p lane done x = prefix_at cells p x.entries x.phase done x.at

@@ -20,7 +20,7 @@ pub data Call : Type 0 where
   Pushed : ℕ → Push → Call
   Finished : ℕ → Finish → Call
 
--- the call leads from one state to the next. This is what the clauses `meets` and `size` of its contract say
+-- the call leads from the old state to the new one: what the clauses `meets` and `size` of its contract say
 abbrev pub Leads : PoolState → Call → PoolState → Type 0
 Leads old (Offered p x r) new = (p < lane_count old) × OfferMeets old p x r new × SameSize old new
 Leads old (Pushed p r) new = (p < lane_count old) × PushMeets old p r new × SameSize old new
@@ -60,8 +60,7 @@ linked_cells_by p (Pushed q r ∷ older) =
     else linked_cells_by p older
 linked_cells_by p (Finished q r ∷ older) = linked_cells_by p older
 
--- the put list of lane p: the cells that were linked, each with the item offered for it, the
--- first linked first
+-- the put list of lane p: the cells that were linked, each with the item offered for it, the first linked first
 abbrev pub put_list_by : ℕ → List Call → List Entry
 put_list_by p calls = reverse (map (entry_of (λ k. item_by k calls)) (linked_cells_by p calls))
 

@@ -1,4 +1,5 @@
--- What each call of a lane does to a pool, for every history that leaves the old state. Loads leave the pool as it is.
+-- What each call of a producer does to a pool, for every history that leaves the old state. Loads leave the pool as it
+-- is.
 use Rattle.std.specs.Prelude.{IsSome, ℕ, ◌∷◌, ◌≡◌}
 use Rattle.mb_cells.specs.Types.{Counter, Finish, Lane, Offer, Producer, Push, Reader, Word}
 use Rattle.mb_cells.specs.Memory.{History, part, value_in}

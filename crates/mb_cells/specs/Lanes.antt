@@ -12,7 +12,7 @@ link_of (Head _) (Store v) = if nat_eq v END then None else Some (v - 1)
 link_of (Link _) (Store v) = if nat_eq v END then None else Some (v - 1)
 link_of _ _ = None
 
--- the list, with the cell in front if there is one
+-- the list with the cell in front, if there is a cell
 abbrev pub push_if : Option ℕ → List ℕ → List ℕ
 push_if None ks = ks
 push_if (Some k) ks = k ∷ ks
@@ -39,7 +39,7 @@ item_of k (a ∷ older) =
 abbrev pub entry_of : (ℕ → ℕ) → ℕ → Entry
 entry_of items k = record { cell = k; value = items k }
 
--- a cell with the item that a history has for it
+-- a cell, as an entry with the item that its fetch-add in the history was made for
 abbrev pub entry_at : ℕ → History → Entry
 entry_at k h = record { cell = k; value = item_of k h }
 
@@ -47,7 +47,7 @@ entry_at k h = record { cell = k; value = item_of k h }
 abbrev pub put_list : ℕ → History → List Entry
 put_list p h = reverse (map (λ k. entry_at k h) (linked_cells p h))
 
--- whether a store to a head or link is of the end mark
+-- whether a store to a head or link stores the end mark
 abbrev pub marks_end : Word → PoolAct → Bool
 marks_end (Head _) (Store v) = nat_eq v END
 marks_end (Link _) (Store v) = nat_eq v END

@@ -15,7 +15,7 @@ pub mod State
 pub mod Block
 pub mod Calls
 pub mod CallLists
-pub mod Examples
+pub mod Samples
 pub mod Vocabulary
 -- the names that clauses use, also for the crates above
 pub use Vocabulary.*

@@ -1,6 +1,5 @@
--- Histories of the pool's words.
--- A history is a list of accesses, the newest first: in `a ∷ older` the accesses of `older` came
--- before a.
+-- Histories of the pool's words. A history is a list of accesses, the newest first: in `a ∷ older` the accesses of
+-- `older` came before a.
 use Rattle.std.specs.Prelude.{Bool, IfSome, List, None, Option, Some, [], false, filter, if◌then◌else◌, nat_eq, true, unwrap_or, ℕ, ◌&&◌, ◌+◌, ◌∷◌, ◌≡◌, ◌⊎◌}
 use Rattle.mb_cells.specs.Types.{Counter, FetchAdd, Head, Item, Link, Load, PoolAccess, PoolAct, Process, Producer, Reader, Store, Word}
 

@@ -32,7 +32,7 @@ cell_count s = length s.words.items
 abbrev pub size_of : PoolState → PoolSize
 size_of s = pool_size (lane_count s) (cell_count s)
 
--- the word is among the words
+-- the memory has this word
 abbrev pub HasWord : Word → PoolWords → Type 0
 HasWord Counter ws = Unit {0}
 HasWord (Head p) ws = p < length ws.heads
@@ -79,7 +79,7 @@ pub record IsShownAlike (old new : PoolState) : Type 0 where
   pub links : new.words.links ≡ old.words.links
   pub items : new.words.items ≡ old.words.items
 
--- the pool has as many lanes and cells as before
+-- both states have as many lanes, and as many cells
 abbrev pub SameSize : PoolState → PoolState → Type 0
 SameSize old new = (lane_count new ≡ lane_count old) × (cell_count new ≡ cell_count old)
 

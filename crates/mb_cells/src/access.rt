@@ -1,6 +1,6 @@
 //! Atomic accesses to the shared words of a pool of cells.
 
-/// The end mark of a lane, as it stands in its last link or its head.
+/// The end mark of a lane. It stands in the link of the lane's last cell, or in the head if the lane has no cell.
 pub const END: u64 = u64::MAX;
 
 /// Who makes an access.
@@ -8,14 +8,14 @@ pub const END: u64 = u64::MAX;
 pub enum Process {
     /// The producer of the lane with this number.
     Producer(u32),
-    /// A reader, under a number of its own.
+    /// The reader with this number. Readers may have any numbers.
     Reader(u32),
 }
 
 /// A shared word of a pool. All are 0 at first.
 #[derive(Clone, Copy, PartialEq, Eq, Debug)]
 pub enum Word {
-    /// How many fetch-adds were made for cells.
+    /// The counter: how many fetch-adds were made for cells.
     Counter,
     /// The head of a lane: 0 (nothing yet), k + 1 (cell k is the first), or `END`.
     Head(u32),

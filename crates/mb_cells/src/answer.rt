@@ -7,13 +7,13 @@ pub type NoMemory = AllocError;
 /// The answer of an offer.
 #[derive(Clone, Copy, PartialEq, Eq, Debug)]
 pub enum Offer {
-    /// The item has this cell, and is put by two pushes.
+    /// The item has this cell. Two pushes then put it.
     Cell(u32),
-    /// All cells were handed out.
+    /// No cell is left: all were handed out.
     Full,
     /// The item offered before is not linked yet.
     Busy,
-    /// The lane is finished.
+    /// The lane has its end mark.
     Closed,
 }
 
@@ -24,7 +24,7 @@ pub enum Push {
     Item(u32),
     /// This cell was linked: its item is put.
     Link(u32),
-    /// Each item that has a cell is linked. So there is nothing to push.
+    /// There is nothing to push: each item that has a cell is linked.
     Idle,
 }
 
@@ -35,7 +35,7 @@ pub enum Finish {
     Ended,
     /// The item offered before is not linked yet.
     Busy,
-    /// The lane was finished before.
+    /// The lane has its end mark already.
     Closed,
 }
 

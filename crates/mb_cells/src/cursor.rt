@@ -15,14 +15,14 @@ pub enum Cursor {
 }
 
 impl Cursor {
-    /// The head of lane `p`.
+    /// The cursor at the head of lane `p`.
     pub fn head(p: u32) -> Cursor
         ensures { result ≡ Head p }
     {
         Cursor::Head(p)
     }
 
-    /// The place past cell `k`.
+    /// The cursor past cell `k`.
     pub fn past(k: u32) -> Cursor
         ensures { result ≡ Past k }
     {

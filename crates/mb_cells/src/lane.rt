@@ -1,4 +1,4 @@
-//! What a producer may do next on its lane, and what follows, as a plain value.
+//! Where a producer stands on its lane, as a plain value: what it may do next, and what follows.
 ghost use Rattle.std.specs.Prelude.{◌≡◌, None};
 ghost use Rattle.mb_cells.specs.{offer_refusal, finish_refusal, offer_by_found, push_store, push_answer, next_link};
 ghost use Rattle.mb_cells.specs.{new_lane, lane_after_offer, lane_after_push, lane_after_finish};
@@ -51,7 +51,7 @@ impl Lane {
         }
     }
 
-    /// The answer of an offer that makes no access. If it is none, the offer makes a fetch-add.
+    /// The answer with which an offer is refused, without an access. If it is `None`, the offer makes its fetch-add.
     pub fn offer_refusal(self) -> Option<Offer>
         ensures { result ≡ offer_refusal self }
     {
@@ -63,7 +63,8 @@ impl Lane {
         }
     }
 
-    /// Goes on after an offer's fetch-add that gave `found`, in a pool of `cells` cells. Returns the offer's answer.
+    /// Goes on after an offer's fetch-add that gave `found`, in a pool of `cells` cells. Returns the offer's answer. It
+    /// needs a lane that does not refuse an offer.
     pub fn offered(&mut self, cells: u32, item: u64, found: u64) -> Offer
         requires { offer_refusal self.old ≡ None }
         ensures answer { result ≡ offer_by_found cells found }
@@ -79,7 +80,7 @@ impl Lane {
         }
     }
 
-    /// The word and the value of the store that a push makes, on lane `p`. If it is none, the push is idle.
+    /// The word and the value of the store that a push makes on lane `p`. If it is `None`, there is nothing to push.
     pub fn next_push(self, p: u32) -> Option<(Word, u64)>
         ensures { result ≡ push_store p self }
     {
@@ -90,7 +91,7 @@ impl Lane {
         }
     }
 
-    /// Goes on after a push's store, and returns the push's answer.
+    /// Goes on after a push's store, and returns the push's answer. An idle push changes nothing.
     pub fn pushed(&mut self) -> Push
         ensures answer { result ≡ push_answer self.old }
         ensures lane { self.new ≡ lane_after_push self.old }
@@ -109,7 +110,7 @@ impl Lane {
         }
     }
 
-    /// The answer of a finish that makes no access. If it is none, the finish stores the end mark.
+    /// The answer with which a finish is refused, without an access. If it is `None`, the finish stores the end mark.
     pub fn finish_refusal(self) -> Option<Finish>
         ensures { result ≡ finish_refusal self }
     {
@@ -130,7 +131,7 @@ impl Lane {
         }
     }
 
-    /// Goes on after the store of the end mark.
+    /// Goes on after the store of the end mark. It needs a lane that does not refuse a finish.
     pub fn finished(&mut self)
         requires { finish_refusal self.old ≡ None }
         ensures { self.new ≡ lane_after_finish self.old }

@@ -22,17 +22,17 @@ pub fn readers_follow_lanes()
     ensures met { (size : PoolSize) (h : History) (r p : ℕ) (ks : List ℕ) → IsPoolLawful size h
         → HasMet r p ks h → IsStart ks (linked_cells p h) }
 
-    // The reader's own part is enough for that.
+    // What a reader met follows from its own part alone.
     ensures part { (size : PoolSize) (h : History) (r p : ℕ) (ks : List ℕ) → IsPoolLawful size h
         → HasMet r p ks (part (Reader r) h) → IsStart ks (linked_cells p h) }
 
-    // What a reader has met depends on its own part alone.
+    // It is the same in every history in which the reader has this part.
     ensures own { (h : History) (r p : ℕ) (ks : List ℕ) → HasMet r p ks h
         → HasMet r p ks (part (Reader r) h) }
     ensures whole { (h : History) (r p : ℕ) (ks : List ℕ) → HasMet r p ks (part (Reader r) h)
         → HasMet r p ks h }
 
-    // One way leads to a cell.
+    // The cells that a reader has met up to a cell are always the same.
     ensures one_way { (size : PoolSize) (h : History) (r p k : ℕ) (ks js : List ℕ)
         → IsPoolLawful size h → HasMet r p (k ∷ ks) h → HasMet r p (k ∷ js) h → ks ≡ js }
 
@@ -156,7 +156,7 @@ pub fn words_lead_through_lanes()
         → Has (linked_cells p h) k → value_in (Item k) h ≡ item_of k h }
 {}
 
-/// A pool shows on each lane the put list of any history that leaves it, and then the lane's end.
+/// On each lane a pool shows the put list of any history that leaves the pool. Then it shows the end mark, or nothing.
 pub fn pools_show_lanes()
     ensures { (h : History) (s : PoolState) (p : ℕ) → IsAfter h s → p < lane_count s
         → Reads (λ at. look_in at s) (λ k. item_in k s)
@@ -185,7 +185,7 @@ pub fn loads_tell_what_stays()
         → Gave k (part (Reader r) h) → (p : ℕ) × Has (linked_cells p h) k }
 {}
 
-/// The answer of a look says what the link holds.
+/// The answer of a look says what the head or link that was loaded holds.
 pub fn looks_tell_links()
     ensures nothing { (v : ℕ) → look_of v ≡ look.Nothing → v ≡ 0 }
     ensures ended { (v : ℕ) → look_of v ≡ look.Ended → v ≡ END }

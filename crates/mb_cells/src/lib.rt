@@ -20,17 +20,17 @@
 //!   after that. [`Cursor`] is where a reader stands. They hold no words, so they serve threads too.
 //! - [`Pool`] has all words and lanes under one caller, and makes each access itself.
 //! - [`laws`] has what holds of every lawful history of a pool, for all orders of accesses, and of every list of calls.
-//!   [`steps`] has what builders of worlds and tables need. [`examples`] shows what each definition admits and refuses.
+//!   [`steps`] has what builders of worlds and tables need. [`samples`] shows what each definition admits and refuses.
 //!   All are contracts of functions that compute nothing.
 #![tactic(auto)]
 
 mod access;
 mod answer;
 mod cursor;
-pub mod examples;
 mod lane;
 pub mod laws;
 mod pool;
+pub mod samples;
 mod size;
 pub mod steps;
 mod words;

@@ -30,8 +30,8 @@ impl<A: Allocator + Drop> Model for Pool<A> {
 impl<A: Allocator + Clone + Drop> Pool<A> {
     ghost use Rattle.mb_cells.specs.{IsAfter, cell_count, lane_count};
 
-    /// A pool of empty lanes. None of its cells was handed out. It allocates here all that it will ever need. The error
-    /// is [`NoMemory`] if the allocator refuses a part of that.
+    /// A pool of empty lanes. None of its cells was handed out. It takes here all memory that it will ever need. The
+    /// error is [`NoMemory`] if the allocator refuses a part of that.
     pub fn new(alloc: A, lanes: u32, cells: u32) -> Result<Pool<A>, NoMemory>
         ensures lanes { IfOk result (λ s. lane_count s ≡ lanes) }
         ensures cells { IfOk result (λ s. cell_count s ≡ cells) }
@@ -71,8 +71,12 @@ impl<A: Allocator + Drop> Pool<A> {
         let _ = &self.words;
     }
 
-    /// Takes the next cell for item `x` of lane `p`, by one fetch-add of the counter.
+    /// Takes the next cell for item `x` of lane `p`, by one fetch-add of the counter. It needs a lane of the pool.
     /// [`calls_put_items`](crate::laws::calls_put_items) says which cell that is after the calls before.
+    ///
+    /// It is refused by `Closed` after the end mark, by `Busy` while an item waits for its link, and by `Full` after a
+    /// fetch-add that found no cell. A refused call makes no access and changes nothing. But the first `Full` makes its
+    /// fetch-add, which raises the counter and changes nothing that [`Pool::look`] and [`Pool::item`] show.
     pub fn offer(&mut self, p: u32, x: u64) -> Offer
         requires { p < lane_count self.old }
         ensures meets { OfferMeets self.old p x result self.new }
@@ -91,7 +95,8 @@ impl<A: Allocator + Drop> Pool<A> {
         lane.offered(cells, x, found)
     }
 
-    /// Stores the item that was offered on lane `p`, and at the next call the link to its cell.
+    /// Stores the item that was offered on lane `p`, and at the next call the link to its cell: one store. It needs a
+    /// lane of the pool. It is refused by `Idle` if nothing is offered, and then makes no access.
     /// [`calls_put_items`](crate::laws::calls_put_items) says which items are put.
     pub fn push(&mut self, p: u32) -> Push
         requires { p < lane_count self.old }
@@ -107,8 +112,9 @@ impl<A: Allocator + Drop> Pool<A> {
         lane.pushed()
     }
 
-    /// Stores the end mark of lane `p`. Readers then find it after the lane's last cell, as
-    /// [`calls_put_items`](crate::laws::calls_put_items) says.
+    /// Stores the end mark of lane `p`: one store. It needs a lane of the pool. It is refused by `Closed` after the end
+    /// mark, and by `Busy` while an item waits for its link, and then makes no access. Readers then find the end mark
+    /// after the lane's last cell, as [`calls_put_items`](crate::laws::calls_put_items) says.
     pub fn finish(&mut self, p: u32) -> Finish
         requires { p < lane_count self.old }
         ensures meets { FinishMeets self.old p result self.new }
@@ -125,7 +131,8 @@ impl<A: Allocator + Drop> Pool<A> {
         Finish::Ended
     }
 
-    /// What comes after the cursor. From a lane's head on, looks find what the calls put, in their order:
+    /// What comes after the cursor, by one load of the head or link there. It needs a cursor at a lane or past a cell
+    /// of the pool. From a lane's head on, looks find what the calls put, in their order:
     /// [`calls_put_items`](crate::laws::calls_put_items).
     pub fn look(&self, cursor: Cursor) -> Look
         requires { IsWithin cursor self.now }
@@ -145,7 +152,7 @@ impl<A: Allocator + Drop> Pool<A> {
         }
     }
 
-    /// The item of cell `k`. If the cell was linked, that is the item put, as
+    /// The item of cell `k`, by one load. It needs a cell of the pool. If the cell was linked, that is the item put, as
     /// [`calls_put_items`](crate::laws::calls_put_items) says.
     pub fn item(&self, k: u32) -> u64
         requires { k < cell_count self.now }

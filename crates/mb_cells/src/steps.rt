@@ -48,7 +48,7 @@ pub fn accesses_lengthen_one_part()
     ensures counter { (h : History) (a : PoolAccess) → a.word ≢ Counter
         → fetch_adds_on Counter (a ∷ h) ≡ fetch_adds_on Counter h }
 
-    // Two processes are the same or not, and so are two words.
+    // Two processes are one or are not, and so are two words.
     ensures processes { (a b : Process) → (a ≡ b) ⊎ (a ≢ b) }
     ensures names { (v w : Word) → (v ≡ w) ⊎ (v ≢ w) }
 {}
@@ -154,7 +154,7 @@ pub fn loads_leave_pools()
     ensures { (s : PoolState) (w : Word) → LoadGoesOn w s }
 {}
 
-/// A history leaves only one pool of a size.
+/// All pools of one size that a history leaves are one.
 pub fn pools_are_what_was_done()
     ensures { (h : History) (s t : PoolState) → PoolIsSound s → PoolIsSound t → SameSize s t
         → IsAfter h s → IsAfter h t → s ≡ t }

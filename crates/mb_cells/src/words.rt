@@ -9,7 +9,7 @@ use std::marker::Model;
 /// The words of a pool.
 #[derive(Drop)]
 pub struct PoolMemory<A: Allocator + Drop> {
-    /// How many fetch-adds were made for cells.
+    /// The counter: how many fetch-adds were made for cells.
     pub counter: u64,
     /// The head of each lane.
     pub heads: Vec<u64, A>,

@@ -40,6 +40,6 @@ pub mod RatifierNext
 pub mod ConciliatorNext
 pub mod OneTrace
 pub mod OnePlace
--- Examples
+-- Samples
 pub mod SmallHistories
 pub mod SmallLasts

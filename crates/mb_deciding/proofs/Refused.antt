@@ -15,7 +15,7 @@ refusal_in-of m v inputs processes others least most same own =
     (refusal_in m inputs processes) most refl
     ∙ cond_above m 1 (Some BadValues) _ _ least refl))
 
--- if there is no first of two reasons, there is neither
+-- if neither of two reasons comes first, there is none of them
 none_of :
     (x y : Option ℕ)
     → option_map_or (λ i. Some (BadInput i)) x (option_map_or (λ i. Some (NoSuchProcess i)) y None) ≡ None

@@ -1,4 +1,4 @@
--- The examples: which histories of one process are lawful.
+-- Samples: which histories of one process are lawful.
 use Rattle.std.proofs.Common.{◌≡◌, ◌≢◌, ℕ, zero, suc, ◌+◌, ◌<◌, ◌%◌, ◌^◌, cond, true, false, Some, None, List, [], ◌∷◌}
 use Rattle.std.proofs.Common.{◌++◌, inl, inr, sym, refl, ap, ◌∙◌, subst, arith}
 use Rattle.std.specs.List.{cons_option}

@@ -1,4 +1,4 @@
--- The examples of a last object: which histories and paths there are.
+-- Samples of a last object: which histories and paths there are.
 use Rattle.std.proofs.Common.{◌≡◌, ◌≢◌, ℕ, zero, suc, ◌+◌, ◌<◌, Bool, true, cond, Some, None, List, [], ◌∷◌}
 use Rattle.std.proofs.Common.{inl, inr, refl, ap, ◌∙◌, arith}
 use Rattle.std.specs.List.{cons_option}

@@ -1,4 +1,4 @@
--- One object with its processes, in the course of a schedule, and which tables it can have.
+-- One object with its processes while a schedule runs, and which tables it can have.
 use Rattle.std.specs.Prelude.{◌≡◌, ℕ, ◌<◌, ◌≤◌, List, [], length, slice_index, slice_index_or, Option, Some, None}
 use Rattle.mb_quorum.specs.Quorum.{QuorumTable, IsQuorumTable}
 use Rattle.mb_deciding.specs.OneObject.{ObjectSetup, object_in}
@@ -11,7 +11,7 @@ use Rattle.mb_deciding.specs.Trace.{history_of, AreEntriesOf}
 use Rattle.mb_deciding.specs.Memory.{IsMemory}
 
 -- ---- the kind of an object, and its table
--- the last attempt of a conciliator of this kind is at most 63, so a place can hold its limits
+-- if the kind is a conciliator, its last attempt is at most 63, so that 2 ^ s fits in 64 bits
 abbrev pub IsFitKind : Kind → Type 0
 IsFitKind (Conciliator s) = s ≤ 63
 IsFitKind Ratifier = Unit {0}
@@ -39,7 +39,7 @@ abbrev pub out_of : Next → Option Out
 out_of (leads.Go pc) = None
 out_of (leads.Out out) = Some out
 
--- what a run holds: the words of its object, what each process has reached, and the entries of the turns so far
+-- what a run keeps: the words of its object, what each process has reached, and the entries of the turns so far
 pub record CourseState : Type 0 where
   pub words : ObjectMemory
   pub places : List Next

@@ -30,9 +30,9 @@ IsContested o h =
     (p u : ℕ) → HasOutput o p false u h
     → IsAnnounced o u h × ((w : ℕ) × (w ≢ u) × IsAnnounced o w h)
 
--- What a clear read of a ratifier rules out. A process p has read the read quorum of u below the bound and met no 1,
--- whatever it did later. Then no process b with an input other than u, which loaded an empty proposal, has one of these
--- registers in its write quorum
+-- What a clear read of a ratifier rules out. A process p has loaded the registers of u's read quorum below the bound
+-- and found 0 in each, whatever it did later. Then no process b with an input other than u, which loaded an empty
+-- proposal, has one of these registers in its write quorum
 abbrev pub ChecksKeepOut : Object → List Access → Type 0
 ChecksKeepOut o h =
     (p u bound b r : ℕ) (later made : List Act)

@@ -15,11 +15,11 @@ pub mod Bounds
 pub mod Trace
 pub mod Spread
 pub mod Refusals
-pub mod Examples
+pub mod Samples
 pub mod Memory
 pub mod Course
 pub mod Vocabulary
--- clauses name these definitions after `Rattle.mb_deciding.specs`
+-- clauses leave out the file of what these lines name: `Rattle.mb_deciding.specs.NAME`
 pub use Types.*
 pub use History.*
 pub use ConciliatorPaths.*
@@ -37,6 +37,6 @@ pub use Bounds.*
 pub use Trace.*
 pub use Spread.*
 pub use Refusals.*
-pub use Examples.*
+pub use Samples.*
 pub use Memory.*
 pub use Course.*

@@ -4,7 +4,7 @@ use Rattle.mb_deciding.specs.Types.{Reg, Value, Proposal, Quorum, Last, Op, Acce
 use Rattle.mb_deciding.specs.History.{value_in, IsActInWords}
 use Rattle.mb_deciding.specs.Place.{act_of, seen_by}
 
--- the memory of an object has a word of this name
+-- the memory of an object has a word of this name: it has room for 64 registers
 abbrev pub IsReg : Reg → Type 0
 IsReg Value = Unit {0}
 IsReg Proposal = Unit {0}

@@ -54,7 +54,7 @@ IsAnnounced o u h =
     (p r : ℕ) × (o.inputs p ≡ u) × IsMember (o.table.write u) r
     × Has (acts (part p h)) (Store (Quorum r) 1)
 
--- a word of this name can hold the value
+-- a word of this name can hold the number n: 0, or one more than a value, and in a register 0 or 1
 abbrev pub CanHold : QuorumTable → Reg → ℕ → Type 0
 CanHold t Value n = n ≤ t.values
 CanHold t Proposal n = n ≤ t.values

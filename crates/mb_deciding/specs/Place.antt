@@ -18,7 +18,7 @@ pub record IsLeast (mask r : ℕ) : Type 0 where
   pub member : IsMember mask r
   pub least : (k : ℕ) → k < r → IsMember mask k → ⊥
 
--- `left` has just the registers of the quorum at and above the bound
+-- the mask `left` has just those registers of the quorum that are not below the bound
 abbrev pub IsRest : ℕ → ℕ → ℕ → Type 0
 IsRest mask bound left = (k : ℕ) → IsMember left k ↔ ((bound ≤ k) × IsMember mask k)
 

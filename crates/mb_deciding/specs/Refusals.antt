@@ -5,7 +5,7 @@ use Rattle.std.specs.Option.{option_map_or}
 use Rattle.mb_quorum.specs.declared.values.TheConstants.{MAX_VALUES}
 use Rattle.mb_deciding.specs.Types.{Fault, BadValues, BadInput, NoSuchProcess, NoMemory}
 
--- the least place of a number that is not below the bound, if there is one
+-- the position of the first number that is not below the bound, if there is one
 abbrev pub first_from : ℕ → List ℕ → Option ℕ
 first_from bound numbers = position (λ n. nat_le bound n) numbers
 

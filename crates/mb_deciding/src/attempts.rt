@@ -1,11 +1,11 @@
-//! How many attempts a conciliator gives its processes.
+//! How many attempts a process has on a conciliator.
 ghost use Rattle.std.specs.Prelude.{◌≡◌, ◌+◌, ℕ};
 ghost use Rattle.mb_quorum.specs.Vocabulary.{IsLeastWidth};
 ghost use Rattle.mb_deciding.specs.{spread};
 
 use mb_quorum::width;
 
-/// The last attempt of a conciliator for m values: one more than the least b with `m <= 2^b`.
+/// The number of the last attempt of a conciliator for m values, from 0 on: one more than the least b with `m <= 2^b`.
 pub fn spread(m: u64) -> u32
     ensures exact { result ≡ spread m }
     ensures least { (b : ℕ) → result ≡ b + 1 → IsLeastWidth m b }

@@ -5,13 +5,13 @@ ghost use Rattle.mb_deciding.specs.{Object, ObjectIsSound, ObjectSetup, Access, 
 ghost use Rattle.mb_deciding.specs.{ReadsLast, IsInWords, part, IsObjectLawful, IsPrefix, IsTrace};
 ghost use Rattle.mb_deciding.specs.{IsDeciding, IsRatifying, IsFirstMover, ChecksKeepOut};
 
-/// What each object promises its users. Each input has a path, which ends once and is bounded. Words hold only values
-/// that they can hold. Outputs are valid and coherent.
+/// What each object promises its users. Each input has a path, which ends once and is bounded. Each word of the object
+/// holds 0 or what a process can have stored there. Outputs are valid and coherent.
 pub fn objects_keep_their_promises()
     ensures { (o : Object) → ObjectIsSound o → IsDeciding o }
 {}
 
-/// What a ratifier promises besides. It decides if all processes with an access have one input. An output is undecided
+/// What a ratifier promises, too. It decides if all processes with an access have one input. An output is undecided
 /// only if two values were announced.
 pub fn ratifiers_decide_unless_contested()
     ensures { (o : Object) → ObjectIsSound o → o.kind ≡ Ratifier → IsRatifying o }
@@ -23,8 +23,8 @@ pub fn first_movers_win()
         → o.kind ≡ Conciliator s → IsObjectLawful o h → IsFirstMover o h }
 {}
 
-/// What a clear read rules out (`ChecksKeepOut`): the fact on which the one winner rests. It holds at first, and each
-/// access that goes on along a ratifier path keeps it.
+/// What it rules out that a process found a read quorum unset (`ChecksKeepOut`). That the values of all decided outputs
+/// are one rests on this. It holds at first, and each access that goes on along a ratifier path keeps it.
 pub fn checks_keep_out()
     ensures empty { (o : Object) → ChecksKeepOut o [] }
     ensures kept { (o : Object) (h : List Access) (p : ℕ) (turn : Turn)
@@ -33,7 +33,7 @@ pub fn checks_keep_out()
         → IsPrefix o.table o.kind (o.inputs p) (turn ∷ part p h)
         → ChecksKeepOut o (record { process = p; turn = turn } ∷ h) }
 
-    // So this fact holds of every lawful history.
+    // So it holds of every lawful history.
     ensures lawful { (o : Object) (h : List Access)
         → ObjectIsSound o → o.kind ≡ Ratifier → IsObjectLawful o h → ChecksKeepOut o h }
 {}

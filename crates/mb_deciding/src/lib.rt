@@ -33,22 +33,22 @@
 //!
 //! - [`Pc`] is the place of one process in an object. [`Pc::next`] returns its next access, and [`Pc::after`] what that
 //!   leads to. It holds no words, so it serves a simulation and threads alike.
-//! - [`through_conciliator`], [`through_ratifier`] and [`through_last`] make all accesses of a process to one object, in
-//!   a memory that draws random words, with a budget that has room for them.
+//! - [`through_conciliator`], [`through_ratifier`] and [`through_last`] make all accesses of a process to one object,
+//!   in a memory that draws random words, with a budget that has room for them.
 //! - [`ratify`] and [`conciliate`] run one object for a whole schedule of turns.
 //! - [`laws`] has what holds of every lawful history of one object, for all orders of accesses and all random words:
 //!   validity, coherence, acceptance and more. These are contracts of functions that compute nothing. [`steps`] is for
-//!   proofs that build histories step by step. [`examples`] has small histories that the definitions admit or refuse.
+//!   proofs that build histories step by step. [`samples`] has small histories that the definitions admit or refuse.
 #![tactic(auto)]
 
 mod access;
 mod attempts;
-pub mod examples;
 pub mod laws;
 mod memory;
 mod object;
 mod place;
 mod run;
+pub mod samples;
 pub mod steps;
 mod trace;
 

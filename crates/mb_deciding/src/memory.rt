@@ -25,11 +25,11 @@ pub trait Memory {
 pub struct Site {
     /// The number of the object.
     pub object: u32,
-    /// The place of its first word.
+    /// The position of its first word in the memory.
     pub begin: usize,
 }
 
-/// A memory with a source of random words.
+/// A memory with a source of random words. Each access draws one word, before it is made.
 pub trait Drawing: Memory {
     ghost use Rattle.std.specs.Prelude.{ℕ};
     ghost use Rattle.mb_deciding.specs.{Op, Site};

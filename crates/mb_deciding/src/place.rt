@@ -26,7 +26,8 @@ impl Pc {
     ghost use Rattle.mb_deciding.specs.{IsReached, CanFind, act_of, IsStep, next_from, turns_left, turns_after, most_turns};
     ghost use Rattle.mb_deciding.specs.{first_place};
 
-    /// The place of a process with this input before its first access to a ratifier.
+    /// The place of a process with this input before its first access to a ratifier. Any input will do here, but the
+    /// clauses speak of tables that have it as a value.
     pub fn ratifier(input: u32) -> Pc
         ensures begins { (t : QuorumTable) → input < t.values → PcIsAt t Ratifier input result [] }
         ensures fits { (t : QuorumTable) → input < t.values → IsPlace t result }
@@ -36,8 +37,8 @@ impl Pc {
         Pc::InRatifier(RatifierPlace::Begin { input })
     }
 
-    /// The place of a process with this input before its first access to a ratifier, with the registers of its write
-    /// quorum already taken from the table.
+    /// The place of a process with this input before its first access to a ratifier. The registers of its write quorum
+    /// are already taken from the table, so it needs an input below the table's number of values.
     #[inline(always)]
     pub fn announcing<Q: Quorums>(q: &Q, input: u32) -> Pc
         requires { input < (Q.table q.now).values }
@@ -50,7 +51,8 @@ impl Pc {
         Pc::InRatifier(RatifierPlace::Announce { input, left })
     }
 
-    /// The place of a process with this input before its first access to a conciliator whose last attempt is `s`.
+    /// The place of a process with this input before its first access to a conciliator whose last attempt is `s`. It
+    /// needs an `s` of at most 63. Any input will do, as for [`Pc::ratifier`].
     #[inline(always)]
     pub fn conciliator(input: u32, s: u32) -> Pc
         requires { s ≤ 63 }
@@ -67,7 +69,8 @@ impl Pc {
         })
     }
 
-    /// The place of a process with this input before its access to a last object.
+    /// The place of a process with this input before its access to a last object. Any input will do, as for
+    /// [`Pc::ratifier`].
     #[inline(always)]
     pub fn last(input: u32) -> Pc
         ensures begins { (t : QuorumTable) → input < t.values
@@ -79,7 +82,7 @@ impl Pc {
         Pc::InLast(LastPlace { input })
     }
 
-    /// The access that the process makes next.
+    /// The access that the process makes next. It needs a place that fits the table.
     #[inline(always)]
     pub fn next<Q: Quorums>(self, q: &Q) -> Op
         requires { IsPlace (Q.table q.now) self }
@@ -92,9 +95,9 @@ impl Pc {
         }
     }
 
-    /// What the access leads to. `seen` is the value that a load or an exchange found. It does not count after a store.
-    /// The random `word` counts only after a load of a conciliator's word. If the word cannot hold `seen`, the result
-    /// is still a place of the table or one of its values.
+    /// What the next access leads to. It needs a place that fits the table. `seen` is the value that a load or an
+    /// exchange found. It does not count after a store. The random `word` counts only after a load of a conciliator's
+    /// word. If the word cannot hold `seen`, the result is still a place of the table or one of its values.
     #[inline(always)]
     pub fn after<Q: Quorums>(self, q: &Q, seen: u64, word: u64) -> Next
         requires { IsPlace (Q.table q.now) self }
@@ -123,9 +126,10 @@ impl Pc {
         }
     }
 
-    /// Makes the next access, to the object with this number in this memory. Goes on to the place that it leads to, or
-    /// returns the output. The call is [`Pc::next`], [`Memory::perform`] and [`Pc::after`]. After an output the place
-    /// does not count any more.
+    /// Makes the next access, to the object with this number in this memory: one access. Goes on to the place that it
+    /// leads to, or returns the output. After an output the place means nothing any more. The call is [`Pc::next`],
+    /// [`Memory::perform`] and [`Pc::after`]. It needs a place that fits the table, and a memory that can make the
+    /// access.
     #[inline(always)]
     pub fn step<Q: Quorums, M: Memory>(
         &mut self,
@@ -163,7 +167,8 @@ impl Kind {
     ghost use Rattle.std.specs.Prelude.{◌≡◌, ◌<◌, ◌≤◌, []};
     ghost use Rattle.mb_deciding.specs.{PcIsAt, IsPlace, IsFitKind, turns_left, most_turns, first_place};
 
-    /// The place of a process with this input before its first access to an object of this kind over the table.
+    /// The place of a process with this input before its first access to an object of this kind over the table. It
+    /// needs an input below the table's number of values, and of a conciliator a last attempt of at most 63.
     #[inline(always)]
     pub fn place<Q: Quorums>(self, q: &Q, input: u32) -> Pc
         requires kind { IsFitKind self }

@@ -37,14 +37,14 @@ pub struct Trace<A: Allocator + Drop> {
     pub outputs: Vec<Option<Out>, A>,
 }
 
-/// Why there is no trace. Places count from 0.
+/// Why there is no trace. Positions in the inputs and in the schedule count from 0.
 #[derive(Clone, Copy, PartialEq, Eq, Debug)]
 pub enum Fault {
     /// The number of values is out of range.
     BadValues,
-    /// The input at this place is the first that is not below the number of values.
+    /// The input at this position is the first that is not below the number of values.
     BadInput(usize),
-    /// The turn at this place is the first of a process without an input.
+    /// The turn at this position is the first of a process without an input.
     NoSuchProcess(usize),
     /// Memory ran out.
     NoMemory,

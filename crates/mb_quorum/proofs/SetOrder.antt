@@ -1,4 +1,4 @@
--- The sets of h registers among n, by rising mask, are those that `set_number` gives, each once.
+-- `set_number` numbers the sets of h registers among n by rising mask, each once.
 use Rattle.std.proofs.Common.{◌≡◌, ℕ, zero, suc, ◌+◌, ◌-◌, ◌*◌, ◌^◌, ◌<◌, count_ones, sym, ap, ◌∙◌}
 use Rattle.std.proofs.Common.{subst, inl, inr, arith}
 use Rattle.std.proofs.lemmas.Bool.{cases_lt, cases_eq}

@@ -11,7 +11,7 @@ use Rattle.mb_quorum.specs.Quorum.{IsQuorumTable, IsMember, AreDisjoint}
 use Rattle.mb_quorum.specs.Unary.{unary_table}
 
 -- ---- the bits of a read quorum
--- the difference of `others_cat`, for any numbers
+-- what `others_cat` subtracts, with any numbers in place of its powers of two
 cat_numbers : (a x y z : ℕ) → x ≡ suc a * y → y ≡ 2 * z → 0 < z → x - 1 - z ≡ a * y + (z - 1)
 cat_numbers a x y z product double low = omega arith
 

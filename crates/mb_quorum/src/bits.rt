@@ -75,7 +75,7 @@ impl Bits {
     }
 }
 
-/// For each i below the width, register 2i + bit i of `bits`, as a mask.
+/// The mask of these registers: for each i below `width`, the register 2i + (bit i of `bits`).
 fn mask_of_bits(width: u32, bits: u32) -> u64
     requires { width ≤ 32 }
     ensures { result ≡ mask_of (named_register bits) width }

@@ -1,8 +1,8 @@
 //! What a type has to offer to serve as a quorum table.
 /// A quorum table. Values and registers count from 0, and a quorum is a mask: register i is the bit of worth `2^i`.
 ///
-/// No call allocates. Each table proves the law `lawful` for itself. A user of a table needs that law alone: a ratifier
-/// is right over every lawful table.
+/// No call takes memory. Each table proves the law `lawful` for itself. A user of a table needs that law alone: a
+/// ratifier is right over every lawful table.
 ///
 /// A table of your own needs a `QuorumTable`, a lemma that this is an `IsQuorumTable`, and the four calls. In this one,
 /// value v has the quorums that value m - 1 - v has in the unary table of m values. The whole of it is in
@@ -50,12 +50,13 @@ pub trait Quorums {
     fn values(&self) -> u32
         ensures { result ≡ (table self.now).values };
 
-    /// The registers that announce the value, as a mask.
+    /// The mask of the registers that announce the value `v`. It needs a `v` below [`values`](Self::values).
     fn write_quorum(&self, v: u32) -> u64
         requires { v < (table self.now).values }
         ensures { result ≡ (table self.now).write v };
 
-    /// The registers that are all unset as long as no other value was announced, as a mask.
+    /// The mask of the registers that are all unset as long as no value but `v` was announced. It needs a `v` below
+    /// [`values`](Self::values).
     fn read_quorum(&self, v: u32) -> u64
         requires { v < (table self.now).values }
         ensures { result ≡ (table self.now).read v };

@@ -8,7 +8,7 @@ use std::fmt;
 /// The most values that a table of this crate can have. The least is 1.
 pub const MAX_VALUES: u64 = 64;
 
-/// The number of values is not in `1..=MAX_VALUES`.
+/// The number of values that was asked for is not in `1..=MAX_VALUES`.
 #[derive(Clone, Copy, Debug, PartialEq, Eq, Hash)]
 pub struct BadValues;
 
@@ -32,7 +32,7 @@ pub fn checked_values(m: u64) -> Result<u32, BadValues>
     }
 }
 
-/// How many bits tell m values apart: the least b with `m <= 2^b`.
+/// How many bits tell m values apart: the least b with `m <= 2^b`. It is 0 for m of 0 and 1, and at most 64.
 pub fn width(m: u64) -> u32
     ensures exact { result ≡ width_of m }
     ensures least { IsLeastWidth m result }

@@ -24,7 +24,7 @@ pub struct Plan {
     pub producers: u64,
     pub consumers: u64,
     pub cells: u64,
-    /// How many pairs of deciding objects each cell has.
+    /// How many pairs of deciding objects each cell has. If there are none, it has a last object alone.
     pub pairs: u64,
     /// The quorum table of the ratifiers.
     pub table: TableName,
@@ -67,11 +67,12 @@ fn drawn_table<R: Rng>(rng: &mut R) -> TableName {
     }
 }
 
-/// A random shape of the four.
-fn drawn_shape<R: Rng>(rng: &mut R) -> Shape {
+/// A random shape of the four. Without pairs there is a last object alone.
+fn drawn_shape<R: Rng>(rng: &mut R, pairs: u64) -> Shape {
+    let (fast, last) = (is_even(rng), is_even(rng));
     Shape {
-        fast: is_even(rng),
-        last: is_even(rng),
+        fast: fast && pairs != 0,
+        last: last || pairs == 0,
     }
 }
 
@@ -81,7 +82,7 @@ impl Plan {
         ensures producers { (1 ≤ result.producers) × (result.producers ≤ 16) }
         ensures consumers { (1 ≤ result.consumers) × (result.consumers ≤ 64) }
         ensures cells { result.cells ≤ 256 }
-        ensures pairs { (1 ≤ result.pairs) × (result.pairs ≤ 8) }
+        ensures pairs { result.pairs ≤ 8 }
         ensures budget { (1 ≤ result.budget) × (result.budget ≤ 64) }
         ensures items { result.items ≤ 2 * result.cells + 1 }
     {
@@ -104,12 +105,12 @@ impl Plan {
             1 => Stops::HalfOfTheConsumers(drawn(&mut rng, 2, 30)),
             _ => Stops::Nobody,
         };
-        let pairs = drawn(&mut rng, 1, 8);
+        let pairs = drawn(&mut rng, 0, 9);
         let table = drawn_table(&mut rng);
         let budget = drawn(&mut rng, 1, 64);
         let zeros = is_even(&mut rng);
         let gate_seed = rng.next_u64();
-        let shape = drawn_shape(&mut rng);
+        let shape = drawn_shape(&mut rng, pairs);
         Plan {
             producers,
             consumers,

@@ -105,13 +105,12 @@ fn run_with<W: Threads + Wait + Sync, R: Rng + Send + Drop>(
     plan: &Plan,
     rngs: Vec<R>,
 ) -> Result<Totals, Fault> {
-    let Ok(setup) = Setup::new(
-        plan.producers,
-        plan.consumers,
-        plan.cells,
-        plan.pairs,
-        plan.table,
-    ) else {
+    let (producers, consumers) = (plan.producers, plan.consumers);
+    let made = match plan.pairs {
+        0 => Setup::exchange(producers, consumers, plan.cells),
+        pairs => Setup::new(producers, consumers, plan.cells, pairs, plan.table),
+    };
+    let Ok(setup) = made else {
         return Err(Fault::Setup);
     };
     let setup = setup.shaped(plan.shape);

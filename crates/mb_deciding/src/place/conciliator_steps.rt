@@ -110,8 +110,8 @@ impl ConciliatorPlace {
         Some(Self::met(values, input, seen))
     }
 
-    /// The output of a process with this input that loaded `seen`: the value that this means, or its own input if it
-    /// means no value.
+    /// The output of a process with this input that loaded `seen`: the value `seen - 1` if it is one of `values`, and
+    /// else the process's own input.
     #[inline(always)]
     fn met(values: u32, input: u32, seen: u64) -> Out
         requires { input < values }

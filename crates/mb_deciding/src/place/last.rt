@@ -24,7 +24,7 @@ impl LastPlace {
     }
 
     /// The output, in a last object for `values` values. `seen` is what the exchange found. The output has the value
-    /// that this means, or the process's own input if the word was empty or cannot hold `seen`.
+    /// `seen - 1` if that is one of these, and else the process's own input: if the word was empty.
     #[inline(always)]
     pub(crate) fn after(self, values: u32, seen: u64) -> Out
         requires { self.input < values }

@@ -40,7 +40,7 @@ impl Next {
         }
     }
 
-    /// Changes what follows to the output, if there is one.
+    /// Sets this to the output, if there is one, and else leaves it.
     #[inline(always)]
     pub(crate) fn end(&mut self, out: Option<Out>)
         ensures { self.new ≡ come_to out self.old }

@@ -12,7 +12,9 @@ use crate::memory::{Drawing, Site};
 use crate::object::Out;
 use mb_quorum::Quorums;
 
-/// Goes through a conciliator whose last attempt is `s`, with this input. Returns the value of the output.
+/// Goes through a conciliator whose last attempt is `s`, with this input. Returns the value of the output. It makes at
+/// most `s + 3` accesses, which `left` must have room for, and takes those made off `left`. It needs an `s` of at most
+/// 63, an input below the table's number of values, and a memory that can make each access.
 #[inline(always)]
 pub fn through_conciliator<Q: Quorums, M: Drawing>(
     q: &Q,
@@ -61,7 +63,7 @@ pub fn through_conciliator<Q: Quorums, M: Drawing>(
     met(values, input, seen)
 }
 
-/// The value that `seen` means, or this input if it means no value.
+/// The value `seen - 1` if it is one of `values`, and else this input.
 #[inline(always)]
 fn met(values: u32, input: u32, seen: u64) -> u32
     requires { input < values }
@@ -75,7 +77,9 @@ fn met(values: u32, input: u32, seen: u64) -> u32
     }
 }
 
-/// Goes through a ratifier with this input. Returns the output.
+/// Goes through a ratifier with this input. Returns the output. With r registers it makes at most `2r + 2` accesses,
+/// and `left` must have room for those that a whole path can have (`most_turns`). Else it is as
+/// [`through_conciliator`].
 #[inline(always)]
 pub fn through_ratifier<Q: Quorums, M: Drawing>(
     q: &Q,
@@ -120,8 +124,8 @@ pub fn through_ratifier<Q: Quorums, M: Drawing>(
     Out::decided(preference)
 }
 
-/// Loads the proposal of a ratifier, after the announcement of this input, and stores the input there if the proposal is
-/// empty. Returns the preference.
+/// Loads the proposal of a ratifier, after the announcement of this input, and stores the input there if the proposal
+/// is empty. Returns the preference.
 #[inline(always)]
 fn prefer<Q: Quorums, M: Drawing>(
     q: &Q,
@@ -154,7 +158,8 @@ fn prefer<Q: Quorums, M: Drawing>(
     input
 }
 
-/// Goes through a last object with this input. Returns the value of the output.
+/// Goes through a last object with this input. Returns the value of the output. It makes one access, which `left` must
+/// have room for. Else it is as [`through_conciliator`].
 #[inline(always)]
 pub fn through_last<Q: Quorums, M: Drawing>(
     q: &Q,

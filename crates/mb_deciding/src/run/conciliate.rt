@@ -14,10 +14,10 @@ use mb_quorum::checked_values;
 use std::alloc::Allocator;
 
 /// Runs one conciliator for m values. Process i has the input `inputs[i]`. Each pair of the schedule is a turn of a
-/// process with its random word. A turn of a process that has its output makes no access.
+/// process with its random word: one access, or none if the process has its output. A process has at most
+/// `spread(m) + 3` accesses.
 ///
-/// The error is the first of these that holds: m is out of range; an input is not below m; a turn of the schedule is of
-/// no process; memory ran out.
+/// It is refused as [`ratify`](crate::ratify).
 pub fn conciliate<A: Allocator + Copy + Drop>(
     alloc: A,
     m: u64,

@@ -15,7 +15,7 @@ pub trait Machine {
     /// The kind of the object.
     ghost kind: { Self → Kind };
 
-    /// A table of the object. Any table that is the same for this kind would do.
+    /// A table of the object. Another table would do if objects of this kind do the same over both.
     ghost table: { Self → QuorumTable };
 
     /// How many values there are.
@@ -38,7 +38,7 @@ pub trait Machine {
             → IsStep t pc.old (λ op seen. W.makes memory.old 0 op seen memory.new) word
             (next_from result pc.new) };
 
-    /// An object of the kind can have the table.
+    /// The table is one that an object of this kind can have.
     ghost lawful: { (m : Self) → IsTableFor (kind m) (table m) };
 }
 

@@ -13,10 +13,11 @@ use mb_quorum::{Table, TableName};
 use std::alloc::Allocator;
 
 /// Runs one ratifier for m values over the named table. Process i has the input `inputs[i]`. Each number of the
-/// schedule is a turn of that process. A turn of a process that has its output makes no access.
+/// schedule is a turn of that process: one access, or none if the process has its output.
 ///
-/// The error is the first of these that holds: m is out of range; an input is not below m; a number of the schedule is
-/// no process; memory ran out.
+/// The error is the first of these that holds. `BadValues`: m is not in `1..=MAX_VALUES`. `BadInput`: an input is not
+/// below m (the first such). `NoSuchProcess`: a number of the schedule is not below the number of inputs (the first
+/// such). `NoMemory`: memory ran out.
 pub fn ratify<A: Allocator + Copy + Drop>(
     alloc: A,
     name: TableName,

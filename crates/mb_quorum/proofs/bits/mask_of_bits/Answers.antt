@@ -1,4 +1,4 @@
--- Proof of `mask_of_bits`: for each i below the width, register 2i + bit i of `bits`, as a mask.
+-- Proof of `mask_of_bits`: the mask of the register 2i + (bit i of `bits`), for each i below the width.
 use Rattle.std.proofs.Common.{◌<◌, arith}
 use Rattle.mb_quorum.proofs.Masks.{mask_of-next}
 use Rattle.mb_quorum.proofs.bits.mask_of_bits.Goals as goal

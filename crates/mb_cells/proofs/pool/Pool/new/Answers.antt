@@ -13,7 +13,7 @@ invariant_of-result g c =
     (c.in_ok-items.ensures.items_if_clones_equal (λ y e. e))
     (c.in_ok-lanes.ensures.items_if_clones_equal (λ y e. e) ∙ ap (replicate c.args.lanes) c.new.ensures)
 
--- such a pool is what the empty history leaves
+-- a new pool is what the empty history leaves
 pub returns-clause-empty : goal.returns-clause-empty
 returns-clause-empty g c =
     empty_after c.args.lanes c.args.cells c.in_ok-heads.heads.items c.in_ok-links.links.items

@@ -1,5 +1,5 @@
-//! The definitions by example: what is lawful, and what only looks so. The functions compute nothing: their contracts
-//! are the examples. Their proofs are in `proofs/examples/`.
+//! Samples of the definitions: what is lawful, and what only looks so. The functions compute nothing: their contracts
+//! are the samples. Their proofs are in `proofs/samples/`.
 ghost use Rattle.std.specs.Prelude.{◌≡◌, ◌-◌, true, [], ◌∷◌};
 ghost use Rattle.mb_cells.specs.{END, HasMet, Head, IsLanePrefix, IsMemoryTrue, IsPoolLawful, IsReaderPath, Item, Link};
 ghost use Rattle.mb_cells.specs.{eight, fetch, has_ended, load, nine, one_put, one_read, one_taken, pool_size};

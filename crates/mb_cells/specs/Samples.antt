@@ -1,4 +1,4 @@
--- One lane and one cell, by example: lawful histories.
+-- Samples: lawful histories of one lane and one cell.
 use Rattle.std.specs.Prelude.{[], ◌^◌, ◌∷◌}
 use Rattle.mb_cells.specs.Types.{END, Head, Item, Link}
 use Rattle.mb_cells.specs.Memory.{History}

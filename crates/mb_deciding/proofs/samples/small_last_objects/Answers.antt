@@ -1,8 +1,8 @@
--- Proof of `examples::small_last_objects`: small histories of a last object.
+-- Proof of `samples::small_last_objects`: small histories of a last object.
 use Rattle.std.proofs.Common.{refl, inl, inr}
 use Rattle.mb_deciding.proofs.SmallLasts.{first_lawful, empty_refused, over_refused, torn_refused, another_refused}
 use Rattle.mb_deciding.proofs.SmallLasts.{twice_refused, own_output, met_output}
-use Rattle.mb_deciding.proofs.examples.small_last_objects.Goals as goal
+use Rattle.mb_deciding.proofs.samples.small_last_objects.Goals as goal
 
 pub returns-clause-lawful : goal.returns-clause-lawful
 returns-clause-lawful c = first_lawful

@@ -1,6 +1,6 @@
--- Proof of `examples::readers_go_where_they_are_led`: a reader goes where its own loads led it.
+-- Proof of `samples::readers_go_where_they_are_led`: a reader goes where its own loads led it.
 use Rattle.std.proofs.Common.{ap, arith, inl, inr, refl, ℕ, ◌+◌, ◌<◌, ◌≡◌}
-use Rattle.mb_cells.proofs.examples.readers_go_where_they_are_led.Goals as goal
+use Rattle.mb_cells.proofs.samples.readers_go_where_they_are_led.Goals as goal
 use Rattle.mb_cells.specs.{Load, PoolAccess}
 
 pub returns-clause-not_given : goal.returns-clause-not_given

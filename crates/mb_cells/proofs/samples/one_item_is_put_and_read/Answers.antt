@@ -1,6 +1,6 @@
--- Proof of `examples::one_item_is_put_and_read`: one item is put and read, and the lane ends.
+-- Proof of `samples::one_item_is_put_and_read`: one item is put and read, and the lane ends.
 use Rattle.std.proofs.Common.{None, [], arith, inl, inr, refl, ◌∷◌}
-use Rattle.mb_cells.proofs.examples.one_item_is_put_and_read.Goals as goal
+use Rattle.mb_cells.proofs.samples.one_item_is_put_and_read.Goals as goal
 use Rattle.mb_cells.specs.{END, Gave, Head, LaneIsAt, IsPoolLawful, Item, Link, eight, fetch, load, one_put, one_taken, pool_size, store}
 use Rattle.mb_cells.specs.Place.{Ended, Offered, Open, Stored}
 use Rattle.mb_cells.proofs.OneStep.{empty_lawful, producer_step, reader_step}

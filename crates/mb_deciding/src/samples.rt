@@ -1,5 +1,5 @@
 //! Small histories of one process, and histories of a last object. They show what the definitions admit, and what they
-//! refuse. The functions compute nothing. The proofs begin in `proofs/examples`. The lemmas are in
+//! refuse. The functions compute nothing. The proofs begin in `proofs/samples`. The lemmas are in
 //! `proofs/SmallHistories.antt` and `SmallLasts.antt`.
 ghost use Rattle.std.specs.Prelude.{ℕ, ◌≡◌, Bool, true, false, [], ◌∷◌};
 ghost use Rattle.mb_quorum.specs.Unary.{unary_table};

@@ -1,7 +1,7 @@
--- Proof of `examples::small_histories`: small histories of one process with the input 0.
+-- Proof of `samples::small_histories`: small histories of one process with the input 0.
 use Rattle.mb_deciding.proofs.SmallHistories.{clear_lawful, clear_output, hasty_refused, invented_refused}
 use Rattle.mb_deciding.proofs.SmallHistories.{patient_lawful, patient_output, impatient_refused, impatient_no_part}
-use Rattle.mb_deciding.proofs.examples.small_histories.Goals as goal
+use Rattle.mb_deciding.proofs.samples.small_histories.Goals as goal
 
 pub returns-clause-clear : goal.returns-clause-clear
 returns-clause-clear c = clear_lawful

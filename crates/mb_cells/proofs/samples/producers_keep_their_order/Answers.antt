@@ -1,9 +1,9 @@
--- Proof of `examples::producers_keep_their_order`: the part of a producer that goes wrong is no prefix of a lane path.
+-- Proof of `samples::producers_keep_their_order`: the part of a producer that goes wrong is no prefix of a lane path.
 use Rattle.std.proofs.Common.{None, Option, Some, [], ap, arith, false, inl, inr, refl, ℕ, ◌<◌, ◌∷◌, ◌≡◌}
 use Rattle.mb_cells.specs.declared.answer.Offer.TheVariants as offer
 use Rattle.mb_cells.specs.declared.answer.Finish.TheVariants as finish
 use Rattle.mb_cells.specs.declared.lane.LaneStage.TheVariants as stage
-use Rattle.mb_cells.proofs.examples.producers_keep_their_order.Goals as goal
+use Rattle.mb_cells.proofs.samples.producers_keep_their_order.Goals as goal
 use Rattle.mb_cells.specs.Place as phase
 use Rattle.mb_cells.specs.{END, Head, IsLaneAfter, IsLanePrefix, Item, Lane, Link, Word, eight, one_put, one_taken, push_store, store}
 use Rattle.mb_cells.proofs.NextAccesses.{fetches_only, stores_only}

@@ -1,7 +1,7 @@
--- Proof of `examples::memory_makes_nothing_up`: a load gives only what was stored, and the counter gives each number
+-- Proof of `samples::memory_makes_nothing_up`: a load gives only what was stored, and the counter gives each number
 -- once.
 use Rattle.std.proofs.Common.{arith, refl, ◌≡◌}
-use Rattle.mb_cells.proofs.examples.memory_makes_nothing_up.Goals as goal
+use Rattle.mb_cells.proofs.samples.memory_makes_nothing_up.Goals as goal
 
 pub returns-clause-no_store : goal.returns-clause-no_store
 returns-clause-no_store c = λ m. let e : 1 ≡ 0 = m.0 in omega arith
