@@ -96,9 +96,11 @@ impl<T> fmt::Debug for Sweep<T> {
 #[must_use = "its drop returns it, and its number is not issued again"]
 pub struct Consumer<T> {
     number: usize,
+    /// The lane that comes next, and how many there are.
     next: usize,
+    lanes: usize,
     /// Bit `lane` is set if the end of that lane was met. There are at most 16.
-    ended: u16,
+    ended: u64,
     part: ffi::Consumer<T>,
     home: Arc<Home<T>>,
 }
@@ -108,6 +110,7 @@ impl<T> Consumer<T> {
         Consumer {
             number,
             next: 0,
+            lanes: home.lanes,
             ended: 0,
             part,
             home,
@@ -193,12 +196,12 @@ impl<T> Consumer<T> {
     ///
     /// It passes items that it loses, and takes the lanes in turn, so that none is kept from its turn by another.
     pub fn sweep(&mut self) -> Sweep<T> {
-        let lanes = self.home.lanes;
+        let lanes = self.lanes;
         let mut quiet = 0;
         while quiet < lanes {
             let lane = self.next;
             self.next = if lane + 1 < lanes { lane + 1 } else { 0 };
-            if self.ended & (1 << lane) != 0 {
+            if self.ended >> lane & 1 == 1 {
                 quiet += 1;
                 continue;
             }

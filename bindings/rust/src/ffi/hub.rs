@@ -129,10 +129,11 @@ impl<T> Hub<T> {
     }
 }
 
-/// A mailbox that nobody gathered drops what is inside. If there is no memory for the report, the values leak.
+/// A mailbox that nobody gathered drops what is inside. If there is no memory for the report, the values leak. Numbers
+/// need no drop, so no report is made of them.
 impl<T> Drop for Hub<T> {
     fn drop(&mut self) {
-        if self.handle.is_full() {
+        if self.carrier.owns() && self.handle.is_full() {
             if let Ok(report) = self.end() {
                 // SAFETY: as in `gather`. Nobody wants the diaries, so they are not read.
                 drop(unsafe { read_lanes(report, self.carrier) });
