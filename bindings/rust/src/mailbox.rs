@@ -15,8 +15,9 @@ use std::sync::{Arc, Mutex, MutexGuard, PoisonError};
 /// mailbox.
 ///
 /// A mailbox that is dropped, and not gathered, drops what is left inside as soon as its last producer and consumer are
-/// dropped too. This takes a report. If the archive gets no memory for it, what is left inside leaks. The lists that are
-/// read from the report come from Rust's allocator, which aborts the program if there is no memory.
+/// dropped too. If its values are no numbers, this takes a report. If the archive gets no memory for it, what is left
+/// inside leaks. The lists that are read from the report come from Rust's allocator, which aborts the program if there is
+/// no memory.
 ///
 /// A producer or consumer that is forgotten, or put into its own mailbox and left there, keeps the mailbox for ever: all
 /// of it leaks.
