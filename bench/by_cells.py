@@ -15,8 +15,8 @@ import measuring
 
 PROGRAM = measuring.ROOM / "by_cells"
 CALLS = {
-    "hz_mailbox_new": "`new`", "hz_producer_new": "a producer is given", "hz_consumer_new": "a consumer is given", "hz_put": "a put",
-    "hz_poll": "a poll that takes", "hz_finish": "`finish`", "hz_take_back": "a producer or consumer is taken back", "hz_gather": "`gather`",
+    "hz_mailbox_new": "`new`", "hz_producer_new": "a producer is issued", "hz_consumer_new": "a consumer is issued", "hz_put": "a put",
+    "hz_poll": "a poll that takes", "hz_finish": "`finish`", "hz_take_back": "a producer or consumer is returned", "hz_gather": "`gather`",
     "hz_report_size": "the size of a report", "hz_report_lane": "a lane of a report", "hz_report_diary": "a diary of a report",
 }
 

@@ -11,10 +11,10 @@
 
 enum { PRODUCERS = 2, CONSUMERS = 3, EACH = 100, JOBS = PRODUCERS * EACH };
 
-/* A thread with its part of the mailbox. */
+/* A thread with its producer or consumer. */
 struct worker {
     pthread_t thread;
-    hz_handle part;
+    hz_handle handle;
     uint64_t number;
 };
 
@@ -38,9 +38,9 @@ static void *produce(void *arg) {
         struct job *job = &jobs[number];
         *job = (struct job){.number = number, .done = 0};
         HZ_BEFORE_PUT(job);
-        expect(hz_put(&self->part, (uintptr_t)job) == HZ_LINKED, "there is a cell for each job");
+        expect(hz_put(&self->handle, (uintptr_t)job) == HZ_LINKED, "there is a cell for each job");
     }
-    expect(hz_finish(&self->part) == HZ_DONE, "a lane ends once");
+    expect(hz_finish(&self->handle) == HZ_DONE, "a lane ends once");
     return NULL;
 }
 
@@ -48,7 +48,7 @@ static void *produce(void *arg) {
 static bool poll_lane(struct worker *self, uint64_t lane) {
     uint64_t item;
     struct job *job;
-    switch (hz_poll(&self->part, lane, UINT64_MAX, &item)) {
+    switch (hz_poll(&self->handle, lane, UINT64_MAX, &item)) {
     case HZ_TOOK:
         job = (struct job *)(uintptr_t)item;
         HZ_AFTER_TAKE(job);
@@ -101,21 +101,21 @@ int main(void) {
     const uint8_t seed[32] = "any 32 bytes do";
     for (int c = 0; c < CONSUMERS; c++) {
         struct worker *one = &consumers[c];
-        expect(hz_consumer_new(&hub, seed, &one->part, &one->number) == HZ_DONE, "a consumer is given");
+        expect(hz_consumer_new(&hub, seed, &one->handle, &one->number) == HZ_DONE, "a consumer is issued");
         expect(pthread_create(&one->thread, NULL, consume, one) == 0, "a thread starts");
     }
     for (int p = 0; p < PRODUCERS; p++) {
         struct worker *one = &producers[p];
-        expect(hz_producer_new(&hub, &one->part, &one->number) == HZ_DONE, "a producer is given");
+        expect(hz_producer_new(&hub, &one->handle, &one->number) == HZ_DONE, "a producer is issued");
         expect(pthread_create(&one->thread, NULL, produce, one) == 0, "a thread starts");
     }
     for (int p = 0; p < PRODUCERS; p++) {
         expect(pthread_join(producers[p].thread, NULL) == 0, "a thread ends");
-        expect(hz_take_back(&hub, &producers[p].part) == HZ_DONE, "a producer comes back");
+        expect(hz_take_back(&hub, &producers[p].handle) == HZ_DONE, "a producer comes back");
     }
     for (int c = 0; c < CONSUMERS; c++) {
         expect(pthread_join(consumers[c].thread, NULL) == 0, "a thread ends");
-        expect(hz_take_back(&hub, &consumers[c].part) == HZ_DONE, "a consumer comes back");
+        expect(hz_take_back(&hub, &consumers[c].handle) == HZ_DONE, "a consumer comes back");
     }
 
     hz_missing missing;

@@ -156,7 +156,7 @@ typedef struct {
     uint32_t kind;  /* HZ_TOOK, HZ_LOST or HZ_UNDECIDED */
 } hz_note;
 
-/* How many parts were given and not taken back. */
+/* How many producers and consumers were issued and not returned. */
 typedef struct {
     uint32_t producers;
     uint32_t consumers;
@@ -172,16 +172,16 @@ extern uint64_t hz_next_id(void);
 HZ_CHECKED HZ_NONNULL
 uint32_t hz_mailbox_new(uint64_t id, const hz_setup *setup, hz_handle *hub);
 
-/* The producer of the next lane. Lanes are given in order, from 0 on.
- * HZ_DONE: producer leads to it, and lane is its lane. HZ_BAD_HANDLE. HZ_ALL_GIVEN: every lane was given. HZ_NO_MEMORY.
+/* The producer of the next lane. Lanes are issued in order, from 0 on.
+ * HZ_DONE: producer leads to it, and lane is its lane. HZ_BAD_HANDLE. HZ_ALL_GIVEN: every lane was issued. HZ_NO_MEMORY.
  * lane is written at HZ_DONE only. */
 HZ_CHECKED HZ_NONNULL
 uint32_t hz_producer_new(hz_handle *hub, hz_handle *producer, uint64_t *lane);
 
-/* The consumer of the next number. Numbers are given in order, from 0 on. Its random words are those of ChaCha8 from this
+/* The consumer of the next number. Numbers are issued in order, from 0 on. Its random words are those of ChaCha8 from this
  * seed, of the stream of its number. So all consumers of a mailbox may have one seed. It does not count if each claim is one
  * exchange.
- * HZ_DONE: consumer leads to it, and number is its number. HZ_BAD_HANDLE. HZ_ALL_GIVEN: every number was given.
+ * HZ_DONE: consumer leads to it, and number is its number. HZ_BAD_HANDLE. HZ_ALL_GIVEN: every number was issued.
  * HZ_NO_MEMORY. number is written at HZ_DONE only. */
 HZ_CHECKED HZ_NONNULL
 uint32_t hz_consumer_new(hz_handle *hub, const uint8_t seed[32], hz_handle *consumer, uint64_t *number);
@@ -217,15 +217,15 @@ HZ_CHECKED HZ_NONNULL
 uint32_t hz_take(hz_handle *consumer, uint64_t lane, uint64_t most, uint64_t *value);
 
 /* Takes a producer or a consumer back, also before its lane has ended or while it holds a claim. What it did is kept for
- * the report, and its number is not given again.
- * HZ_DONE: part is HZ_NONE then. HZ_BAD_HANDLE: hub is no hub, or part is no producer or consumer. HZ_OTHER_MAILBOX:
- * part's mailbox has another id than the hub. */
+ * the report, and its number is not issued again.
+ * HZ_DONE: returned is HZ_NONE then. HZ_BAD_HANDLE: hub is no hub, or returned is no producer or consumer.
+ * HZ_OTHER_MAILBOX: its mailbox has another id than the hub. */
 HZ_CHECKED HZ_NONNULL
-uint32_t hz_take_back(hz_handle *hub, hz_handle *part);
+uint32_t hz_take_back(hz_handle *hub, hz_handle *returned);
 
-/* Ends the mailbox, and makes the report of all that was taken back.
- * HZ_DONE: hub is HZ_NONE then, and report leads to the report. HZ_BAD_HANDLE. HZ_MISSING: so many producers and consumers
- * were given and not taken back; missing is written at this code only. HZ_NO_MEMORY: it may be called again. */
+/* Ends the mailbox, and makes the report of all that was returned.
+ * HZ_DONE: hub is HZ_NONE then, and report leads to the report. HZ_BAD_HANDLE. HZ_MISSING: this many producers and consumers
+ * were issued and not returned; missing is written at this code only. HZ_NO_MEMORY: it may be called again. */
 HZ_CHECKED HZ_NONNULL
 uint32_t hz_gather(hz_handle *hub, hz_handle *report, hz_missing *missing);
 

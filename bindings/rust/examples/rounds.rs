@@ -6,7 +6,7 @@ use std::thread;
 
 const WORKERS: usize = 3;
 
-/// A task that wants so many further turns.
+/// A task that wants this many further turns.
 struct Task {
     name: usize,
     turns: usize,

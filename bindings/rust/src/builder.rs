@@ -64,12 +64,12 @@ impl<T> Builder<T> {
         }
     }
 
-    /// So many producers, 1 to 16. Each has a lane of its own. If you name none, it is 1.
+    /// The number of producers, 1 to 16. Each has a lane of its own. If you name none, it is 1.
     pub fn producers(self, producers: usize) -> Self {
         Builder { producers, ..self }
     }
 
-    /// So many consumers, 1 to 64. If you name none, it is 1.
+    /// The number of consumers, 1 to 64. If you name none, it is 1.
     ///
     /// ```
     /// # fn main() -> Result<(), Box<dyn std::error::Error>> {
@@ -84,14 +84,14 @@ impl<T> Builder<T> {
         Builder { consumers, ..self }
     }
 
-    /// So many cells, 0 to 2^24. Each takes one item, and none is used again. If you name none, it is 256.
+    /// The number of cells, 0 to 2^24. Each takes one item, and none is used again. If you name none, it is 256.
     ///
     /// Memory grows with it: some 16 bytes for each cell and consumer, and the words of each cell.
     pub fn cells(self, cells: usize) -> Self {
         Builder { cells, ..self }
     }
 
-    /// So many pairs of deciding objects in each cell, 1 to 8. If you name none, it is 4. [`Shape::Exchange`] has none.
+    /// The number of pairs of deciding objects in each cell, 1 to 8. If you name none, it is 4. [`Shape::Exchange`] has none.
     pub fn pairs(self, pairs: usize) -> Self {
         Builder { pairs, ..self }
     }
@@ -120,8 +120,8 @@ impl<T> Builder<T> {
 impl<T: Send> Builder<T> {
     /// Builds a mailbox.
     ///
-    /// [`BuildError::NoMemory`] covers the archive alone: the `Arc` that the parts share comes from Rust's allocator,
-    /// which aborts the program if there is no memory.
+    /// [`BuildError::NoMemory`] covers the archive alone. The `Arc` that producers and consumers share comes from Rust's
+    /// allocator, which aborts the program if there is no memory.
     ///
     /// # Errors
     /// The first number that is out of range, or that there is not enough memory.

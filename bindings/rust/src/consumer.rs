@@ -82,23 +82,25 @@ impl<T> fmt::Debug for Sweep<T> {
     }
 }
 
-/// A consumer, which competes for the items of all lanes. [`Mailbox::consumer`](crate::Mailbox::consumer) gives it.
+/// A consumer, which competes for the items of all lanes. [`Mailbox::consumer`](crate::Mailbox::consumer) issues it.
 ///
-/// When it is dropped, also by a panic, it goes home to its mailbox. It may go to another thread, but no two threads share
+/// When it is dropped, also by a panic, it returns to its mailbox. It may go to another thread, but no two threads share
 /// it, and it is not `Clone`.
 ///
 /// If it is dropped while its last poll of some lane was [`Poll::Spent`], the item that it competed for there may be
 /// left. No other consumer gets it, if this one had won it. The report has such an item. Otherwise a drop cuts
-/// no claim short. Its number is not given again.
+/// no claim short. Its number is not issued again.
 ///
 /// A value that it took is the caller's. If a thread panics while it has one, the value is dropped, and the report says
 /// that it was taken ([`Report::taker`](crate::Report::taker)).
-#[must_use = "its drop sends it home, and its number is not given again"]
+#[must_use = "its drop returns it, and its number is not issued again"]
 pub struct Consumer<T> {
     number: usize,
+    /// The lane that comes next, and how many there are.
     next: usize,
+    lanes: usize,
     /// Bit `lane` is set if the end of that lane was met. There are at most 16.
-    ended: u16,
+    ended: u64,
     part: ffi::Consumer<T>,
     home: Arc<Home<T>>,
 }
@@ -108,6 +110,7 @@ impl<T> Consumer<T> {
         Consumer {
             number,
             next: 0,
+            lanes: home.lanes,
             ended: 0,
             part,
             home,
@@ -145,7 +148,7 @@ impl<T> Consumer<T> {
         self.poll_within(lane, u64::MAX)
     }
 
-    /// The same with at most so many accesses. With a budget of 0 it makes none. After [`Poll::Spent`] the next poll of
+    /// The same with at most this many accesses. With a budget of 0 it makes none. After [`Poll::Spent`] the next poll of
     /// the lane goes on.
     pub fn poll_within(&mut self, lane: usize, budget: u64) -> Poll<T> {
         let polled = self.part.poll(lane as u64, budget);
@@ -175,7 +178,7 @@ impl<T> Consumer<T> {
         self.take_within(lane, u64::MAX)
     }
 
-    /// The same with at most so many accesses. After [`Poll::Spent`] the next call for the lane goes on.
+    /// The same with at most this many accesses. After [`Poll::Spent`] the next call for the lane goes on.
     pub fn take_within(&mut self, lane: usize, most: u64) -> Poll<T> {
         let taken = self.part.take(lane as u64, most);
         self.noted(lane, taken)
@@ -193,12 +196,12 @@ impl<T> Consumer<T> {
     ///
     /// It passes items that it loses, and takes the lanes in turn, so that none is kept from its turn by another.
     pub fn sweep(&mut self) -> Sweep<T> {
-        let lanes = self.home.lanes;
+        let lanes = self.lanes;
         let mut quiet = 0;
         while quiet < lanes {
             let lane = self.next;
             self.next = if lane + 1 < lanes { lane + 1 } else { 0 };
-            if self.ended & (1 << lane) != 0 {
+            if self.ended >> lane & 1 == 1 {
                 quiet += 1;
                 continue;
             }
@@ -220,8 +223,8 @@ impl<T> Consumer<T> {
     ///
     /// It never sleeps by itself: that is what `idle` is for. [`std::thread::yield_now`] lets other threads go on.
     ///
-    /// **It goes on for ever if a producer is never dropped or finished, or was never given.**
-    /// [`Mailbox::end_free_lanes`](crate::Mailbox::end_free_lanes) ends the lanes of those that were not given.
+    /// **It goes on for ever if a producer is never dropped or finished, or was never issued.**
+    /// [`Mailbox::end_free_lanes`](crate::Mailbox::end_free_lanes) ends the lanes of those that were not issued.
     /// To stop early, use [`sweep`](Consumer::sweep) in a loop: an adapter that takes a value and rejects it drops it.
     ///
     /// ```

@@ -33,14 +33,14 @@ impl fmt::Display for BuildError {
 
 impl Error for BuildError {}
 
-/// Why no producer or consumer was given. A number is given once, also if its part went home.
+/// Why no producer or consumer was issued. A number is issued once, also if it was returned.
 #[derive(Clone, Copy, PartialEq, Eq, Hash, Debug)]
 #[non_exhaustive]
 pub enum IssueError {
-    /// So many producers were given, and the mailbox was built for no more
+    /// This many producers were issued, and the mailbox was built for no more
     /// ([`Builder::producers`](crate::Builder::producers)).
     AllProducersGiven(usize),
-    /// So many consumers were given, and the mailbox was built for no more
+    /// This many consumers were issued, and the mailbox was built for no more
     /// ([`Builder::consumers`](crate::Builder::consumers)).
     AllConsumersGiven(usize),
     /// There is not enough memory.
@@ -93,12 +93,12 @@ impl<T> Error for Full<T> {}
 /// Why there is no report. The mailbox is in it, as it was.
 #[non_exhaustive]
 pub enum GatherError<T> {
-    /// Some parts are not home: a producer or a consumer is still alive, or was forgotten.
+    /// A producer or consumer was not returned: it is still alive, or was forgotten.
     #[non_exhaustive]
     Missing {
-        /// So many producers are out.
+        /// This many producers were not returned.
         producers: usize,
-        /// So many consumers are out.
+        /// This many consumers were not returned.
         consumers: usize,
         /// The mailbox, as it was.
         mailbox: Mailbox<T>,

@@ -31,13 +31,13 @@
 //! # }
 //! ```
 //!
-//! # Parts
+//! # Types
 //!
 //! - [`Mailbox::builder`] takes values of any type that is [`Send`], each in a box of its own. [`Mailbox::numbers`] takes
 //!   `u64`, as they are.
-//! - A [`Producer`] puts values. It ends its lane and goes home when it is dropped, also by a panic.
-//! - A [`Consumer`] polls one lane, or goes over all of them. It goes home when it is dropped.
-//! - [`Mailbox::gather`] makes the [`Report`] after all parts are home.
+//! - A [`Producer`] puts values. It ends its lane and returns to its mailbox when it is dropped, also by a panic.
+//! - A [`Consumer`] polls one lane, or goes over all of them. It returns to its mailbox when it is dropped.
+//! - [`Mailbox::gather`] makes the [`Report`] after all were returned.
 //!
 //! A mailbox takes as many items as it has cells, and uses none again. A long-lived service takes a [`channel`], or builds
 //! a mailbox for each round (`examples/rounds.rs`).
@@ -45,9 +45,9 @@
 //! # What is proved, and what the types add
 //!
 //! The archive is proved on condition that its caller keeps some rules. They stand at the head of
-//! `bindings/c/hazbultra.h`. This crate keeps them, unless other `unsafe` code forks or handles signals: a part has its
-//! mailbox with it, is in one thread at a time, is no `Clone`, and is gone after it was dropped. All `unsafe` code is in
-//! one module, and each block says why it is sound.
+//! `bindings/c/hazbultra.h`. This crate keeps them, unless other `unsafe` code forks or handles signals. A producer or
+//! consumer has its mailbox with it, is in one thread at a time, is no `Clone`, and is gone after it was dropped. All
+//! `unsafe` code is in one module, and each block says why it is sound.
 //!
 //! That a value has one owner *is* the main theorem. A box goes through the mailbox as its address. A consumer that is
 //! told that it took the value owns it. The report owns what nobody took. Were two consumers told that they took one

@@ -1,4 +1,4 @@
-//! A mailbox, and the home of its parts.
+//! A mailbox, and the home to which its producers and consumers return.
 use crate::builder::Builder;
 use crate::consumer::Consumer;
 use crate::errors::{BuildError, GatherError, IssueError};
@@ -8,22 +8,25 @@ use crate::report::Report;
 use std::fmt;
 use std::sync::{Arc, Mutex, MutexGuard, PoisonError};
 
-/// A mailbox for values of `T`. It gives producers and consumers, also to threads that share it by `&`, and makes the
+/// A mailbox for values of `T`. It issues producers and consumers, also to threads that share it by `&`, and makes the
 /// report.
 ///
-/// Each part has its mailbox with it. So no call takes a part and a mailbox, and none can be handed to another mailbox.
+/// Each producer and consumer has its mailbox with it. So no call takes one and a mailbox, and none can come to another
+/// mailbox.
 ///
-/// A mailbox that is dropped, and not gathered, drops what is left inside as soon as its last part is dropped too. If
-/// the archive gets no memory then for the report that this takes, what is left inside leaks. The lists that are read
-/// from the report come from Rust's allocator, which aborts the program if there is no memory.
+/// A mailbox that is dropped, and not gathered, drops what is left inside as soon as its last producer and consumer are
+/// dropped too. If its values are no numbers, this takes a report. If the archive gets no memory for it, what is left
+/// inside leaks. The lists that are read from the report come from Rust's allocator, which aborts the program if there is
+/// no memory.
 ///
-/// A part that is forgotten, or put into its own mailbox and left there, keeps the mailbox for ever: all of it leaks.
-#[must_use = "its drop drops what is left inside, as soon as its last part is dropped"]
+/// A producer or consumer that is forgotten, or put into its own mailbox and left there, keeps the mailbox for ever: all
+/// of it leaks.
+#[must_use = "its drop drops what is left inside, as soon as its last producer and consumer are dropped"]
 pub struct Mailbox<T> {
     home: Arc<Home<T>>,
 }
 
-/// The home of all parts of a mailbox. Only giving parts, taking them back and the report ask for its lock.
+/// The home of all producers and consumers of a mailbox. Only issue, return and the report ask for its lock.
 pub(crate) struct Home<T> {
     hub: Mutex<ffi::Hub<T>>,
     seed: [u8; 32],
@@ -90,10 +93,10 @@ impl<T> Mailbox<T> {
         })
     }
 
-    /// The producer of the next lane. Lanes are given in order, from 0 on.
+    /// The producer of the next lane. Lanes are issued in order, from 0 on.
     ///
     /// # Errors
-    /// All lanes were given, or there is not enough memory.
+    /// All lanes were issued, or there is not enough memory.
     pub fn producer(&self) -> Result<Producer<T>, IssueError> {
         let home = &self.home;
         let (part, lane) = home.hub().producer().map_err(|why| match why {
@@ -103,10 +106,10 @@ impl<T> Mailbox<T> {
         Ok(Producer::new(lane, part, Arc::clone(home)))
     }
 
-    /// The consumer of the next number. Numbers are given in order, from 0 on.
+    /// The consumer of the next number. Numbers are issued in order, from 0 on.
     ///
     /// # Errors
-    /// All numbers were given, or there is not enough memory.
+    /// All numbers were issued, or there is not enough memory.
     pub fn consumer(&self) -> Result<Consumer<T>, IssueError> {
         let home = &self.home;
         let (part, number) = home.hub().consumer(&home.seed).map_err(|why| match why {
@@ -116,8 +119,8 @@ impl<T> Mailbox<T> {
         Ok(Consumer::new(number, part, Arc::clone(home)))
     }
 
-    /// Ends each lane whose producer was not given yet. No producer is given after it. A consumer that goes over all
-    /// lanes comes to an end only after that, or after all producers were given and have ended.
+    /// Ends each lane whose producer was not issued yet. No producer is issued after it. A consumer that goes over all
+    /// lanes comes to an end only after that, or after all producers were issued and have ended.
     ///
     /// # Errors
     /// There is not enough memory. Then some of these lanes have not ended.

@@ -5,9 +5,9 @@ use crate::mailbox::Home;
 use std::fmt;
 use std::sync::Arc;
 
-/// A producer, which puts values into a lane of its own. [`Mailbox::producer`](crate::Mailbox::producer) gives it.
+/// A producer, which puts values into a lane of its own. [`Mailbox::producer`](crate::Mailbox::producer) issues it.
 ///
-/// When it is dropped, also by a panic, it ends its lane and goes home to its mailbox. It may go to another thread, but no
+/// When it is dropped, also by a panic, it ends its lane and returns to its mailbox. It may go to another thread, but no
 /// two threads share it, and it is not `Clone`.
 #[must_use = "its drop ends its lane"]
 pub struct Producer<T> {
@@ -51,7 +51,7 @@ impl<T> Producer<T> {
         self.part.put(value).map_err(Full)
     }
 
-    /// Ends the lane and goes home. A drop does the same.
+    /// Ends the lane and returns to the mailbox. A drop does the same.
     pub fn finish(self) {}
 }
 

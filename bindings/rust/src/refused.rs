@@ -24,7 +24,7 @@
 //! producer.put(1).unwrap();
 //! ```
 //!
-//! A part that is given after the report was made:
+//! A consumer that is issued after the report was made:
 //!
 //! ```compile_fail,E0382
 //! use hazbultra::Mailbox;
@@ -68,7 +68,7 @@
 //! });
 //! ```
 //!
-//! A reference to a part in another thread. A part is not `Sync`:
+//! A reference to a producer in another thread. A producer is not `Sync`, nor is a consumer:
 //!
 //! ```compile_fail,E0277
 //! fn is_sync<T: Sync>() {}

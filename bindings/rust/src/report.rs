@@ -23,7 +23,7 @@ pub struct Report<T> {
 pub struct LaneReport<T> {
     /// How many items were put.
     pub put: usize,
-    /// Whether its producer was given, and has ended it.
+    /// Whether its producer was issued, and has ended it.
     pub ended: bool,
     /// The values that nobody took, in the order put. They are yours: nobody can take them any more.
     pub left: Vec<T>,

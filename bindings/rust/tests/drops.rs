@@ -65,7 +65,7 @@ fn a_mailbox_that_nobody_gathers_drops_what_is_inside() {
     }
     drop(consumer.poll(1).taken().unwrap());
     assert_eq!(drops.count(), 1);
-    // The last part that goes home takes the rest with it, in whatever order they go.
+    // The last one that returns takes the rest with it, in whatever order they return.
     drop((one, mailbox, consumer));
     assert_eq!(drops.count(), 1);
     drop(two);

@@ -1,4 +1,4 @@
-//! Parts go home by themselves, and the report waits for them.
+//! Producers and consumers return by themselves, and the report waits for them.
 use hazbultra::{BuildError, Consumer, GatherError, IssueError, Mailbox, Poll, Producer, Sweep};
 use std::cell::Cell;
 use std::mem;
@@ -29,7 +29,7 @@ fn a_report_waits_for_all_parts() {
         ..
     }) = mailbox.gather()
     else {
-        panic!("three parts are out")
+        panic!("three are out")
     };
     drop(two);
     let Err(GatherError::Missing {
@@ -39,9 +39,9 @@ fn a_report_waits_for_all_parts() {
         ..
     }) = mailbox.gather()
     else {
-        panic!("two parts are out")
+        panic!("two are out")
     };
-    // The mailbox is as it was: the item is there, and parts are given.
+    // The mailbox is as it was: the item is there, and producers and consumers are issued.
     drop(consumer);
     let mut consumer = mailbox.consumer().unwrap();
     assert_eq!(consumer.number(), 1);

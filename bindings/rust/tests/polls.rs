@@ -2,7 +2,7 @@
 use hazbultra::{BuildError, Mailbox, Note, Poll, Shape};
 use std::thread;
 
-/// How many accesses a poll makes at most, with so many consumers. The docs of `Consumer::poll` say it.
+/// How many accesses a poll makes at most, with this many consumers. The docs of `Consumer::poll` say it.
 const MOST: [(usize, u64); 5] = [(1, 31), (2, 47), (4, 63), (16, 95), (64, 127)];
 
 /// Two consumers in turn, each poll with a budget of three accesses. With other seeds one of them may win.

@@ -40,7 +40,7 @@ impl fmt::Display for Post {
     }
 }
 
-/// Makes `choice.times` mailboxes with a producer each, which puts so many items, and nothing else.
+/// Makes `choice.times` mailboxes with a producer each, which puts this many items, and nothing else.
 pub fn puts<A: Allocator + Copy + Drop>(
     alloc: A,
     choice: &Choice,
@@ -77,7 +77,7 @@ pub fn mailboxes<A: Allocator + Copy + Drop, R: Rng>(
     Ok(post)
 }
 
-/// Makes a producer, which puts so many items and ends its lane if `ends`. Then it is dropped. Returns how many
+/// Makes a producer, which puts this many items and ends its lane if `ends`. Then it is dropped. Returns how many
 /// items were linked.
 fn fill<A: Allocator + Copy + Drop>(
     alloc: A,
@@ -103,7 +103,7 @@ fn fill<A: Allocator + Copy + Drop>(
     }
 }
 
-/// Puts so many items. Their numbers go on after those of the mailboxes before. Returns how many were linked.
+/// Puts this many items. Their numbers go on after those of the mailboxes before. Returns how many were linked.
 #[inline(always)]
 fn put_all<A: Allocator + Drop>(
     mailbox: &Mailbox<A>,

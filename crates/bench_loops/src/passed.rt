@@ -20,7 +20,7 @@ pub fn passed<A: Allocator + Copy + Drop, R: Rng>(
     Ok(post)
 }
 
-/// A new producer puts so many items, and after each put each new consumer takes once. Their numbers go on after those
+/// A new producer puts this many items, and after each put each new consumer takes once. Their numbers go on after those
 /// of the mailboxes before.
 fn pass_all<A: Allocator + Copy + Drop, R: Rng>(
     alloc: A,

@@ -24,7 +24,7 @@ pub fn relay<A: Allocator + Copy + Drop, R: Rng>(
     Ok(post)
 }
 
-/// Passes so many items, from 0 on, from a new producer to a new consumer. Then both are dropped.
+/// Passes this many items, from 0 on, from a new producer to a new consumer. Then both are dropped.
 fn pass_all<A: Allocator + Copy + Drop, R: Rng>(
     alloc: A,
     mailbox: &Mailbox<A>,
@@ -51,7 +51,7 @@ fn pass_all<A: Allocator + Copy + Drop, R: Rng>(
     passed
 }
 
-/// Passes so many items, from 0 on, from the producer to the consumer: each is put, and polled for once.
+/// Passes this many items, from 0 on, from the producer to the consumer: each is put, and polled for once.
 #[inline(always)]
 fn pass<A: Allocator + Drop, R: Rng>(
     mailbox: &Mailbox<A>,

@@ -36,7 +36,7 @@ first_refusal None why = Some 32
 first_refusal (Some name) None = None
 first_refusal (Some name) (Some why) = Some (setup_code why)
 
--- the code of the first reason to refuse what C asks for, if there is one. Where each claim is one exchange, the pairs
+-- the code of the first reason to refuse what C asks for, if there is one. If each claim is one exchange, the pairs
 -- do not count
 abbrev pub refusal_of : SetupIn → Option ℕ
 refusal_of s = first_refusal (table_numbered s.table)

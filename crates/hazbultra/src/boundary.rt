@@ -14,7 +14,7 @@ pub struct SetupIn {
     pub cells: u64,
     /// How many pairs each cell has: 1 to 8. With 0, `last` and no `fast` each claim is one exchange.
     pub pairs: u64,
-    /// The number of a quorum table: unary 0, bits 1, middle 2. It does not count if each claim is one exchange.
+    /// The number of a quorum table: unary 0, bits 1, middle 2. It has no effect if each claim is one exchange.
     pub table: u32,
     /// Whether two ratifiers come first on each cell.
     pub fast: bool,
@@ -54,7 +54,7 @@ pub struct NoteOut {
     pub kind: u32,
 }
 
-/// How many producers and consumers were not taken back.
+/// How many producers and consumers were not returned.
 #[repr(C)]
 #[derive(Clone, Copy)]
 pub struct MissingOut {

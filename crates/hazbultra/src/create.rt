@@ -99,7 +99,7 @@ pub extern "C" fn hz_mailbox_new(alloc: Global, id: u64, setup: &SetupIn, hub: &
 }
 
 /// Makes the producer of the next lane, and writes the lane's number. The call returns `BAD_HANDLE` if `hub` leads to
-/// no hub or `producer` to something already, `ALL_GIVEN` if each lane's producer was given, and `NO_MEMORY` if memory
+/// no hub or `producer` to something already, `ALL_GIVEN` if each lane's producer was issued, and `NO_MEMORY` if memory
 /// ran out. After each of these nothing has changed.
 #[unsafe(no_mangle)]
 pub extern "C" fn hz_producer_new(
@@ -183,7 +183,7 @@ fn give_producer(
 
 /// Makes the consumer of the next number, and writes that number. Its random words are those of ChaCha8 from this seed,
 /// of the stream of its number. If each claim is one exchange, they are 0. The call returns `BAD_HANDLE` if `hub` leads to
-/// no hub or `consumer` to something already, `ALL_GIVEN` if all consumers were given, and `NO_MEMORY` if memory ran
+/// no hub or `consumer` to something already, `ALL_GIVEN` if all consumers were issued, and `NO_MEMORY` if memory ran
 /// out. After each of these nothing has changed.
 #[unsafe(no_mangle)]
 pub extern "C" fn hz_consumer_new(

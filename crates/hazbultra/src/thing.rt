@@ -1,4 +1,4 @@
-//! The things behind handles.
+//! What handles lead to.
 use mb_bound::{BoundConsumer, BoundHub, BoundProducer};
 use mb_world::Report;
 use rand_chacha::ChaCha8Rng;

@@ -1,4 +1,4 @@
-//! The program: it hands the words of the command line and the standard streams to `mb_program`, and ends with its status.
+//! The program: it passes the words of the command line and the standard streams to `mb_program`, and returns the status.
 #![tactic(auto)]
 
 pub use mb_program::{

@@ -5,7 +5,7 @@ use std::alloc::Allocator;
 use std::marker::Model;
 use std::sync::Arc;
 
-/// A consumer with its mailbox. A consumer has no source of random words, so each poll is given one.
+/// A consumer with its mailbox. A consumer has no source of random words, so each poll takes one.
 #[derive(Drop)]
 pub struct BoundConsumer<A: Allocator + Drop> {
     pub(crate) id: u64,

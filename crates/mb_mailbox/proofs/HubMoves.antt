@@ -36,7 +36,7 @@ none_at : {X : Type 0} (xs : List X) (p : ℕ) (x : X) → xs ≡ [] → slice_g
 none_at {X} xs p x none e = none_there p x (subst (λ (ys : List X). slice_get ys p ≡ Some x) none e)
 
 -- ---- a new hub, and producers
--- a hub that has given nothing keeps what hubs keep
+-- a hub that has issued nothing keeps what hubs keep
 pub new_hub : (cells : CellHubView) (claims : ClaimHubView) (puts : List (Option PutListView))
     (ledgers : List (Option ConsumerRecordView))
     → cells.roll ≡ empty_roll → claims.roll ≡ [] → puts ≡ [] → ledgers ≡ []
@@ -54,7 +54,7 @@ new_hub cells claims puts ledgers roll seats no_puts no_ledgers =
       taken = λ c l e. absurd (none_at ledgers c (Some l) no_ledgers e);
     }
 
--- a hub that has given one producer more keeps what hubs keep
+-- a hub that has issued one producer more keeps what hubs keep
 pub gave_producer : (h : HubView) → IsHub h → length h.puts < h.cells.table.size.lanes → IsHub (with_producer h)
 gave_producer h i low = record {
   lanes = longer h.puts h.cells.roll.lanes None None i.lanes;
@@ -120,7 +120,7 @@ took_producer h s i own out =
     }
 
 -- ---- consumers
--- a hub that has given one consumer more keeps what hubs keep
+-- a hub that has issued one consumer more keeps what hubs keep
 pub gave_consumer : (h : HubView) → IsHub h
     → length h.ledgers < (claims_at h.claims.table).table.values → IsHub (with_consumer h)
 gave_consumer h i low = record {

@@ -57,7 +57,7 @@ pub record IsLedger
       → StandsOn size.layout (claims_in size.layout size.cells) c p (parts_by c reads done)
       notes place
 
--- the hub of this mailbox that has given no number
+-- the hub of this mailbox that has issued no number
 abbrev pub hub_empty : MailboxView → HubView
 hub_empty m = record {
   cells = record { table = m.cells; roll = empty_roll };
@@ -125,7 +125,7 @@ with_consumer h = record h {
   ledgers = h.ledgers ++ None ∷ [];
 }
 
--- ---- what a hub takes in
+-- ---- what a hub takes back
 -- what the hub keeps of this producer
 abbrev pub put_list_of : ProducerView → PutListView
 put_list_of s = record { items = s.items; ended = has_ended s.seat.lane s.seat.part }

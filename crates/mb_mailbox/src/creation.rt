@@ -29,7 +29,7 @@ impl<A: Allocator + Clone + Drop> Mailbox<A> {
         let amount = setup.cells() as u32;
         let puts = Vec::with_capacity(alloc.clone()?, lanes as usize)?;
         let ledgers = Vec::with_capacity(alloc.clone()?, consumers)?;
-        // The larger table first: each is held twice while it is made.
+        // The larger table is made first, since a table is held twice while it is made.
         let (claims, claims_hub) = SharedClaims::new(alloc.clone()?, layout, amount)?;
         let (cells, lanes_hub) = SharedCells::new(alloc, lanes, amount)?;
         let mailbox = Mailbox {

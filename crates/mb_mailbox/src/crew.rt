@@ -61,7 +61,7 @@ pub enum WorkFault {
     /// is returned. The hub keeps what was returned before.
     NoMemory,
     /// A thread could not be started, for whatever reason: it is started without the caller's allocator. It comes only
-    /// if there is a list or a source. Else as after `NoMemory`.
+    /// if there is a list or a source. What was issued is then as after `NoMemory`.
     NoThread,
 }
 

@@ -19,7 +19,7 @@ pub same_some : {X : Type 0} {x y : X} → ◌≡◌ {A = Option X} (Some x) (So
 same_some e = cc
 
 -- ---- what is told of all is told of each
--- the part of a consumer that was taken in is the one that this consumer left
+-- the part of a consumer that was returned is the one that this consumer left
 taken_at : (cs : List ConsumerEnd) (c : ℕ) (one : ConsumerEnd) → slice_get cs c ≡ Some one
     → taken_part (map (λ x. Some x.claimed) cs) c ≡ one.claimed
 taken_at [] c one at = absurd (cc)

@@ -257,7 +257,7 @@ run_report {budget} may_stop never o m old h r lists n w few asked plan size emp
         (t.one, t.there, ap length (sym (ap (λ (v : LaneView). v.put) is ∙ put) ∙ lane.2.whole) ∙ long)
 
 -- ---- what a gathering could fail for
--- after a run all that the hub issued was taken in
+-- after a run all that the hub issued was returned
 pub nothing_missing : {may_stop : Who → ℕ → Type 0} {budget : ℕ} (m : MailboxView) (old h : HubView)
     (lists : List (List ℕ)) (n : ℕ) (w : Worked)
     → old ≡ hub_empty m → IsWorked may_stop budget lists n w old h → count_missing h.puts + count_missing h.ledgers ≡ 0

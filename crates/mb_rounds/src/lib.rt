@@ -15,7 +15,7 @@
 //!
 //! An item is left in a round only if no consumer competed for it, or if some consumer's claim on it is unfinished
 //! (`settled` of `MainTheorem`, in `mb_world`). While its consumer lives, such a claim may still win. But a round returns
-//! after its threads have ended and every consumer was taken in. Then the mailbox is gone, so nobody can take the item
+//! after its threads have ended and every consumer was returned. Then the mailbox is gone, so nobody can take the item
 //! any more.
 #![tactic(auto)]
 

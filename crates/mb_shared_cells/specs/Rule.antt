@@ -65,7 +65,7 @@ FitsView size t roster seat Empty = Unit {0}
 abbrev pub IsViewAt : List View → ℕ → View → Type 0
 IsViewAt views seat v = get_elem? views seat ≡ some v
 
--- the view tells this part of the process: it is that of its seat, or the hub's that took the seat in
+-- the view tells this part of the process: it is that of its seat, or the hub's that took the seat back
 abbrev pub TellsPart : View → Process → History → Type 0
 TellsPart (Hub own roll) who done = roll_at who roll ≡ Some (Some done)
 TellsPart (HubDraws own roll) who done = roll_at who roll ≡ Some (Some done)

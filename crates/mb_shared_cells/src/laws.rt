@@ -69,7 +69,7 @@ pub fn steps_keep_states()
         (slice_set views id (Member own a.process known (a ∷ done))) }
 
     // The hub draws a lane's number by a fetch-add on the roster. Then it issues the number, by a split of its view.
-    // A reader's number it issues by a split alone. That seat knows the parts of the lanes that were returned.
+    // It issues a reader's seat by a split alone. That seat knows the parts of the lanes that were returned.
     ensures draw { (size own : PoolSize) (words : List ℕ) (views : List View) (id : ℕ) (roll : Roll)
         → IsCellsState size words views → IsViewAt views id (Hub own roll)
         → length roll.lanes < size.lanes

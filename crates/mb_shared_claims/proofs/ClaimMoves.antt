@@ -66,7 +66,7 @@ module _ (cut : CutParts) (t : TableView) (seat : SeatView) (cell : ℕ) (claim 
       (keeps t.layout t.cells cell claim next word words h memory low (in_history h all) going is)
 
   -- the claim can go on with any value that its next access found after a lawful history
-  can_find :
+  pub can_find :
       FindsTold → (next : ClaimOp) (seen word : ℕ) → IsNextOp t.layout claim next
       → ComesAfter cs (access_of seat.consumer cell next seen word) seat.part → CanClaimFind t.layout claim next seen
   can_find finds next seen word is comes =

@@ -22,7 +22,7 @@ count_out-set (Some p ∷ rest) zero done e = absurd (cc)
 count_out-set (None ∷ rest) (suc c) done e = let x = count_out-set rest c done e in omega arith
 count_out-set (Some p ∷ rest) (suc c) done e = count_out-set rest c done e
 
--- no more seats are out than numbers were given
+-- no more seats are out than numbers were issued
 pub count_out_le : (roll : Roll) → count_out roll ≤ length roll
 count_out_le [] = le_refl 0
 count_out_le (None ∷ rest) = let x = count_out_le rest in omega arith

@@ -11,6 +11,7 @@ pub mod Accesses
 pub mod ClaimMoves
 pub mod Running
 pub mod Sites
+pub mod Exchanging
 -- Names of tables, and their end
 pub mod Names
 pub mod Closing

@@ -78,7 +78,7 @@ pub(crate) fn plays<R: Abort + AllocGlobal>(
     assert!(rt; is_played(rt, rt.alloc(), layout, steps, entries, stages));
 }
 
-/// The bit table's layout of so many consumers and one pair.
+/// The bit table's layout of this many consumers and one pair.
 pub(crate) fn one_pair(rt: &impl Abort, consumers: u64) -> Layout {
     Layout::new(consumers, 1, TableName::Bits).expect(rt, "no layout")
 }

@@ -79,7 +79,7 @@ pub(crate) fn shows<A: Allocator + Drop>(
     }
 }
 
-/// Ends the test unless the trace has so many entries, and each of sixteen processes this output, and exactly the turns
+/// Ends the test unless the trace has this many entries, and each of sixteen processes this output, and exactly the turns
 /// from `first` on are of processes that had their output before. The processes have turns in order.
 pub(crate) fn are_done_from<A: Allocator + Drop>(
     rt: &impl Abort,

@@ -103,7 +103,7 @@ enum Tried {
     SharedCells,
     /// Claims on words that threads share.
     SharedClaims,
-    /// A script with so many events, or with this fault.
+    /// A script with this many events, or with this fault.
     Script(&'static str, Result<usize, Fault>),
 }
 

@@ -189,7 +189,7 @@ fn the_first_fault_decides(rt: HostRuntime) {
     );
 }
 
-/// A text of so many letters.
+/// A text of this many letters.
 fn letters<R: Abort + AllocGlobal>(rt: &R, amount: usize) -> String {
     let mut text = String::new(rt.alloc());
     for _ in 0..amount {

@@ -154,7 +154,7 @@ fn a_last_object_decides(rt: HostRuntime) {
     plays(&rt, &layout, &steps, (11, &entries), &WON_AND_LOST);
 }
 
-/// The layout for so many consumers whose cells have a last object alone.
+/// The layout for this many consumers whose cells have a last object alone.
 fn exchange(rt: &impl Abort, consumers: u64) -> Layout {
     Layout::exchange(consumers).expect(rt, "no layout")
 }

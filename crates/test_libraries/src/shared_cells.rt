@@ -10,7 +10,7 @@ use std::alloc::Allocator;
 use std::process::Abort;
 use std::thread::{Threads, join};
 
-/// A table of so many lanes and cells, with its hub.
+/// A table of this many lanes and cells, with its hub.
 fn new_table<A: Allocator + Clone + Drop>(
     rt: &impl Abort,
     alloc: A,

@@ -22,7 +22,7 @@ const CELLS: u32 = 100;
 /// How often 16 threads claim a cell.
 const ROUNDS: u32 = 200;
 
-/// A table of claims on so many cells of this layout, with its hub.
+/// A table of claims on this many cells of this layout, with its hub.
 pub(crate) fn new_table<A: Allocator + Clone + Drop>(
     rt: &impl Abort,
     alloc: A,

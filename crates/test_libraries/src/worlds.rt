@@ -9,7 +9,7 @@ use mb_world::{Setup, SetupFault, World};
 use std::alloc::Global;
 use std::process::Abort;
 
-/// The bit table's world of so many producers, consumers and cells, with one pair for each cell.
+/// The bit table's world of this many producers, consumers and cells, with one pair for each cell.
 pub(crate) fn one_pair<R: Abort + AllocGlobal>(rt: &R, p: u64, c: u64, m: u64) -> World<Global> {
     let setup = Setup::new(p, c, m, 1, Bits).expect(rt, "no setup");
     World::new(rt.alloc(), setup).expect(rt, "no world")

@@ -149,7 +149,7 @@ const CALLS: &[(&str, Call, u64)] = &[
     ("round", Call::Round, 20),
 ];
 
-/// Checks that the call is refused if any of its allocations is, keeps no memory, and is then served. It makes so many
+/// Checks that the call is refused if any of its allocations is, keeps no memory, and is then served. It makes this many
 /// allocations or more.
 fn is_refused<R: Abort + AllocGlobal + Threads + Wait + Sync>(
     rt: &R,

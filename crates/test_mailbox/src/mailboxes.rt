@@ -124,7 +124,7 @@ fn scenes_of_one_thread(rt: HostRuntime) {
     }
 }
 
-/// The trial as it comes back from a `gather` that finds so many producers and consumers out.
+/// The trial as it comes back from a `gather` that finds this many producers and consumers out.
 fn back_from_gather<A: Allocator + Clone + Drop>(
     rt: &impl Abort,
     alloc: A,
@@ -141,7 +141,7 @@ fn back_from_gather<A: Allocator + Clone + Drop>(
     }
 }
 
-/// Makes the calls of the scene, by which one producer and so many consumers are issued. `gather` is refused before
+/// Makes the calls of the scene, by which one producer and this many consumers are issued. `gather` is refused before
 /// anybody is returned, and again while one consumer is out. After all are returned, the report has the scene's text.
 fn is_gathered_at_last<R: Abort + AllocGlobal>(rt: &R, scene: Scene, consumers: u32) {
     let (sizes, lines, report) = scene;

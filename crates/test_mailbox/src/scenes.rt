@@ -22,7 +22,7 @@ type Answered<'a> = (&'a str, Option<u64>);
 /// | `producer`, `consumer` | the hub issues one |
 /// | `put PLACE ITEM`, `finish PLACE` | the producer at this place |
 /// | `poll PLACE LANE BUDGET`, `take PLACE LANE MOST` | the consumer at this place |
-/// | `spend PLACE BUDGET TIMES` | so many polls of lane 0: how many of them are spent |
+/// | `spend PLACE BUDGET TIMES` | polls lane 0 so often: how many polls are spent |
 /// | `drawn` | how many words the polls of these lines have drawn, all of them 0 |
 /// | `take_producer PLACE` | the hub takes it back |
 pub(crate) fn play<A: Allocator + Copy + Drop>(
@@ -39,7 +39,7 @@ pub(crate) fn play<A: Allocator + Copy + Drop>(
     }
 }
 
-/// Makes the calls of these lines in a new mailbox of so many producers, consumers and cells, with one pair for each
+/// Makes the calls of these lines in a new mailbox of this many producers, consumers and cells, with one pair for each
 /// cell. Then the report has this text.
 pub(crate) fn plays<R: Abort + AllocGlobal>(rt: &R, sizes: [u64; 3], lines: &str, report: &str) {
     let setup = Setup::new(sizes[0], sizes[1], sizes[2], 1, TableName::Bits);

@@ -40,7 +40,7 @@ pub(crate) const ONE_STOPPED: Worked = Worked {
     stopped: 1,
 };
 
-/// So many sources of zeros.
+/// This many sources of zeros.
 pub(crate) fn sources<A: Allocator + Drop>(
     rt: &impl Abort,
     alloc: A,
@@ -80,7 +80,7 @@ impl Gate for ClosedGate {
     fn leave(&self, _who: Who, _call: u64) {}
 }
 
-/// In a new mailbox of so many producers, consumers and cells a worker puts the items of each of these lists, and the
+/// In a new mailbox of this many producers, consumers and cells a worker puts the items of each of these lists, and the
 /// consumers poll with this budget. Checks that `work` has this result, and the report this text.
 pub(crate) fn work_once<R: Abort + AllocGlobal + Threads + Wait + Sync, G: Gate>(
     rt: &R,

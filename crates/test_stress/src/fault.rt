@@ -9,7 +9,7 @@ use test_audit::Flaw;
 pub enum Fault {
     /// The plan's setup was refused.
     Setup,
-    /// `work` was refused with this fault. All that it had issued was returned, with its lanes ended. So many workers
+    /// `work` was refused with this fault. All that it had issued was returned, with its lanes ended. This many workers
     /// have done something before that.
     Work(WorkFault, u64),
     /// Memory ran out.

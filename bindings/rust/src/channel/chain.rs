@@ -1,14 +1,16 @@
 //! A chain of segments, each of which is begun after the one before it was full. So one sender at a time writes one lane,
 //! and the values of a chain have one order.
-use super::segment::{Look, NoMemory, Reader, Segment, Writer};
+use super::segment::{Look, Place, Segment, Writer};
 use super::shared::Plan;
-use super::system::lock;
-use std::sync::atomic::{AtomicU64, Ordering::SeqCst};
-use std::sync::{Arc, Mutex};
+use super::system::{lock, Line};
+use std::sync::atomic::AtomicU64;
+use std::sync::atomic::Ordering::{Relaxed, SeqCst};
+use std::sync::{Arc, Mutex, MutexGuard};
 
 pub(super) struct Chain<T> {
-    /// How many values were sent on it. It is stored after a value can be taken, and before its send returns.
-    sent: AtomicU64,
+    /// How many values were sent on it. It is stored after a value can be taken, and before its send returns. (It stands
+    /// apart from the lane, since receivers read it again and again.)
+    sent: Line<AtomicU64>,
     lane: Mutex<Lane<T>>,
     /// A segment before which all values are taken, if one was begun. A seat that stands in none comes in here.
     head: Mutex<Option<Arc<Segment<T>>>>,
@@ -19,7 +21,6 @@ struct Lane<T> {
     writer: Option<Writer<T>>,
     /// The last segment, if it is full.
     full: Option<Arc<Segment<T>>>,
-    sent: u64,
     is_closed: bool,
 }
 
@@ -37,14 +38,22 @@ impl<T> Refused<T> {
     }
 }
 
+impl<T> Lane<T> {
+    /// Ends the segment, which is full. The lane ends before there is a next segment. So whoever looks for that one sees
+    /// this end.
+    #[cold]
+    fn end(&mut self) {
+        self.full = self.writer.take().map(Writer::end);
+    }
+}
+
 impl<T> Chain<T> {
     pub(super) fn new() -> Chain<T> {
         Chain {
-            sent: AtomicU64::new(0),
+            sent: Line(AtomicU64::new(0)),
             lane: Mutex::new(Lane {
                 writer: None,
                 full: None,
-                sent: 0,
                 is_closed: false,
             }),
             head: Mutex::new(None),
@@ -52,84 +61,77 @@ impl<T> Chain<T> {
     }
 
     pub(super) fn sent(&self) -> u64 {
-        self.sent.load(SeqCst)
+        self.sent.0.load(SeqCst)
     }
 
     /// Puts a value at the end, under the lane's lock.
     #[inline]
     pub(super) fn put(&self, value: T, who: u64, plan: &Plan<T>) -> Result<(), Refused<T>> {
-        let lane = &mut *lock(&self.lane);
-        if lane.writer.is_none() {
-            if lane.is_closed {
-                return Err(Refused::Closed(value));
-            }
-            if self.begin(lane, plan).is_err() {
-                return Err(Refused::NoMemory(value));
-            }
+        let mut lane = lock(&self.lane);
+        let Some(writer) = &mut lane.writer else {
+            return self.begin_and_put(lane, value, who, plan);
+        };
+        if !writer.put(value, who) {
+            lane.end();
         }
-        if let Some(writer) = &mut lane.writer {
-            let has_more = writer.put(value, who);
-            lane.sent += 1;
-            // The lane ends before there is a next segment. So whoever looks for that one sees this end.
-            if !has_more {
-                lane.full = lane.writer.take().map(Writer::end);
-            }
-            self.sent.store(lane.sent, SeqCst);
-        }
+        self.sent.0.store(self.sent.0.load(Relaxed) + 1, SeqCst);
         Ok(())
     }
 
-    /// Begins the next segment.
+    /// The same if the next segment has to be begun first.
     #[cold]
-    fn begin(&self, lane: &mut Lane<T>, plan: &Plan<T>) -> Result<(), NoMemory> {
-        let writer = Writer::new(lane.sent, plan.cells_after(lane.sent), plan.audit.clone())?;
+    fn begin_and_put(
+        &self,
+        mut lane: MutexGuard<'_, Lane<T>>,
+        value: T,
+        who: u64,
+        plan: &Plan<T>,
+    ) -> Result<(), Refused<T>> {
+        if lane.is_closed {
+            return Err(Refused::Closed(value));
+        }
+        let sent = self.sent();
+        let Ok(writer) = Writer::new(sent, plan.cells_after(sent), plan.audit.clone()) else {
+            return Err(Refused::NoMemory(value));
+        };
         let segment = Arc::clone(writer.segment());
         match lane.full.take() {
             Some(full) => full.follow_with(segment),
             None => *lock(&self.head) = Some(segment),
         }
         lane.writer = Some(writer);
-        Ok(())
+        drop(lane);
+        self.put(value, who, plan)
     }
 
-    /// Takes the first value that nobody else takes, of so many at least that were sent. If it finds a segment over, as the first of all, it sets `is_end`.
-    pub(super) fn take(
-        &self,
-        sent: u64,
-        place: &mut Option<Reader<T>>,
-        who: u64,
-        is_end: &mut bool,
-    ) -> Look<T> {
+    /// Takes the number of the first value that nobody else takes, of so many at least that were sent. If it finds a segment over, as the
+    /// first of all, it sets `is_end`.
+    pub(super) fn take(&self, sent: u64, place: &mut Place<T>, is_end: &mut bool) -> Look {
         loop {
-            let reader = match place {
-                Some(reader) => reader,
-                None => match lock(&self.head).clone() {
-                    Some(segment) => place.insert(Reader::new(segment)),
-                    None => return Look::Nothing,
+            let next = match place.segment() {
+                Some(segment) if segment.has_only_taken(sent) => return Look::Nothing,
+                Some(_) => match place.begin_and_take(is_end) {
+                    Look::Over => place.segment().and_then(|it| it.next()).cloned(),
+                    look => return look,
                 },
+                None => lock(&self.head).clone(),
             };
-            if reader.segment().has_only_taken(sent) {
-                return Look::Nothing;
-            }
-            match reader.take(who, is_end) {
-                Look::Over => {}
-                look => return look,
-            }
-            let Some(next) = reader.segment().next().cloned() else {
+            let Some(next) = next else {
                 return Look::Nothing;
             };
-            self.pass(reader.segment(), &next);
-            *place = Some(Reader::new(next));
+            let over = place.enter(Arc::clone(&next));
+            self.pass(over, next);
         }
     }
 
     /// Moves the head past a segment that is over.
-    fn pass(&self, over: &Arc<Segment<T>>, next: &Arc<Segment<T>>) {
+    fn pass(&self, over: Option<Arc<Segment<T>>>, next: Arc<Segment<T>>) {
         let mut head = lock(&self.head);
-        let is_head = head.as_ref().is_some_and(|it| Arc::ptr_eq(it, over));
-        let old = is_head.then(|| head.replace(Arc::clone(next)));
+        let is_head =
+            over.is_some() && head.as_ref().map(Arc::as_ptr) == over.as_ref().map(Arc::as_ptr);
+        let old = is_head.then(|| head.replace(next));
         drop(head);
-        drop(old);
+        drop((old, over));
     }
 
     /// Ends it: no value is put after this. Whoever calls it drops what it returns, under no lock.

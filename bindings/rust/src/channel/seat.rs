@@ -1,21 +1,22 @@
 //! A seat, from which a receiver takes: for each chain it has a place in one segment, with a consumer of its own.
 use super::chain::Chain;
-use super::segment::{Look, Reader};
+use super::segment::{Look, Place};
 use super::system::{lock, Line};
 use super::CHAINS;
+use std::mem;
 use std::sync::atomic::{AtomicU64, Ordering::Relaxed};
-use std::sync::{Mutex, TryLockError};
+use std::sync::{Mutex, MutexGuard, TryLockError};
 
 /// (on lines of memory of its own, as a [`Line`])
 #[repr(align(128))]
 pub(super) struct Seat<T> {
     desk: Mutex<Desk<T>>,
-    /// How many values were taken here.
+    /// How many values were taken here. (Who has the lock stores it, and anybody loads it.)
     taken: AtomicU64,
 }
 
-struct Desk<T> {
-    /// By chains: where it stands, if anywhere.
+pub(super) struct Desk<T> {
+    /// By chains: where it stands.
     places: Places<T>,
     /// By chains: a number of values sent, all of which it has found taken.
     seen: [u64; CHAINS],
@@ -27,13 +28,16 @@ struct Desk<T> {
     turn: usize,
 }
 
-type Places<T> = [Option<Reader<T>>; CHAINS];
+type Places<T> = [Place<T>; CHAINS];
+
+/// A desk, under its seat's lock.
+pub(super) type Open<'a, T> = MutexGuard<'a, Desk<T>>;
 
 impl<T> Seat<T> {
     pub(super) fn new(number: usize) -> Seat<T> {
         Seat {
             desk: Mutex::new(Desk {
-                places: [const { None }; CHAINS],
+                places: [const { Place::NOWHERE }; CHAINS],
                 seen: [0; CHAINS],
                 at: 0,
                 home: number,
@@ -47,35 +51,16 @@ impl<T> Seat<T> {
         self.taken.load(Relaxed)
     }
 
-    /// Takes a value of any chain, under the seat's lock. If it finds a segment over, as the first of all, it sets
-    /// `is_end`.
-    ///
-    /// It finds nothing only if there was a moment, during this call, at which each value was taken whose send had
-    /// returned.
+    /// Opens the desk, under the seat's lock.
     #[inline]
-    pub(super) fn take<'a>(
-        &self,
-        chains: impl Fn() -> &'a [Line<Chain<T>>],
-        who: u64,
-        is_end: &mut bool,
-    ) -> Look<T>
-    where
-        T: 'a,
-    {
-        let desk = &mut *lock(&self.desk);
-        let look = match &mut desk.places[desk.at] {
-            Some(reader) => reader.take(who, is_end),
-            None => Look::Nothing,
-        };
-        let look = match look {
-            Look::Took(value) => Look::Took(value),
-            Look::Over => desk.look_in_turn(chains, who, is_end),
-            _ => desk.look_round(desk.home, chains, who, is_end),
-        };
-        if let Look::Took(_) = look {
-            self.taken.store(self.taken.load(Relaxed) + 1, Relaxed);
-        }
-        look
+    pub(super) fn open(&self) -> Open<'_, T> {
+        lock(&self.desk)
+    }
+
+    /// Counts a value that was taken. The desk is open.
+    #[inline]
+    pub(super) fn count(&self) {
+        self.taken.store(self.taken.load(Relaxed) + 1, Relaxed);
     }
 
     /// Leaves the segments that are over, so that this seat pins none. It is for whoever finds one over, and only tries the
@@ -86,48 +71,56 @@ impl<T> Seat<T> {
             Err(TryLockError::Poisoned(desk)) => desk.into_inner(),
             Err(TryLockError::WouldBlock) => return None,
         };
-        let is_over = |it: &mut Reader<T>| it.segment().is_over();
-        Some(desk.places.each_mut().map(|it| it.take_if(is_over)))
+        Some(desk.leave(Place::is_over))
     }
 
     /// Leaves all segments. Whoever calls it drops what it returns, under no lock.
     pub(super) fn clear(&self) -> impl Sized {
-        lock(&self.desk).places.each_mut().map(Option::take)
+        self.open().leave(|_| true)
     }
 }
 
 impl<T> Desk<T> {
-    /// Looks at all chains, beginning with the one whose turn it is.
-    #[cold]
-    fn look_in_turn<'a>(
-        &mut self,
-        chains: impl Fn() -> &'a [Line<Chain<T>>],
-        who: u64,
-        is_end: &mut bool,
-    ) -> Look<T>
-    where
-        T: 'a,
-    {
-        self.turn += 1;
-        let look = self.look_round(self.turn, &chains, who, is_end);
-        self.at = self.home % chains().len();
-        look
+    /// The place from which it took last.
+    #[inline]
+    pub(super) fn here(&mut self) -> &mut Place<T> {
+        &mut self.places[self.at % CHAINS]
     }
 
-    /// Looks at all chains, beginning with this one, until it takes a value, or finds that it has seen all in all of them.
+    fn leave(&mut self, whether: impl Fn(&Place<T>) -> bool) -> Places<T> {
+        let leave = |it: &mut Place<T>| {
+            if whether(it) {
+                mem::replace(it, Place::NOWHERE)
+            } else {
+                Place::NOWHERE
+            }
+        };
+        self.places.each_mut().map(leave)
+    }
+
+    /// Looks at all chains, until it takes a number, or finds that it has seen all in all of them. It begins with its home, or
+    /// after the end of a segment with the chain whose turn it is. If it finds a segment over, as the first of all, it sets
+    /// `is_end`.
     ///
-    /// It looks once more after it saw something. So nothing was there as the last round began.
-    #[inline(never)]
-    fn look_round<'a>(
+    /// It looks once more after it saw something. So nothing was there as the last round began. If the first look took a
+    /// number, that is all.
+    pub(super) fn look_round<'a>(
         &mut self,
-        first: usize,
+        first: Look,
         chains: impl Fn() -> &'a [Line<Chain<T>>],
-        who: u64,
         is_end: &mut bool,
-    ) -> Look<T>
+    ) -> Look
     where
         T: 'a,
     {
+        let first = match first {
+            Look::Took(_) => return first,
+            Look::Over => {
+                self.turn += 1;
+                self.turn
+            }
+            _ => self.home,
+        };
         loop {
             let round = chains();
             let mut is_quiet = true;
@@ -137,7 +130,7 @@ impl<T> Desk<T> {
                 if self.seen[at] == sent {
                     continue;
                 }
-                match round[at].0.take(sent, &mut self.places[at], who, is_end) {
+                match round[at].0.take(sent, &mut self.places[at], is_end) {
                     Look::Nothing | Look::Over => self.seen[at] = sent,
                     look => {
                         self.at = at;

@@ -19,8 +19,9 @@ use std::thread;
 pub(super) struct NoMemory;
 
 /// The result of a look at a segment, or at a chain of them.
-pub(super) enum Look<T> {
-    Took(T),
+pub(super) enum Look {
+    /// It took the value of this number in the segment.
+    Took(u64),
     /// Nothing further is there, so far.
     Nothing,
     /// All slots are taken, so the next segment is to be looked at.
@@ -54,18 +55,19 @@ pub(super) struct Segment<T> {
 pub(super) struct Writer<T> {
     producer: Producer<u64>,
     used: usize,
-    /// Who sent what, if that is asked for.
-    log: Vec<u64>,
+    /// Before this slot nothing is to be noted, and there is a further one.
+    usual: usize,
     segment: Arc<Segment<T>>,
 }
 
-/// Where a seat stands in a segment.
-pub(super) struct Reader<T> {
-    /// It is made as late as at the first look.
+/// Where a seat stands on a chain.
+pub(super) struct Place<T> {
+    /// It is made as late as at the first look, and goes home when the segment is over.
     consumer: Option<Consumer<u64>>,
+    /// It is `None` before the first value of the chain.
+    segment: Option<Arc<Segment<T>>>,
     /// Who took what, if that is asked for.
     log: Vec<u64>,
-    segment: Arc<Segment<T>>,
 }
 
 impl<T> Segment<T> {
@@ -114,7 +116,7 @@ impl<T> Writer<T> {
         Ok(Writer {
             producer,
             used: 0,
-            log: Vec::new(),
+            usual: if segment.audit.is_some() { 0 } else { cells },
             segment,
         })
     }
@@ -130,90 +132,98 @@ impl<T> Writer<T> {
         let is_put = self.producer.put(self.used as u64).is_ok();
         debug_assert!(is_put, "there is a cell for each slot");
         self.used += 1;
-        if self.segment.audit.is_some() {
-            self.log.push(who);
+        self.used < self.usual || self.note(who)
+    }
+
+    /// Notes who sent the last value, if that is asked for. Returns whether there is a further slot.
+    #[cold]
+    fn note(&self, who: u64) -> bool {
+        if let Some((_, logs)) = &self.segment.audit {
+            lock(logs).senders.push(who);
         }
         self.used < self.segment.slots.len()
     }
 
     /// Ends the segment's lane, and leaves it.
     pub(super) fn end(self) -> Arc<Segment<T>> {
-        if let Some((_, logs)) = &self.segment.audit {
-            lock(logs).senders = self.log;
-        }
         self.producer.finish();
         self.segment
     }
 }
 
-impl<T> Reader<T> {
-    pub(super) fn new(segment: Arc<Segment<T>>) -> Reader<T> {
-        Reader {
-            consumer: None,
-            log: Vec::new(),
-            segment,
-        }
+impl<T> Place<T> {
+    pub(super) const NOWHERE: Place<T> = Place {
+        consumer: None,
+        segment: None,
+        log: Vec::new(),
+    };
+
+    pub(super) fn segment(&self) -> Option<&Arc<Segment<T>>> {
+        self.segment.as_ref()
     }
 
-    pub(super) fn segment(&self) -> &Arc<Segment<T>> {
-        &self.segment
+    /// Leaves where it stood, which it returns, and stands in this segment.
+    pub(super) fn enter(&mut self, segment: Arc<Segment<T>>) -> Option<Arc<Segment<T>>> {
+        self.go_home();
+        self.segment.replace(segment)
     }
 
-    /// Takes the next value, or finds nothing. If it finds the segment over, as the first of all, it sets `is_end`.
+    /// Whether all slots of the segment in which it stands are known to be taken.
+    pub(super) fn is_over(&self) -> bool {
+        self.segment.as_ref().is_some_and(|it| it.is_over())
+    }
+
+    /// Takes the number of the next value, if it has a consumer.
     #[inline]
-    pub(super) fn take(&mut self, who: u64, is_end: &mut bool) -> Look<T> {
-        let Some(consumer) = &mut self.consumer else {
-            return self.begin(who, is_end);
-        };
-        match consumer.take(0) {
-            Poll::Took(number) => {
-                // Those before it were decided before it.
-                self.segment.taken.0.store(number + 1, Release);
-                // (an item is put as the number of a slot, so it fits)
-                #[allow(clippy::cast_possible_truncation, reason = "as it says")]
-                let number = number as usize;
-                let value = lock(&self.segment.slots[number]).take();
-                if self.segment.audit.is_some() {
-                    self.log.push(who);
-                }
-                if number + 1 == self.segment.slots.len() {
-                    self.end(is_end);
-                }
-                Look::Took(value.expect("one consumer alone takes each number"))
-            }
-            Poll::Ended => {
-                self.end(is_end);
-                Look::Over
-            }
+    pub(super) fn take(&mut self) -> Look {
+        match self.consumer.as_mut().map(|it| it.take(0)) {
+            Some(Poll::Took(number)) => Look::Took(number),
+            Some(Poll::Ended) => Look::Over,
             _ => Look::Nothing,
         }
     }
 
-    #[cold]
-    fn begin(&mut self, who: u64, is_end: &mut bool) -> Look<T> {
-        if self.segment.is_over() {
+    /// The same also for one that has no consumer yet. If it finds the segment over, as the first of all, it sets `is_end`.
+    pub(super) fn begin_and_take(&mut self, is_end: &mut bool) -> Look {
+        let Some(segment) = &self.segment else {
+            return Look::Nothing;
+        };
+        if segment.is_over() {
+            self.go_home();
             return Look::Over;
         }
-        let mailbox = self.segment.mailbox.as_ref();
-        match mailbox.map(Mailbox::consumer) {
-            Some(Ok(consumer)) => {
-                self.consumer = Some(consumer);
-                self.take(who, is_end)
+        if self.consumer.is_none() {
+            match segment.mailbox.as_ref().map(Mailbox::consumer) {
+                Some(Ok(consumer)) => self.consumer = Some(consumer),
+                _ => return Look::NoMemory,
             }
-            _ => Look::NoMemory,
         }
+        let look = self.take();
+        if let (Look::Over, Some(segment)) = (&look, &self.segment) {
+            *is_end |= !segment.is_over.swap(true, SeqCst);
+            self.go_home();
+        }
+        look
     }
 
-    /// Sends the consumer home. All slots are taken.
-    #[cold]
-    fn end(&mut self, is_end: &mut bool) {
-        *is_end |= !self.segment.is_over.swap(true, SeqCst);
-        self.go_home();
+    /// The value of a number that was taken here.
+    #[inline]
+    pub(super) fn empty(&mut self, number: u64, who: u64) -> T {
+        let value = self.segment.as_ref().and_then(|segment| {
+            // Those before it were decided before it.
+            segment.taken.0.store(number + 1, Release);
+            if segment.audit.is_some() {
+                self.log.push(who);
+            }
+            let slot = usize::try_from(number).ok()?;
+            lock(segment.slots.get(slot)?).take()
+        });
+        value.expect("one consumer alone takes each number")
     }
 
     fn go_home(&mut self) {
-        if let Some(consumer) = self.consumer.take() {
-            if let Some((_, logs)) = &self.segment.audit {
+        if let (Some(consumer), Some(segment)) = (self.consumer.take(), &self.segment) {
+            if let Some((_, logs)) = &segment.audit {
                 let log = std::mem::take(&mut self.log);
                 lock(logs).takers.push((consumer.number(), log));
             }
@@ -221,7 +231,7 @@ impl<T> Reader<T> {
     }
 }
 
-impl<T> Drop for Reader<T> {
+impl<T> Drop for Place<T> {
     fn drop(&mut self) {
         self.go_home();
     }

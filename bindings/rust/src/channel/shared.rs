@@ -1,7 +1,7 @@
 //! What all ends of a channel share.
 use super::audit::{Ledger, GIVEN_BACK};
 use super::chain::{Chain, Refused};
-use super::seat::Seat;
+use super::seat::{Open, Seat};
 use super::segment::Look;
 use super::system::{lock, Line, Waiters};
 use super::{CHAINS, SEATS};
@@ -20,11 +20,11 @@ pub(super) struct Plan<T> {
 
 impl<T> Plan<T> {
     /// How many cells a segment gets after so many values of its chain. If nothing was said, a chain begins small. Large
-    /// values get fewer, so that a segment's slots take some 64 KiB at most.
+    /// values get fewer, so that a segment's slots take some 256 KiB at most.
     pub(super) fn cells_after(&self, sent: u64) -> usize {
-        let most = (1 << 16) / (size_of::<T>() + 16);
+        let most = (1 << 18) / (size_of::<T>() + 16);
         let grown = usize::try_from(sent).map_or(usize::MAX, |sent| sent.max(32));
-        self.cells.unwrap_or(grown.min(most.clamp(32, 1024)))
+        self.cells.unwrap_or(grown.min(most.clamp(32, 4096)))
     }
 }
 
@@ -155,7 +155,7 @@ impl<T> Shared<T> {
         if self.receivers.fetch_sub(1, SeqCst) == 1 {
             self.full.wake_all();
             // Nobody holds a lock while a value is dropped, which may have an end of this channel.
-            self.chains().iter().for_each(|it| drop(it.0.close()));
+            self.chains.iter().for_each(|it| drop(it.0.close()));
             self.seats().map(Seat::clear).for_each(drop);
         }
     }
@@ -171,12 +171,12 @@ impl<T> Shared<T> {
     /// Asks for room for one value.
     #[inline]
     pub(super) fn reserve(&self) -> Room {
-        if self.receivers.load(SeqCst) == 0 {
-            return Room::Closed;
-        }
         let Some(bound) = self.plan.bound else {
             return Room::Free;
         };
+        if self.receivers.load(SeqCst) == 0 {
+            return Room::Closed;
+        }
         let more = |waiting| (waiting < bound).then_some(waiting + 1);
         match self.waiting.0.fetch_update(SeqCst, SeqCst, more) {
             Ok(_) => Room::Free,
@@ -196,12 +196,12 @@ impl<T> Shared<T> {
     /// Puts a value, for which there is room, at the end of a chain.
     #[inline]
     pub(super) fn put(&self, chain: usize, value: T, who: u64) -> Result<(), Refused<T>> {
-        let put = self.chains[chain].0.put(value, who, &self.plan);
-        match put {
-            Ok(()) => self.empty.wake_one(),
-            Err(_) => self.free(),
+        if let Err(why) = self.chains[chain % CHAINS].0.put(value, who, &self.plan) {
+            self.free();
+            return Err(why);
         }
-        put
+        self.empty.wake_one();
+        Ok(())
     }
 
     /// Puts the value of a job again, also if there is no room.
@@ -212,28 +212,34 @@ impl<T> Shared<T> {
         drop(self.put(0, value, GIVEN_BACK));
     }
 
-    /// Takes a value at this seat, or finds that there is none.
+    /// Takes a value at this seat, under its lock, or finds that there is none.
     #[inline]
     pub(super) fn take(&self, seat: &Seat<T>, who: u64) -> Got<T> {
-        match self.look(seat, who) {
-            Look::Took(value) => Got::Took(value),
-            Look::NoMemory => Got::NoMemory,
-            _ => self.take_last(seat, who),
-        }
+        let mut desk = seat.open();
+        let here = desk.here();
+        let look = here.take();
+        let Look::Took(number) = look else {
+            return self.take_further(seat, desk, look, who);
+        };
+        let value = here.empty(number, who);
+        seat.count();
+        drop(desk);
+        self.free();
+        Got::Took(value)
     }
 
-    /// The same after it found nothing: it may be that nothing comes.
+    /// The same after this look, which found nothing. It may be that nothing comes.
     #[cold]
-    fn take_last(&self, seat: &Seat<T>, who: u64) -> Got<T> {
+    fn take_further(&self, seat: &Seat<T>, desk: Open<'_, T>, look: Look, who: u64) -> Got<T> {
+        let got = self.look_further(seat, desk, look, who);
         let jobs = self.jobs.0.load();
-        if self.senders.load(SeqCst) != 0 || jobs % BEGUN != 0 {
-            return Got::Nothing;
+        let is_last = self.senders.load(SeqCst) == 0 && jobs % BEGUN == 0;
+        if !is_last || !matches!(got, Got::Nothing) {
+            return got;
         }
         match self.look(seat, who) {
-            Look::Took(value) => Got::Took(value),
-            Look::NoMemory => Got::NoMemory,
-            _ if self.jobs.0.load() == jobs => Got::Closed,
-            _ => Got::Nothing,
+            Got::Nothing if self.jobs.0.load() == jobs => Got::Closed,
+            got => got,
         }
     }
 
@@ -242,16 +248,15 @@ impl<T> Shared<T> {
     pub(super) fn take_job(&self, seat: &Seat<T>, who: u64) -> Got<T> {
         let has_senders = self.senders.load(SeqCst) != 0;
         let before = self.jobs.0.begin();
-        let look = self.look(seat, who);
-        if let Look::Took(value) = look {
-            return Got::Took(value);
+        let got = self.look(seat, who);
+        if let Got::Took(_) = got {
+            return got;
         }
         let during = self.end_job();
         let is_alone = before % BEGUN == 0 && during == before.wrapping_add(BEGUN + 1);
-        match look {
-            Look::NoMemory => Got::NoMemory,
-            _ if !has_senders && is_alone => Got::Closed,
-            _ => Got::Nothing,
+        match got {
+            Got::Nothing if !has_senders && is_alone => Got::Closed,
+            got => got,
         }
     }
 
@@ -264,17 +269,33 @@ impl<T> Shared<T> {
         jobs
     }
 
-    #[inline]
-    fn look(&self, seat: &Seat<T>, who: u64) -> Look<T> {
+    /// Takes a value, or finds nothing. It does not look whether something comes.
+    fn look(&self, seat: &Seat<T>, who: u64) -> Got<T> {
+        let mut desk = seat.open();
+        let look = desk.here().take();
+        self.look_further(seat, desk, look, who)
+    }
+
+    /// The same after the first look.
+    fn look_further(&self, seat: &Seat<T>, mut desk: Open<'_, T>, first: Look, who: u64) -> Got<T> {
         let mut is_end = false;
-        let look = seat.take(|| self.chains(), who, &mut is_end);
+        let look = desk.look_round(first, || self.chains(), &mut is_end);
+        let got = match look {
+            Look::Took(number) => {
+                seat.count();
+                Got::Took(desk.here().empty(number, who))
+            }
+            Look::NoMemory => Got::NoMemory,
+            Look::Nothing | Look::Over => Got::Nothing,
+        };
+        drop(desk);
         if is_end {
             self.tidy();
         }
-        if let Look::Took(_) = look {
+        if let Got::Took(_) = got {
             self.free();
         }
-        look
+        got
     }
 
     /// Moves all idle seats on.

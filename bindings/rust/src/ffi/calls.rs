@@ -39,7 +39,7 @@ pub(super) struct Note {
     pub(super) kind: u32,
 }
 
-/// How many parts are out.
+/// How many producers and consumers were not returned.
 #[repr(C)]
 #[derive(Default)]
 pub(super) struct Missing {

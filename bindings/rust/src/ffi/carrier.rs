@@ -6,6 +6,8 @@ use std::ptr;
 pub(crate) struct Carrier<T> {
     pack: fn(T) -> u64,
     unpack: unsafe fn(u64) -> T,
+    /// Whether a word that nobody takes has to become a value again, so that this is dropped.
+    owns: bool,
 }
 
 impl<T> Clone for Carrier<T> {
@@ -21,7 +23,13 @@ impl<T> Carrier<T> {
     pub(crate) const BOXED: Carrier<T> = Carrier {
         pack: |value| Box::into_raw(Box::new(value)).expose_provenance() as u64,
         unpack: unboxed,
+        owns: true,
     };
+
+    /// Whether a word stands for something to drop.
+    pub(super) fn owns(self) -> bool {
+        self.owns
+    }
 
     /// The word of a value.
     pub(super) fn pack(self, value: T) -> u64 {
@@ -43,6 +51,7 @@ impl Carrier<u64> {
     pub(crate) const NUMBER: Carrier<u64> = Carrier {
         pack: |number| number,
         unpack: |word| word,
+        owns: false,
     };
 }
 

@@ -26,7 +26,7 @@ fn tried(at: *mut u8) -> Tried {
     }
 }
 
-/// A block of so many bytes. For none it is one of `align` bytes, so that it has an address of its own.
+/// A block of this many bytes. For none it is one of `align` bytes, so that it has an address of its own.
 ///
 /// `malloc` and `realloc` align to 16. The archive asks for 16 at most, as `bindings/c/heap.c` says too.
 #[unsafe(no_mangle)]

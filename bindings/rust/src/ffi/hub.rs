@@ -14,7 +14,8 @@ use std::sync::atomic::{AtomicU64, Ordering};
 /// The number of the next mailbox. No process makes 2^64 of them.
 static NUMBERS: AtomicU64 = AtomicU64::new(0);
 
-/// A mailbox with its hub. All its parts have the same carrier, so each item of it is a word that this carrier made.
+/// A mailbox with its hub. All its producers and consumers have the same carrier, so this carrier made the word of each
+/// item.
 pub(crate) struct Hub<T> {
     handle: Handle,
     carrier: Carrier<T>,
@@ -23,17 +24,17 @@ pub(crate) struct Hub<T> {
 
 /// Why there is no report.
 pub(crate) enum Refusal {
-    /// So many producers and consumers are out.
+    /// This many producers and consumers were not returned.
     Missing(usize, usize),
     /// The report wants more memory than there is.
     NoMemory,
 }
 
-/// Why no part was given.
+/// Why no producer or consumer was issued.
 pub(crate) enum NotIssued {
-    /// As many as the mailbox was built for were given.
+    /// As many as the mailbox was built for were issued.
     AllGiven,
-    /// The part wants more memory than there is.
+    /// The producer or consumer wants more memory than there is.
     NoMemory,
 }
 
@@ -98,7 +99,7 @@ impl<T> Hub<T> {
     fn take_back(&mut self, part: &mut Handle) {
         // SAFETY: the rules of calls.
         let code = unsafe { hz_take_back(&mut self.handle, part) };
-        // (a part comes back once, and to its own hub)
+        // (each returns once, and to its own hub)
         expect_done("hz_take_back", code);
     }
 
@@ -128,10 +129,11 @@ impl<T> Hub<T> {
     }
 }
 
-/// A mailbox that nobody gathered drops what is inside. If there is no memory for the report, the values leak.
+/// A mailbox that nobody gathered drops what is inside. If there is no memory for the report, the values leak. Numbers
+/// need no drop, so no report is made of them.
 impl<T> Drop for Hub<T> {
     fn drop(&mut self) {
-        if self.handle.is_full() {
+        if self.carrier.owns() && self.handle.is_full() {
             if let Ok(report) = self.end() {
                 // SAFETY: as in `gather`. Nobody wants the diaries, so they are not read.
                 drop(unsafe { read_lanes(report, self.carrier) });
@@ -140,7 +142,7 @@ impl<T> Drop for Hub<T> {
     }
 }
 
-/// What the code that is returned says to a part that is asked for.
+/// What the code says of a producer or consumer that is asked for.
 fn issued(call: &str, code: u32) -> Result<(), NotIssued> {
     match code {
         calls::DONE => Ok(()),

@@ -9,7 +9,7 @@
 //! 4. The header asks for a number that no other mailbox of the process was given, also none of another copy of the
 //!    archive. [`Hub::new`] takes it from the one counter of this crate, and `links` in its `Cargo.toml` allows one
 //!    copy of the crate in one cargo build. A copy of another build may give the same number. That does no harm:
-//!    `hz_take_back` alone compares numbers, and each part goes back to its own hub.
+//!    `hz_take_back` alone compares numbers, and each producer and consumer returns to its own hub.
 //! 5. [`heap`] takes memory from the one allocator of the C library.
 //! 6. A program without `unsafe` code makes no call from a signal handler or from a forked child.
 //!
@@ -25,8 +25,8 @@
 //!   consumer is told `HZ_TOOK` of an item exactly if it gets the note of it, which the report has.
 //! - `hz_put`: `linked` and `full`. An item is put by `HZ_LINKED` alone. After `HZ_FULL` it is in no lane.
 //!
-//! The first speaks of a report. But each run can go on until its calls return, all parts are handed back, and a report
-//! is made. So no two consumers are told `HZ_TOOK` of one item in any run, also if nobody makes a report.
+//! The first speaks of a report. But each run can go on until its calls end, all producers and consumers are returned,
+//! and a report is made. So no two consumers are told `HZ_TOOK` of one item in any run, also if nobody makes a report.
 //!
 //! A word is an item of a place in a lane. Two places may hold equal words: a box that was taken and freed leaves its
 //! address to a later one, and boxes of no bytes share an address. Then each of the two is a value of its own.

@@ -73,12 +73,20 @@ impl<T> Consumer<T> {
             // consumer alone takes it, now.
             calls::TOOK => Poll::Took(unsafe { self.carrier.unpack(value) }),
             calls::LOST => Poll::Lost(number(value)),
-            calls::UNDECIDED => Poll::Undecided,
             calls::NOTHING => Poll::Nothing,
-            calls::ENDED => Poll::Ended,
-            calls::SPENT => Poll::Spent,
-            calls::NO_LANE => Poll::NoLane,
-            other => excluded(call, other),
+            other => rare(call, other),
         }
+    }
+}
+
+/// What the codes tell that come seldom.
+#[cold]
+fn rare<T>(call: &str, code: u32) -> Poll<T> {
+    match code {
+        calls::UNDECIDED => Poll::Undecided,
+        calls::ENDED => Poll::Ended,
+        calls::SPENT => Poll::Spent,
+        calls::NO_LANE => Poll::NoLane,
+        other => excluded(call, other),
     }
 }

@@ -83,7 +83,7 @@ fn note_at<A: Allocator + Drop>(diaries: &[Diary<A>], at: usize, j: usize) -> Op
     }
 }
 
-/// Whether a consumer of which this is kept holds a claim on lane `p` that has made an access.
+/// Whether the consumer of this record holds a claim on lane `p` that has made an access.
 #[inline(always)]
 fn has_begun<A: Allocator + Drop>(ledger: Option<&ConsumerRecord<A>>, p: u32) -> bool
     ensures { result ≡ begun_of p (option_map (λ k. k.now) ledger.entry) }
@@ -94,7 +94,7 @@ fn has_begun<A: Allocator + Drop>(ledger: Option<&ConsumerRecord<A>>, p: u32) ->
     }
 }
 
-/// Adds the diaries of consumer `c`, of which this is kept, with room for their notes and without the notes.
+/// Adds the diaries of consumer `c`, whose record this is, with room for their notes and without the notes.
 #[inline(always)]
 fn add_outlines<A: Allocator + Clone + Drop>(
     diaries: &mut Vec<Diary<A>, A>,

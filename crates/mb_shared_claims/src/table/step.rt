@@ -1,10 +1,12 @@
 //! One step of a claim on the words of a table.
-ghost use Rattle.std.specs.Prelude.{◌<◌, ◌^◌};
+ghost use Rattle.std.specs.Prelude.{ℕ, ◌≡◌, ◌+◌, ◌<◌, ◌≤◌, ◌^◌};
+ghost use Rattle.mb_claim.specs.Vocabulary.{stage_for};
+ghost use Rattle.mb_claim.specs.declared.access.Stage.TheVariants.{Won};
 
 use crate::rule::{AccessSpec, MakeAccess};
 use crate::seat::ClaimSeat;
 use crate::table::SharedClaims;
-use mb_claim::laws::{claims_have_steps_left, last_objects_decide_claims};
+use mb_claim::laws::{last_objects_decide_claims, layouts_are_sound, prefixes_have_one_stage};
 use mb_claim::steps::{accesses_lengthen_one_part, addresses_are_apart, claims_make_steps};
 use mb_claim::{Claim, ClaimOp, Stage};
 use mb_deciding::{Memory, Op};
@@ -81,10 +83,21 @@ impl<A: Allocator + Drop> SharedClaims<A> {
         ensures ended { result ≢ Going }
         ensures decided { result ≢ Undecided }
     {
-        claims_have_steps_left();
+        claims_make_steps();
+        accesses_lengthen_one_part();
+        layouts_are_sound();
+        prefixes_have_one_stage();
+        let layout = &self.size.layout;
         let consumer = seat.consumer();
-        let mut claim = Claim::alone(&self.size.layout, consumer);
-        self.step(seat, &mut claim, cell, word)
+        let mut claim = Claim::alone(layout, consumer);
+        let next = claim.next(layout);
+
+        // A cell has one word, so its address is the cell's number.
+        let found = self.make_at::<Brand>(seat, cell as usize, cell, next, word);
+
+        // Only the contract names the claim. What was found determines its stage.
+        claim.after(layout, found, word);
+        stage_found(consumer, found)
     }
 
     /// Makes an access of a claim that may come next. Returns the value that a load or an exchange found, and any value
@@ -163,6 +176,20 @@ impl<A: Allocator + Drop> SharedClaims<A> {
             }
         }
     }
+}
+
+/// How the only access of a consumer's claim ends it, if its exchange found this value.
+#[inline(always)]
+fn stage_found(consumer: u32, found: u64) -> Stage
+    requires { found ≤ 2 ^ 8 }
+    ensures empty { found ≡ 0 → result ≡ Won }
+    ensures other { (w : ℕ) → found ≡ w + 1 → result ≡ stage_for consumer w }
+{
+    if found == 0 || found == u64::from(consumer) + 1 {
+        return Stage::Won;
+    }
+    // The compiler sees that the number has eight bits, and so what kind of note it needs.
+    Stage::Lost(u32::from((found - 1) as u8))
 }
 
 /// Tells the prover that a `u64` is below 2 ^ 64, also one that was taken out of an op.

@@ -7,7 +7,7 @@ use Rattle.mb_shared_claims.specs.Views.{HasPartAt}
 use Rattle.mb_shared_claims.specs.Rule.{Plan, IsStateOf}
 use Rattle.mb_shared_claims.proofs.laws.states_have_one_history.Goals as goal
 
--- the part of a consumer that has done something is at a seat. It goes by whether its number was given
+-- the part of a consumer that has done something is at a seat. It goes by whether its number was issued
 standing :
     (k : TableSize) (words : List ℕ) (views : List View) (plan : Plan) → IsStateOf k words views plan → (c : ℕ)
     → part c plan.history ≢ [] → Dec (plan.given ≤ c) → (seat : ℕ) × HasPartAt views seat c (part c plan.history)

@@ -13,7 +13,7 @@ use Rattle.mb_shared_cells.proofs.table.SharedCells.item.Goals as goal
 pub load-requires-clause-picked : goal.load-requires-clause-picked
 load-requires-clause-picked g c = (refl, refl)
 
--- the seat can load the item, since its reader was given the cell
+-- the seat can load the item, since the reader's loads led to the cell
 pub load-requires-clause-can : goal.load-requires-clause-can
 load-requires-clause-can g c =
     let size = ap (λ v. v.table.size) c.seat.view_is ∙ ap (λ v. v.size) c.requires.table in
