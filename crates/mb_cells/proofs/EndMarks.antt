@@ -52,7 +52,7 @@ marks-link : (p : ℕ) (es : List Entry) (v : ℕ) → marks_end (place_after p 
 marks-link p [] v = refl
 marks-link p (e ∷ es) v = refl
 
--- groups do not end the lane
+-- the groups of a producer do not end its lane
 open-groups : (p cells : ℕ) (es : List Entry) → cells < END → AllCellsBelow cells es → has_ended p (groups p es) ≡ false
 open-groups p cells [] c b = refl
 open-groups p cells (e ∷ es) c b =

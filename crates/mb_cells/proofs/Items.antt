@@ -12,7 +12,7 @@ use Rattle.mb_cells.proofs.Names.{access_is, is_same_word-eq, own_process, store
 use Rattle.mb_cells.proofs.Parts.{Has-of_part, part-own, part_by}
 use Rattle.mb_cells.proofs.ProducerWords.{AreFalling, IsChained, groups_in}
 
--- the entry of cell k among these, its fetch-add, and what a chain holds in its item word
+-- cell k has an entry among these, its fetch-add, and an item word that holds its item as a chain says
 record IsEntryOf (p k : ℕ) (es : List Entry) : Type 0 where
   pub entry : Entry
   pub cell : entry.cell ≡ k

@@ -4,12 +4,12 @@ use Rattle.std.proofs.lemmas.Bool.{cases_Bool, cond_both}
 use Rattle.mb_cells.specs.{Has, History, PoolAccess, Process, Word, is_same_process, is_same_word, part, stored_by, value_in}
 use Rattle.mb_cells.proofs.Names.{is_same_process-eq, is_same_word-eq, stores_or_not, value_in-kept, value_in-other, value_in-stored}
 
--- an own access is added to the part
+-- an access of the process is added to its part
 pub part-own : (who : Process) (a : PoolAccess) (h : History) → is_same_process who a.process ≡ true
     → part who (a ∷ h) ≡ a ∷ part who h
 part-own who a h e = rw e
 
--- an access of another process leaves the part
+-- an access of another process leaves the part as it is
 pub part-other : (who : Process) (a : PoolAccess) (h : History) → is_same_process who a.process ≡ false
     → part who (a ∷ h) ≡ part who h
 part-other who a h e = rw e

@@ -58,7 +58,7 @@ whole cells p es r ended b f later done h = record {
   is = refl;
 }
 
--- what stands at a place is a prefix of a lane path
+-- what a producer at a place has done is a prefix of a lane path
 pub prefix_at : (cells p : ℕ) (es : List Entry) (phase : Phase) (done : History) → LaneIsAt cells p es phase done
     → IsLanePrefix cells p done
 prefix_at cells p es Open done h = whole cells p es None false h.below tt [] done h.is
@@ -144,7 +144,7 @@ came_from cells p es (Ended (Some e)) a d at =
       by = subst (λ x. Steps cells p es (Full e) x es (Ended (Some e))) (sym first) (ends_refused es e);
     }
 
--- a step takes what was done to the next place
+-- one step of a producer leads from its place to the next
 pub goes_on : (cells p : ℕ) (es fs : List Entry) (was now : Phase) (a : PoolAccess) (d : History)
     → Steps cells p es was a fs now → LaneIsAt cells p es was d → LaneIsAt cells p fs now (a ∷ d)
 goes_on cells p es fs was now a d (takes_cell _ e b) at =

@@ -8,13 +8,13 @@ use Rattle.mb_cells.proofs.Histories.{lawful-counted, lawful-tail}
 use Rattle.mb_cells.proofs.Items.{is_put_at, link_of-store, same_map}
 use Rattle.mb_cells.proofs.Names.{same_twice}
 
--- a store that links nothing leaves the cells linked
+-- a store that links nothing leaves the list of cells linked as it is
 kept_cells : (p q : ℕ) (w : Word) (v : ℕ) (h : History) → link_of w (Store v) ≡ None
     → linked_cells q (store p w v ∷ h) ≡ linked_cells q h
 kept_cells p q w v h none =
     rw none (same_twice (nat_eq q p) (linked_cells q h))
 
--- a store leaves the items
+-- a store leaves the items of all cells as they are
 item_of-store : (p : ℕ) (w : Word) (v k : ℕ) (h : History) → item_of k (store p w v ∷ h) ≡ item_of k h
 item_of-store p w v k h = same_twice (is_same_word w Counter) (item_of k h)
 

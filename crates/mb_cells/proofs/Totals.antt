@@ -14,12 +14,12 @@ use Rattle.mb_cells.proofs.Items.{cell_within, once_each, one_lane}
 use Rattle.mb_cells.proofs.Names.{is_same_process-refl}
 use Rattle.mb_cells.proofs.Parts.{Has-part}
 
--- the list without the first m in it
+-- the list without the first element m
 without : ℕ → List ℕ → List ℕ
 without m [] = []
 without m (k ∷ ks) = cond (nat_eq k m) ks (k ∷ without m ks)
 
--- without m a list is shorter by one at most
+-- a list without its first m is shorter by one at most
 length_without : (m : ℕ) (ks : List ℕ) → length ks ≤ suc (length (without m ks))
 unfolding without
 length_without m [] = omega arith
@@ -47,7 +47,7 @@ has_without m (k ∷ ks) j once h =
     (λ f had. ⊎_elim (λ (e : k ≡ j). (inl e, λ z. false≢true (sym f ∙ eq-eqb k m (e ∙ z))))
     (λ (r : Has (without m ks) j). let t = has_without m ks j once.1 r in (inr t.0, t.1)) had) h
 
--- each element other than m is left
+-- each element other than m is still in the list without its first m
 still_without : (m : ℕ) (ks : List ℕ) (j : ℕ) → Has ks j → j ≢ m → Has (without m ks) j
 unfolding without
 still_without m [] j has apart = absurd has
@@ -56,7 +56,7 @@ still_without m (k ∷ ks) j has apart =
     (λ t. ⊎_elim (λ (e : k ≡ j). absurd (apart (sym e ∙ eqb-true k m t))) (λ (r : Has ks j). r) has)
     (λ f. ⊎_elim (λ (e : k ≡ j). inl e) (λ (r : Has ks j). inr (still_without m ks j r apart)) has)
 
--- none of the elements left stands twice
+-- in a list without its first m no element stands twice, if none did before
 once_without : (m : ℕ) (ks : List ℕ) → IsOnceEach ks → IsOnceEach (without m ks)
 unfolding without
 once_without m [] once = tt

@@ -1,4 +1,4 @@
--- Two facts: a number that fails a test is below the bound, and a place that is not given is not below the length.
+-- Two facts: a number that fails a test is below the bound, and a position without an element is not below the length.
 use Rattle.std.proofs.Common.{◌≡◌, ℕ, ◌<◌, ◌≤◌, Bool, true, false, nat_lt, nat_le, cond, Some, None, refl, arith}
 use Rattle.std.proofs.lemmas.Bool.Decides.{nat_tests}
 
@@ -6,11 +6,11 @@ use Rattle.std.proofs.lemmas.Bool.Decides.{nat_tests}
 pub below_by_test : (bound n : ℕ) → nat_le bound n ≡ false → n < bound
 below_by_test bound n e = grind (arith, nat_tests)
 
--- a place that is not given is not below the length
+-- a position without an element is not below the length
 pub none_inside : (at all : ℕ) → None ≡ cond (nat_lt at all) (Some at) None → all ≤ at
 none_inside at all e = by_test (nat_lt at all) refl e
   where
-    -- the place is not below the length, by what the test says
+    -- a position without an element is not below the length, by what the test says
     by_test : (b : Bool) → nat_lt at all ≡ b → None ≡ cond b (Some at) None → all ≤ at
     by_test true is none = cc
     by_test false is none = grind (arith, nat_tests)

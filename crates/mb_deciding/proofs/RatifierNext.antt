@@ -28,7 +28,7 @@ AllFollow t v [] = Unit {0}
 AllFollow t v (a ∷ made) = Follows t v a made × AllFollow t v made
 
 -- ---- each act of a path follows what was done before
--- one more act that follows those before it, if a test adds it, keeps this so
+-- if each act of a list follows those before it, so it is with one more that follows them, if a test adds it
 follow_cond :
     (t : QuorumTable) (v : ℕ) (b : Bool) (x : Act) (xs : List Act) → (b ≡ true → Follows t v x xs) → AllFollow t v xs
     → AllFollow t v (cond b (x ∷ xs) xs)
@@ -50,7 +50,7 @@ prefers_follow t v u begin (inl h) =
 prefers_follow t v u begin (inr h) =
     subst (λ made. AllFollow t v made) (sym h) (refl, stores_follow t v t.registers (omega arith))
 
--- the same of acts in two pieces: the act that a test adds comes after both, and follows all of them
+-- if each act of two lists joined follows those before it, so it is with one more after both, if a test adds it
 check_cond :
     (t : QuorumTable) (v : ℕ) (b : Bool) (x : Act) (xs ys : List Act) → (b ≡ true → Follows t v x (xs ++ ys))
     → AllFollow t v (xs ++ ys) → AllFollow t v (cond b (x ∷ xs) xs ++ ys)

@@ -50,7 +50,7 @@ own_behind t inputs h l p c k =
     behind_at t (inputs p) (acts (part p h)) c
     (part_behind t (inputs p) (part p h) (l.parts p (has_turns (part p h) c k)).1) k
 
--- in a lawful history its process has made what has to come before the newest access
+-- in a lawful history the process of the newest access has made what has to come before it
 newest_behind :
     (t : QuorumTable) (inputs : ℕ → ℕ) (a : Access) (h : List Access) → IsObjectLawful (ratifier_of t inputs) (a ∷ h)
     → Behind t (inputs a.process) a.turn.act (acts (part a.process h))
