@@ -29,7 +29,7 @@ pub for_bind : {A B F : Type 0} (P : F → Type 0) (r : Result A F) (f : A → R
 for_bind P (Ok x) f first behind = behind x
 for_bind P (Err e) f first behind = first
 
--- what holds of each fault of two results holds of a choice between them
+-- if P holds of the fault of each of two results, it holds of the fault of the one that a test chooses
 pub for_cond : {A F : Type 0} (P : F → Type 0) (b : Bool) (r s : Result A F) → For P r
     → For P s → For P (cond b r s)
 for_cond P true r s p q = p

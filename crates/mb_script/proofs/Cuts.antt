@@ -93,7 +93,7 @@ word_moves ws w bs after all cut whole =
     append_assoc ws (w ∷ []) (words_in_line after) ∙ ap (λ (l : List (List ℕ)). ws ++ l) (sym cut) ∙ whole
 
 -- ---- words in an array
--- if a word is stored at place i, the first i + 1 words are the first i and this word
+-- if a word is stored at position i, the first i + 1 words are the first i and this word
 pub word_kept : (ws : List (Bor (List ℕ))) (i : ℕ) (w : Bor (List ℕ)) → i < length ws
     → map (λ x. x.now) (take (i + 1) (slice_set ws i w)) ≡ map (λ x. x.now) (take i ws) ++ w.now ∷ []
 word_kept ws i w low =

@@ -27,14 +27,14 @@ events_many z n (e ∷ events) line rest sized are many =
       events_many z (suc n) events line rest sized are.1 (omega (arith, many)),
     ) refl
 
--- the lines of a script with such a line have the fault TooManyEvents
+-- if a line follows the lines of a script with the most events, the fault is TooManyEvents
 lines_many : (z : Sizes) (events : List Event) (line : List ℕ) (rest : List (List ℕ)) → IsScript z events
     → length events ≡ MAX_EVENTS → lines_script (script_lines z events ++ line ∷ rest) ≡ Err TooManyEvents
 unfolding lines_script
 lines_many z events line rest is many =
     rw (setup_again z is.sizes, events_many z 2 events line rest is.sizes is.known (omega (arith, many))) refl
 
--- a text with such a line has the fault TooManyEvents
+-- a text with a line after a script with the most events has the fault TooManyEvents
 pub script_many : (bytes : List ℕ) (z : Sizes) (events : List Event) (line : List ℕ)
     (rest : List (List ℕ)) → IsScript z events
     → length events ≡ MAX_EVENTS → lines_of bytes ≡ script_lines z events ++ line ∷ rest → length bytes ≤ MAX_SCRIPT_LEN

@@ -42,7 +42,7 @@ numbers_of (w ∷ ws) =
 abbrev pub IsWord : List ℕ → Type 0
 IsWord w = AllByRecursion (λ b. (b == 32) ≡ false) w × ((length w == 0) ≡ false) × (list_all is_ascii w ≡ true)
 
--- the words of one line: at least one, and each is such a word
+-- the words of one line: at least one word, each as `IsWord` says
 abbrev pub IsWordLine : List (List ℕ) → Type 0
 IsWordLine [] = ⊥
 IsWordLine (w ∷ ws) = AllByRecursion IsWord (w ∷ ws)

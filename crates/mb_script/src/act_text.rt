@@ -35,7 +35,8 @@ fn push_access<A: Allocator>(
 
 /// Appends what was done, to which word, and its value. The act is `load`, `store` or `exchange`. The word is `c` for a
 /// conciliator's word, `p` for the proposal, `q` and its index for a quorum register, or `l` for a last object's word.
-/// The value is the one loaded or stored. For an exchange the value that it found comes last.
+/// The value is the one loaded or stored. For an exchange the value that it found comes last. The error is `AllocError`
+/// if memory ran out.
 pub fn push_act<A: Allocator>(text: &mut String<A>, act: Act) -> Result<(), AllocError>
     ensures { OnOk result (string_bytes text.new ≡ string_bytes text.old ++ act_text act) }
 {

@@ -40,7 +40,10 @@ impl ScriptCommand for Replay {
 /// Reads a script to its end, replays its events in a new world, and writes the transcript, the report, and nothing
 /// else.
 ///
-/// The whole text is made before the first write. No error of a device is retried.
+/// At most 1,048,577 bytes are read. The whole text is made before the first write. No error of a device is retried.
+///
+/// The error is the first that is met. While reading it is `ReadFault`, `TooLong` or `NoMemory`. Then come those of
+/// [`parse`](crate::parse), then `NoMemory`, and last `WriteFault`.
 pub fn run<A: Allocator + Copy, R: CountedRead, W: CountedWrite>(
     alloc: A,
     reader: &mut R,

@@ -14,7 +14,7 @@ use std::io::{Read, Write};
 
 /// A reader that counts its failures, modulo 2^64, and the bytes that its reads give, up to 2^64 - 1.
 pub trait CountedRead {
-    // The bytes that reads will give from here on, if they are known.
+    // The bytes that reads will return from here on, if they are known.
     ghost left: { Self → Option (List ℕ) };
 
     // How many reads failed, modulo 2^64.

@@ -16,15 +16,15 @@ pub enum Fault {
     NotAscii,
     /// The line of this number has other words than it should: an empty one, too many or too few, or an unknown name.
     BadLine(usize),
-    /// On the line of this number, a word that should be a number below 2^64 is none.
+    /// On the line of this number, a word that should spell a number below 2^64 does not.
     BadNumber(usize),
     /// There is no line, or the first word of the first line is not `setup`.
     NoSetup,
     /// On the line of this number, which is 1, a number is out of its range.
     BadSetup(usize, SetupFault),
-    /// On the line of this number, the lane is not of this world.
+    /// On the line of this number, the lane is not one of the setup's.
     NoLane(usize),
-    /// On the line of this number, the consumer is not of this world.
+    /// On the line of this number, the consumer is not one of the setup's.
     NoConsumer(usize),
     /// After the first line there are more than 20,000 lines.
     TooManyEvents,

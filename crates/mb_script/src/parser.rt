@@ -206,7 +206,8 @@ fn read_bytes<A: Allocator>(alloc: A, bytes: &[u8]) -> Result<Script<A>, Fault>
     read_lines(alloc, text)
 }
 
-/// The script that the bytes spell, or their first fault.
+/// The script that the bytes spell, or their first fault. `docs/FORMATS.md` tells the faults 1 to 9 in the order in
+/// which they are decided. `NoMemory` may come in place of any of them.
 pub fn parse<A: Allocator>(alloc: A, bytes: &[u8]) -> Result<Script<A>, Fault>
     // The bytes spell the script that is returned.
     ensures found { IfOk result (λ s. Spells (lines_of bytes.now) (view s)) }

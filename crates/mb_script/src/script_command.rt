@@ -54,7 +54,9 @@ pub trait ScriptCommand {
 
 /// Reads a script to its end, and writes its answer and nothing else.
 ///
-/// The whole text is made before the first write. No error of a device is retried.
+/// At most 1,048,577 bytes are read. The whole text is made before the first write. No error of a device is retried.
+///
+/// The error is the first that is met: while reading, then that of the command's `answer`, and last a failed write.
 #[tactic(auto, using(crate::proofs::Exchanges::not_too_long))]
 pub fn answer_script<C: ScriptCommand, A: Allocator + Copy, R: CountedRead, W: CountedWrite>(
     alloc: A,

@@ -47,7 +47,7 @@ pub fn split_word(line: &str) -> (&str, Option<&str>)
     }
 }
 
-/// Whether some word of the line is empty, which makes it a bad line.
+/// Whether some word of the line is empty. Such a line is refused.
 pub fn has_empty_word(line: &str) -> bool
     ensures { result ≡ has_empty (words_in_line line.now) }
 {

@@ -59,7 +59,7 @@ fn push_finish<A: Allocator>(text: &mut String<A>, answer: Finish) -> Result<(),
     })
 }
 
-/// Appends the answer to a look: what the link says.
+/// Appends the answer to a look: which cell comes next, or nothing yet, or the end mark.
 fn push_look<A: Allocator>(text: &mut String<A>, answer: Look) -> Result<(), AllocError>
     ensures { OnOk result (string_bytes text.new ≡ string_bytes text.old ++ look_text answer) }
 {

@@ -28,7 +28,8 @@ pub enum ReadEnd {
 #[derive(Clone, Copy, Debug, PartialEq, Eq, Hash)]
 pub struct WriteFailed;
 
-/// Reads to the end, but stops after the first byte past the limit, [`MAX_SCRIPT_LEN`].
+/// Reads to the end, but stops after the first byte past the limit, [`MAX_SCRIPT_LEN`]. A byte is read when a read
+/// returns it. The error is the one that comes first: `TooLong`, `NoMemory` or `ReadFault`.
 pub fn read_all<R: CountedRead, A: Allocator + Drop>(
     alloc: A,
     reader: &mut R,
@@ -78,7 +79,7 @@ pub fn read_all<R: CountedRead, A: Allocator + Drop>(
     Err(ReadEnd::TooLong)
 }
 
-/// Writes the whole text. After an `Err` a prefix of it was written.
+/// Writes the whole text. After `WriteFailed`, the only error, a prefix of it was written.
 pub fn write_all<W: CountedWrite>(writer: &mut W, text: &[u8]) -> Result<(), WriteFailed>
     ensures ok { OnOk result (Appends (W.held writer.old) (W.held writer.new) text.now) }
     ensures err { OnErr result (AppendsFront (W.held writer.old) (W.held writer.new) text.now) }
