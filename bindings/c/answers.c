@@ -256,13 +256,13 @@ static void spends(void) {
     EXPECT(blocks == 0);
 }
 
-/* All numbers of the largest setup: 16 producers and 64 consumers are given, and no more. */
+/* All numbers of the largest setup: 16 producers and 64 consumers are given, and no more. The mailbox has the largest number. */
 static void numbers(void) {
     hz_setup setup = setup_of(16, 64, 1, 1, HZ_BITS);
     hz_handle hub = HZ_NONE, report = HZ_NONE, more = HZ_NONE, parts[80] = {HZ_NONE};
     hz_missing missing = {7, 7};
     uint64_t number = 7;
-    EXPECT(hz_mailbox_new(1, &setup, &hub) == HZ_DONE);
+    EXPECT(hz_mailbox_new(UINT64_MAX, &setup, &hub) == HZ_DONE);
     for (uint64_t i = 0; i < 16; i++)
         EXPECT(hz_producer_new(&hub, &parts[i], &number) == HZ_DONE && number == i);
     for (uint64_t i = 0; i < 64; i++)

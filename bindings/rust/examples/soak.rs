@@ -8,11 +8,15 @@
 use hazbultra::channel::{channel, Builder, Receiver, RecvError, SendError, Sender};
 use std::collections::BTreeMap;
 use std::panic::{catch_unwind, resume_unwind, AssertUnwindSafe};
+use std::sync::atomic::{AtomicU64, Ordering::Relaxed};
 use std::sync::{Mutex, MutexGuard};
 use std::time::{Duration, Instant};
 use std::{env, fs, mem, thread};
 
+/// So many threads send through a channel, and as many receive.
 const THREADS: u64 = 4;
+/// So many channels there are at a time.
+const AT_A_TIME: u64 = 8;
 
 #[derive(Clone, Copy)]
 struct Value {
@@ -161,13 +165,22 @@ fn round(number: u64, share: u64) -> u64 {
     THREADS * share
 }
 
+/// Rounds, some at a time, since many of their threads sleep. Now and then it says how far it is.
 fn ends(seconds: u64, share: u64) -> String {
-    let began = Instant::now();
-    let (mut count, mut rounds) = (0, 0);
-    while began.elapsed().as_secs() < seconds {
-        count += round(rounds + u64::from(std::process::id()), share);
-        rounds += 1;
-    }
+    let (began, first) = (Instant::now(), u64::from(std::process::id()));
+    let (rounds, count) = (AtomicU64::new(0), AtomicU64::new(0));
+    let work = || {
+        while began.elapsed().as_secs() < seconds {
+            let number = rounds.fetch_add(1, Relaxed);
+            let more = round(first + number, share);
+            let count = more + count.fetch_add(more, Relaxed);
+            if number % 1000 == 999 {
+                println!("{count} values in {} s", began.elapsed().as_secs());
+            }
+        }
+    };
+    thread::scope(|scope| (0..AT_A_TIME).for_each(|_| drop(scope.spawn(work))));
+    let [rounds, count] = [rounds, count].map(AtomicU64::into_inner);
     format!("{count} values in {rounds} channels: each came once, in order, and each audit agrees")
 }
 

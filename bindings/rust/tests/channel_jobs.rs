@@ -114,6 +114,23 @@ fn an_account_of_each_segment_while_it_runs() {
     assert_eq!((totals.left, totals.given_back, totals.unknown), (3, 0, 0));
 }
 
+/// The account of a segment is made as soon as nobody stands in it, so it tells that none does.
+#[test]
+fn an_idle_end_pins_no_segment() {
+    let (sender, receiver, audit) = Builder::new().cells(3).audited();
+    let (idle_sender, idle) = (sender.clone(), receiver.clone());
+    for sender in [&idle_sender, &sender] {
+        sender.send(0).unwrap();
+        idle.recv().unwrap();
+    }
+    (0..300).for_each(|it| {
+        sender.send(it).unwrap();
+        receiver.recv().unwrap();
+    });
+    let sent: u64 = audit.totals().sent.values().sum();
+    assert!(sent > 290, "accounts of {sent} values alone");
+}
+
 #[test]
 fn the_audit_agrees_with_the_ends() {
     let (sender, receiver, audit) = Builder::new().cells(7).audited();

@@ -104,8 +104,8 @@ impl<T> Chain<T> {
         self.put(value, who, plan)
     }
 
-    /// Takes the number of the first value that nobody else takes, of so many at least that were sent. If it finds a segment over, as the
-    /// first of all, it sets `is_end`.
+    /// Takes the number of the first value that nobody else takes, of so many at least that were sent. If it finds a segment
+    /// over, as the first of all, it sets `is_end`.
     pub(super) fn take(&self, sent: u64, place: &mut Place<T>, is_end: &mut bool) -> Look {
         loop {
             let next = match place.segment() {

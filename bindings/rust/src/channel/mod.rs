@@ -122,7 +122,7 @@ impl Builder {
         }
     }
 
-    /// So many values go into each segment, 1 to 2^24. If it is not said, a chain begins with 32, and grows to 1,024. Large
+    /// So many values go into each segment, 1 to 2^24. If it is not said, a chain begins with 32, and grows to 4,096. Large
     /// values get smaller segments.
     ///
     /// # Panics

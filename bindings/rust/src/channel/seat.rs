@@ -17,7 +17,7 @@ pub(super) struct Seat<T> {
 
 pub(super) struct Desk<T> {
     /// By chains: where it stands.
-    places: Places<T>,
+    places: [Place<T>; CHAINS],
     /// By chains: a number of values sent, all of which it has found taken.
     seen: [u64; CHAINS],
     /// The chain that it looks at first.
@@ -28,7 +28,8 @@ pub(super) struct Desk<T> {
     turn: usize,
 }
 
-type Places<T> = [Place<T>; CHAINS];
+/// The places that it leaves.
+type Left<T> = [Option<Place<T>>; CHAINS];
 
 /// A desk, under its seat's lock.
 pub(super) type Open<'a, T> = MutexGuard<'a, Desk<T>>;
@@ -65,7 +66,7 @@ impl<T> Seat<T> {
 
     /// Leaves the segments that are over, so that this seat pins none. It is for whoever finds one over, and only tries the
     /// lock: a seat that is in use moves on by itself. Whoever calls it drops what it returns, under no lock.
-    pub(super) fn tidy(&self) -> Option<Places<T>> {
+    pub(super) fn tidy(&self) -> Option<Left<T>> {
         let mut desk = match self.desk.try_lock() {
             Ok(desk) => desk,
             Err(TryLockError::Poisoned(desk)) => desk.into_inner(),
@@ -87,23 +88,22 @@ impl<T> Desk<T> {
         &mut self.places[self.at % CHAINS]
     }
 
-    fn leave(&mut self, whether: impl Fn(&Place<T>) -> bool) -> Places<T> {
-        let leave = |it: &mut Place<T>| {
-            if whether(it) {
-                mem::replace(it, Place::NOWHERE)
-            } else {
-                Place::NOWHERE
-            }
-        };
+    /// Goes to its chain, of so many. Else receivers that go on after an end would crowd in one chain.
+    pub(super) fn go_home(&mut self, chains: usize) {
+        self.at = self.home % chains;
+    }
+
+    fn leave(&mut self, whether: impl Fn(&Place<T>) -> bool) -> Left<T> {
+        let leave = |it: &mut Place<T>| whether(it).then(|| mem::replace(it, Place::NOWHERE));
         self.places.each_mut().map(leave)
     }
 
-    /// Looks at all chains, until it takes a number, or finds that it has seen all in all of them. It begins with its home, or
-    /// after the end of a segment with the chain whose turn it is. If it finds a segment over, as the first of all, it sets
-    /// `is_end`.
+    /// Looks at all chains, if the first look took nothing, until it takes a number, or finds that it has seen all in all of
+    /// them. It begins with its home, or after the end of a segment with the chain whose turn it is. If it finds a segment
+    /// over, as the first of all, it sets `is_end`.
     ///
-    /// It looks once more after it saw something. So nothing was there as the last round began. If the first look took a
-    /// number, that is all.
+    /// It looks once more after it saw something. So it finds nothing only if there was a moment, during this call, at which
+    /// each value was taken whose send had returned.
     pub(super) fn look_round<'a>(
         &mut self,
         first: Look,

@@ -278,9 +278,8 @@ impl<T> Shared<T> {
 
     /// The same after the first look.
     fn look_further(&self, seat: &Seat<T>, mut desk: Open<'_, T>, first: Look, who: u64) -> Got<T> {
-        let mut is_end = false;
-        let look = desk.look_round(first, || self.chains(), &mut is_end);
-        let got = match look {
+        let (is_after_end, mut is_end) = (matches!(first, Look::Over), false);
+        let got = match desk.look_round(first, || self.chains(), &mut is_end) {
             Look::Took(number) => {
                 seat.count();
                 Got::Took(desk.here().empty(number, who))
@@ -288,6 +287,9 @@ impl<T> Shared<T> {
             Look::NoMemory => Got::NoMemory,
             Look::Nothing | Look::Over => Got::Nothing,
         };
+        if is_after_end && self.chains().len() <= self.receivers.load(SeqCst) {
+            desk.go_home(self.chains().len());
+        }
         drop(desk);
         if is_end {
             self.tidy();
