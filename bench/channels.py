@@ -1,11 +1,12 @@
 #!/usr/bin/env python3
 """The channel beside those that people know: nanoseconds and instructions a value.
 
-usage: bench/channels.py [--rounds 11] [--values 200000] [--counts]
+usage: bench/channels.py [--rounds 11] [--values 500000] [--counts]
 
 Nanoseconds are medians of interleaved rounds, in so many threads that send x that receive, without making. With 4 x 16 there is
-also the 99th percentile of the time that a value was on its way. Instructions are callgrind's, of a send and a receive, in one
-thread. With --counts there are no nanoseconds. It wants cargo, valgrind, and crossbeam-channel and flume of Debian.
+also the 99th percentile of the time that a value was on its way. A row says how many times those of crossbeam-channel they are.
+Instructions are callgrind's, of a send and a receive, in one thread. With --counts there are no nanoseconds. On four idle
+processors it takes two minutes. It wants cargo, valgrind, and crossbeam-channel and flume of Debian.
 """
 import argparse
 
@@ -30,7 +31,7 @@ def counts(what, form):
 def main():
     parser = argparse.ArgumentParser()
     parser.add_argument("--rounds", type=int, default=11)
-    parser.add_argument("--values", type=int, default=200_000)
+    parser.add_argument("--values", type=int, default=500_000)
     parser.add_argument("--counts", action="store_true")
     options = parser.parse_args()
     measuring.cargo("bench/beside_channels")
@@ -55,6 +56,8 @@ def main():
                 row += [took[what, form, it] for it in THREADS]
                 row.append(sorted(late[what, form, THREADS[-1]])[options.rounds // 2] / 1000)
             rows.append(row)
+        ours, beside = (next(it[1:] for it in rows if it[0] == f"{CHANNELS[what]}, {form}") for what in ("hazbultra", "crossbeam"))
+        rows.append([f"times crossbeam's, {form}", *(f"{one / two:.2f}" for one, two in zip(ours, beside))])
     print(measuring.table(head, rows))
 
 

@@ -1,4 +1,5 @@
 //! Who sent what, who took it, and what is left.
+use super::errors::written;
 use super::system::lock;
 use crate::{Mailbox, Note, Report};
 use std::collections::{BTreeMap, VecDeque};
@@ -62,7 +63,7 @@ pub struct Totals {
 ///
 /// An account is made when a segment is over and no end stands in it any more, and of the last segments when the last
 /// receiver is dropped. Those of one chain come in the order of their values. The newest 16 accounts wait. Older ones that
-/// nobody asked for go, and are in the [totals](Audit::totals) alone.
+/// nobody asked for go, and are in the [totals](Audit::totals) alone. Each call takes the lock of the accounts.
 pub struct Audit<T> {
     ledger: Arc<Ledger<T>>,
 }
@@ -176,8 +177,4 @@ impl<T> fmt::Debug for Account<T> {
     }
 }
 
-impl<T> fmt::Debug for Audit<T> {
-    fn fmt(&self, f: &mut fmt::Formatter<'_>) -> fmt::Result {
-        f.write_str("Audit { .. }")
-    }
-}
+written! { Debug [T] Audit<T>: |_| "Audit { .. }"; }

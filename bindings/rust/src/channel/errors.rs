@@ -1,6 +1,5 @@
 //! What can go wrong, by the names of `crossbeam-channel`.
 use std::error::Error;
-use std::fmt;
 
 /// The value was not sent: all receivers are gone, or there is no memory for a segment. This is the value.
 #[derive(Clone, Copy, PartialEq, Eq)]
@@ -143,90 +142,33 @@ impl From<RecvError> for RecvTimeoutError {
     }
 }
 
+/// Makes a trait of `fmt` by the text that it is to write.
+macro_rules! written {
+    ($($trait:ident [$($t:ident)?] $of:ty: $text:expr;)*) => {$(
+        impl<$($t)?> std::fmt::$trait for $of {
+            fn fmt(&self, f: &mut std::fmt::Formatter<'_>) -> std::fmt::Result {
+                let text: fn(&Self) -> &'static str = $text;
+                f.write_str(text(self))
+            }
+        }
+    )*};
+}
+pub(super) use written;
+
 const SEND_CLOSED: &str = "sending on a disconnected channel";
-const SEND_FULL: &str = "sending on a full channel";
-const SEND_LATE: &str = "timed out waiting on send operation";
 const RECV_CLOSED: &str = "receiving on an empty and disconnected channel";
-const RECV_EMPTY: &str = "receiving on an empty channel";
-const RECV_LATE: &str = "timed out waiting on receive operation";
 
-impl<T> fmt::Display for SendError<T> {
-    fn fmt(&self, f: &mut fmt::Formatter<'_>) -> fmt::Result {
-        f.write_str(SEND_CLOSED)
-    }
-}
-
-impl<T> fmt::Display for TrySendError<T> {
-    fn fmt(&self, f: &mut fmt::Formatter<'_>) -> fmt::Result {
-        f.write_str(if self.is_full() {
-            SEND_FULL
-        } else {
-            SEND_CLOSED
-        })
-    }
-}
-
-impl<T> fmt::Display for SendTimeoutError<T> {
-    fn fmt(&self, f: &mut fmt::Formatter<'_>) -> fmt::Result {
-        f.write_str(if self.is_timeout() {
-            SEND_LATE
-        } else {
-            SEND_CLOSED
-        })
-    }
-}
-
-impl fmt::Display for RecvError {
-    fn fmt(&self, f: &mut fmt::Formatter<'_>) -> fmt::Result {
-        f.write_str(RECV_CLOSED)
-    }
-}
-
-impl fmt::Display for TryRecvError {
-    fn fmt(&self, f: &mut fmt::Formatter<'_>) -> fmt::Result {
-        f.write_str(if self.is_empty() {
-            RECV_EMPTY
-        } else {
-            RECV_CLOSED
-        })
-    }
-}
-
-impl fmt::Display for RecvTimeoutError {
-    fn fmt(&self, f: &mut fmt::Formatter<'_>) -> fmt::Result {
-        f.write_str(if self.is_timeout() {
-            RECV_LATE
-        } else {
-            RECV_CLOSED
-        })
-    }
-}
-
-// (by hand, so that they are there for each `T`)
-impl<T> fmt::Debug for SendError<T> {
-    fn fmt(&self, f: &mut fmt::Formatter<'_>) -> fmt::Result {
-        f.write_str("SendError(..)")
-    }
-}
-
-impl<T> fmt::Debug for TrySendError<T> {
-    fn fmt(&self, f: &mut fmt::Formatter<'_>) -> fmt::Result {
-        f.write_str(if self.is_full() {
-            "Full(..)"
-        } else {
-            "Disconnected(..)"
-        })
-    }
-}
-
-impl<T> fmt::Debug for SendTimeoutError<T> {
-    fn fmt(&self, f: &mut fmt::Formatter<'_>) -> fmt::Result {
-        f.write_str(if self.is_timeout() {
-            "Timeout(..)"
-        } else {
-            "Disconnected(..)"
-        })
-    }
+// (`Debug` too, so that it is there for each `T`)
+written! {
+    Display [T] SendError<T>: |_| SEND_CLOSED;
+    Display [T] TrySendError<T>: |it| if it.is_full() { "sending on a full channel" } else { SEND_CLOSED };
+    Display [T] SendTimeoutError<T>: |it| if it.is_timeout() { "timed out waiting on send operation" } else { SEND_CLOSED };
+    Display [] RecvError: |_| RECV_CLOSED;
+    Display [] TryRecvError: |it| if it.is_empty() { "receiving on an empty channel" } else { RECV_CLOSED };
+    Display [] RecvTimeoutError: |it| if it.is_timeout() { "timed out waiting on receive operation" } else { RECV_CLOSED };
+    Debug [T] SendError<T>: |_| "SendError(..)";
+    Debug [T] TrySendError<T>: |it| if it.is_full() { "Full(..)" } else { "Disconnected(..)" };
+    Debug [T] SendTimeoutError<T>: |it| if it.is_timeout() { "Timeout(..)" } else { "Disconnected(..)" };
 }
 
 impl<T> Error for SendError<T> {}

@@ -1,6 +1,6 @@
 //! A value that comes back unless its work was done.
+use super::errors::written;
 use super::shared::Shared;
-use std::fmt;
 use std::ops::{Deref, DerefMut};
 use std::sync::Arc;
 
@@ -57,8 +57,4 @@ impl<T> Drop for Job<T> {
     }
 }
 
-impl<T> fmt::Debug for Job<T> {
-    fn fmt(&self, f: &mut fmt::Formatter<'_>) -> fmt::Result {
-        f.write_str("Job(..)")
-    }
-}
+written! { Debug [T] Job<T>: |_| "Job(..)"; }

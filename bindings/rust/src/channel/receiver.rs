@@ -1,9 +1,8 @@
 //! A receiver.
-use super::errors::{RecvError, RecvTimeoutError, TryRecvError};
+use super::errors::{written, RecvError, RecvTimeoutError, TryRecvError};
 use super::job::Job;
 use super::seat::Seat;
-use super::shared::{Got, Shared};
-use std::fmt;
+use super::shared::{told, Got, Shared};
 use std::future::Future;
 use std::iter::FusedIterator;
 use std::panic::{RefUnwindSafe, UnwindSafe};
@@ -15,13 +14,16 @@ use std::time::{Duration, Instant};
 
 /// Receives values. A clone of it is another receiver, and each value goes to one of them.
 ///
-/// **Locks.** Each of the first 64 receivers has a seat of its own. A receive holds the lock of its seat. So it waits only
-/// for another thread that shares this receiver by `&`, for one of the receivers beyond 64, which share seats, or for the
-/// few steps in which somebody moves its seat on. Nobody waits for the seat of another: whoever finds a segment over only
-/// tries the locks of other seats. A receive that comes to a new segment takes the lock under which its chain keeps the
-/// first segment, and that under which the mailbox issues consumers. A receive that sleeps takes the lock of the list of
-/// sleepers. The slot of a value has a lock that nobody waits for. A clone and a drop take the lock of the list of ends. The
-/// drop of the last receiver takes those of all lanes and seats, one after the other. No other call takes one.
+/// **Locks of a receive.** Each of the first 64 receivers has a seat of its own. A receive holds the lock of its seat. So it
+/// waits only for another thread that shares this receiver by `&`, for one of the receivers beyond 64, which share seats, or
+/// for the few steps in which somebody moves its seat on. Nobody waits for the seat of another: whoever finds a segment over
+/// only tries the locks of other seats. A receive that comes to a new segment takes the lock under which its chain keeps the
+/// first segment, that under which the mailbox issues consumers, and with an audit those of the segment's log and of the
+/// accounts. A receive that sleeps, or makes room for a sender that does, takes the lock of the list of sleepers. The slot
+/// of a value has a lock that nobody waits for.
+///
+/// A clone and a drop take the lock of the list of ends. The drop of the last receiver takes those of all lanes and seats
+/// too, one after the other.
 pub struct Receiver<T> {
     shared: Arc<Shared<T>>,
     seat: Arc<Seat<T>>,
@@ -57,7 +59,7 @@ impl<T> Receiver<T> {
         }
     }
 
-    /// Receives a value if one is there now. It holds the lock of its seat, for which it waits, and never sleeps else.
+    /// Receives a value if one is there now. It never sleeps, but for [the locks of a receive](Receiver).
     ///
     /// # Errors
     /// Nothing is there, or nothing comes any more.
@@ -66,8 +68,8 @@ impl<T> Receiver<T> {
         now(self.take())
     }
 
-    /// Receives a value. It sleeps until one comes, and holds the lock of its seat while it looks. If there is no memory for its place in a segment, it tries again each
-    /// millisecond.
+    /// Receives a value. It sleeps until one comes. If there is no memory for its place in a segment, it tries again each
+    /// millisecond. [Which locks it takes](Receiver).
     ///
     /// # Errors
     /// Nothing is left, and nothing comes any more.
@@ -76,7 +78,7 @@ impl<T> Receiver<T> {
         self.recv_until(None).map_err(|_| RecvError)
     }
 
-    /// Receives a value. It sleeps until one comes, but not longer than this.
+    /// Receives a value. It sleeps until one comes, but not longer than this. It takes the [locks of a receive](Receiver).
     ///
     /// # Errors
     /// Nothing came until then, or nothing comes any more.
@@ -93,7 +95,8 @@ impl<T> Receiver<T> {
     }
 
     /// Receives a value as a job, which gives the value back to the channel unless it is [done](Job::done). It sleeps until
-    /// one comes.
+    /// one comes. It takes the [locks of a receive](Receiver). A job that is dropped takes those of a
+    /// [send](super::Sender).
     ///
     /// # Errors
     /// Nothing is left, nothing comes any more, and no other job is open.
@@ -101,7 +104,7 @@ impl<T> Receiver<T> {
         self.wait(None, || self.take_job()).map_err(|_| RecvError)
     }
 
-    /// Receives a value as a job if one is there now. It never sleeps.
+    /// Receives a value as a job if one is there now. It never sleeps, but for [the locks of a receive](Receiver).
     ///
     /// # Errors
     /// Nothing is there, or nothing comes any more.
@@ -110,7 +113,7 @@ impl<T> Receiver<T> {
     }
 
     /// Receives a value. The task waits until one comes, and no thread sleeps. It is for any executor. A future that is
-    /// dropped receives nothing.
+    /// dropped receives nothing. A poll takes the [locks of a receive](Receiver), and a drop that of the list of sleepers.
     pub fn recv_async(&self) -> RecvFuture<'_, T> {
         RecvFuture {
             receiver: self,
@@ -152,50 +155,14 @@ impl<T> Receiver<T> {
         }
     }
 
-    /// Iterates over the values that it receives, until nothing comes any more. It sleeps between.
+    /// Iterates over the values that it receives, until nothing comes any more. Each is a [`recv`](Receiver::recv).
     pub fn iter(&self) -> Iter<'_, T> {
         Iter { receiver: self }
     }
 
-    /// Iterates over the values that it receives, until nothing is there. It never sleeps.
+    /// Iterates over the values that it receives, until nothing is there. Each is a [`try_recv`](Receiver::try_recv).
     pub fn try_iter(&self) -> TryIter<'_, T> {
         TryIter { receiver: self }
-    }
-
-    /// Its number in the channel's [audit](super::Audit). No other receiver has it.
-    #[must_use]
-    pub fn number(&self) -> u64 {
-        self.number
-    }
-
-    /// How many values wait. While ends work it may be out of date at once. It takes no lock.
-    #[must_use]
-    pub fn len(&self) -> usize {
-        self.shared.len()
-    }
-
-    /// Whether no value waits.
-    #[must_use]
-    pub fn is_empty(&self) -> bool {
-        self.len() == 0
-    }
-
-    /// Whether as many values wait as the bound allows. Without a bound it is false.
-    #[must_use]
-    pub fn is_full(&self) -> bool {
-        self.shared.is_full()
-    }
-
-    /// The bound, if there is one.
-    #[must_use]
-    pub fn capacity(&self) -> Option<usize> {
-        self.shared.plan.bound
-    }
-
-    /// Whether the other one receives from the same channel.
-    #[must_use]
-    pub fn same_channel(&self, other: &Receiver<T>) -> bool {
-        Arc::ptr_eq(&self.shared, &other.shared)
     }
 }
 
@@ -207,24 +174,11 @@ fn now<G>(got: Got<G>) -> Result<G, TryRecvError> {
     }
 }
 
-impl<T> Clone for Receiver<T> {
-    fn clone(&self) -> Self {
-        Receiver::new(Arc::clone(&self.shared))
-    }
-}
+told!(Receiver);
 
 impl<T> Drop for Receiver<T> {
     fn drop(&mut self) {
         self.shared.drop_receiver(self.place);
-    }
-}
-
-impl<T> UnwindSafe for Receiver<T> {}
-impl<T> RefUnwindSafe for Receiver<T> {}
-
-impl<T> fmt::Debug for Receiver<T> {
-    fn fmt(&self, f: &mut fmt::Formatter<'_>) -> fmt::Result {
-        f.write_str("Receiver { .. }")
     }
 }
 
@@ -263,10 +217,9 @@ impl<T> Drop for RecvFuture<'_, T> {
     }
 }
 
-impl<T> fmt::Debug for RecvFuture<'_, T> {
-    fn fmt(&self, f: &mut fmt::Formatter<'_>) -> fmt::Result {
-        f.write_str("RecvFuture { .. }")
-    }
+written! {
+    Debug [T] Receiver<T>: |_| "Receiver { .. }";
+    Debug [T] RecvFuture<'_, T>: |_| "RecvFuture { .. }";
 }
 
 /// The values that a receiver receives. [`Receiver::iter`] makes it.

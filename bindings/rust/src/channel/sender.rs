@@ -1,8 +1,7 @@
 //! A sender.
 use super::chain::Refused;
-use super::errors::{SendError, SendTimeoutError, TrySendError};
-use super::shared::{Room, Shared};
-use std::fmt;
+use super::errors::{written, SendError, SendTimeoutError, TrySendError};
+use super::shared::{told, Room, Shared};
 use std::future::Future;
 use std::panic::{RefUnwindSafe, UnwindSafe};
 use std::pin::Pin;
@@ -15,11 +14,14 @@ use std::time::{Duration, Instant};
 /// The values of one sender are received in the order sent, one after the other. Those of two senders may overtake each
 /// other.
 ///
-/// **Locks.** Each of the first 16 senders has a lane of its own. A send holds the lock of its lane for one put. So it
-/// waits only for another thread that shares this sender by `&`, for one of the senders beyond 16, which share lanes, or
-/// for a job that comes back. A send that begins a segment takes memory under that lock. If a receiver sleeps, or this
-/// sender has to, the send takes the lock of the list of sleepers too. The slot of a value has a lock that nobody waits for.
-/// A clone and a drop take the lock of the list of ends. No other call takes one.
+/// **Locks of a send.** Each of the first 16 senders has a lane of its own. A send holds the lock of its lane for one put.
+/// So it waits only for another thread that shares this sender by `&`, for one of the senders beyond 16, which share lanes,
+/// or for a job that comes back. A send that begins a segment takes memory under that lock, and the first of a lane takes
+/// the lock under which the receivers find the first segment. If a receiver sleeps, or this sender has to, the send takes
+/// the lock of the list of sleepers too. The slot of a value has a lock that nobody waits for. With an audit a send also
+/// takes that of the segment's log, which a receiver takes once a segment.
+///
+/// A clone and a drop take the lock of the list of ends.
 pub struct Sender<T> {
     shared: Arc<Shared<T>>,
     number: u64,
@@ -36,7 +38,7 @@ impl<T> Sender<T> {
         }
     }
 
-    /// Sends a value. If the channel is full, it sleeps until there is room. It holds the lock of its lane for one put.
+    /// Sends a value. If the channel is full, it sleeps until there is room. [Which locks it takes](Sender).
     ///
     /// # Errors
     /// All receivers are gone, or there is no memory for a segment. The value is in the error.
@@ -46,7 +48,7 @@ impl<T> Sender<T> {
             .map_err(|why| SendError(why.into_inner()))
     }
 
-    /// Sends a value if there is room now. It never sleeps, but for the lock of its lane.
+    /// Sends a value if there is room now. It never sleeps, but for [the locks of a send](Sender).
     ///
     /// # Errors
     /// The channel is full, all receivers are gone, or there is no memory for a segment. The value is in the error.
@@ -61,7 +63,8 @@ impl<T> Sender<T> {
         }
     }
 
-    /// Sends a value. If the channel is full, it sleeps until there is room, but not longer than this.
+    /// Sends a value. If the channel is full, it sleeps until there is room, but not longer than this. It takes the
+    /// [locks of a send](Sender).
     ///
     /// # Errors
     /// It was full until then, all receivers are gone, or there is no memory for a segment. The value is in the error.
@@ -78,7 +81,8 @@ impl<T> Sender<T> {
     }
 
     /// Sends a value. If the channel is full, the task waits until there is room, and no thread sleeps. It is for any
-    /// executor. A future that is dropped sends nothing.
+    /// executor. A future that is dropped sends nothing. A poll takes the [locks of a send](Sender), and a drop that of the
+    /// list of sleepers.
     pub fn send_async(&self, value: T) -> SendFuture<'_, T> {
         SendFuture {
             sender: self,
@@ -120,62 +124,13 @@ impl<T> Sender<T> {
     fn put(&self, value: T) -> Result<(), Refused<T>> {
         self.shared.put(self.chain, value, self.number)
     }
-
-    /// Its number in the channel's [audit](super::Audit). No other sender has it.
-    #[must_use]
-    pub fn number(&self) -> u64 {
-        self.number
-    }
-
-    /// How many values wait. While ends work it may be out of date at once. It takes no lock.
-    #[must_use]
-    pub fn len(&self) -> usize {
-        self.shared.len()
-    }
-
-    /// Whether no value waits.
-    #[must_use]
-    pub fn is_empty(&self) -> bool {
-        self.len() == 0
-    }
-
-    /// Whether as many values wait as the bound allows. Without a bound it is false.
-    #[must_use]
-    pub fn is_full(&self) -> bool {
-        self.shared.is_full()
-    }
-
-    /// The bound, if there is one.
-    #[must_use]
-    pub fn capacity(&self) -> Option<usize> {
-        self.shared.plan.bound
-    }
-
-    /// Whether the other one sends to the same channel.
-    #[must_use]
-    pub fn same_channel(&self, other: &Sender<T>) -> bool {
-        Arc::ptr_eq(&self.shared, &other.shared)
-    }
 }
 
-impl<T> Clone for Sender<T> {
-    fn clone(&self) -> Self {
-        Sender::new(Arc::clone(&self.shared))
-    }
-}
+told!(Sender);
 
 impl<T> Drop for Sender<T> {
     fn drop(&mut self) {
         self.shared.drop_sender(self.chain);
-    }
-}
-
-impl<T> UnwindSafe for Sender<T> {}
-impl<T> RefUnwindSafe for Sender<T> {}
-
-impl<T> fmt::Debug for Sender<T> {
-    fn fmt(&self, f: &mut fmt::Formatter<'_>) -> fmt::Result {
-        f.write_str("Sender { .. }")
     }
 }
 
@@ -219,8 +174,7 @@ impl<T> Drop for SendFuture<'_, T> {
     }
 }
 
-impl<T> fmt::Debug for SendFuture<'_, T> {
-    fn fmt(&self, f: &mut fmt::Formatter<'_>) -> fmt::Result {
-        f.write_str("SendFuture { .. }")
-    }
+written! {
+    Debug [T] Sender<T>: |_| "Sender { .. }";
+    Debug [T] SendFuture<'_, T>: |_| "SendFuture { .. }";
 }

@@ -317,8 +317,58 @@ impl<T> Shared<T> {
         let taken: u64 = self.seats().map(Seat::taken).sum();
         usize::try_from(sent.saturating_sub(taken)).unwrap_or(usize::MAX)
     }
-
-    pub(super) fn is_full(&self) -> bool {
-        self.plan.bound.is_some_and(|bound| self.len() >= bound)
-    }
 }
+
+/// What each end tells of its channel.
+macro_rules! told {
+    ($end:ident) => {
+        impl<T> $end<T> {
+            /// Its number in the channel's [audit](super::Audit). No other end of its side has it. This and the calls below
+            /// take no lock.
+            #[must_use]
+            pub fn number(&self) -> u64 {
+                self.number
+            }
+
+            /// How many values wait. While ends work it may be out of date at once.
+            #[must_use]
+            pub fn len(&self) -> usize {
+                self.shared.len()
+            }
+
+            /// Whether no value waits.
+            #[must_use]
+            pub fn is_empty(&self) -> bool {
+                self.len() == 0
+            }
+
+            /// Whether as many values wait as the bound allows. Without a bound it is false.
+            #[must_use]
+            pub fn is_full(&self) -> bool {
+                self.capacity().is_some_and(|bound| self.len() >= bound)
+            }
+
+            /// The bound, if there is one.
+            #[must_use]
+            pub fn capacity(&self) -> Option<usize> {
+                self.shared.plan.bound
+            }
+
+            /// Whether the other one is an end of the same channel.
+            #[must_use]
+            pub fn same_channel(&self, other: &Self) -> bool {
+                Arc::ptr_eq(&self.shared, &other.shared)
+            }
+        }
+
+        impl<T> Clone for $end<T> {
+            fn clone(&self) -> Self {
+                $end::new(Arc::clone(&self.shared))
+            }
+        }
+
+        impl<T> UnwindSafe for $end<T> {}
+        impl<T> RefUnwindSafe for $end<T> {}
+    };
+}
+pub(super) use told;
