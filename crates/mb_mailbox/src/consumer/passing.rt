@@ -13,12 +13,12 @@ ghost use Rattle.mb_world.specs.declared.place.Place.TheVariants.{Before};
 
 use super::meeting::meet;
 use super::moves::{consumers_move_on, places_tell_steps};
-use super::places::set_place;
+use super::places::stand;
 use super::{ConsumerFields, Poll};
 use crate::mailbox::Mailbox;
 use mb_cells::{Cursor, Look};
 use mb_claim::Stage;
-use mb_world::{Note, Place};
+use mb_world::Note;
 use rand_core::Rng;
 use std::alloc::Allocator;
 
@@ -69,7 +69,7 @@ fn settle<A: Allocator + Drop, B: Allocator + Drop, R: Rng>(
 
 /// Goes on past items that the consumer loses, from this cursor on, as long as an item's three accesses are left. If it
 /// comes to another answer, returns that. The place on the lane is up to date again at the end.
-#[inline(never)]
+#[inline(always)]
 pub(super) fn pass<A: Allocator + Drop, B: Allocator + Drop, R: Rng>(
     fields: &mut ConsumerFields<A>,
     mailbox: &Mailbox<B>,
@@ -117,7 +117,7 @@ pub(super) fn pass<A: Allocator + Drop, B: Allocator + Drop, R: Rng>(
             answer => return Some(stop(fields, lane, at, answer)),
         }
     }
-    set_place(&mut fields.places, lane as usize, Place::Before(at));
+    stand(&mut fields.places, lane as usize, at);
     *left = rest;
     None
 }
@@ -136,6 +136,6 @@ fn stop<A: Allocator + Drop>(
     ensures notes { fields.new.notes ≡ fields.old.notes }
     ensures lane { lane < array_vec_len fields.new.places }
 {
-    set_place(&mut fields.places, lane as usize, Place::Before(at));
+    stand(&mut fields.places, lane as usize, at);
     answer
 }

@@ -42,6 +42,19 @@ pub(super) fn stay(places: &mut ArrayVec<Place, 16>, p: usize, k: u32, claim: Cl
     set_place(places, p, Place::At { cell: k, claim });
 }
 
+/// Makes the place on lane `p` be before the link at this cursor.
+#[inline(always)]
+pub(super) fn stand(places: &mut ArrayVec<Place, 16>, p: usize, at: Cursor)
+    requires { p < array_vec_len places.old }
+    ensures { places.new.items ≡ slice_set places.old.items p (Before at) }
+{
+    // If the place is before a link already, only its cursor changes, not all the words of a place.
+    match &mut places.as_mut_slice()[p] {
+        Place::Before(before) => *before = at,
+        place => *place = Place::Before(at),
+    }
+}
+
 /// Makes the place on this lane be past cell `k`, and adds this note to the lane's.
 #[inline(always)]
 pub(super) fn leave<A: Allocator + Drop>(
@@ -56,11 +69,7 @@ pub(super) fn leave<A: Allocator + Drop>(
     ensures place { places.new.items ≡ slice_set places.old.items lane (Before (Past k)) }
     ensures notes { NotesGrow lane (Some note) notes.old notes.new }
 {
-    // If the place is before a link already, only its cursor changes, not all the words of a place.
-    match &mut places.as_mut_slice()[lane as usize] {
-        Place::Before(at) => *at = Cursor::past(k),
-        place => *place = Place::Before(Cursor::past(k)),
-    }
+    stand(places, lane as usize, Cursor::past(k));
     notes.push(lane, note);
 }
 

@@ -269,5 +269,5 @@ returns-in_default g c =
           c.settle.ensures.wide;
     }
 
-pub set_place-requires : goal.set_place-requires
-set_place-requires g c = c.items.invariant.lane
+pub stand-requires : goal.stand-requires
+stand-requires g c = c.items.invariant.lane
