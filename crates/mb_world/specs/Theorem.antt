@@ -1,17 +1,18 @@
--- The main theorem: what is proved of the report of every mailbox, whatever its threads did. Its points are README's.
--- A producer puts items into its *lane*, and may end it by an *end mark*. Consumers compete for each item. A report has
--- of each lane the items put and those left, and of each consumer and lane a *diary*. Note j there is on item j:
---     Took x       the consumer took the item, and its value is x
---     Lost w       the consumer lost the item. No other than consumer w can take it, and w may never do so
---     Undecided    the consumer is done with the item, and neither took it nor lost it
+-- The main theorem: what is proved of the report of every mailbox, whatever its threads did. Points are as in README.
+-- A producer puts items, which are numbers, into its *lane*, and may end it by an *end mark*. Consumers compete for each
+-- item: an attempt at one is a *claim*. A report has of each lane the items put and those left, and of each consumer and
+-- lane a *diary*. Its note at position j is on the item at position j of the lane:
+--     Took x       the consumer took the item, which is x
+--     Lost w       the consumer lost the item. Only consumer w can still take it, and perhaps never will
+--     Undecided    the consumer's claim ended, and it neither took the item nor lost it
 -- c, d, v, w are consumers, p is a lane or its producer, j a position: numbers (ℕ) from 0 on. r: report, t: assignment.
--- After `:` stands of what kind a name is, after `=` in the line below what it means. `f x y` is f of x and y, `λ x. e`
--- the function from x to e. A record of statements says that all of them hold. Skip the lines `use`.
+-- `n : K` says of what kind n is, the line `n .. = e` below it what n means. `f x y` is f of x and y, `λ x. e` the
+-- function from x to e. A record of statements (`Type 0`) says that all of them hold. Skip `pub`, `abbrev`, `use`.
 --     A → B    if A then B; a function from A to B      (x : A) → B    for all x of A: B     A ↔ B    A exactly if B
 --     A × B    A and B             A ⊎ B    A or B      (x : A) × B    for some x of A: B    A → ⊥    not A
 --     ≡, ≢     equal, not equal    suc j    j + 1       xs ++ ys   first xs, then ys         x ∷ xs   first x, then xs
---     nat_eq, nat_lt, is_none: whether =, <, None    IsSome o: o is not None    slice_get xs j: Some of item j, or None
---     option_map_or f o z: f of x if o is Some x, else z     filter_map f xs: each y such that f of an item is Some y
+--     nat_eq, nat_lt, is_none: whether =, <, None    IsSome o: o is not None    slice_get xs j: Some of element j, or None
+--     option_map_or f o z: f of x if o is Some x, else z     filter_map f xs: each y such that f of an element is Some y
 use Rattle.std.specs.Prelude.{ℕ, suc, ◌≡◌, ◌≢◌, ◌<◌, ◌≤◌, ◌↔◌, ◌⊎◌, ◌+◌, ◌*◌, Bool, true, false, nat_eq, nat_lt, List, [], ◌∷◌, ◌++◌, length, slice_get, Option, Some, None, IsSome, if◌then◌else◌}
 use Rattle.std.specs.{List.filter_map, Option.is_none, Option.option_map_or}
 use Rattle.mb_world.specs.declared.report.Note.{Note, TheVariants.Took, TheVariants.Lost, TheVariants.Undecided}
@@ -77,7 +78,7 @@ abbrev pub items_where : (ℕ → Bool) → List ℕ → List ℕ  -- the items 
 items_where test [] = []
 items_where test (x ∷ xs) = if test 0 then x ∷ items_where (λ j. test (suc j)) xs else items_where (λ j. test (suc j)) xs
 
-abbrev pub is_consumer : ℕ → Option ℕ → Bool
+abbrev pub is_consumer : ℕ → Option ℕ → Bool  -- whether it is Some c
 is_consumer c None = false
 is_consumer c (Some d) = nat_eq d c
 
@@ -87,41 +88,41 @@ share t c p r = items_where (λ j. is_consumer c (t p j)) (items_put p r)
 abbrev pub rest : Assignment → ℕ → ReportView → List ℕ  -- those that it gives to nobody
 rest t p r = items_where (λ j. is_none (t p j)) (items_put p r)
 
-pub record IsLossTo (t : Assignment) (c w p j : ℕ) (r : ReportView) : Type 0 where  -- if c lost item j to w:
+pub record IsLossTo (t : Assignment) (c w p j : ℕ) (r : ReportView) : Type 0 where  -- what c's loss of item j to w brings
   pub another : w ≢ c
   pub competed : HasCompeted w p j r
   pub only : (d v : ℕ) → HasLostTo d v p j r → v ≡ w  -- each loss of the item names w
   pub assigned : (t p j ≡ Some w) ⊎ (t p j ≡ None)  -- t gives it to w or to nobody
 
 pub record AreGiven (t : Assignment) (r : ReportView) : Type 0 where
-  -- Point 1: an item is taken exactly by the consumer that t gives it to. Only items are given, only to competitors
+  -- Point 1: an item is taken exactly by the consumer that t gives it to, who competed. All its losses name one other
   pub taken : (c p j : ℕ) → HasTaken c p j r ↔ (t p j ≡ Some c)
   pub competitors : (c p j : ℕ) → t p j ≡ Some c → (j < length (items_put p r)) × HasCompeted c p j r
   pub losses : (c w p j : ℕ) → HasLostTo c w p j r → IsLossTo t c w p j r
-  -- Point 2: what c took from lane p is exactly its share, in the order put. Notes and begun claims are on items
+  -- Point 2: what c took from lane p is exactly its share, in the order put. No note or begun claim is past the items
   pub ledgers : (c p : ℕ) → ledger c p r ≡ share t c p r
   pub within : (c p : ℕ) → length (notes c p r) ≤ length (items_put p r)
   pub begun_within : (c p : ℕ) → is_begun c p r ≡ true → length (notes c p r) < length (items_put p r)
 
-abbrev pub AreLeft : Assignment → ReportView → Type 0  -- Point 3: every other item put is reported as left
+abbrev pub AreLeft : Assignment → ReportView → Type 0  -- Point 3: the items given to nobody are reported as left
 AreLeft t r = (p : ℕ) → items_left p r ≡ rest t p r
 
--- Point 4. `pool` has all accesses to lanes and their cells, the newest first. `part (Producer p) h`: those in h of
--- producer p. `has_ended p h`: in h the end mark of lane p is stored. `HasMetEnd q p h`: in h the reader q loaded it.
--- Consumer c loads from the pool as the reader of the number `reader_of c` (in `gather`: c)
+-- Point 4. `pool` has all accesses (loads, stores) to lanes, the newest first. `part (Producer p) h`: those of h that
+-- producer p made. `has_ended p h`: in h lane p's end mark is stored. `HasMetEnd q p h`: in h reader q loaded that mark.
+-- Consumer c loads as the reader with the number `reader_of c` (in `gather`: c)
 pub record NothingFollowsEnds (pool : History) (reader_of : ℕ → ℕ) (r : ReportView) : Type 0 where
   pub silent : (later older : History) (p : ℕ) → later ++ older ≡ pool → has_ended p older ≡ true
       → part (Producer p) later ≡ []  -- after its end mark a producer makes no access
   pub noted : (c p j : ℕ) → IsSome (diary c p r) → HasMetEnd (reader_of c) p pool
-      → j < length (items_put p r) → IsSome (note c p j r)  -- who met it has a note on each item
+      → j < length (items_put p r) → IsSome (note c p j r)  -- who met the end mark has a note on each item
 
-abbrev pub IsSettled : ReportView → Type 0  -- Point 5: if nobody took an item with competitors, not all of them lost it
+abbrev pub IsSettled : ReportView → Type 0  -- Point 5: of an item's competitors one took it, or one did not lose it
 IsSettled r =
     (c p j : ℕ) → j < length (items_put p r) → HasCompeted c p j r → ((d : ℕ) → HasTaken d p j r → ⊥)
     → (d : ℕ) × HasCompeted d p j r × (HasTakenOrLost d p j r → ⊥)
 
--- The main theorem. `Mailbox::gather` promises it by `IsGathered` (`specs/Gathering.antt` of mb_mailbox). There `pool`
--- is lawful, and just what was done. Of a made-up `pool` point 4 would say little. Point 5 follows from `losses`
+-- The main theorem, for some `assignment`. `Mailbox::gather` promises it by `IsGathered` of mb_mailbox: `pool` is what
+-- was done (for a made-up one point 4 may be empty). It promises each diary by `lists`. Point 5 follows from `losses`
 pub record MainTheorem (pool : History) (reader_of : ℕ → ℕ) (r : ReportView) : Type 0 where
   pub assignment : Assignment
   pub given : AreGiven assignment r
