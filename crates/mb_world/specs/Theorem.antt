@@ -1,7 +1,7 @@
 -- The main theorem: what is proved of the report of every mailbox, whatever its threads did. Points are as in README.
--- A producer puts items, which are numbers, into its *lane*, and may end it by an *end mark*. Consumers compete for each
--- item: an attempt at one is a *claim*. A report has of each lane the items put and those left, and of each consumer and
--- lane a *diary*. Its note at position j is on the item at position j of the lane:
+-- A producer puts items, which are numbers, into its *lane*, and may end it by an *end mark*. Consumers compete for
+-- each item: an attempt at one is a *claim*. A report has of each lane the items put and those left, and of each
+-- consumer and lane a *diary*. Its note at position j is on the item at position j of the lane:
 --     Took x       the consumer took the item, which is x
 --     Lost w       the consumer lost the item. Only consumer w can still take it, and perhaps never will
 --     Undecided    the consumer's claim ended, and it neither took the item nor lost it
@@ -11,8 +11,8 @@
 --     A → B    if A then B; a function from A to B      (x : A) → B    for all x of A: B     A ↔ B    A exactly if B
 --     A × B    A and B             A ⊎ B    A or B      (x : A) × B    for some x of A: B    A → ⊥    not A
 --     ≡, ≢     equal, not equal    suc j    j + 1       xs ++ ys   first xs, then ys         x ∷ xs   first x, then xs
---     nat_eq, nat_lt, is_none: whether =, <, None    IsSome o: o is not None    slice_get xs j: Some of element j, or None
---     option_map_or f o z: f of x if o is Some x, else z     filter_map f xs: each y such that f of an element is Some y
+--     nat_eq, nat_lt, is_none: whether =, <, None    IsSome o: not None    slice_get xs j: Some of element j, or None
+--     option_map_or f o z: f of x if o is Some x, else z    filter_map f xs: each y such that f of an element is Some y
 use Rattle.std.specs.Prelude.{ℕ, suc, ◌≡◌, ◌≢◌, ◌<◌, ◌≤◌, ◌↔◌, ◌⊎◌, ◌+◌, ◌*◌, Bool, true, false, nat_eq, nat_lt, List, [], ◌∷◌, ◌++◌, length, slice_get, Option, Some, None, IsSome, if◌then◌else◌}
 use Rattle.std.specs.{List.filter_map, Option.is_none, Option.option_map_or}
 use Rattle.mb_world.specs.declared.report.Note.{Note, TheVariants.Took, TheVariants.Lost, TheVariants.Undecided}
@@ -88,7 +88,7 @@ share t c p r = items_where (λ j. is_consumer c (t p j)) (items_put p r)
 abbrev pub rest : Assignment → ℕ → ReportView → List ℕ  -- those that it gives to nobody
 rest t p r = items_where (λ j. is_none (t p j)) (items_put p r)
 
-pub record IsLossTo (t : Assignment) (c w p j : ℕ) (r : ReportView) : Type 0 where  -- what c's loss of item j to w brings
+pub record IsLossTo (t : Assignment) (c w p j : ℕ) (r : ReportView) : Type 0 where  -- of c's loss of item j to w
   pub another : w ≢ c
   pub competed : HasCompeted w p j r
   pub only : (d v : ℕ) → HasLostTo d v p j r → v ≡ w  -- each loss of the item names w
@@ -108,7 +108,7 @@ abbrev pub AreLeft : Assignment → ReportView → Type 0  -- Point 3: the items
 AreLeft t r = (p : ℕ) → items_left p r ≡ rest t p r
 
 -- Point 4. `pool` has all accesses (loads, stores) to lanes, the newest first. `part (Producer p) h`: those of h that
--- producer p made. `has_ended p h`: in h lane p's end mark is stored. `HasMetEnd q p h`: in h reader q loaded that mark.
+-- producer p made. `has_ended p h`: in h lane p's end mark is stored. `HasMetEnd q p h`: in h reader q loaded it.
 -- Consumer c loads as the reader with the number `reader_of c` (in `gather`: c)
 pub record NothingFollowsEnds (pool : History) (reader_of : ℕ → ℕ) (r : ReportView) : Type 0 where
   pub silent : (later older : History) (p : ℕ) → later ++ older ≡ pool → has_ended p older ≡ true
