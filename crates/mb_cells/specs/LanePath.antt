@@ -4,12 +4,13 @@ use Rattle.std.specs.List.{AllByRecursion}
 use Rattle.mb_cells.specs.Types.{Counter, END, FetchAdd, Head, Item, Link, PoolAccess, Producer, Store, Word}
 use Rattle.mb_cells.specs.Memory.{History}
 
--- an item, and the number that its fetch-add gave
+-- an item, and the number that its fetch-add found: a cell's, or if it was refused one past the cells
 pub record Entry : Type 0 where
   pub cell : ℕ
   pub value : ℕ
 
--- the word of the next link, after these entries (the last first): the last link, or the lane's head
+-- the word where the next link is stored, after these entries (the last first): the link word of the last entry's cell,
+-- or the lane's head if there is none
 abbrev pub place_after : ℕ → List Entry → Word
 place_after p [] = Head p
 place_after p (e ∷ _) = Link e.cell
@@ -48,7 +49,7 @@ abbrev pub FindsNoCell : ℕ → Option Entry → Type 0
 FindsNoCell cells None = Unit {0}
 FindsNoCell cells (Some e) = cells ≤ e.cell
 
--- a whole path of producer p, in a pool of `cells` cells
+-- a path of producer p with no item half put, in a pool of `cells` cells. It need not be refused or ended
 pub record IsLanePath (cells p : ℕ) (path : History) : Type 0 where
   pub entries : List Entry
   pub refused : Option Entry

@@ -6,7 +6,7 @@ use Rattle.mb_cells.specs.Size.{PoolSize}
 use Rattle.mb_cells.specs.Memory.{Has, History, is_same_process, is_same_word}
 use Rattle.mb_cells.specs.LanePath.{Entry, fetch}
 
--- the cell that a store to a head or link links
+-- the cell that a store to a head or link links. No lawful history stores 0 there
 abbrev pub link_of : Word → PoolAct → Option ℕ
 link_of (Head _) (Store v) = if nat_eq v END then None else Some (v - 1)
 link_of (Link _) (Store v) = if nat_eq v END then None else Some (v - 1)
@@ -43,7 +43,7 @@ entry_of items k = record { cell = k; value = items k }
 abbrev pub entry_at : ℕ → History → Entry
 entry_at k h = record { cell = k; value = item_of k h }
 
--- the put list of lane p: the cells linked with their items, the first linked first
+-- the put list of lane p: the cells linked, each with its item, the first linked first
 abbrev pub put_list : ℕ → History → List Entry
 put_list p h = reverse (map (λ k. entry_at k h) (linked_cells p h))
 

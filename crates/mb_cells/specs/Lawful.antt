@@ -6,7 +6,7 @@ use Rattle.mb_cells.specs.Memory.{History, IsMemoryTrue, part}
 use Rattle.mb_cells.specs.LanePath.{IsLanePrefix}
 use Rattle.mb_cells.specs.ReaderPath.{IsReaderPath}
 
--- the values and the item of an act are words of 64 bits
+-- what an act loads or stores, and a fetch-add's item and the number that it found, are words of 64 bits
 abbrev pub ActFits : PoolAct → Type 0
 ActFits (Load v) = v < 2 ^ 64
 ActFits (Store v) = v < 2 ^ 64
@@ -17,14 +17,14 @@ abbrev pub ProcessFits : ℕ → Process → Type 0
 ProcessFits lanes (Producer p) = p < lanes
 ProcessFits lanes (Reader r) = Unit {0}
 
--- each access has values of 64 bits, and its producer has a lane of the pool
+-- each access has values of 64 bits, and if a producer made it, that producer has a lane of the pool
 abbrev pub AllFit : ℕ → History → Type 0
 AllFit lanes [] = Unit {0}
 AllFit lanes (a ∷ older) = ActFits a.act × ProcessFits lanes a.process × AllFit lanes older
 
 -- a lawful history of a pool of this size
 pub record IsPoolLawful (size : PoolSize) (h : History) : Type 0 where
-  -- the end mark is the link of no cell
+  -- the link to a cell, its number + 1, is never the end mark
   pub sized : size.cells < END
   pub fits : AllFit size.lanes h
   pub memory : IsMemoryTrue h

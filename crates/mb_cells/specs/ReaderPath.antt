@@ -19,7 +19,8 @@ abbrev pub IsLoad : PoolAct → Type 0
 IsLoad (Load _) = Unit {0}
 IsLoad _ = ⊥
 
--- a head may be loaded at any time. A link or an item may be loaded once the reader's own loads gave its cell
+-- the head of a lane of the pool may be loaded at any time, the counter never. A link or an item may be loaded once the
+-- reader's own loads gave its cell
 abbrev pub MayRead : ℕ → Word → History → Type 0
 MayRead lanes Counter older = ⊥
 MayRead lanes (Head p) older = p < lanes

@@ -111,7 +111,7 @@ pub record IsReportIn (lanes consumers : ℕ) (h : HubView) (r : ReportView) : T
 -- ---- what a report shows
 -- all that were returned made two histories which are sound, and the main theorem holds of the report
 pub record IsGathered (m : MailboxView) (h : HubView) (r : ReportView) : Type 0 where
-  -- what was done to the words of the claims and to those of the cells; consumer c is reader c
+  -- what was done to the words of the claims and to those of the pool; consumer c is reader c
   pub histories : Histories
   pub reader : (c : ℕ) → histories.reader_of c ≡ c
   -- each part of these histories is what the hub has taken back

@@ -22,7 +22,7 @@ HasLastObject plan = (front : List Kind) × (plan.claims.kinds ≡ front ++ Last
 abbrev pub size_of : Plan → PoolSize
 size_of plan = pool_size plan.lanes plan.claims.cells
 
--- What was done to the words of the claims, and what to the words of the cells, each the newest first. No order between
+-- What was done to the words of the claims, and what to the words of the pool, each the newest first. No order between
 -- the two is known. Among the readers of the cells, consumer c has the number `reader_of c`. These numbers need not
 -- differ.
 pub record Histories : Type 0 where

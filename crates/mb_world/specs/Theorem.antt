@@ -107,9 +107,9 @@ pub record AreGiven (t : Assignment) (r : ReportView) : Type 0 where
 abbrev pub AreLeft : Assignment → ReportView → Type 0  -- Point 3: the items given to nobody are reported as left
 AreLeft t r = (p : ℕ) → items_left p r ≡ rest t p r
 
--- Point 4. `pool` has all accesses (loads, stores) to lanes, the newest first. `part (Producer p) h`: those of h that
--- producer p made. `has_ended p h`: in h lane p's end mark is stored. `HasMetEnd q p h`: in h reader q loaded it.
--- Consumer c loads as the reader with the number `reader_of c` (in `gather`: c)
+-- Point 4. `pool` has all accesses (loads, stores, fetch-adds) to lanes and cells, the newest first.
+-- `part (Producer p) h`: those of h that producer p made. `has_ended p h`: in h lane p's end mark is stored.
+-- `HasMetEnd q p h`: in h reader q loaded it. Consumer c loads as reader `reader_of c` (in `gather`: c)
 pub record NothingFollowsEnds (pool : History) (reader_of : ℕ → ℕ) (r : ReportView) : Type 0 where
   pub silent : (later older : History) (p : ℕ) → later ++ older ≡ pool → has_ended p older ≡ true
       → part (Producer p) later ≡ []  -- after its end mark a producer makes no access
