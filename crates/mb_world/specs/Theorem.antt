@@ -1,7 +1,6 @@
--- The main theorem: what is proved of the report of every mailbox, whatever its threads did. Points are as in README.
--- A producer puts items, which are numbers, into its *lane*, and may end it by an *end mark*. Consumers compete for
--- each item: an attempt at one is a *claim*. A report has of each lane the items put and those left, and of each
--- consumer and lane a *diary*. Its note at position j is on the item at position j of the lane:
+-- The main theorem, of the report of every mailbox, whatever its threads did. A producer puts items (numbers) into its
+-- *lane*, and may end it by an *end mark*. Consumers compete for each item: an attempt at one is a *claim*. A report has
+-- of each lane the items put and those left, and of each consumer and lane a *diary*. Note j of it is on item j put there:
 --     Took x       the consumer took the item, which is x
 --     Lost w       the consumer lost the item. Only consumer w can still take it, and perhaps never will
 --     Undecided    the consumer's claim ended, and it neither took the item nor lost it
@@ -95,7 +94,7 @@ pub record IsLossTo (t : Assignment) (c w p j : ℕ) (r : ReportView) : Type 0 w
   pub assigned : (t p j ≡ Some w) ⊎ (t p j ≡ None)  -- t gives it to w or to nobody
 
 pub record AreGiven (t : Assignment) (r : ReportView) : Type 0 where
-  -- Point 1: an item is taken exactly by the consumer that t gives it to, who competed. All its losses name one other
+  -- Point 1 of README's: an item is taken just by the consumer that t gives it to, who competed. Losses name one other
   pub taken : (c p j : ℕ) → HasTaken c p j r ↔ (t p j ≡ Some c)
   pub competitors : (c p j : ℕ) → t p j ≡ Some c → (j < length (items_put p r)) × HasCompeted c p j r
   pub losses : (c w p j : ℕ) → HasLostTo c w p j r → IsLossTo t c w p j r
