@@ -124,7 +124,7 @@ typedef enum {
 } hz_table;
 
 /* How large a mailbox is, and what stands in each cell. The fastest have 0 pairs, last true and fast false: each claim on an
- * item is one exchange then, and table does not count. Else, if nothing speaks against it: 4 pairs, and last true. Set
+ * item is one exchange then, and it does not matter which table. Else, if nothing speaks against it: 4 pairs, and last true. Set
  * fast too if mostly one consumer comes to an item.
  * docs/GUIDE.md tells which setup does what, and how much memory it takes. */
 typedef struct {

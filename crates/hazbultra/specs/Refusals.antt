@@ -36,8 +36,8 @@ first_refusal None why = Some 32
 first_refusal (Some name) None = None
 first_refusal (Some name) (Some why) = Some (setup_code why)
 
--- the code of the first reason to refuse what C asks for, if there is one. If each claim is one exchange, the pairs
--- do not count
+-- the code of the first reason to refuse what C asks for, if there is one. If each claim is one exchange, the pairs do
+-- not count. The table's number has to name a table even then
 abbrev pub refusal_of : SetupIn → Option ℕ
 refusal_of s = first_refusal (table_numbered s.table)
     (large_refusal s.producers s.consumers s.cells (if asks_exchanges s then 1 else s.pairs))

@@ -1,6 +1,6 @@
 -- The main theorem, of the report of every mailbox, whatever its threads did. A producer puts items (numbers) into its
 -- *lane*, and may end it by an *end mark*. Consumers compete for each item: an attempt at one is a *claim*. A report
--- has of each lane the items put and those left, and of each consumer and lane a *diary*. Its note j is on item j there:
+-- has of each lane the items put and those left, and of each consumer and lane a *diary*. Note j is on item j there:
 --     Took x       the consumer took the item, which is x
 --     Lost w       the consumer lost the item. Only consumer w can still take it, and perhaps never will
 --     Undecided    the consumer's claim ended, and it neither took the item nor lost it
