@@ -3,7 +3,7 @@ use crate::choice::{Choice, LOOPS, Loop, SHAPES};
 use crate::mailbox::{Post, mailboxes, puts};
 use crate::passed::passed;
 use crate::relay::relay;
-use crate::source::Source;
+use crate::source::{Source, Zeros};
 use rand_chacha::ChaCha8Rng;
 use rand_core::SeedableRng;
 use std::alloc::{AllocError, Allocator};
@@ -33,8 +33,9 @@ fn done<A: Allocator + Copy + Drop>(alloc: A, choice: &Choice) -> Result<Post, A
     match choice.what {
         Loop::Mailboxes => puts(alloc, choice, 0),
         Loop::Puts => puts(alloc, choice, choice.setup.cells()),
-        Loop::Mailbox | Loop::Taken => mailboxes(alloc, choice, &mut Source::new()),
-        Loop::Passed => passed(alloc, choice, &mut Source::new()),
+        Loop::Mailbox => mailboxes(alloc, choice, &mut Source::new()),
+        Loop::Taken => mailboxes(alloc, choice, &mut Zeros),
+        Loop::Passed => passed(alloc, choice, &mut Zeros),
         Loop::Chacha => mailboxes(alloc, choice, &mut ChaCha8Rng::from_seed([0; 32])),
         Loop::Relay => relay(alloc, choice, &mut ChaCha8Rng::from_seed([1; 32])),
     }

@@ -59,3 +59,27 @@ impl Rng for Source {
         utils::fill_bytes_via_u64(self, dst)
     }
 }
+
+/// A source of words that are all 0. A claim that is one exchange draws a word, and does the same whatever it is.
+#[derive(Drop)]
+pub struct Zeros;
+
+impl Rng for Zeros {
+    ghost use Rattle.bench_loops.specs.Zeros.{zeros};
+
+    ghost stream = { λ _. zeros };
+
+    #[inline(always)]
+    fn next_u32(&mut self) -> u32 {
+        0
+    }
+
+    #[inline(always)]
+    fn next_u64(&mut self) -> u64 {
+        0
+    }
+
+    fn fill_bytes(&mut self, dst: &mut [u8]) {
+        dst.fill(0);
+    }
+}
