@@ -124,8 +124,9 @@ impl<T> Consumer<T> {
     }
 
     /// Competes for the next item of a lane, until it knows the result. It waits for nobody, and is never
-    /// [`Poll::Spent`]. As the builder has it by default, it makes at most 31, 47, 63, 95 or 127 accesses with 1, 2, 4, 16
-    /// or 64 consumers. An access is a load, store or exchange of one shared word.
+    /// [`Poll::Spent`]. As the builder has it by default, it makes at most 3 accesses. With
+    /// [`Shape::FastLast`](crate::Shape::FastLast) it makes at most 31, 47, 63, 95 or 127 with 1, 2, 4, 16 or 64 consumers.
+    /// An access is a load, store or exchange of one shared word.
     ///
     /// ```
     /// # fn main() -> Result<(), Box<dyn std::error::Error>> {

@@ -6,28 +6,31 @@ ghost use Rattle.mb_quorum.specs.declared.table.TableName.TheVariants.{Bits, Mid
 ghost use Rattle.mb_claim.specs.{Vocabulary.{most_accesses}, declared.layout.Layout.{Layout}};
 ghost use Rattle.mb_mailbox.specs.Vocabulary.{MailboxView, plan_at};
 ghost use Rattle.mb_world.specs.Vocabulary.{shaped_plan};
-ghost use Rattle.hazbultra.specs.{Calls.{source_of, words_of}, Defaults.{by_default}};
+ghost use Rattle.hazbultra.specs.{Calls.{source_of, words_of}, Defaults.{by_default, by_fast_last}};
 ghost use Rattle.hazbultra.specs.{Examples.{asked}, Lending.{handle_to, leading_to}};
 ghost use Rattle.hazbultra.specs.{Refusals.{plan_asked, refusal_of}, Zeros.{zeros}};
 ghost use Rattle.hazbultra.specs.declared.handle.{Handle.{Handle}, block.Block.{Block}};
 ghost use Rattle.hazbultra.specs.declared.thing.Thing.{Thing};
 
-/// The most accesses of a claim, with the load of its link and that of its item, for 1, 2, 4, 16 and 64 consumers. A
-/// poll with this budget is never spent (`unspent` of `hz_poll`).
+/// The most accesses of a claim, with the load of its link and that of its item: 3 by default, and with `FastLast` these
+/// for 1, 2, 4, 16 and 64 consumers. A poll with this budget is never spent (`unspent` of `hz_poll`).
 pub fn whole_items_take_few_accesses()
-    ensures one { (m : MailboxView) (p k : ℕ) → plan_at m ≡ by_default p 1 k
+    ensures exchange { (m : MailboxView) (p n k : ℕ) → plan_at m ≡ by_default p n k
+        → most_accesses m.claims.layout + 2 ≡ 3 }
+    ensures one { (m : MailboxView) (p k : ℕ) → plan_at m ≡ by_fast_last p 1 k
         → most_accesses m.claims.layout + 2 ≡ 31 }
-    ensures two { (m : MailboxView) (p k : ℕ) → plan_at m ≡ by_default p 2 k
+    ensures two { (m : MailboxView) (p k : ℕ) → plan_at m ≡ by_fast_last p 2 k
         → most_accesses m.claims.layout + 2 ≡ 47 }
-    ensures four { (m : MailboxView) (p k : ℕ) → plan_at m ≡ by_default p 4 k
+    ensures four { (m : MailboxView) (p k : ℕ) → plan_at m ≡ by_fast_last p 4 k
         → most_accesses m.claims.layout + 2 ≡ 63 }
-    ensures sixteen { (m : MailboxView) (p k : ℕ) → plan_at m ≡ by_default p 16 k
+    ensures sixteen { (m : MailboxView) (p k : ℕ) → plan_at m ≡ by_fast_last p 16 k
         → most_accesses m.claims.layout + 2 ≡ 95 }
-    ensures most { (m : MailboxView) (p k : ℕ) → plan_at m ≡ by_default p 64 k
+    ensures most { (m : MailboxView) (p k : ℕ) → plan_at m ≡ by_fast_last p 64 k
         → most_accesses m.claims.layout + 2 ≡ 127 }
 
-    // Two ratifiers, four pairs and a last object stand in each cell.
-    ensures objects { (p n k : ℕ) → length (by_default p n k).claims.kinds ≡ 11 }
+    // By default a last object alone stands in each cell. Else two ratifiers and four pairs come before it.
+    ensures alone { (p n k : ℕ) → length (by_default p n k).claims.kinds ≡ 1 }
+    ensures objects { (p n k : ℕ) → length (by_fast_last p n k).claims.kinds ≡ 11 }
 {}
 
 /// What C asks for by a setup, by example. With no pairs, and a last object alone, each claim is one exchange, whatever
