@@ -7,7 +7,7 @@ ghost use Rattle.mb_claim.specs.{Vocabulary.{most_accesses}, declared.layout.Lay
 ghost use Rattle.mb_mailbox.specs.Vocabulary.{MailboxView, plan_at};
 ghost use Rattle.mb_world.specs.Vocabulary.{shaped_plan};
 ghost use Rattle.hazbultra.specs.{Calls.{source_of, words_of}, Defaults.{by_default, by_fast_last}};
-ghost use Rattle.hazbultra.specs.{Examples.{asked}, Lending.{handle_to, leading_to}};
+ghost use Rattle.hazbultra.specs.{Samples.{asked}, Lending.{handle_to, leading_to}};
 ghost use Rattle.hazbultra.specs.{Refusals.{plan_asked, refusal_of}, Zeros.{zeros}};
 ghost use Rattle.hazbultra.specs.declared.handle.{Handle.{Handle}, block.Block.{Block}};
 ghost use Rattle.hazbultra.specs.declared.thing.Thing.{Thing};
@@ -33,9 +33,9 @@ pub fn whole_items_take_few_accesses()
     ensures objects { (p n k : ℕ) → length (by_fast_last p n k).claims.kinds ≡ 11 }
 {}
 
-/// What C asks for by a setup, by example. With no pairs, and a last object alone, each claim is one exchange, whatever
+/// What C asks for by a setup: samples. With no pairs, and a last object alone, each claim is one exchange, whatever
 /// the table.
-pub fn setups_by_example()
+pub fn sample_setups()
     ensures exchanges { plan_asked (asked 2 0 false) Middle
         ≡ shaped_plan (record { fast = false; last = true }) 3 4 8 0 Bits }
     ensures pairs { plan_asked (asked 2 5 true) Middle
@@ -47,9 +47,9 @@ pub fn setups_by_example()
     ensures no_table { refusal_of (asked 3 0 true) ≡ Some 32 }
 {}
 
-/// Where a consumer's words come from, by example. If a claim makes two accesses, it is a generator, and else there is
+/// Where a consumer's words come from: samples. If a claim makes two accesses, it is a generator, and else there is
 /// none. Then all words are 0, and no word is 1.
-pub fn sources_by_example()
+pub fn sample_sources()
     ensures drawn { (layout : Layout) (seed : List ℕ) → most_accesses layout ≡ 2
         → source_of layout seed 3 ≡ Some (record (of_seed seed) { stream = 3 }) }
     ensures alone { (layout : Layout) (seed : List ℕ) → most_accesses layout ≡ 1
@@ -59,7 +59,7 @@ pub fn sources_by_example()
 {}
 
 /// What a handle leads to once what it lent comes back, by example: to what was left there last, at the same address.
-pub fn handles_by_example()
+pub fn sample_handles()
     ensures last { (b : Block) (x y : Thing) → leading_to (leading_to b x) y ≡ leading_to b y }
     ensures full { (h : Handle) (x : Thing) → (handle_to h x).block ≡ leading_to h.block x }
     ensures not_empty { (h : Handle) (x : Thing) → (handle_to h x).block.thing ≡ None → ⊥ }
