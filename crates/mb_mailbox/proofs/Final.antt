@@ -94,12 +94,12 @@ sourced same is = record {
 }
 
 -- if a run is that of these calls, this is what it came to
-pub worked_of : {may_stop may_pass : Who → ℕ → Type 0} {budget k : ℕ} {lists : List (List ℕ)} {sources : List Stream}
-    {old now : HubView} (r : Result Worked WorkFault) → length sources ≡ k
+pub worked_of : (may_stop may_pass : Who → ℕ → Type 0) (budget k : ℕ) (lists : List (List ℕ)) (sources : List Stream)
+    (old now : HubView) (r : Result Worked WorkFault) → length sources ≡ k
     → IfOk r (λ w. IsCalled may_stop may_pass budget lists sources w old now)
     → IfOk r (λ w. IsWorked may_stop budget lists k w old now)
-worked_of (Ok w) same is = sourced same is.worked
-worked_of (Err fault) same is = is
+worked_of may_stop may_pass budget k lists sources old now (Ok w) same is = sourced same is.worked
+worked_of may_stop may_pass budget k lists sources old now (Err fault) same is = is
 
 -- ---- the end of a run
 module _ {R Z : Type 0} (m : MailboxView) (may_stop may_pass : Who → ℕ → Type 0)
@@ -142,8 +142,8 @@ module _ {R Z : Type 0} (m : MailboxView) (may_stop may_pass : Who → ℕ → T
   some_worker some =
       let all = zip_length _ jobs ends came in
       let each = ap length given.whole ∙ length-append (map job.Put given.puts) (map job.Poll given.polls) in
-      let first = length-map given.puts job.Put in
-      let last = length-map given.polls job.Poll in
+      let first = length-map {B = Job R Z} given.puts job.Put in
+      let last = length-map {B = Job R Z} given.polls job.Poll in
       let lists = put_count m (length h.puts) items given.puts given.are_puts in
       omega (arith, some, all, each, first, last, lists)
 

@@ -87,7 +87,7 @@ module _ {R Z : Type 0} (m : MailboxView) (h was now : HubView) where
       }
 
   -- the hub has given no consumer yet
-  pub no_polls_given : (first : List (Job R Z)) → now ≡ h → ArePollsGiven m [] true first first h now
+  abbrev pub no_polls_given : (first : List (Job R Z)) → now ≡ h → ArePollsGiven m [] true first first h now
   no_polls_given first e = record {
     polls = [];
     whole = sym (append-nil first);
@@ -98,7 +98,7 @@ module _ {R Z : Type 0} (m : MailboxView) (h was now : HubView) where
   }
 
   -- the hub has given producers, and then consumers
-  pub both_given : (vs : List (Vec ℕ Z)) (rs : List R) (all : Bool) (first js : List (Job R Z))
+  abbrev pub both_given : (vs : List (Vec ℕ Z)) (rs : List R) (all : Bool) (first js : List (Job R Z))
       → ArePutsGiven m vs first h was → ArePollsGiven m rs all first js was now → AreGiven m vs js h now
   both_given vs rs all first js p q = record {
     puts = p.puts;

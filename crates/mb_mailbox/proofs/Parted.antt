@@ -89,9 +89,10 @@ module _ {Z : Type 0} where
       → sum_by f (map done.Put ds ++ map done.Poll es)
       ≡ sum_by (λ d. f (done.Put d)) ds + sum_by (λ d. f (done.Poll d)) es
   sum_parted f ds es =
-      sum_by-append f (map done.Put ds) (map done.Poll es)
-      ∙ (λ i. sum_same (λ d. f (done.Put d)) f done.Put (λ d. refl) ds (~ i)
-      + sum_same (λ d. f (done.Poll d)) f done.Poll (λ d. refl) es (~ i))
+      let all = sum_by-append f (map done.Put ds) (map done.Poll es) in
+      let puts = sum_same (λ (d : PutDone Z). f (done.Put d)) f done.Put (λ d. refl) ds in
+      let polls = sum_same (λ (d : PollDone Z). f (done.Poll d)) f done.Poll (λ d. refl) es in
+      omega (arith, all, puts, polls)
 
   pub stopped_parted : (ds : List (PutDone Z)) (es : List (PollDone Z))
       → sum_by (λ d. from_bool (is_stopped d)) (map done.Put ds ++ map done.Poll es)
@@ -100,7 +101,10 @@ module _ {Z : Type 0} where
 
   no_sum : (es : List (PollDone Z)) → sum_by (λ (d : PollDone Z). 0) es ≡ 0
   no_sum [] = refl
-  no_sum (e ∷ es) = sum_by-cons (λ (d : PollDone Z). 0) e es ∙ no_sum es
+  no_sum (e ∷ es) =
+      let all = sum_by-cons (λ (d : PollDone Z). 0) e es in
+      let rest = no_sum es in
+      omega (arith, all, rest)
 
   pub full_parted : (ds : List (PutDone Z)) (es : List (PollDone Z))
       → sum_by full_of (map done.Put ds ++ map done.Poll es) ≡ sum_by (λ (d : PutDone Z). d.full) ds

@@ -21,16 +21,16 @@ loop-job-preserved g c =
       room = room_still _ _ _ i.room c.push_reserved.ensures.capacity;
       promised = rw c.push_reserved.ensures.items
           (zip_more (Promises g.G.Gate.may_stop g.G.Gate.may_pass g.R.Rng.stream c.args.shared.now.gate.now
-          c.args.shared.now.lanes) c.loop-job.yielded c.loop-job.begun.items c.in-Some.job c.start.result.0
-          i.promised c.start.ensures.promised);
+          c.args.shared.now.lanes) c.loop-job.yielded c.loop-job.begun.items c.in-Some.job c.start-worker.result.0
+          i.promised c.start-worker.ensures.promised);
     }
 
-pub start-requires-clause-of : goal.start-requires-clause-of
-start-requires-clause-of g c κs within = All-head (IsJobOf c.args.shared.now.mailbox.now) c.in-Some.job _
+pub start-worker-requires-clause-of : goal.start-worker-requires-clause-of
+start-worker-requires-clause-of g c κs within = All-head (IsJobOf c.args.shared.now.mailbox.now) c.in-Some.job _
     (subst (All (IsJobOf c.args.shared.now.mailbox.now)) c.in-Some.ensures.steps.0 c.loop-job.invariant.all_of)
 
-pub start-requires-clause-after : goal.start-requires-clause-after
-start-requires-clause-after g c κs within = first_of _ c.in-Some.job _
+pub start-worker-requires-clause-after : goal.start-worker-requires-clause-after
+start-worker-requires-clause-after g c κs within = first_of _ c.in-Some.job _
     (subst (ArePutsFirst (c.args.shared.now.lanes.end - c.args.shared.now.lanes.from - vec_len c.loop-job.begun))
     c.in-Some.ensures.steps.0 c.loop-job.invariant.first)
 

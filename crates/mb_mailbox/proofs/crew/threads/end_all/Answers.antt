@@ -21,5 +21,5 @@ loop-job-preserved g c =
     }
 
 pub do_job-requires-clause-of : goal.do_job-requires-clause-of
-do_job-requires-clause-of g c = All-head (IsJobOf c.args.shared.now.mailbox.now) c.in-Some.job _
+do_job-requires-clause-of g c κs within = All-head (IsJobOf c.args.shared.now.mailbox.now) c.in-Some.job _
     (subst (All (IsJobOf c.args.shared.now.mailbox.now)) c.in-Some.ensures.steps.0 c.loop-job.invariant.all_of)
