@@ -1,8 +1,8 @@
 //! One thread for each worker.
-ghost use Rattle.std.specs.Prelude.{◌≡◌, ◌-◌, ◌≤◌, [], ◌∷◌, vec_len};
+ghost use Rattle.std.specs.Prelude.{◌≡◌, ◌-◌, ◌≤◌, [], ◌∷◌, vec_capacity, vec_len};
 ghost use Rattle.std.specs.List.{All, AllZip};
 ghost use Rattle.mb_mailbox.specs.Begun.{IsAborted, Promises};
-ghost use Rattle.mb_mailbox.specs.Runs.{ArePutsFirst, HasRoom, IsEnd, IsJobOf, with_abort};
+ghost use Rattle.mb_mailbox.specs.Runs.{ArePutsFirst, IsEnd, IsJobOf, with_abort};
 
 use super::jobs::{Done, Job, Pledge, PollDone, PutDone, Shared};
 use super::worker::{RunWorker, Worker};
@@ -99,7 +99,8 @@ pub(super) fn start_all<
     requires of { All (IsJobOf shared.now.mailbox.now) jobs.items }
     requires few { shared.now.lanes.end ≤ shared.now.mailbox.now.cells.size.lanes }
     requires puts_first { ArePutsFirst (shared.now.lanes.end - shared.now.lanes.from) jobs.items }
-    requires room { HasRoom (vec_len jobs) begun }
+    requires none { begun.items ≡ [] }
+    requires room { vec_len jobs ≤ vec_capacity begun }
     ensures { AllZip (Promises G.may_stop G.may_pass R.stream shared.now.gate.now shared.now.lanes)
         jobs.items result.items }
 {

@@ -1,5 +1,5 @@
 //! The workers of a run, at the same time.
-ghost use Rattle.std.specs.Prelude.{◌≡◌, ◌-◌, ◌≤◌, vec_len};
+ghost use Rattle.std.specs.Prelude.{◌≡◌, ◌-◌, ◌≤◌, [], vec_capacity, vec_len};
 ghost use Rattle.std.specs.List.{All, AllZip};
 ghost use Rattle.mb_mailbox.specs.Runs.{ArePutsFirst, HasRoom, IsEnd, IsJobOf};
 
@@ -100,7 +100,8 @@ pub(super) fn end_all<A: Allocator + Drop, R: Rng + Drop, G: Gate>(
     requires of { All (IsJobOf shared.now.mailbox.now) jobs.items }
     requires few { shared.now.lanes.end ≤ shared.now.mailbox.now.cells.size.lanes }
     requires aborted { aborted.now.of ≡ shared.now.abort.now.id }
-    requires room { HasRoom (vec_len jobs) done }
+    requires none { done.items ≡ [] }
+    requires room { vec_len jobs ≤ vec_capacity done }
     ensures { AllZip (IsEnd (G.may_stop shared.now.gate.now) (G.may_pass shared.now.gate.now)
         R.stream shared.now.lanes) jobs.items result.items }
 {

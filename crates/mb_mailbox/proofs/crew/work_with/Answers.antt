@@ -40,8 +40,7 @@ returns-then-not-give-clause-no_memory g c = λ e.
     c.end_all-ends.ensures c.settle.ensures.hub
 
 pub end_all-ends-requires-clause-room : goal.end_all-ends-requires-clause-room
-end_all-ends-requires-clause-room g c κs within =
-    (c.requires.ends.0, omega (arith, c.give.ensures.few, c.requires.ends.1))
+end_all-ends-requires-clause-room g c κs within = omega (arith, c.give.ensures.few, c.requires.ends.1)
 
 pub run-ends-requires-clause-begun : goal.run-ends-requires-clause-begun
 run-ends-requires-clause-begun g c κs within =

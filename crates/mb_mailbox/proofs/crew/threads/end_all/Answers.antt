@@ -1,9 +1,10 @@
-use Rattle.std.proofs.Common.{subst}
-use Rattle.std.specs.List.{All}
+use Rattle.std.proofs.Common.{subst, sym, ◌∙◌}
+use Rattle.std.specs.List.{All, AllZip}
+use Rattle.std.proofs.lemmas.List.{nil_from_length}
 use Rattle.std.proofs.lemmas.List.Elements.{All-head, All-rest}
 use Rattle.mb_mailbox.specs.Runs.{IsEnd, IsJobOf}
 use Rattle.mb_mailbox.proofs.Loops.{left_more, room_still}
-use Rattle.mb_mailbox.proofs.Zips.{next_seen, zip_more}
+use Rattle.mb_mailbox.proofs.Zips.{all_seen, next_seen, zip_more}
 use Rattle.mb_mailbox.proofs.crew.threads.end_all.Goals as goal
 
 pub loop-job-preserved : goal.loop-job-preserved
@@ -23,3 +24,12 @@ loop-job-preserved g c =
 pub do_job-requires-clause-of : goal.do_job-requires-clause-of
 do_job-requires-clause-of g c κs within = All-head (IsJobOf c.args.shared.now.mailbox.now) c.in-Some.job _
     (subst (All (IsJobOf c.args.shared.now.mailbox.now)) c.in-Some.ensures.steps.0 c.loop-job.invariant.all_of)
+
+-- the iterator is empty, so all jobs were yielded
+pub returns : goal.returns
+returns g c =
+    subst (λ l. AllZip (IsEnd (g.G.Gate.may_stop c.args.shared.now.gate.now)
+    (g.G.Gate.may_pass c.args.shared.now.gate.now) g.R.Rng.stream c.args.shared.now.lanes) l c.loop-job.done.items)
+    (all_seen _ _ _ c.loop-job.invariant.rest
+    (nil_from_length _ (sym c.loop-job.job-iterator.rest.ok.0 ∙ c.in-None.ensures.steps.0)))
+    c.loop-job.invariant.ends
