@@ -9,8 +9,8 @@ use Rattle.mb_shared_cells.specs.declared.views.Roll.{Roll}
 use Rattle.mb_world.specs.Reporting.{values_put}
 use Rattle.mb_mailbox.specs.Imports.{History, PoolSize, Stream}
 use Rattle.mb_mailbox.specs.ConsumerWords.{ConsumerView, notes_on}
-use Rattle.mb_mailbox.specs.Vocabulary.{AreGivenEarly, Done, IsCalled, IsEnd, Job, Lanes, WerePolled, AreGiven, ArePutJobs, HubView, IsHub, IsHubOf, HasReadToEnd, IsOnLanes, ends_met, full_of, is_aborted, is_stopped}
-use Rattle.mb_mailbox.specs.Vocabulary.{MailboxView, with_taken, AreCutByCells, AreStoppedPuts, ConsumerEnd, HaveMetEnds}
+use Rattle.mb_mailbox.specs.Vocabulary.{AreGivenEarly, Done, IsCalled, IsEnd, Job, Lanes, WerePolled, AreGiven, ArePutJobs, HubView, IsHub, IsHubOf, HasReadToEnd, IsOnLanes, ends_met}
+use Rattle.mb_mailbox.specs.Vocabulary.{full_of, is_aborted, is_stopped, MailboxView, with_taken, AreCutByCells, AreStoppedPuts, ConsumerEnd, HaveMetEnds}
 use Rattle.mb_mailbox.specs.Vocabulary.{IsRunOf, IsWorked, ProducerEnd, WereTakenIn, WereTakenInEarly, lists_in, Who, WorkFault, Worked, PollDone, PollJob, PutDone, PutJob}
 use Rattle.mb_mailbox.specs.declared.crew.jobs.Job.TheVariants as job
 use Rattle.mb_mailbox.specs.HubRuns.{with_taken_consumers, with_taken_producers}

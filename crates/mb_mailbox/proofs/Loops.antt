@@ -48,7 +48,8 @@ module _ {R Z : Type 0} (m : MailboxView) (h was now : HubView) where
       record {
         puts = g.puts ++ j ∷ [];
         whole = ap (λ l. l ++ job.Put j ∷ []) g.whole ∙ sym (map-append job.Put g.puts (j ∷ []));
-        are = put_jobs_more m (length h.puts) (length was.puts) vs g.puts v j g.are (omega (arith, count, each)) is list;
+        are = put_jobs_more m (length h.puts) (length was.puts) vs g.puts v j g.are (omega (arith, count, each)) is
+            list;
         hub = e ∙ ap with_producer g.hub ∙ sym (producers_snoc g.puts j h);
       }
 

@@ -1,4 +1,4 @@
-use Rattle.std.proofs.Common.{arith, subst, sym, ◌∙◌, ◌-◌, vec_len}
+use Rattle.std.proofs.Common.{ℕ, ◌-◌, ◌∙◌, [], ap, arith, length, subst, sym, vec_len}
 use Rattle.std.specs.List.{All, AllZip}
 use Rattle.std.proofs.lemmas.List.{nil_from_length}
 use Rattle.std.proofs.lemmas.List.Elements.{All-head, All-rest}
@@ -7,6 +7,22 @@ use Rattle.mb_mailbox.specs.Runs.{ArePutsFirst, IsJobOf}
 use Rattle.mb_mailbox.proofs.Loops.{first_more, first_of, left_more, room_still}
 use Rattle.mb_mailbox.proofs.Zips.{all_seen, next_seen, zip_more}
 use Rattle.mb_mailbox.proofs.crew.spawn.start_all.Goals as goal
+
+pub loop-job-init : goal.loop-job-init
+loop-job-init g c =
+    let gives = c.into_iter-job-iterator.ensures.into_iter_gives in
+    let none = c.args.begun.ok.0 ∙ ap length c.requires.none in
+    record {
+      rest = gives.0;
+      all_of = subst (All (IsJobOf c.args.shared.now.mailbox.now)) (sym gives.0) c.requires.of;
+      first = subst (ArePutsFirst (c.args.shared.now.lanes.end - c.args.shared.now.lanes.from - vec_len c.args.begun))
+          (sym gives.0) (subst (λ (n : ℕ). ArePutsFirst n c.args.jobs.items) (omega (arith, none))
+          c.requires.puts_first);
+      left = omega (arith, none, gives.1);
+      room = c.requires.room;
+      promised = subst (λ l. AllZip (Promises g.G.Gate.may_stop g.G.Gate.may_pass g.R.Rng.stream
+          c.args.shared.now.gate.now c.args.shared.now.lanes) [] l) (sym c.requires.none) tt;
+    }
 
 pub loop-job-preserved : goal.loop-job-preserved
 loop-job-preserved g c =

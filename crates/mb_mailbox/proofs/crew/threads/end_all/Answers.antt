@@ -1,4 +1,4 @@
-use Rattle.std.proofs.Common.{subst, sym, ◌∙◌}
+use Rattle.std.proofs.Common.{◌∙◌, [], ap, arith, length, subst, sym}
 use Rattle.std.specs.List.{All, AllZip}
 use Rattle.std.proofs.lemmas.List.{nil_from_length}
 use Rattle.std.proofs.lemmas.List.Elements.{All-head, All-rest}
@@ -6,6 +6,20 @@ use Rattle.mb_mailbox.specs.Runs.{IsEnd, IsJobOf}
 use Rattle.mb_mailbox.proofs.Loops.{left_more, room_still}
 use Rattle.mb_mailbox.proofs.Zips.{all_seen, next_seen, zip_more}
 use Rattle.mb_mailbox.proofs.crew.threads.end_all.Goals as goal
+
+pub loop-job-init : goal.loop-job-init
+loop-job-init g c =
+    let gives = c.into_iter-job-iterator.ensures.into_iter_gives in
+    let none = c.args.done.ok.0 ∙ ap length c.requires.none in
+    record {
+      rest = gives.0;
+      all_of = subst (All (IsJobOf c.args.shared.now.mailbox.now)) (sym gives.0) c.requires.of;
+      left = omega (arith, none, gives.1);
+      room = c.requires.room;
+      ends = subst (λ l. AllZip (IsEnd (g.G.Gate.may_stop c.args.shared.now.gate.now)
+          (g.G.Gate.may_pass c.args.shared.now.gate.now) g.R.Rng.stream c.args.shared.now.lanes) [] l)
+          (sym c.requires.none) tt;
+    }
 
 pub loop-job-preserved : goal.loop-job-preserved
 loop-job-preserved g c =
