@@ -59,7 +59,8 @@ returns-in-Ok-clause-called g c =
     let told : Worked = c.in-Ok.worked in
     subst (λ (b : ℕ). IsCalled (g.G.Gate.may_stop c.args.gate.now)
     (g.G.Gate.may_pass c.args.gate.now) b (lists_in c.args.load.items.items)
-    (map g.R.Rng.stream c.args.load.rngs.items) told c.args.hub.now c.settle-2.new.hub) c.next_lanes-lanes.ensures.budget
+    (map g.R.Rng.stream c.args.load.rngs.items) told c.args.hub.now c.settle-2.new.hub)
+    c.next_lanes-lanes.ensures.budget
     (called c.args.mailbox.now (g.G.Gate.may_stop c.args.gate.now)
     (g.G.Gate.may_pass c.args.gate.now) g.R.Rng.stream c.args.load.items.items c.next_lanes-lanes.result
     c.give.new.jobs.items c.run-ends.result.items c.args.hub.now c.give.new.hub c.settle-2.new.hub
