@@ -43,7 +43,7 @@ nothing_taken lists sources h = record {
       puts = sym (append-nil h.puts);
       parts = sym (append-nil h.cells.roll.lanes);
       fronts = tt;
-      ledgers = sym (append-nil h.ledgers);
+      records = sym (append-nil h.records);
       reads = sym (append-nil h.cells.roll.readers);
       claimed = sym (append-nil h.claims.roll);
       count = refl;
@@ -76,7 +76,7 @@ sourced same is = record {
     puts = is.run.puts;
     parts = is.run.parts;
     fronts = is.run.fronts;
-    ledgers = is.run.ledgers;
+    records = is.run.records;
     reads = is.run.reads;
     claimed = is.run.claimed;
     count = is.run.count ∙ same;
@@ -151,7 +151,7 @@ module _ {R Z : Type 0} (m : MailboxView) (may_stop may_pass : Who → ℕ → T
       (w : Worked) (full : w.full ≡ min (2 ^ 64 - 1) (sum_by full_of ends))
       (stopped : w.stopped ≡ min (2 ^ 64 - 1) (sum_by (λ d. from_bool (is_stopped d)) ends))
       (on : All (λ (d : Done Z). is_aborted d ≡ false) ends)
-      (small : length items + length rngs < 2 ^ 64) (later : IsHub now) (of : IsHubOf m now)
+      (small : length items + length rngs < 2 ^ 64) (later : IsHub now) (belongs : IsHubOf m now)
       (pool : History) (roll : IsRollOf now.cells.table.size now.cells.roll pool)
       (first : lanes.from ≡ length h.puts) (last : lanes.end ≡ length h.puts + length items)
       (tell : (size : PoolSize) (roll : Roll) (h : History) (p : ℕ) (done : History)
@@ -194,7 +194,7 @@ module _ {R Z : Type 0} (m : MailboxView) (may_stop may_pass : Who → ℕ → T
     far = last ∙ ap (λ (n : ℕ). length h.puts + n) (sym (length-map items (λ (v : Vec ℕ Z). v.items)))
 
     cells : m.cells.size.cells ≡ now.cells.table.size.cells
-    cells = ap (λ t. t.size.cells) (sym of.cells)
+    cells = ap (λ t. t.size.cells) (sym belongs.cells)
 
     -- if the run is not aborted, this is what it comes to
     worked : IsWorked may_stop lanes.budget (lists_in items) (length (map stream rngs)) w h now
@@ -213,7 +213,7 @@ module _ {R Z : Type 0} (m : MailboxView) (may_stop may_pass : Who → ℕ → T
           (omega (arith, first, far))
           (run_ends m may_stop may_pass stream h lanes.from lanes.end lanes.budget items given.puts split.puts
           given.polls split.polls hub given.are_puts given.are_polls split.put split.polled);
-      met = subst (λ (z : ℕ × ℕ). HaveMetEnds z.0 z.1 (length h.ledgers) polls) (λ i. (first i, far i))
+      met = subst (λ (z : ℕ × ℕ). HaveMetEnds z.0 z.1 (length h.records) polls) (λ i. (first i, far i))
           (run_met m may_stop may_pass stream h lanes.from lanes.end lanes.budget items given.puts split.puts
           given.polls split.polls hub given.are_puts given.are_polls split.put split.polled);
       unread = subst (λ (n : ℕ). All (λ (x : ConsumerEnd). x.stopped ≡ true → ends_met x.reads < n) polls)
@@ -232,7 +232,7 @@ module _ {R Z : Type 0} (m : MailboxView) (may_stop may_pass : Who → ℕ → T
           given.polls split.polls hub given.are_puts given.are_polls split.put split.polled);
       noted = all_noted now later pool roll tell m may_stop may_pass h.puts puts run.puts lanes.from lanes.end
           lanes.budget first (last ∙ ap (λ (n : ℕ). length h.puts + n) (sym few)) split.polls
-          h.cells.roll.readers (length h.ledgers) (sym hub.readers) run.reads
+          h.cells.roll.readers (length h.records) (sym hub.readers) run.reads
           (nums m may_stop may_pass stream h lanes.from lanes.end lanes.budget items given.puts split.puts
           given.polls split.polls hub given.are_puts given.are_polls split.put split.polled);
     }
@@ -250,7 +250,7 @@ module _ {R Z : Type 0} (m : MailboxView) (may_stop may_pass : Who → ℕ → T
       puts = run_passes m may_stop may_pass stream h lanes.from lanes.end lanes.budget items given.puts split.puts
           given.polls split.polls hub given.are_puts given.are_polls split.put split.polled all_on.0;
       polls = subst (λ (z : (ℕ × ℕ) × (List Stream × HubView)). WerePolled may_stop may_pass z.1.1 z.0.0 z.0.1
-          lanes.budget (length h.ledgers) z.1.0 polls)
+          lanes.budget (length h.records) z.1.0 polls)
           (λ i. ((first i, far i), (streams i, producers_alike given.puts (lists_in items) h gave i)))
           (run_polled m may_stop may_pass stream h lanes.from lanes.end lanes.budget items given.puts split.puts
           given.polls split.polls hub given.are_puts given.are_polls split.put split.polled was all_on.1);

@@ -19,11 +19,11 @@ module _ {G R Z : Type 0} (may_stop may_pass : G → Who → ℕ → Type 0) (st
   Promises gate lanes j (worker.Inline d) =
       IsEnd (may_stop gate) (may_pass gate) stream lanes j d × (is_aborted d ≡ true)
 
-module _ {D P T : Type 0} (of : T → ℕ) where
+module _ {D P T : Type 0} (belongs : T → ℕ) where
   -- if the worker got no thread, there is a token of the lock with this name, which shows that the lock is set
   abbrev pub IsAborted : Worker D P → Option T → ℕ → Type 0
   IsAborted (worker.Spawned h) token lock = Unit {0}
-  IsAborted (worker.Inline d) (Some token) lock = of token ≡ lock
+  IsAborted (worker.Inline d) (Some token) lock = belongs token ≡ lock
   IsAborted (worker.Inline d) None lock = ⊥
 
 module _ {D P : Type 0} (kept_by : P → D → Type 0) where

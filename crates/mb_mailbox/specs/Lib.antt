@@ -25,6 +25,6 @@ pub mod Given
 pub mod Gathering
 pub mod ReportedRuns
 pub mod Filling
-pub mod GatheringExamples
+pub mod GatheringSamples
 pub mod ConsumerWords
 pub mod Vocabulary

@@ -47,7 +47,7 @@ fn take_one<A: Allocator + Drop, B: Allocator + Drop>(
     ensures stopped { result.stopped ≡ min (old.stopped + from_bool (is_stopped end)) (2 ^ 64 - 1) }
     ensures aborted { result.aborted ≡ (old.aborted || is_aborted end) }
     ensures hub { hub.new ≡ with_taken_one end hub.old }
-    ensures of { IsHubOf mailbox.now hub.new }
+    ensures belongs { IsHubOf mailbox.now hub.new }
 {
     match end {
         Done::Put(put) => {
@@ -78,7 +78,7 @@ pub(super) fn settle<A: Allocator + Drop, B: Allocator + Drop>(
     ensures fault { IfErr result (λ e. e ≡ NoThread) }
     ensures some { IfErr result (λ _. 0 < length ends.items) }
     ensures hub { hub.new ≡ with_taken ends.items hub.old }
-    ensures of { IsHubOf mailbox.now hub.new }
+    ensures belongs { IsHubOf mailbox.now hub.new }
 {
     let mut totals = WorkTotals {
         full: 0,

@@ -21,7 +21,7 @@ pub(super) fn give_producers<R: Drop, A: Allocator + Clone + Drop, B: Allocator 
     items: Vec<Vec<u64, A>, A>,
     jobs: &mut Vec<Job<R, A>, A>,
 ) -> bool
-    requires of { IsHubOf mailbox.now hub.old }
+    requires belongs { IsHubOf mailbox.now hub.old }
     requires left { length hub.old.puts + vec_len items ≤ mailbox.now.cells.size.lanes }
     requires room { HasRoom (vec_len items) jobs.old }
     ensures early { ArePutsGivenEarly mailbox.now items.items jobs.new.items hub.old hub.new }
@@ -30,7 +30,7 @@ pub(super) fn give_producers<R: Drop, A: Allocator + Clone + Drop, B: Allocator 
     ensures jobs { All (IsJobOf mailbox.now) jobs.new.items }
     ensures few { vec_len jobs.new ≤ vec_len items }
     ensures room { vec_capacity jobs.new ≡ vec_capacity jobs.old }
-    ensures of { IsHubOf mailbox.now hub.new }
+    ensures belongs { IsHubOf mailbox.now hub.new }
 {
     for list in items {
         let Ok(theirs) = alloc.clone() else {
@@ -54,8 +54,8 @@ pub(super) fn give_consumers<R: Rng + Drop, A: Allocator + Clone + Drop, B: Allo
     rngs: Vec<R, A>,
     jobs: &mut Vec<Job<R, A>, A>,
 ) -> bool
-    requires of { IsHubOf mailbox.now hub.old }
-    requires left { length hub.old.ledgers + vec_len rngs ≤ consumer_count
+    requires belongs { IsHubOf mailbox.now hub.old }
+    requires left { length hub.old.records + vec_len rngs ≤ consumer_count
         mailbox.now.claims.layout }
     requires jobs { All (IsJobOf mailbox.now) jobs.old.items }
     requires room { vec_len jobs.old + vec_len rngs ≤ vec_capacity jobs.old }
@@ -63,7 +63,7 @@ pub(super) fn give_consumers<R: Rng + Drop, A: Allocator + Clone + Drop, B: Allo
         hub.old hub.new }
     ensures jobs { All (IsJobOf mailbox.now) jobs.new.items }
     ensures few { vec_len jobs.new ≤ vec_len jobs.old + vec_len rngs }
-    ensures of { IsHubOf mailbox.now hub.new }
+    ensures belongs { IsHubOf mailbox.now hub.new }
 {
     for rng in rngs {
         let Ok(theirs) = alloc.clone() else {
@@ -88,9 +88,9 @@ pub(super) fn give<R: Rng + Drop, A: Allocator + Clone + Drop, B: Allocator + Dr
     rngs: Vec<R, A>,
     jobs: &mut Vec<Job<R, A>, A>,
 ) -> bool
-    requires of { IsHubOf mailbox.now hub.old }
+    requires belongs { IsHubOf mailbox.now hub.old }
     requires lanes { length hub.old.puts + vec_len items ≤ mailbox.now.cells.size.lanes }
-    requires consumers { length hub.old.ledgers + vec_len rngs ≤ consumer_count
+    requires consumers { length hub.old.records + vec_len rngs ≤ consumer_count
         mailbox.now.claims.layout }
     requires room { HasRoom (vec_len items + vec_len rngs) jobs.old }
     ensures early { AreGivenEarly mailbox.now items.items (vec_len rngs) jobs.new.items hub.old
@@ -99,7 +99,7 @@ pub(super) fn give<R: Rng + Drop, A: Allocator + Clone + Drop, B: Allocator + Dr
         → AreAllGiven mailbox.now items.items rngs.items jobs.new.items hub.old hub.new }
     ensures jobs { All (IsJobOf mailbox.now) jobs.new.items }
     ensures few { vec_len jobs.new ≤ vec_len items + vec_len rngs }
-    ensures of { IsHubOf mailbox.now hub.new }
+    ensures belongs { IsHubOf mailbox.now hub.new }
 {
     if !give_producers(alloc, mailbox, hub, items, jobs) {
         return false;

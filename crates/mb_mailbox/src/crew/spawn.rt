@@ -46,7 +46,7 @@ fn start<
     job: Job<R, A>,
     begun: &Vec<RunWorker<G, R, A>, A>,
 ) -> (RunWorker<G, R, A>, Option<OnceToken<'s, ()>>)
-    requires of { IsJobOf shared.now.mailbox.now job }
+    requires belongs { IsJobOf shared.now.mailbox.now job }
     requires few { shared.now.lanes.end ≤ shared.now.mailbox.now.cells.size.lanes }
     requires after { ArePutsFirst
         (shared.now.lanes.end - shared.now.lanes.from - vec_len begun.now) (job ∷ []) }
@@ -64,7 +64,7 @@ fn start<
         gate: Snapshot::of(gate),
     };
     let body = move || -> Done<A>
-        requires of { IsJobOf mailbox.now job }
+        requires belongs { IsJobOf mailbox.now job }
         requires few { lanes.end ≤ mailbox.now.cells.size.lanes }
         ensures { IsEnd (G.may_stop gate.entry.now) (G.may_pass gate.entry.now) R.stream lanes job
             result }
@@ -96,7 +96,7 @@ pub(super) fn start_all<
     jobs: Vec<Job<R, A>, A>,
     mut begun: Vec<RunWorker<G, R, A>, A>,
 ) -> Vec<RunWorker<G, R, A>, A>
-    requires of { All (IsJobOf shared.now.mailbox.now) jobs.items }
+    requires belongs { All (IsJobOf shared.now.mailbox.now) jobs.items }
     requires few { shared.now.lanes.end ≤ shared.now.mailbox.now.cells.size.lanes }
     requires puts_first { ArePutsFirst (shared.now.lanes.end - shared.now.lanes.from) jobs.items }
     requires none { begun.items ≡ [] }

@@ -31,7 +31,7 @@ fn run_in<
     begun: Vec<RunWorker<G, R, A>, A>,
     done: Vec<Done<A>, A>,
 ) -> Vec<Done<A>, A>
-    requires of { All (IsJobOf shared.now.mailbox.now) jobs.items }
+    requires belongs { All (IsJobOf shared.now.mailbox.now) jobs.items }
     requires few { shared.now.lanes.end ≤ shared.now.mailbox.now.cells.size.lanes }
     requires first { ArePutsFirst (shared.now.lanes.end - shared.now.lanes.from) jobs.items }
     requires begun { HasRoom (vec_len jobs) begun }
@@ -56,7 +56,7 @@ pub(super) fn run<
     begun: Vec<RunWorker<G, R, A>, A>,
     done: Vec<Done<A>, A>,
 ) -> Vec<Done<A>, A>
-    requires of { All (IsJobOf shared.now.mailbox.now) jobs.items }
+    requires belongs { All (IsJobOf shared.now.mailbox.now) jobs.items }
     requires few { shared.now.lanes.end ≤ shared.now.mailbox.now.cells.size.lanes }
     requires first { ArePutsFirst (shared.now.lanes.end - shared.now.lanes.from) jobs.items }
     requires begun { HasRoom (vec_len jobs) begun }
@@ -72,7 +72,7 @@ pub(super) fn run<
         thread::scope_env(),
         rt,
         |scope| -> Vec<Done<A>, A>
-            requires of { All (IsJobOf mailbox.now) jobs.items }
+            requires belongs { All (IsJobOf mailbox.now) jobs.items }
             requires lanes { (lanes.end ≤ mailbox.now.cells.size.lanes)
                 × ArePutsFirst (lanes.end - lanes.from) jobs.items }
             requires room { HasRoom (vec_len jobs) begun × HasRoom (vec_len jobs) done }
@@ -97,7 +97,7 @@ pub(super) fn end_all<A: Allocator + Drop, R: Rng + Drop, G: Gate>(
     jobs: Vec<Job<R, A>, A>,
     mut done: Vec<Done<A>, A>,
 ) -> Vec<Done<A>, A>
-    requires of { All (IsJobOf shared.now.mailbox.now) jobs.items }
+    requires belongs { All (IsJobOf shared.now.mailbox.now) jobs.items }
     requires few { shared.now.lanes.end ≤ shared.now.mailbox.now.cells.size.lanes }
     requires aborted { aborted.now.of ≡ shared.now.abort.now.id }
     requires none { done.items ≡ [] }

@@ -37,7 +37,7 @@ fn put_items<A: Allocator + Drop, B: Allocator + Drop, G: Gate>(
     gate: &G,
     abort: &OnceLock<()>,
 ) -> Linked
-    requires of { IsProducerOf mailbox.now producer.old }
+    requires belongs { IsProducerOf mailbox.now producer.old }
     requires fresh { producer.old.items ≡ [] }
     requires begun { is_over producer.old ≡ false }
     ensures linked { result.count ≤ length items.now }
@@ -98,7 +98,7 @@ fn put_list<A: Allocator + Drop, B: Allocator + Drop, G: Gate>(
     gate: &G,
     abort: &OnceLock<()>,
 ) -> PutDone<A>
-    requires of { IsProducerOf mailbox.now job.producer }
+    requires belongs { IsProducerOf mailbox.now job.producer }
     ensures { IsPutEnd (G.may_stop gate.now) (G.may_pass gate.now) job result }
 {
     let PutJob { mut producer, list } = job;
@@ -160,7 +160,7 @@ fn poll_lane<A: Allocator + Drop, B: Allocator + Drop, R: Rng>(
     rng: &mut R,
     ended: &mut [bool; 16],
 ) -> Poll
-    requires of { IsConsumerOf mailbox.now consumer.old }
+    requires belongs { IsConsumerOf mailbox.now consumer.old }
     requires few { (lane < mailbox.now.cells.size.lanes) × (lane < 16) }
     requires unmarked { slice_index_or ended.old lane true ≡ false }
     requires read { HasReadMarked ended.old consumer.old }
@@ -178,7 +178,7 @@ fn poll_lane<A: Allocator + Drop, B: Allocator + Drop, R: Rng>(
     ensures polled { IsPollOf lane budget result (R.stream rng.old) (R.stream rng.new)
         consumer.old consumer.new }
     ensures same { IsSameConsumer consumer.old consumer.new }
-    ensures of { IsConsumerOf mailbox.now consumer.new }
+    ensures belongs { IsConsumerOf mailbox.now consumer.new }
 {
     ends_are_kept();
     let poll = consumer.poll(mailbox, lane as u64, budget, rng);
@@ -210,7 +210,7 @@ fn poll_lanes<A: Allocator + Drop, B: Allocator + Drop, R: Rng + Drop, G: Gate>(
     gate: &G,
     abort: &OnceLock<()>,
 ) -> PollDone<A>
-    requires of { IsConsumerOf mailbox.now job.consumer }
+    requires belongs { IsConsumerOf mailbox.now job.consumer }
     requires few { lanes.end ≤ mailbox.now.cells.size.lanes }
     ensures { IsPollEnd (G.may_stop gate.now) (G.may_pass gate.now) lanes.from lanes.end
         lanes.budget
@@ -265,7 +265,7 @@ pub(super) fn do_job<A: Allocator + Drop, B: Allocator + Drop, R: Rng + Drop, G:
     gate: &G,
     abort: &OnceLock<()>,
 ) -> Done<A>
-    requires of { IsJobOf mailbox.now job }
+    requires belongs { IsJobOf mailbox.now job }
     requires few { lanes.end ≤ mailbox.now.cells.size.lanes }
     ensures { IsEnd (G.may_stop gate.now) (G.may_pass gate.now) R.stream lanes job result }
 {

@@ -76,9 +76,9 @@ returns-in-Ok-clause-called g c =
       c.args.load.items.ok.0,
       c.args.load.rngs.ok.0,
     )) c.has_history-in-Ok.ensures.kept
-    c.settle-2.ensures.of c.has_history-in-Ok.ensures.pool.0
+    c.settle-2.ensures.belongs c.has_history-in-Ok.ensures.pool.0
     c.has_history-in-Ok.ensures.pool.1 (omega (arith, first, given))
-    (omega (arith, last, given, c.len.ensures, c.args.load.items.ok.0)) c.ends_tell_notes.ensures c.requires.of)
+    (omega (arith, last, given, c.len.ensures, c.args.load.items.ok.0)) c.ends_tell_notes.ensures c.requires.belongs)
 
 -- `count` says that there are as many consumers as sources
 pub returns-clause-no_thread : goal.returns-clause-no_thread

@@ -36,7 +36,7 @@ returns-in-Ok-clause-report g c =
     c.in_ok-setup.ensures.few c.in_ok-lists.ensures.budget (c.in_ok-mailbox.ensures.plan ∙ c.in_ok-setup.ensures.made)
     (c.in_ok-mailbox.ensures.size ∙ ap size_of c.in_ok-setup.ensures.made)
     c.in_ok-mailbox.ensures.empty c.in_ok-lists.ensures.lists
-    c.in_ok-lists.ensures.consumers c.in_default.ensures.worked c.work-worked.ensures.of
+    c.in_ok-lists.ensures.consumers c.in_default.ensures.worked c.work-worked.ensures.belongs
     c.in-Ok.ensures.lists c.in-Ok.ensures.main_theorem c.in-Ok.ensures.full
     (reported_run c.args.options c.in_ok-mailbox.mailbox c.in_ok-mailbox.hub c.work-worked.new.hub
     c.in-Ok.report c.in_default.field-0
@@ -44,7 +44,7 @@ returns-in-Ok-clause-report g c =
     (c.in_ok-mailbox.ensures.size ∙ ap size_of c.in_ok-setup.ensures.made)
     c.in_ok-mailbox.ensures.empty c.in_ok-lists.ensures.lists
     (words_given c.args.options _ c.in_ok-lists.ensures.words)
-    c.work-worked.ensures.of c.in_default.ensures.called
+    c.work-worked.ensures.belongs c.in_default.ensures.called
     c.in-Ok.ensures.lists c.in-Ok.ensures.main_theorem c.in-Ok.ensures.full)
 
 pub unreachable-requires : goal.unreachable-requires

@@ -34,5 +34,5 @@ returns-clause-played g c =
     (terms_of c.args.setup.now c.args.means.budget (map g.R.Rng.stream rngs)) (lists_in items) _ _ _
     (c.in_ok-mailbox.ensures.plan ∙ copied) (c.in_ok-mailbox.ensures.size ∙ ap size_of copied)
     (sym long ∙ count_lists items)
-    c.in_ok-mailbox.ensures.empty c.work.ensures.of c.in-Ok.ensures.called
+    c.in_ok-mailbox.ensures.empty c.work.ensures.belongs c.in-Ok.ensures.called
     c.in-Ok-gather.ensures.lists c.in-Ok-gather.ensures.main_theorem c.in-Ok-gather.ensures.full

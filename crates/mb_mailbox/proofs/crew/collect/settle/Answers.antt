@@ -28,7 +28,7 @@ loop-end-preserved g c =
       told = told_more is_aborted _ _ c.loop-end.yielded c.in-Some.end i.told one.aborted;
       some = λ o. some_seen c.loop-end.yielded c.in-Some.end;
       hub = took_more c.loop-end.yielded c.in-Some.end c.args.hub.now _ _ i.hub one.hub;
-      all_of = one.of;
+      all_of = one.belongs;
     }
 
 -- in each proof `all` says that the iterator is empty, so all ends were yielded

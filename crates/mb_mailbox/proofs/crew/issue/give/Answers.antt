@@ -9,9 +9,9 @@ use Rattle.mb_mailbox.proofs.crew.issue.give.Goals as goal
 pub give_consumers-requires-clause-left : goal.give_consumers-requires-clause-left
 give_consumers-requires-clause-left g c =
     let given = c.give_producers.ensures.early.given in
-    let same : length c.give_producers.new.hub.ledgers ≡ length c.args.hub.now.ledgers =
-    ap (λ (h : HubView). length h.ledgers) given.hub
-    ∙ ap length (same_by_producers (λ h. h.ledgers) (λ h. refl) given.puts c.args.hub.now) in
+    let same : length c.give_producers.new.hub.records ≡ length c.args.hub.now.records =
+    ap (λ (h : HubView). length h.records) given.hub
+    ∙ ap length (same_by_producers (λ h. h.records) (λ h. refl) given.puts c.args.hub.now) in
     omega (arith, same, c.requires.consumers)
 
 -- if a producer was refused, no consumer was given

@@ -10,11 +10,11 @@ use Rattle.mb_mailbox.proofs.crew.issue.give_consumers.Goals as goal
 pub loop-rng-preserved : goal.loop-rng-preserved
 loop-rng-preserved g c =
     let i = c.loop-rng.invariant in
-    let count = i.ledgers in
+    let count = i.records in
     let hub = c.in-Ok-consumer.ensures.hub in
     let new = c.in-Ok-consumer.ensures.consumer in
     let len = c.push_reserved.ensures.len in
-    let longer = ap (λ (h : HubView). length h.ledgers) hub ∙ length-append c.loop-rng.hub.ledgers (None ∷ []) in
+    let longer = ap (λ (h : HubView). length h.records) hub ∙ length-append c.loop-rng.hub.records (None ∷ []) in
     record {
       rest = next_seen _ _ _ _ _ i.rest c.in-Some.ensures.steps.0;
       left = left_more _ _ _ _ _ i.left c.push_reserved.ensures.len c.in-Some.ensures.steps.1;
@@ -25,6 +25,6 @@ loop-rng-preserved g c =
       all_jobs = rw c.push_reserved.ensures.items
           (All-push (IsJobOf c.args.mailbox.now) c.loop-rng.jobs.items _
           i.all_jobs (record { cells = ap (λ r. r.table) new.reader; claims = ap (λ r. r.table) new.seat }));
-      all_of = c.in-Ok-consumer.ensures.of;
-      ledgers = omega (arith, count, len, longer);
+      all_of = c.in-Ok-consumer.ensures.belongs;
+      records = omega (arith, count, len, longer);
     }

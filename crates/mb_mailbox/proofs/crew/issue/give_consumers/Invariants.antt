@@ -15,5 +15,5 @@ invariant-loop-rng g l = record {
   given : ArePollsGiven l.mailbox l.yielded true l.fn.jobs.items l.jobs.items l.fn.hub l.hub;
   all_jobs : All (IsJobOf l.mailbox) l.jobs.items;
   all_of : IsHubOf l.mailbox l.hub;
-  ledgers : length l.hub.ledgers + vec_len l.fn.jobs ≡ length l.fn.hub.ledgers + vec_len l.jobs;
+  records : length l.hub.records + vec_len l.fn.jobs ≡ length l.fn.hub.records + vec_len l.jobs;
 }

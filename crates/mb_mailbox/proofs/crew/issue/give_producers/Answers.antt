@@ -28,6 +28,6 @@ loop-list-preserved g c =
       all_jobs = rw c.push_reserved.ensures.items
           (All-push (IsJobOf c.args.mailbox.now) c.loop-list.jobs.items _
           i.all_jobs (record { table = ap (λ (s : ProducerView). s.seat.table) is }));
-      all_of = c.in-Ok-producer.ensures.of;
+      all_of = c.in-Ok-producer.ensures.belongs;
       puts = omega (arith, count, len, longer);
     }

@@ -14,7 +14,7 @@ loop-job-init g c =
     let none = c.args.begun.ok.0 ∙ ap length c.requires.none in
     record {
       rest = gives.0;
-      all_of = subst (All (IsJobOf c.args.shared.now.mailbox.now)) (sym gives.0) c.requires.of;
+      all_of = subst (All (IsJobOf c.args.shared.now.mailbox.now)) (sym gives.0) c.requires.belongs;
       first = subst (ArePutsFirst (c.args.shared.now.lanes.end - c.args.shared.now.lanes.from - vec_len c.args.begun))
           (sym gives.0) (subst (λ (n : ℕ). ArePutsFirst n c.args.jobs.items) (omega (arith, none))
           c.requires.puts_first);
@@ -41,8 +41,8 @@ loop-job-preserved g c =
           i.promised c.start-worker.ensures.promised);
     }
 
-pub start-worker-requires-clause-of : goal.start-worker-requires-clause-of
-start-worker-requires-clause-of g c κs within = All-head (IsJobOf c.args.shared.now.mailbox.now) c.in-Some.job _
+pub start-worker-requires-clause-belongs : goal.start-worker-requires-clause-belongs
+start-worker-requires-clause-belongs g c κs within = All-head (IsJobOf c.args.shared.now.mailbox.now) c.in-Some.job _
     (subst (All (IsJobOf c.args.shared.now.mailbox.now)) c.in-Some.ensures.steps.0 c.loop-job.invariant.all_of)
 
 pub start-worker-requires-clause-after : goal.start-worker-requires-clause-after

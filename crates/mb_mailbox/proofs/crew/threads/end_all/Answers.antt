@@ -13,7 +13,7 @@ loop-job-init g c =
     let none = c.args.done.ok.0 ∙ ap length c.requires.none in
     record {
       rest = gives.0;
-      all_of = subst (All (IsJobOf c.args.shared.now.mailbox.now)) (sym gives.0) c.requires.of;
+      all_of = subst (All (IsJobOf c.args.shared.now.mailbox.now)) (sym gives.0) c.requires.belongs;
       left = omega (arith, none, gives.1);
       room = c.requires.room;
       ends = subst (λ l. AllZip (IsEnd (g.G.Gate.may_stop c.args.shared.now.gate.now)
@@ -35,8 +35,8 @@ loop-job-preserved g c =
           c.loop-job.yielded c.loop-job.done.items c.in-Some.job c.do_job.result i.ends c.do_job.ensures);
     }
 
-pub do_job-requires-clause-of : goal.do_job-requires-clause-of
-do_job-requires-clause-of g c κs within = All-head (IsJobOf c.args.shared.now.mailbox.now) c.in-Some.job _
+pub do_job-requires-clause-belongs : goal.do_job-requires-clause-belongs
+do_job-requires-clause-belongs g c κs within = All-head (IsJobOf c.args.shared.now.mailbox.now) c.in-Some.job _
     (subst (All (IsJobOf c.args.shared.now.mailbox.now)) c.in-Some.ensures.steps.0 c.loop-job.invariant.all_of)
 
 -- the iterator is empty, so all jobs were yielded
