@@ -62,7 +62,7 @@ pub(super) struct Writer<T> {
 
 /// Where a seat stands on a chain.
 pub(super) struct Place<T> {
-    /// It is made as late as at the first look, and goes home when the segment is over.
+    /// It is made as late as at the first look, and returns when the segment is over.
     consumer: Option<Consumer<u64>>,
     /// It is `None` before the first value of the chain.
     segment: Option<Arc<Segment<T>>>,
