@@ -115,7 +115,7 @@ impl<T> Drop for Audit<T> {
 }
 
 impl<T> Ledger<T> {
-    /// Makes the account of a mailbox to which all parts went home.
+    /// Makes the account of a mailbox to which all were returned.
     pub(super) fn close(&self, mailbox: Mailbox<u64>, logs: &Logs, left: Vec<T>) {
         let account = mailbox.gather().ok().map(|report| Account {
             fates: fates(&report, logs),
