@@ -111,8 +111,8 @@ fn put_all<A: Allocator + Drop>(
     items: u64,
     time: u64,
 ) -> u64
-    requires of { IsProducerOf mailbox.now producer.old }
-    ensures of { IsProducerOf mailbox.now producer.new }
+    requires belongs { IsProducerOf mailbox.now producer.old }
+    ensures belongs { IsProducerOf mailbox.now producer.new }
 {
     let first = time.wrapping_mul(items);
     let mut linked = 0u64;
@@ -133,7 +133,7 @@ fn read_all<A: Allocator + Copy + Drop, R: Rng>(
     rng: &mut R,
     post: &mut Post,
 ) -> Result<(), AllocError>
-    requires of { IsHubOf mailbox.now hub.old }
+    requires belongs { IsHubOf mailbox.now hub.old }
 {
     for _ in 0..u64::MAX {
         match hub.consumer(alloc, mailbox) {
@@ -155,7 +155,7 @@ fn read<A: Allocator + Drop, R: Rng>(
     rng: &mut R,
     post: &mut Post,
 )
-    requires of { IsConsumerOf mailbox.now consumer.old }
+    requires belongs { IsConsumerOf mailbox.now consumer.old }
 {
     for _ in 0..u64::MAX {
         match consumer.poll(mailbox, 0, u64::MAX, rng) {
@@ -174,7 +174,7 @@ fn take<A: Allocator + Drop, R: Rng>(
     rng: &mut R,
     post: &mut Post,
 )
-    requires of { IsConsumerOf mailbox.now consumer.old }
+    requires belongs { IsConsumerOf mailbox.now consumer.old }
 {
     for _ in 0..u64::MAX {
         match consumer.take(mailbox, 0, u64::MAX, rng) {

@@ -41,8 +41,8 @@ impl Member {
         board: &Board,
         asked: &Asked,
     )
-        requires of { IsOf mailbox.now self.old }
-        ensures of { IsOf mailbox.now self.new }
+        requires belongs { IsOf mailbox.now self.old }
+        ensures belongs { IsOf mailbox.now self.new }
     {
         match self {
             Member::Producer(producer, jobs) => put_jobs(mailbox, producer, *jobs),
@@ -57,8 +57,8 @@ impl Member {
 
 /// Puts the jobs of one producer in their order, and then ends its lane, so that workers know that no job follows.
 fn put_jobs(mailbox: &Mailbox<Global>, producer: &mut Producer<Global>, jobs: (u64, u64))
-    requires of { IsProducerOf mailbox.now producer.old }
-    ensures of { IsProducerOf mailbox.now producer.new }
+    requires belongs { IsProducerOf mailbox.now producer.old }
+    ensures belongs { IsProducerOf mailbox.now producer.new }
 {
     for job in jobs.0..jobs.1 {
         match producer.put(mailbox, job) {
@@ -82,8 +82,8 @@ fn run_jobs(
     board: &Board,
     asked: &Asked,
 )
-    requires of { IsConsumerOf mailbox.now consumer.old }
-    ensures of { IsConsumerOf mailbox.now consumer.new }
+    requires belongs { IsConsumerOf mailbox.now consumer.old }
+    ensures belongs { IsConsumerOf mailbox.now consumer.new }
 {
     let lanes = asked.lanes();
     let shift = asked.shift();
@@ -133,7 +133,7 @@ fn new_worker<R: RandomSource + AllocGlobal>(
     asked: &Asked,
     number: u64,
 ) -> Result<Member>
-    requires of { IsHubOf mailbox.now hub.old }
+    requires belongs { IsHubOf mailbox.now hub.old }
     ensures hub { OnOk result (IsHubOf mailbox.now hub.new) }
     ensures member { IfOk result (λ member. IsOf mailbox.now member) }
 {
@@ -154,7 +154,7 @@ pub fn hire<R: RandomSource + AllocGlobal>(
     asked: &Asked,
     tells: bool,
 ) -> Result<Vec<Member>>
-    requires of { IsHubOf mailbox.now hub.old }
+    requires belongs { IsHubOf mailbox.now hub.old }
     ensures hub { OnOk result (IsHubOf mailbox.now hub.new) }
     ensures crew { IfOk result (λ crew. All (IsOf mailbox.now) crew.items) }
 {

@@ -103,7 +103,7 @@ HasTakenBack h (Some (OfProducer p)) k =
     × (k ≡ record h { hub = with_taken_producer p.producer h.hub })
 HasTakenBack h (Some (OfConsumer c)) k =
     (h.id ≡ c.consumer.id)
-    × (slice_get h.hub.ledgers c.consumer.consumer.seat.consumer ≡ Some None)
+    × (slice_get h.hub.records c.consumer.consumer.seat.consumer ≡ Some None)
     × (k ≡ record h { hub = with_taken_consumer c.consumer.consumer h.hub })
 HasTakenBack h _ k = ⊥
 

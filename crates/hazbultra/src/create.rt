@@ -195,18 +195,18 @@ pub extern "C" fn hz_consumer_new(
 ) -> u32
     ensures given { result ≡ DONE
         → HubGaveConsumer (λ h c. (c.consumer.id ≡ h.id) × (c.consumer.mailbox ≡ h.mailbox)
-        × (c.source ≡ source_of h.mailbox.claims.layout seed.now (length h.hub.ledgers))
+        × (c.source ≡ source_of h.mailbox.claims.layout seed.now (length h.hub.records))
         × IsNewConsumer h.mailbox h.hub c.consumer.consumer)
         hub.old.block.thing consumer.new.block.thing }
     ensures number { result ≡ DONE
-        → HubMade (λ h. number.new ≡ length h.hub.ledgers) hub.old.block.thing }
+        → HubMade (λ h. number.new ≡ length h.hub.records) hub.old.block.thing }
     ensures hub { result ≡ DONE
         → HubWent (λ h k. k ≡ record h { hub = with_consumer h.hub })
         hub.old.block.thing hub.new.block.thing }
     ensures bad { (result ≡ BAD_HANDLE)
         ↔ (IsHub hub.old.block.thing × (consumer.old.block.thing ≡ None) → ⊥) }
     ensures all_given { (result ≡ ALL_GIVEN)
-        ↔ HubMade (λ h. consumer_count h.mailbox.claims.layout ≤ length h.hub.ledgers)
+        ↔ HubMade (λ h. consumer_count h.mailbox.claims.layout ≤ length h.hub.records)
         hub.old.block.thing × (consumer.old.block.thing ≡ None) }
     ensures codes { (result ≡ DONE) ⊎ (result ≡ BAD_HANDLE) ⊎ (result ≡ ALL_GIVEN)
         ⊎ (result ≡ NO_MEMORY) }
@@ -237,13 +237,13 @@ fn give_consumer(
 ) -> u32
     ensures given { result ≡ DONE → ConsumerMade (λ c. (c.consumer.id ≡ hub.old.id)
         × (c.consumer.mailbox ≡ hub.old.mailbox)
-        × (c.source ≡ source_of hub.old.mailbox.claims.layout seed.now (length hub.old.hub.ledgers))
+        × (c.source ≡ source_of hub.old.mailbox.claims.layout seed.now (length hub.old.hub.records))
         × IsNewConsumer hub.old.mailbox hub.old.hub c.consumer.consumer)
         consumer.new.block.thing }
-    ensures number { result ≡ DONE → number.new ≡ length hub.old.hub.ledgers }
+    ensures number { result ≡ DONE → number.new ≡ length hub.old.hub.records }
     ensures hub { result ≡ DONE → hub.new ≡ record hub.old { hub = with_consumer hub.old.hub } }
     ensures all_given { (result ≡ ALL_GIVEN)
-        ↔ (consumer_count hub.old.mailbox.claims.layout ≤ length hub.old.hub.ledgers) }
+        ↔ (consumer_count hub.old.mailbox.claims.layout ≤ length hub.old.hub.records) }
     ensures codes { (result ≡ DONE) ⊎ (result ≡ ALL_GIVEN) ⊎ (result ≡ NO_MEMORY) }
     ensures same_hub { result ≢ DONE → hub.new ≡ hub.old }
     ensures same { result ≢ DONE → consumer.new.block.thing ≡ consumer.old.block.thing }

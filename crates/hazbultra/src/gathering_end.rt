@@ -102,12 +102,12 @@ pub extern "C" fn hz_gather(
     ensures gone { result ≡ DONE → hub.new.block.thing ≡ None }
     ensures missing { result ≡ MISSING
         → HubMade (λ h. (missing.new.producers ≡ count_missing h.hub.puts)
-        × (missing.new.consumers ≡ count_missing h.hub.ledgers)) hub.old.block.thing }
+        × (missing.new.consumers ≡ count_missing h.hub.records)) hub.old.block.thing }
     ensures out { result ≡ MISSING
-        → HubMade (λ h. 0 < count_missing h.hub.puts + count_missing h.hub.ledgers)
+        → HubMade (λ h. 0 < count_missing h.hub.puts + count_missing h.hub.records)
         hub.old.block.thing }
     ensures all_back { (result ≡ DONE) ⊎ (result ≡ NO_MEMORY)
-        → HubMade (λ h. count_missing h.hub.puts + count_missing h.hub.ledgers ≡ 0)
+        → HubMade (λ h. count_missing h.hub.puts + count_missing h.hub.records ≡ 0)
         hub.old.block.thing }
     ensures untold { result ≢ MISSING → missing.new ≡ missing.old }
     ensures bad { (result ≡ BAD_HANDLE)

@@ -62,7 +62,7 @@ impl<A: Allocator + Drop> BoundHub<A> {
     /// How many consumers were not issued yet.
     pub fn consumers_left(&self) -> usize
         ensures { result ≡ consumer_count self.now.mailbox.claims.layout
-            - length self.now.hub.ledgers }
+            - length self.now.hub.records }
     {
         consumers_left(&self.mailbox, &self.hub)
     }
@@ -133,7 +133,7 @@ impl<A: Allocator + Drop> BoundHub<A> {
         requires { AreNamedApart self.old.id self.old.mailbox consumer.id consumer.mailbox }
         ensures taken { IsOk result ↔ (self.old.id ≡ consumer.id) }
         ensures was_out { IfOk result (λ _.
-            slice_get self.old.hub.ledgers consumer.consumer.seat.consumer ≡ Some None) }
+            slice_get self.old.hub.records consumer.consumer.seat.consumer ≡ Some None) }
         ensures hub { IfOk result (λ _. self.new ≡ record self.old {
           hub = with_taken_consumer consumer.consumer self.old.hub;
         }) }
@@ -185,7 +185,7 @@ impl<A: Allocator + Clone + Drop> BoundHub<A> {
     /// has changed.
     pub fn consumer(&mut self, alloc: A) -> Result<BoundConsumer<A>, HubFault>
         ensures all_given { (result ≡ Err AllGiven)
-            ↔ (consumer_count self.old.mailbox.claims.layout ≤ length self.old.hub.ledgers) }
+            ↔ (consumer_count self.old.mailbox.claims.layout ≤ length self.old.hub.records) }
         ensures consumer { IfOk result (λ given.
             IsNewConsumer self.old.mailbox self.old.hub given.consumer) }
         ensures given { IfOk result (λ given.
@@ -211,10 +211,10 @@ impl<A: Allocator + Clone + Drop> BoundHub<A> {
     /// Ends the mailbox, and returns the report of what its producers and consumers did, as [`Mailbox::gather`] does.
     /// After an error the hub comes back as it was. If all were returned, the error is [`GatherFault::NoMemory`].
     pub fn gather(self, alloc: A) -> Result<Report<A>, (GatherFault, BoundHub<A>)>
-        ensures missing { 0 < count_missing self.hub.puts + count_missing self.hub.ledgers
+        ensures missing { 0 < count_missing self.hub.puts + count_missing self.hub.records
             → result ≡ Err
-            (Missing (count_missing self.hub.puts) (count_missing self.hub.ledgers), self) }
-        ensures refused { count_missing self.hub.puts + count_missing self.hub.ledgers ≡ 0
+            (Missing (count_missing self.hub.puts) (count_missing self.hub.records), self) }
+        ensures refused { count_missing self.hub.puts + count_missing self.hub.records ≡ 0
             → IfErr result (λ e. e.0 ≡ NoMemory) }
         ensures same { IfErr result (λ e. e.1 ≡ self) }
         ensures lists { IfOk result (λ r. IsReportIn self.mailbox.cells.size.lanes

@@ -55,7 +55,7 @@ pub fn accesses_lengthen_one_part()
 
 /// A part has the accesses of its process, and no others.
 pub fn parts_have_accesses()
-    ensures of { (h : History) (who : Process) (a : PoolAccess) → Has (part who h) a
+    ensures only { (h : History) (who : Process) (a : PoolAccess) → Has (part who h) a
         → Has h a × (a.process ≡ who) }
     ensures all { (h : History) (who : Process) (a : PoolAccess) → Has h a → a.process ≡ who
         → Has (part who h) a }

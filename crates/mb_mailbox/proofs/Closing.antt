@@ -29,7 +29,7 @@ in_all : PutLaws → (s : ProducerView) (h : HasPart s.seat) → FoundNoCell s
     → HasFoundNone s.seat.table.size.cells s.seat.lane h.history.0
 in_all laws s h none = record {
   entry = none.entry;
-  offered = (laws.of h.history.0 (Producer s.seat.lane) (fetch s.seat.lane none.entry)
+  offered = (laws.only h.history.0 (Producer s.seat.lane) (fetch s.seat.lane none.entry)
       (subst (λ d. Has d (fetch s.seat.lane none.entry)) (sym h.history.2) none.offered)).0;
   past = none.past;
 }

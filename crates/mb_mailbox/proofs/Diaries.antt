@@ -71,12 +71,12 @@ kept_there (o ∷ xs) zero x e = ap Some (sym e)
 kept_there (o ∷ xs) (suc n) x e = kept_there xs n x e
 
 -- each consumer that a hub has taken back has notes on each lane
-pub notes_full : (h : HubView) (c : ℕ) (l : ConsumerRecordView) → IsHub h → Some l ≡ kept_at h.ledgers c
+pub notes_full : (h : HubView) (c : ℕ) (l : ConsumerRecordView) → IsHub h → Some l ≡ kept_at h.records c
     → length l.notes ≡ h.cells.table.size.lanes
-notes_full h c l i e = (i.taken c l (kept_there h.ledgers c l e)).2.2.notes_count
+notes_full h c l i e = (i.taken c l (kept_there h.records c l e)).2.2.notes_count
 
 -- a consumer of which nothing is kept has no notes, so its outlines are its diaries
-row_without : (c n : ℕ) (h : HubView) → None ≡ kept_at h.ledgers c → IsRow c n h (outline_row c None n)
+row_without : (c n : ℕ) (h : HubView) → None ≡ kept_at h.records c → IsRow c n h (outline_row c None n)
 row_without c n h none = record {
   count = outlines_count c n None;
   each = λ p low. outline_at c n p None low ∙ ap (λ (o : Option ConsumerRecordView). Some (record {
@@ -97,7 +97,7 @@ diary_is d e same notes = λ j. record {
 }
 
 -- diaries that are the outlines with the notes that are kept of the consumer are its diaries
-row_with : (c n : ℕ) (h : HubView) (l : ConsumerRecordView) (ds : List DiaryView) → Some l ≡ kept_at h.ledgers c
+row_with : (c n : ℕ) (h : HubView) (l : ConsumerRecordView) (ds : List DiaryView) → Some l ≡ kept_at h.records c
     → map (λ (d : DiaryView). d.notes) ds ≡ l.notes
     → map (with_notes []) ds ≡ map (with_notes []) (outline_row c (Some l) n) → IsRow c n h ds
 row_with c n h l ds kept notes same = record { count = count; each = each }
@@ -224,7 +224,7 @@ outlined c n ds all told kept here is e f =
 -- are added
 pub row_filled : {Z : Type 0} (w c : ℕ) (h : HubView) (l : ConsumerRecordView) (v : Vec DiaryView Z)
     (ds part filled : List DiaryView) (first : ℕ) (notes : List (List Note)) → AreDiaries w h (c * w) ds
-    → Some l ≡ kept_at h.ledgers c → v.items ≡ ds ++ outline_row c (Some l) w → first ≡ length ds
+    → Some l ≡ kept_at h.records c → v.items ≡ ds ++ outline_row c (Some l) w → first ≡ length ds
     → part ≡ outline_row c (Some l) w → map (λ (d : DiaryView). d.notes) filled ≡ notes → notes ≡ l.notes
     → map (with_notes []) filled ≡ map (with_notes []) part
     → AreDiaries w h ((c + 1) * w) (with_items_from v first filled).items
@@ -239,7 +239,7 @@ row_filled w c h l v ds part filled first notes old kept more at is told its sam
 
 -- if nothing is kept of a consumer, its diaries are added with its outlines
 pub row_kept : (w c : ℕ) (h : HubView) (ds all : List DiaryView) → AreDiaries w h (c * w) ds
-    → None ≡ kept_at h.ledgers c → all ≡ ds ++ outline_row c None w → AreDiaries w h ((c + 1) * w) all
+    → None ≡ kept_at h.records c → all ≡ ds ++ outline_row c None w → AreDiaries w h ((c + 1) * w) all
 row_kept w c h ds all old none more =
     subst (AreDiaries w h ((c + 1) * w)) (sym more)
     (rows_more w c h ds (outline_row c None w) old (row_without c w h none))

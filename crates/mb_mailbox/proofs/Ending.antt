@@ -76,7 +76,7 @@ pursuit_tells p n most left x t u from old new so = tells_by p x old new so.kind
 pub still_of : (m : MailboxView) (p n most left : ℕ) (x : Poll) (t u : Stream) (from new : ConsumerView)
     → IsPursuit p n most left x t u from new
     → IsConsumerOf m from → IsConsumerOf m new
-still_of m p n most left x t u from new so of = record {
-  cells = ap (λ (r : ReaderSeatView). r.table) so.steps.done.reader ∙ of.cells;
-  claims = ap (λ (z : SeatView). z.table) so.steps.done.seat ∙ of.claims;
+still_of m p n most left x t u from new so belongs = record {
+  cells = ap (λ (r : ReaderSeatView). r.table) so.steps.done.reader ∙ belongs.cells;
+  claims = ap (λ (z : SeatView). z.table) so.steps.done.seat ∙ belongs.claims;
 }

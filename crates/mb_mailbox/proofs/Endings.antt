@@ -66,7 +66,7 @@ kept_by p q budget answer s t old new i ne o =
 -- ---- a lane that a consumer has read to its end
 module _ (met : (q p : ℕ) (h : History) → HasMet q p (cells_met p (part (Reader q) h)) h)
     (own : (h : History) (r p : ℕ) (ks : List ℕ) → HasMet r p ks h → HasMet r p ks (part (Reader r) h))
-    (of : (h : History) (who : Process) (a : PoolAccess) → Has (part who h) a → Has h a × (a.process ≡ who)) where
+    (only : (h : History) (who : Process) (a : PoolAccess) → Has (part who h) a → Has h a × (a.process ≡ who)) where
   -- if a consumer has loaded the end mark past all cells that it met, with a note on each, it has read the lane to
   -- its end
   pub read_by : (s : ConsumerView) (p : ℕ) → HasLoads s → HasLoadedEnd p s → HasNoteOnEach p s → HasReadToEnd p s
@@ -74,7 +74,7 @@ module _ (met : (q p : ℕ) (h : History) → HasMet q p (cells_met p (part (Rea
       let r = s.reader.reader in
       let h = loads.0 in
       let a = end.0 in
-      let who : a.process ≡ Reader r = (of h (Reader r) a (subst (λ d. Has d a) (sym loads.2) end.1)).1 in
+      let who : a.process ≡ Reader r = (only h (Reader r) a (subst (λ d. Has d a) (sym loads.2) end.1)).1 in
       let is : a ≡ load r (place_past p (cells_met p s.reader.part)) END = λ i.
       record { process = who i; word = end.2 i; act = end.3 i } in
       record {
@@ -87,7 +87,7 @@ module _ (met : (q p : ℕ) (h : History) → HasMet q p (cells_met p (part (Rea
 
 -- ---- a lane and a consumer that were taken in
 module _ (whole : (h : History) (r p : ℕ) (ks : List ℕ) → HasMet r p ks (part (Reader r) h) → HasMet r p ks h)
-    (of : (h : History) (who : Process) (a : PoolAccess) → Has (part who h) a → Has h a × (a.process ≡ who))
+    (only : (h : History) (who : Process) (a : PoolAccess) → Has (part who h) a → Has h a × (a.process ≡ who))
     (last : (size : PoolSize) (h : History) (r p : ℕ) (ks : List ℕ) → IsPoolLawful size h
     → HasMet r p ks h → HasLoaded r (place_past p ks) END h → ks ≡ linked_cells p h)
     (linked : (h : History) (p : ℕ) → linked_cells p h ≡ linked_cells p (part (Producer p) h)) where
@@ -103,7 +103,7 @@ module _ (whole : (h : History) (r p : ℕ) (ks : List ℕ) → HasMet r p ks (p
       let lane : part (Producer p) h ≡ done = i.parts (Producer p) done theirs in
       let met : HasMet r p ks h = whole h r p ks (subst (λ d. HasMet r p ks d) (sym is) o.met) in
       let end : HasLoaded r (place_past p ks) END h =
-      (of h (Reader r) (load r (place_past p ks) END)
+      (only h (Reader r) (load r (place_past p ks) END)
       (subst (λ d. Has d (load r (place_past p ks) END)) (sym is) o.end)).0 in
       let all : ks ≡ linked_cells p done = last size h r p ks i.lawful met end ∙ linked h p
       ∙ ap (linked_cells p) lane in

@@ -151,9 +151,9 @@ pub report_of : (m : MailboxView) (h : HubView) (o : ReportView) (ls : List Lane
     → IsOutlineIn h.cells.table.size.lanes (claims_at h.claims.table).table.values h o
     → ls ≡ changed_from with_items 0 h.puts o.lanes
     → IsReportIn m.cells.size.lanes (consumer_count m.claims.layout) h (record o { lanes = ls })
-report_of m h o ls of out is =
-    let wide : h.cells.table.size.lanes ≡ m.cells.size.lanes = ap (λ (t : CellsName). t.size.lanes) of.cells in
+report_of m h o ls belongs out is =
+    let wide : h.cells.table.size.lanes ≡ m.cells.size.lanes = ap (λ (t : CellsName). t.size.lanes) belongs.cells in
     let many : (claims_at h.claims.table).table.values ≡ consumer_count m.claims.layout =
-    ap (λ (t : ClaimTable). (claims_at t).table.values) of.claims in
+    ap (λ (t : ClaimTable). (claims_at t).table.values) belongs.claims in
     report_filled m.cells.size.lanes (consumer_count m.claims.layout) h o ls
     (subst (λ (z : ℕ × ℕ). IsOutlineIn z.0 z.1 h o) (λ j. (wide j, many j)) out) is

@@ -140,7 +140,7 @@ nothing_taken lists sources h = record {
       puts = sym (append-nil h.puts);
       parts = sym (append-nil h.cells.roll.lanes);
       fronts = tt;
-      ledgers = sym (append-nil h.ledgers);
+      records = sym (append-nil h.records);
       reads = sym (append-nil h.cells.roll.readers);
       claimed = sym (append-nil h.claims.roll);
       count = refl;
@@ -180,7 +180,7 @@ sourced same is = record {
     puts = is.run.puts;
     parts = is.run.parts;
     fronts = is.run.fronts;
-    ledgers = is.run.ledgers;
+    records = is.run.records;
     reads = is.run.reads;
     claimed = is.run.claimed;
     count = is.run.count ∙ same;
@@ -271,7 +271,7 @@ module _ {R Z : Type 0} (m : MailboxView) (may_stop may_pass : Who → ℕ → T
         (stopped : w.stopped ≡ min (2 ^ 64 - 1) (count_stopped ends))
         (puts_on : All (λ (d : PutDone Z). d.aborted ≡ false) ends.puts.items)
         (polls_on : All (λ (d : PollDone Z). d.aborted ≡ false) ends.polls.items)
-        (small : length items + sources < 2 ^ 64) (later : IsHub now) (of : IsHubOf m now)
+        (small : length items + sources < 2 ^ 64) (later : IsHub now) (belongs : IsHubOf m now)
         (pool : History) (roll : IsRollOf now.cells.table.size now.cells.roll pool)
         (first : from ≡ length h.puts) (last : end ≡ length h.puts + length items)
         (tell : (size : PoolSize) (roll : Roll) (h : History) (p : ℕ) (done : History)
@@ -300,7 +300,7 @@ module _ {R Z : Type 0} (m : MailboxView) (may_stop may_pass : Who → ℕ → T
       far = last ∙ ap (λ (n : ℕ). length h.puts + n) (sym (length-map items (λ (v : Vec ℕ Z). v.items)))
 
       cells : m.cells.size.cells ≡ now.cells.table.size.cells
-      cells = ap (λ t. t.size.cells) (sym of.cells)
+      cells = ap (λ t. t.size.cells) (sym belongs.cells)
 
       -- if the run is not aborted, this is what it comes to
       pub worked : IsWorked may_stop budget (lists_in items) sources w h now
@@ -324,7 +324,7 @@ module _ {R Z : Type 0} (m : MailboxView) (may_stop may_pass : Who → ℕ → T
             (run_ends m may_stop may_pass stream h from end budget items jobs.puts.items
             ends.puts.items jobs.polls.items ends.polls.items hub all.puts given.polls came.puts
             came.polls);
-        met = subst (λ (z : ℕ × ℕ). HaveMetEnds z.0 z.1 (length h.ledgers)
+        met = subst (λ (z : ℕ × ℕ). HaveMetEnds z.0 z.1 (length h.records)
             (consumer_ends m may_stop may_pass ends.polls.items))
             (λ i. (first i, far i))
             (run_met m may_stop may_pass stream h from end budget items jobs.puts.items
@@ -354,7 +354,7 @@ module _ {R Z : Type 0} (m : MailboxView) (may_stop may_pass : Who → ℕ → T
         noted = all_noted now later pool roll tell m may_stop may_pass h.puts
             (lanes_of m may_stop may_pass ends.puts.items) run.puts from end budget first
             (last ∙ ap (λ (n : ℕ). length h.puts + n) (sym few)) ends.polls.items
-            h.cells.roll.readers (length h.ledgers) (sym hub.readers) run.reads
+            h.cells.roll.readers (length h.records) (sym hub.readers) run.reads
             (nums m may_stop may_pass stream h from end budget items jobs.puts.items ends.puts.items
             jobs.polls.items ends.polls.items hub all.puts given.polls came.puts came.polls);
       }
@@ -381,7 +381,7 @@ module _ {R Z : Type 0} (m : MailboxView) (may_stop may_pass : Who → ℕ → T
             ends.puts.items jobs.polls.items ends.polls.items hub all.puts given.polls came.puts
             came.polls puts_on;
         polls = subst (λ (z : (ℕ × ℕ) × (List Stream × HubView)). WerePolled may_stop may_pass z.1.1 z.0.0 z.0.1
-            budget (length h.ledgers) z.1.0 (consumer_ends m may_stop may_pass ends.polls.items))
+            budget (length h.records) z.1.0 (consumer_ends m may_stop may_pass ends.polls.items))
             (λ i. ((first i, far i), (streams i, producers_alike jobs.puts.items (lists_in items) h gave i)))
             (run_polled m may_stop may_pass stream h from end budget items jobs.puts.items
             ends.puts.items jobs.polls.items ends.polls.items hub all.puts given.polls came.puts

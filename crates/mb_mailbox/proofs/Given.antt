@@ -16,7 +16,7 @@ pub record HasNumber (c : ℕ) (s : ConsumerView) : Type 0 where
   pub none : accesses_made s ≡ 0
 
 -- a new consumer has the next number
-pub new_number : (m : MailboxView) (h : HubView) (c : ℕ) (s : ConsumerView) → length h.ledgers ≡ c
+pub new_number : (m : MailboxView) (h : HubView) (c : ℕ) (s : ConsumerView) → length h.records ≡ c
     → IsNewConsumer m h s → HasNumber c s
 new_number m h c s e i = record {
   reader = ap (λ r. r.reader) i.reader ∙ e;
@@ -25,23 +25,23 @@ new_number m h c s e i = record {
 }
 
 -- with one consumer more, the hub has given one number more
-pub one_more : (h : HubView) (c : ℕ) → length h.ledgers ≡ c → length (with_consumer h).ledgers ≡ suc c
-one_more h c e = let all = length-append h.ledgers (None ∷ []) in omega (arith, all, e)
+pub one_more : (h : HubView) (c : ℕ) → length h.records ≡ c → length (with_consumer h).records ≡ suc c
+one_more h c e = let all = length-append h.records (None ∷ []) in omega (arith, all, e)
 
 -- with one consumer more, the hub is still one of the mailbox
 pub still_of : (m : MailboxView) (h : HubView) → IsHubOf m h → IsHubOf m (with_consumer h)
-still_of m h of = record { cells = of.cells; claims = of.claims }
+still_of m h belongs = record { cells = belongs.cells; claims = belongs.claims }
 
 module _ {X : Type 0} where
   -- producers leave the hub one of the mailbox, and leave the number of consumers
   pub of_by_producers : (m : MailboxView) (xs : List X) (h : HubView) → IsHubOf m h → IsHubOf m (with_producers xs h)
-  of_by_producers m xs h of = record {
-    cells = same_by_producers (λ v. v.cells.table) (λ v. refl) xs h ∙ of.cells;
-    claims = same_by_producers (λ v. v.claims.table) (λ v. refl) xs h ∙ of.claims;
+  of_by_producers m xs h belongs = record {
+    cells = same_by_producers (λ v. v.cells.table) (λ v. refl) xs h ∙ belongs.cells;
+    claims = same_by_producers (λ v. v.claims.table) (λ v. refl) xs h ∙ belongs.claims;
   }
 
-  pub count_by_producers : (xs : List X) (h : HubView) → length (with_producers xs h).ledgers ≡ length h.ledgers
-  count_by_producers xs h = ap length (same_by_producers (λ v. v.ledgers) (λ v. refl) xs h)
+  pub count_by_producers : (xs : List X) (h : HubView) → length (with_producers xs h).records ≡ length h.records
+  count_by_producers xs h = ap length (same_by_producers (λ v. v.records) (λ v. refl) xs h)
 
 -- if two lists have the same length, a hub that gives a producer for each element is the same for both
 pub producers_alike : {X Y : Type 0} (xs : List X) (ys : List Y) (h : HubView) → length xs ≡ length ys

@@ -9,7 +9,7 @@ use Rattle.mb_shared_cells.specs.Vocabulary.{CellHubView, empty_roll}
 use Rattle.mb_shared_cells.specs.declared.views.Roll.{Roll}
 use Rattle.mb_shared_claims.specs.Vocabulary.{HubView as ClaimHubView}
 use Rattle.mb_mailbox.specs.Imports.{CellsName, ClaimAccess, ClaimTable, Has, History, claims_at, linked_cells}
-use Rattle.mb_mailbox.specs.Hubs.{HubView, IsHub, IsLedger, IsPutList, ConsumerRecordView, PutListView, put_list_of, with_consumer, with_producer, with_taken_consumer, with_taken_producer}
+use Rattle.mb_mailbox.specs.Hubs.{HubView, IsHub, IsConsumerRecord, IsPutList, ConsumerRecordView, PutListView, put_list_of, with_consumer, with_producer, with_taken_consumer, with_taken_producer}
 use Rattle.mb_mailbox.specs.Consumers.{ConsumerView, IsConsumer}
 use Rattle.mb_mailbox.specs.Producers.{IsProducer, ProducerView}
 use Rattle.mb_mailbox.proofs.Lists.{get_some, set_else, set_get, set_here, some_same}
@@ -38,20 +38,20 @@ none_at {X} xs p x none e = none_there p x (subst (λ (ys : List X). slice_get y
 -- ---- a new hub, and producers
 -- a hub that has issued nothing keeps what hubs keep
 pub new_hub : (cells : CellHubView) (claims : ClaimHubView) (puts : List (Option PutListView))
-    (ledgers : List (Option ConsumerRecordView))
-    → cells.roll ≡ empty_roll → claims.roll ≡ [] → puts ≡ [] → ledgers ≡ []
-    → IsHub (record { cells = cells; claims = claims; puts = puts; ledgers = ledgers })
-new_hub cells claims puts ledgers roll seats no_puts no_ledgers =
+    (records : List (Option ConsumerRecordView))
+    → cells.roll ≡ empty_roll → claims.roll ≡ [] → puts ≡ [] → records ≡ []
+    → IsHub (record { cells = cells; claims = claims; puts = puts; records = records })
+new_hub cells claims puts records roll seats no_puts no_records =
     let lanes : length puts ≡ 0 = ap length no_puts in
-    let readers : length ledgers ≡ 0 = ap length no_ledgers in
+    let readers : length records ≡ 0 = ap length no_records in
     record {
       lanes = ap length no_puts ∙ sym (ap (λ (r : Roll). length r.lanes) roll);
-      readers = ap length no_ledgers ∙ sym (ap (λ (r : Roll). length r.readers) roll);
-      seats = ap length no_ledgers ∙ sym (ap length seats);
+      readers = ap length no_records ∙ sym (ap (λ (r : Roll). length r.readers) roll);
+      seats = ap length no_records ∙ sym (ap length seats);
       few_lanes = omega (arith, lanes);
       few_consumers = omega (arith, readers);
       put = λ p l e. absurd (none_at puts p (Some l) no_puts e);
-      taken = λ c l e. absurd (none_at ledgers c (Some l) no_ledgers e);
+      taken = λ c l e. absurd (none_at records c (Some l) no_records e);
     }
 
 -- a hub that has issued one producer more keeps what hubs keep
@@ -122,36 +122,36 @@ took_producer h s i own out =
 -- ---- consumers
 -- a hub that has issued one consumer more keeps what hubs keep
 pub gave_consumer : (h : HubView) → IsHub h
-    → length h.ledgers < (claims_at h.claims.table).table.values → IsHub (with_consumer h)
+    → length h.records < (claims_at h.claims.table).table.values → IsHub (with_consumer h)
 gave_consumer h i low = record {
   lanes = i.lanes;
-  readers = longer h.ledgers h.cells.roll.readers None None i.readers;
-  seats = longer h.ledgers h.claims.roll None None i.seats;
+  readers = longer h.records h.cells.roll.readers None None i.readers;
+  seats = longer h.records h.claims.roll None None i.seats;
   few_lanes = i.few_lanes;
-  few_consumers = let n = length-append h.ledgers (None ∷ []) in omega arith;
-  taken = λ c ledger e. ⊎_elim
-      (λ (old : slice_get h.ledgers c ≡ Some (Some ledger)).
-      let t = i.taken c ledger old in (
+  few_consumers = let n = length-append h.records (None ∷ []) in omega arith;
+  taken = λ c kept e. ⊎_elim
+      (λ (old : slice_get h.records c ≡ Some (Some kept)).
+      let t = i.taken c kept old in (
         t.0,
         get-front h.cells.roll.readers (None ∷ []) c (Some t.0) t.1,
         (t.2.0, get-front h.claims.roll (None ∷ []) c (Some t.2.0) t.2.1, t.2.2),
       ))
-      (λ (new : None ≡ Some ledger). absurd (cc))
-      (get_older h.ledgers None c (Some ledger) e);
+      (λ (new : None ≡ Some kept). absurd (cc))
+      (get_older h.records None c (Some kept) e);
   put = i.put;
 }
 
 -- a consumer whose seat is out is not returned
 pub seat_is_out : (h : HubView) (c : ℕ) → IsHub h → slice_get h.claims.roll c ≡ Some None
-    → slice_get h.ledgers c ≡ Some None
+    → slice_get h.records c ≡ Some None
 seat_is_out h c i out =
-    let t = get_some h.ledgers c (subst (λ n. c < n) (sym i.seats) (slice_get_within h.claims.roll c None out)) in
+    let t = get_some h.records c (subst (λ n. c < n) (sym i.seats) (slice_get_within h.claims.roll c None out)) in
     by t.0 t.1
   where
-    by : (o : Option ConsumerRecordView) → slice_get h.ledgers c ≡ Some o → slice_get h.ledgers c ≡ Some None
+    by : (o : Option ConsumerRecordView) → slice_get h.records c ≡ Some o → slice_get h.records c ≡ Some None
     by None e = e
-    by (Some ledger) e =
-        let t = i.taken c ledger e in
+    by (Some kept) e =
+        let t = i.taken c kept e in
         let f : None ≡ Some t.2.0 = some_same None (Some t.2.0) (sym out ∙ t.2.1) in
         absurd (cc)
 
@@ -172,10 +172,10 @@ took_consumer h s i own table cells reader_out seat_out =
     ≡ Some (Some s.reader.part)) (sym own.same)
     (set_here h.cells.roll.readers c (Some s.reader.part) None out) in
     let lanes : s.reader.table.size.lanes ≡ h.cells.table.size.lanes = ap (λ (t : CellsName). t.size.lanes) cells in
-    let n = length-set h.ledgers c (Some l) in
-    let its : IsLedger h.claims.table h.cells.table.size.lanes c s.reader.part s.seat.part l = record {
+    let n = length-set h.records c (Some l) in
+    let its : IsConsumerRecord h.claims.table h.cells.table.size.lanes c s.reader.part s.seat.part l = record {
       size = own.size;
-      of = ap (λ (t : ClaimTable). t.size) (sym table) ∙ own.table;
+      sized = ap (λ (t : ClaimTable). t.size) (sym table) ∙ own.table;
       fit = own.fit;
       places_count = own.places_count ∙ lanes;
       notes_count = own.notes_count ∙ lanes;
@@ -187,21 +187,21 @@ took_consumer h s i own table cells reader_out seat_out =
       seats = n ∙ i.seats ∙ sym (length-set h.claims.roll c (Some s.seat.part));
       few_lanes = i.few_lanes;
       few_consumers = subst (λ k. k ≤ (claims_at h.claims.table).table.values) (sym n) i.few_consumers;
-      taken = λ d ledger e. ⊎_elim
-          (λ (t : (d ≡ c) × (Some l ≡ Some ledger)).
+      taken = λ d kept e. ⊎_elim
+          (λ (t : (d ≡ c) × (Some l ≡ Some kept)).
           subst (λ (z : ℕ × ConsumerRecordView). (reads : History)
           × (slice_get (slice_set h.cells.roll.readers s.reader.reader (Some s.reader.part)) z.0 ≡ Some (Some reads))
           × ((done : List ClaimAccess) × (slice_get (slice_set h.claims.roll c (Some s.seat.part))
           z.0 ≡ Some (Some done))
-          × IsLedger h.claims.table h.cells.table.size.lanes z.0 reads done z.1))
-          (λ j. (sym t.0 j, some_same l ledger t.1 j))
+          × IsConsumerRecord h.claims.table h.cells.table.size.lanes z.0 reads done z.1))
+          (λ j. (sym t.0 j, some_same l kept t.1 j))
           (s.reader.part, here, (s.seat.part, set_here h.claims.roll c (Some s.seat.part) None seat_out, its)))
-          (λ (t : (d ≢ c) × (slice_get h.ledgers d ≡ Some (Some ledger))).
-          let x = i.taken d ledger t.1 in (
+          (λ (t : (d ≢ c) × (slice_get h.records d ≡ Some (Some kept))).
+          let x = i.taken d kept t.1 in (
             x.0,
             set_else h.cells.roll.readers s.reader.reader d (Some s.reader.part) (λ f. t.0 (f ∙ own.same)) ∙ x.1,
             (x.2.0, set_else h.claims.roll c d (Some s.seat.part) t.0 ∙ x.2.1, x.2.2),
           ))
-          (set_get h.ledgers c d (Some l) (Some ledger) e);
+          (set_get h.records c d (Some l) (Some kept) e);
       put = i.put;
     }

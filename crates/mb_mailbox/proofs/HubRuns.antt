@@ -3,7 +3,7 @@ use Rattle.std.proofs.Common.{◌≡◌, ℕ, zero, suc, List, [], ◌∷◌, �
 use Rattle.std.specs.Prelude.{Option, Some, None, slice_set}
 use Rattle.std.proofs.lemmas.List.{append-nil, length-append}
 use Rattle.mb_mailbox.specs.Consumers.{ConsumerView}
-use Rattle.mb_mailbox.specs.Hubs.{HubView, ledger_of, put_list_of, with_consumer, with_producer, with_taken_consumer, with_taken_producer}
+use Rattle.mb_mailbox.specs.Hubs.{HubView, record_of, put_list_of, with_consumer, with_producer, with_taken_consumer, with_taken_producer}
 use Rattle.mb_mailbox.specs.HubRuns.{with_consumers, with_producers, with_taken_consumers, with_taken_producers}
 use Rattle.mb_mailbox.specs.Producers.{ProducerView}
 
@@ -169,22 +169,22 @@ module _ {J K : Type 0} (js : List J) (ks : List K) (ss : List ProducerView)
 
   module _ (count : length ks ≡ length cs) where
     -- the records of these consumers stand after the older ones
-    pub run_ledgers : CountFrom (λ s. s.seat.consumer) (length h.ledgers) cs → after.ledgers
-        ≡ h.ledgers ++ map (λ s. Some (ledger_of s)) cs
-    run_ledgers from =
-        taken_by_consumers (λ v. v.ledgers) (λ s. s.seat.consumer) (λ s. Some (ledger_of s))
+    pub run_records : CountFrom (λ s. s.seat.consumer) (length h.records) cs → after.records
+        ≡ h.records ++ map (λ s. Some (record_of s)) cs
+    run_records from =
+        taken_by_consumers (λ v. v.records) (λ s. s.seat.consumer) (λ s. Some (record_of s))
         (λ s v. refl) cs (with_taken_producers ss given)
-        ∙ ap (filled (λ (s : ConsumerView). s.seat.consumer) (λ s. Some (ledger_of s)) cs)
-        (same_by_taken_producers (λ v. v.ledgers) (λ s v. refl) ss given
-        ∙ given_by_consumers (λ v. v.ledgers) (λ v. refl) ks (with_producers js h)
-        ∙ ap (λ l. l ++ outs ks) (same_by_producers (λ v. v.ledgers) (λ v. refl) js h)
-        ∙ ap (λ l. h.ledgers ++ l) (outs_alike ks cs count))
-        ∙ fills (λ (s : ConsumerView). s.seat.consumer) (λ s. Some (ledger_of s)) cs h.ledgers
-        (length h.ledgers) refl from
+        ∙ ap (filled (λ (s : ConsumerView). s.seat.consumer) (λ s. Some (record_of s)) cs)
+        (same_by_taken_producers (λ v. v.records) (λ s v. refl) ss given
+        ∙ given_by_consumers (λ v. v.records) (λ v. refl) ks (with_producers js h)
+        ∙ ap (λ l. l ++ outs ks) (same_by_producers (λ v. v.records) (λ v. refl) js h)
+        ∙ ap (λ l. h.records ++ l) (outs_alike ks cs count))
+        ∙ fills (λ (s : ConsumerView). s.seat.consumer) (λ s. Some (record_of s)) cs h.records
+        (length h.records) refl from
 
     -- the readers' parts of these consumers stand after the older ones
-    pub run_readers : length h.ledgers ≡ length h.cells.roll.readers
-        → CountFrom (λ s. s.reader.reader) (length h.ledgers) cs
+    pub run_readers : length h.records ≡ length h.cells.roll.readers
+        → CountFrom (λ s. s.reader.reader) (length h.records) cs
         → after.cells.roll.readers ≡ h.cells.roll.readers ++ map (λ s. Some s.reader.part) cs
     run_readers same from =
         taken_by_consumers (λ v. v.cells.roll.readers) (λ s. s.reader.reader)
@@ -195,11 +195,11 @@ module _ {J K : Type 0} (js : List J) (ks : List K) (ss : List ProducerView)
         ∙ ap (λ l. l ++ outs ks) (same_by_producers (λ v. v.cells.roll.readers) (λ v. refl) js h)
         ∙ ap (λ l. h.cells.roll.readers ++ l) (outs_alike ks cs count))
         ∙ fills (λ (s : ConsumerView). s.reader.reader) (λ s. Some s.reader.part) cs
-        h.cells.roll.readers (length h.ledgers) (sym same) from
+        h.cells.roll.readers (length h.records) (sym same) from
 
   -- the parts of these consumers at the claims stand after the older ones
-  pub run_claimed : length ks ≡ length cs → length h.ledgers ≡ length h.claims.roll
-      → CountFrom (λ s. s.seat.consumer) (length h.ledgers) cs
+  pub run_claimed : length ks ≡ length cs → length h.records ≡ length h.claims.roll
+      → CountFrom (λ s. s.seat.consumer) (length h.records) cs
       → after.claims.roll ≡ h.claims.roll ++ map (λ s. Some s.seat.part) cs
   run_claimed count same from =
       taken_by_consumers (λ v. v.claims.roll) (λ s. s.seat.consumer) (λ s. Some s.seat.part)
@@ -210,7 +210,7 @@ module _ {J K : Type 0} (js : List J) (ks : List K) (ss : List ProducerView)
       ∙ ap (λ l. l ++ outs ks) (same_by_producers (λ v. v.claims.roll) (λ v. refl) js h)
       ∙ ap (λ l. h.claims.roll ++ l) (outs_alike ks cs count))
       ∙ fills (λ (s : ConsumerView). s.seat.consumer) (λ s. Some s.seat.part) cs h.claims.roll
-      (length h.ledgers) (sym same) from
+      (length h.records) (sym same) from
 
   -- the table of the cells stays
   pub run_table : after.cells.table ≡ h.cells.table

@@ -116,17 +116,19 @@ room_stays p cells o old new g wide = let same = g.room in omega (arith, same, w
 -- the sizes of the consumer's tables are those of the mailbox: of the claims', and by `cells_size` of the cells'
 pub claims_size : (m : MailboxView) (s now : ConsumerView) → s ≡ now → IsConsumerOf m now
     → s.seat.table.size ≡ Some (record { layout = m.claims.layout; cells = m.claims.cells })
-claims_size m s now is of = ap (λ (v : ConsumerView). v.seat.table.size) is ∙ ap (λ (t : ClaimTable). t.size) of.claims
+claims_size m s now is belongs =
+    ap (λ (v : ConsumerView). v.seat.table.size) is ∙ ap (λ (t : ClaimTable). t.size) belongs.claims
 
 pub cells_size : (m : MailboxView) (s now : ConsumerView) → s ≡ now → IsConsumerOf m now
     → s.reader.table.size ≡ m.cells.size
-cells_size m s now is of = ap (λ (v : ConsumerView). v.reader.table.size) is ∙ ap (λ (t : CellsName). t.size) of.cells
+cells_size m s now is belongs =
+    ap (λ (v : ConsumerView). v.reader.table.size) is ∙ ap (λ (t : CellsName). t.size) belongs.cells
 
 -- a number of the seat's consumer that is one of its table's is one of the mailbox's
 pub known_in : (m : MailboxView) (s now : ConsumerView) → s ≡ now → IsConsumerOf m now
     → (n : ℕ) → n ≡ s.seat.consumer → n < (claims_at s.seat.table).table.values
     → s.seat.consumer < consumer_count m.claims.layout
-known_in m s now is of n exact known =
+known_in m s now is belongs n exact known =
     subst (λ (t : ClaimTable). s.seat.consumer < (claims_at t).table.values)
-    (ap (λ (v : ConsumerView). v.seat.table) is ∙ of.claims)
+    (ap (λ (v : ConsumerView). v.seat.table) is ∙ belongs.claims)
     (subst (λ x. x < (claims_at s.seat.table).table.values) exact known)

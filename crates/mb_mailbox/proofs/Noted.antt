@@ -63,11 +63,11 @@ module _ (now : HubView) (hub : IsHub now) (pool : History) (roll : IsRollOf now
     pub all_noted : (es : List (PollDone Z)) (base : List (Option History)) (c : ℕ) → length base ≡ c
         → now.cells.roll.readers ≡ base ++ map (λ (x : ConsumerEnd). Some x.reads)
         (consumer_ends m may_stop may_pass es) → AreNumbered m may_stop may_pass from end budget c es
-        → All (λ (x : ConsumerEnd). x.stopped ≡ false → HasNoteAtEach (length old) ls x.ledger)
+        → All (λ (x : ConsumerEnd). x.stopped ≡ false → HasNoteAtEach (length old) ls x.kept)
         (consumer_ends m may_stop may_pass es)
     all_noted [] base c e there a = λ k d low. absurd (omega (arith, low))
     all_noted (d ∷ es) base c e there a =
-        let P = λ (x : ConsumerEnd). x.stopped ≡ false → HasNoteAtEach (length old) ls x.ledger in
+        let P = λ (x : ConsumerEnd). x.stopped ≡ false → HasNoteAtEach (length old) ls x.kept in
         let s = d.consumer in
         let rest = map (λ (x : ConsumerEnd). Some x.reads) (consumer_ends m may_stop may_pass es) in
         let here : slice_get now.cells.roll.readers s.reader.reader ≡ Some (Some s.reader.part) =

@@ -1,7 +1,7 @@
 -- What one worker of a run came to, by its producer or its consumer.
 use Rattle.std.proofs.Common.{◌≡◌, ℕ, ◌+◌, Bool, true, false, List, arith, length, refl, subst}
 use Rattle.mb_mailbox.specs.ConsumerWords.{ConsumerView}
-use Rattle.mb_mailbox.specs.Hubs.{ledger_of}
+use Rattle.mb_mailbox.specs.Hubs.{record_of}
 use Rattle.mb_mailbox.specs.Vocabulary.{ConsumerEnd, HasMetEnd, HasMetEnds, HasReadEnds, ProducerEnd, ProducerView, items_behind}
 
 -- what a producer came to, and by `consumer_end` what a consumer came to
@@ -10,7 +10,7 @@ producer_end s stopped = record { put = s.items; part = s.seat.part; stopped = s
 
 abbrev pub consumer_end : ConsumerView → Bool → ConsumerEnd
 consumer_end s stopped =
-    record { ledger = ledger_of s; reads = s.reader.part; claimed = s.seat.part; stopped = stopped }
+    record { kept = record_of s; reads = s.reader.part; claimed = s.seat.part; stopped = stopped }
 
 -- a consumer that has read lanes to their end marks has met these end marks, under its number c
 pub met_at : (from end c : ℕ) (s : ConsumerView) → s.reader.reader ≡ c → HasReadEnds from end s

@@ -15,7 +15,7 @@ use Rattle.mb_mailbox.specs.Vocabulary.{IsPollEnd, IsPutEnd, IsStopBefore, IsSto
 use Rattle.mb_mailbox.specs.Vocabulary.{AreStoppedPuts, ConsumerEnd, HaveMetEnds, IsRunOf, IsStoppedPut, ProducerEnd, ended_list, items_beyond, lists_in, Who}
 use Rattle.mb_mailbox.specs.Vocabulary.{IsHubOf, PollDone, PollJob, PutDone, PutJob}
 use Rattle.mb_mailbox.specs.declared.gate.Who.TheVariants as who
-use Rattle.mb_mailbox.proofs.HubRuns.{CountFrom, after, run_claimed, run_ledgers, run_parts, run_puts, run_readers}
+use Rattle.mb_mailbox.proofs.HubRuns.{CountFrom, after, run_claimed, run_records, run_parts, run_puts, run_readers}
 use Rattle.mb_mailbox.proofs.RunEnds.{behind, consumer_end, met_at, producer_end}
 use Rattle.mb_mailbox.proofs.{Given.{count_by_producers, new_number, of_by_producers, one_more, still_of}, Zips.{zip_length}}
 
@@ -188,7 +188,7 @@ module _ {Z : Type 0} (m : MailboxView) (may_stop may_pass : Who → ℕ → Typ
 
   -- the ends of the jobs of new consumers are such ends
   numbered : {R : Type 0} (stream : R → Stream) (h : HubView) (from end budget c : ℕ) (js : List (PollJob R Z))
-      (ds : List (PollDone Z)) → length h.ledgers ≡ c → ArePollJobs m h js
+      (ds : List (PollDone Z)) → length h.records ≡ c → ArePollJobs m h js
       → AllZip (λ j d. IsPollEnd may_stop may_pass from end budget (stream j.rng) j.consumer d) js ds
       → AreNumbered from end budget c ds
   numbered stream h from end budget c [] [] e a z = tt
@@ -239,19 +239,19 @@ module _ {Z : Type 0} (m : MailboxView) (may_stop may_pass : Who → ℕ → Typ
 
   -- each consumer polls with the words of its own source
   polled_of : {R : Type 0} (stream : R → Stream) (h : HubView) (from end budget c : ℕ) (js : List (PollJob R Z))
-      (ds : List (PollDone Z)) → IsHubOf m h → length h.ledgers ≡ c → ArePollJobs m h js
+      (ds : List (PollDone Z)) → IsHubOf m h → length h.records ≡ c → ArePollJobs m h js
       → AllZip (λ j d. IsPollEnd may_stop may_pass from end budget (stream j.rng) j.consumer d) js ds
       → All (λ (d : PollDone Z). d.aborted ≡ false) ds
       → WerePolled may_stop may_pass h from end budget c (sources_of stream js) (consumer_ends ds)
-  polled_of stream h from end budget c [] [] of e a z on = tt
-  polled_of stream h from end budget c [] (d ∷ ds) of e a z on = absurd z
-  polled_of stream h from end budget c (j ∷ js) [] of e a z on = absurd z
-  polled_of stream h from end budget c (j ∷ js) (d ∷ ds) of e a z on =
+  polled_of stream h from end budget c [] [] belongs e a z on = tt
+  polled_of stream h from end budget c [] (d ∷ ds) belongs e a z on = absurd z
+  polled_of stream h from end budget c (j ∷ js) [] belongs e a z on = absurd z
+  polled_of stream h from end budget c (j ∷ js) (d ∷ ds) belongs e a z on =
       let has = new_number m h c j.consumer e a.0 in
       let F = λ (d : PollDone Z). d.aborted ≡ false in (
         record {
           mailbox = m;
-          of = of;
+          belongs = belongs;
           first = j.consumer;
           last = d.consumer;
           new = a.0;
@@ -261,9 +261,9 @@ module _ {Z : Type 0} (m : MailboxView) (may_stop may_pass : Who → ℕ → Typ
           polled = z.0.polled (All-head F d ds on);
           reads = refl;
           claimed = refl;
-          ledger = refl;
+          kept = refl;
         },
-        polled_of stream _ from end budget (suc c) js ds (still_of m h of) (one_more h c e) a.1 z.1
+        polled_of stream _ from end budget (suc c) js ds (still_of m h belongs) (one_more h c e) a.1 z.1
             (All-tail F d ds on),
       )
 
@@ -317,8 +317,8 @@ module _ {Z : Type 0} (m : MailboxView) (may_stop may_pass : Who → ℕ → Typ
     ats : AreAt (length h.puts) vs ds
     ats = are_at (length h.puts) vs js ds putting put
 
-    pub nums : AreNumbered from end budget (length h.ledgers) es
-    nums = numbered stream _ from end budget (length h.ledgers) ks es (count_by_producers js h) polling polled
+    pub nums : AreNumbered from end budget (length h.records) es
+    nums = numbered stream _ from end budget (length h.records) ks es (count_by_producers js h) polling polled
 
     puts_count : length js ≡ length (producers ds)
     puts_count = zip_length (IsPutEnd may_stop may_pass) js ds put ∙ sym (length-map ds (λ (d : PutDone Z). d.producer))
@@ -336,14 +336,14 @@ module _ {Z : Type 0} (m : MailboxView) (may_stop may_pass : Who → ℕ → Typ
       parts = run_parts js ks (producers ds) (consumers es) h puts_count (count_lanes (length h.puts) vs ds ats) i.lanes
           ∙ ap (λ l. h.cells.roll.lanes ++ l) (parts_of_lanes ds);
       fronts = fronts_of (length h.puts) vs ds ats;
-      ledgers = run_ledgers js ks (producers ds) (consumers es) h polls_count
-          (count_seats from end budget (length h.ledgers) es nums)
-          ∙ ap (λ l. h.ledgers ++ l) (turned (λ (x : ConsumerEnd). Some x.ledger) (λ s b. refl) es);
+      records = run_records js ks (producers ds) (consumers es) h polls_count
+          (count_seats from end budget (length h.records) es nums)
+          ∙ ap (λ l. h.records ++ l) (turned (λ (x : ConsumerEnd). Some x.kept) (λ s b. refl) es);
       reads = run_readers js ks (producers ds) (consumers es) h polls_count i.readers
-          (count_readers from end budget (length h.ledgers) es nums)
+          (count_readers from end budget (length h.records) es nums)
           ∙ ap (λ l. h.cells.roll.readers ++ l) (turned (λ (x : ConsumerEnd). Some x.reads) (λ s b. refl) es);
       claimed = run_claimed js ks (producers ds) (consumers es) h polls_count i.seats
-          (count_seats from end budget (length h.ledgers) es nums)
+          (count_seats from end budget (length h.records) es nums)
           ∙ ap (λ l. h.claims.roll ++ l) (turned (λ (x : ConsumerEnd). Some x.claimed) (λ s b. refl) es);
       count = length-map es (λ (d : PollDone Z). consumer_end d.consumer d.stopped)
           ∙ sym (length-map es (λ (d : PollDone Z). d.consumer)) ∙ sym polls_count;
@@ -371,25 +371,25 @@ module _ {Z : Type 0} (m : MailboxView) (may_stop may_pass : Who → ℕ → Typ
     run_passes on = passes_of (length h.puts) vs ds ats on
 
     pub run_polled : IsHubOf m h → All (λ (d : PollDone Z). d.aborted ≡ false) es
-        → WerePolled may_stop may_pass (with_producers js h) from end budget (length h.ledgers)
+        → WerePolled may_stop may_pass (with_producers js h) from end budget (length h.records)
         (sources_of stream ks) (consumer_ends es)
-    run_polled of on = polled_of stream _ from end budget (length h.ledgers) ks es
-        (of_by_producers m js h of) (count_by_producers js h) polling polled on
+    run_polled belongs on = polled_of stream _ from end budget (length h.records) ks es
+        (of_by_producers m js h belongs) (count_by_producers js h) polling polled on
 
     pub run_poll_stops : All (λ (d : PollDone Z). d.aborted ≡ false) es
-        → AreStoppedPolls may_stop budget (length h.ledgers) (consumer_ends es)
-    run_poll_stops on = poll_stops_of from end budget (length h.ledgers) es nums on
+        → AreStoppedPolls may_stop budget (length h.records) (consumer_ends es)
+    run_poll_stops on = poll_stops_of from end budget (length h.records) es nums on
 
     pub run_only : All (λ (d : PollDone Z). d.aborted ≡ false) es
         → All (λ (x : ConsumerEnd). IsOnLanes from end x.reads) (consumer_ends es)
-    run_only on = only_of from end budget (length h.ledgers) es nums on
+    run_only on = only_of from end budget (length h.records) es nums on
 
     pub run_ends : All (λ (x : ConsumerEnd). x.stopped ≡ false → ends_met x.reads ≡ end - from) (consumer_ends es)
-    run_ends = ends_of from end budget (length h.ledgers) es nums
+    run_ends = ends_of from end budget (length h.records) es nums
 
-    pub run_met : HaveMetEnds from end (length h.ledgers) (consumer_ends es)
-    run_met = mets_of from end budget (length h.ledgers) es nums
+    pub run_met : HaveMetEnds from end (length h.records) (consumer_ends es)
+    run_met = mets_of from end budget (length h.records) es nums
 
     pub run_unread : All (λ (d : PollDone Z). d.aborted ≡ false) es
         → All (λ (x : ConsumerEnd). x.stopped ≡ true → ends_met x.reads < end - from) (consumer_ends es)
-    run_unread on = unread_of from end budget (length h.ledgers) es nums on
+    run_unread on = unread_of from end budget (length h.records) es nums on

@@ -27,7 +27,7 @@ pub record PendingClaim : Type 0 where
 -- these are the fields of a consumer that holds this claim. Its place on the claim's lane may be out of date
 pub record Start {Z : Type 0} (m : MailboxView) (pending : PendingClaim) (f : ConsumerFields Z) : Type 0 where
   pub held : IsConsumer (holding pending.lane pending.cell pending.claim (with_fields f))
-  pub of : IsConsumerOf m (with_fields f)
+  pub belongs : IsConsumerOf m (with_fields f)
   pub lane : pending.lane < length f.places.items
   pub wide : HasAllRoom f.reader.table.size.cells f.notes
   pub loads : HasLoads (with_fields f)
@@ -72,7 +72,7 @@ module _ {Z : Type 0} (m : MailboxView) (pending : PendingClaim) (f : ConsumerFi
 
   -- the consumer's table of claims is that of the mailbox
   pub table : seat.table.size ≡ Some (record { layout = m.claims.layout; cells = m.claims.cells })
-  table = ap (λ (t : ClaimTable). t.size) start.of.claims
+  table = ap (λ (t : ClaimTable). t.size) start.belongs.claims
 
   -- the claim has no note yet
   pub unnoted : note_of (claim_stage claim) ≡ None

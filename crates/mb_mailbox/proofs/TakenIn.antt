@@ -15,7 +15,7 @@ use Rattle.mb_mailbox.specs.Imports.{CellsName, ClaimAccess, ClaimTable, Fits, H
 use Rattle.mb_mailbox.specs.Imports.{consumer_part, claims_in, has_ended, linked_cells, part_on}
 use Rattle.mb_mailbox.specs.Consumers.{StandsOn}
 use Rattle.mb_mailbox.specs.Gathering.{count_missing, ended_in, items_in, kept_at}
-use Rattle.mb_mailbox.specs.Hubs.{HubView, IsHub, IsHubOf, IsLedger, IsPutList, ConsumerRecordView, PutListView, parts_by}
+use Rattle.mb_mailbox.specs.Hubs.{HubView, IsHub, IsHubOf, IsConsumerRecord, IsPutList, ConsumerRecordView, PutListView, parts_by}
 use Rattle.mb_mailbox.specs.Mailboxes.{MailboxView, plan_at}
 use Rattle.mb_world.specs.declared.place.Place.{Place}
 use Rattle.mb_mailbox.proofs.Lists.{some_same}
@@ -72,20 +72,21 @@ kept_of {X} o = option_map_or (λ (z : Option X). z) o None
 -- consumer c's parts of the histories determine what the hub keeps of it. A consumer that was never issued has done
 -- nothing
 pub data Keeps (m : MailboxView) (h : HubView) (hs : Histories) (c : ℕ) : Type 0 where
-  was_in : (l : ConsumerRecordView) → kept_at h.ledgers c ≡ Some l
+  was_in : (l : ConsumerRecordView) → kept_at h.records c ≡ Some l
       → length l.places ≡ m.cells.size.lanes → length l.notes ≡ m.cells.size.lanes
       → Fits (plan_at m).claims c (parts_in c hs)
       → ((p : ℕ) (place : Place) (notes : List Note) → slice_get l.places p ≡ Some place
       → slice_get l.notes p ≡ Some notes
       → StandsOn m.claims.layout (plan_at m).claims c p (parts_in c hs) notes place)
       → Keeps m h hs c
-  never : kept_at h.ledgers c ≡ None → no_parts ≡ parts_in c hs → Keeps m h hs c
+  never : kept_at h.records c ≡ None → no_parts ≡ parts_in c hs → Keeps m h hs c
 
 -- the two histories, in which consumer c is reader c
 abbrev pub histories_in : List ClaimAccess → History → Histories
 histories_in claims pool = record { claims = claims; pool = pool; reader_of = λ c. c }
 
-module _ (m : MailboxView) (h : HubView) (claims : List ClaimAccess) (pool : History) (i : IsHub h) (of : IsHubOf m h)
+module _ (m : MailboxView) (h : HubView) (claims : List ClaimAccess) (pool : History) (i : IsHub h)
+    (belongs : IsHubOf m h)
     (cut : (c k : ℕ) (h : List ClaimAccess) → part_on c k (consumer_part c h) ≡ part_on c k h)
     (made : (c : ℕ) → consumer_part c claims ≡ taken_part h.claims.roll c)
     (is : IsRollOf m.cells.size h.cells.roll pool) where
@@ -99,16 +100,16 @@ module _ (m : MailboxView) (h : HubView) (claims : List ClaimAccess) (pool : His
 
   -- what the hub keeps of a consumer that was returned is right by the histories
   kept : (c : ℕ) (l : ConsumerRecordView) (reads : History) (done : List ClaimAccess)
-      → slice_get h.ledgers c ≡ Some (Some l)
+      → slice_get h.records c ≡ Some (Some l)
       → part (Reader c) pool ≡ reads → taken_part h.claims.roll c ≡ done
-      → IsLedger h.claims.table h.cells.table.size.lanes c reads done l → Keeps m h hs c
+      → IsConsumerRecord h.claims.table h.cells.table.size.lanes c reads done l → Keeps m h hs c
   kept c l reads done e r d k =
-      let lanes : h.cells.table.size.lanes ≡ m.cells.size.lanes = ap (λ t. t.size.lanes) of.cells in
+      let lanes : h.cells.table.size.lanes ≡ m.cells.size.lanes = ap (λ t. t.size.lanes) belongs.cells in
       let size : k.size ≡ record { layout = m.claims.layout; cells = m.claims.cells } =
       some_same k.size (record {
         layout = m.claims.layout;
         cells = m.claims.cells;
-      }) (sym k.of ∙ ap (λ (t : ClaimTable). t.size) of.claims) in
+      }) (sym k.sized ∙ ap (λ (t : ClaimTable). t.size) belongs.claims) in
       let parts : parts_by c reads done ≡ parts_in c hs = λ j. record {
         reads = sym r j;
         claimed = λ n. steps c done d n j;
@@ -120,10 +121,10 @@ module _ (m : MailboxView) (h : HubView) (claims : List ClaimAccess) (pool : His
       (λ j. (size j, parts j)) (k.lanes p place notes f g))
 
   -- if no consumer is missing, this holds of each
-  pub keeps : count_missing h.ledgers ≡ 0 → (c : ℕ) → Keeps m h hs c
-  keeps all c = by (at h.ledgers c all)
+  pub keeps : count_missing h.records ≡ 0 → (c : ℕ) → Keeps m h hs c
+  keeps all c = by (at h.records c all)
     where
-      by : At h.ledgers c → Keeps m h hs c
+      by : At h.records c → Keeps m h hs c
       by (here l e) =
           let t = i.taken c l e in
           kept c l t.0 t.2.0 e (is.parts (Reader c) t.0 t.1) (taken_is h.claims.roll c t.2.0 t.2.1) t.2.2
@@ -134,10 +135,10 @@ module _ (m : MailboxView) (h : HubView) (claims : List ClaimAccess) (pool : His
           never (ap kept_of e) (λ j. record { reads = sym reads j; claimed = λ k. steps c [] none k j })
 
 -- if no consumer is missing, no seat of the claims is out
-pub all_in : (h : HubView) → IsHub h → count_missing h.ledgers ≡ 0 → count_out h.claims.roll ≡ 0
-all_in h i all = none_out h.claims.roll (λ c low. by c low (at h.ledgers c all))
+pub all_in : (h : HubView) → IsHub h → count_missing h.records ≡ 0 → count_out h.claims.roll ≡ 0
+all_in h i all = none_out h.claims.roll (λ c low. by c low (at h.records c all))
   where
-    by : (c : ℕ) → c < length h.claims.roll → At h.ledgers c → (done : List ClaimAccess)
+    by : (c : ℕ) → c < length h.claims.roll → At h.records c → (done : List ClaimAccess)
         × (slice_get h.claims.roll c ≡ Some (Some done))
     by c low (here l e) = let t = i.taken c l e in (t.2.0, t.2.1)
     by c low (past e most) = let same = i.seats in absurd (omega arith)
@@ -149,7 +150,7 @@ pub record Tells (m : MailboxView) (h : HubView) (pool : History) (p : ℕ) : Ty
   pub ended : ended_in p h ≡ has_ended p pool
   pub linked : (e : Entry) → Has pool (fetch p e) → e.cell < m.cells.size.cells → Has (linked_cells p pool) e.cell
 
-module _ (m : MailboxView) (h : HubView) (pool : History) (i : IsHub h) (of : IsHubOf m h)
+module _ (m : MailboxView) (h : HubView) (pool : History) (i : IsHub h) (belongs : IsHubOf m h)
     (is : IsRollOf m.cells.size h.cells.roll pool)
     (put : (p : ℕ) → put_list p pool ≡ put_list p (part (Producer p) pool))
     (ended : (p : ℕ) → has_ended p pool ≡ has_ended p (part (Producer p) pool))
@@ -169,7 +170,7 @@ module _ (m : MailboxView) (h : HubView) (pool : History) (i : IsHub h) (of : Is
     linked = λ entry has low.
         subst (λ ks. Has ks entry.cell) (ap (linked_cells p) (sym d) ∙ sym (linked p))
         (k.linked entry (subst (λ z. Has z (fetch p entry)) d (all (Producer p) (fetch p entry) has refl))
-        (subst (λ (t : CellsName). entry.cell < t.size.cells) (sym of.cells) low));
+        (subst (λ (t : CellsName). entry.cell < t.size.cells) (sym belongs.cells) low));
   }
 
   -- a lane that was never issued has no items, and no end mark

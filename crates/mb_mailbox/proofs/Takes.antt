@@ -116,6 +116,6 @@ pub record HasPassedTo {Z : Type 0} (m : MailboxView) (p most : ℕ) (s t : Stre
   pub passed : HasPassed p most winners s t start (at_link p at (with_fields f))
   pub rest : accesses_made (with_fields f) + left ≡ accesses_made start + most
   pub is : IsConsumer (at_link p at (with_fields f))
-  pub of : IsConsumerOf m (with_fields f)
+  pub belongs : IsConsumerOf m (with_fields f)
   pub wide : HasAllRoom f.reader.table.size.cells f.notes
   pub lane : p < length f.places.items

@@ -29,7 +29,7 @@ WerePassed may_pass p _ _ = ⊥
 pub record WasPolled (may_stop may_pass : Who → ℕ → Type 0) (hub : HubView) (from end budget c : ℕ) (source : Stream)
     (l : ConsumerEnd) : Type 0 where
   pub mailbox : MailboxView
-  pub of : IsHubOf mailbox hub
+  pub belongs : IsHubOf mailbox hub
   pub first : ConsumerView
   pub last : ConsumerView
   pub new : IsNewConsumer mailbox hub first
@@ -39,7 +39,7 @@ pub record WasPolled (may_stop may_pass : Who → ℕ → Type 0) (hub : HubView
   pub polled : HasPolled may_stop may_pass from end budget source l.stopped first last
   pub reads : l.reads ≡ last.reader.part
   pub claimed : l.claimed ≡ last.seat.part
-  pub ledger : l.ledger ≡ record { places = last.places; notes = last.notes }
+  pub kept : l.kept ≡ record { places = last.places; notes = last.notes }
 
 -- this hub gave these consumers one after the other, with the numbers from c on. Each made its calls with the words of
 -- its own source. There is one consumer for each of these sources, in their order
@@ -61,4 +61,4 @@ pub record IsCalled (may_stop may_pass : Who → ℕ → Type 0) (budget : ℕ) 
   pub worked : IsWorked may_stop budget lists (length sources) w old new
   pub puts : WerePassed may_pass (length old.puts) lists worked.lanes
   pub polls : WerePolled may_stop may_pass (with_producers lists old) (length old.puts)
-      (length old.puts + length lists) budget (length old.ledgers) sources worked.consumers
+      (length old.puts + length lists) budget (length old.records) sources worked.consumers

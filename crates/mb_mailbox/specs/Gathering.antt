@@ -36,7 +36,7 @@ ended_in p h = option_map_or (λ l. l.ended) (kept_at h.puts p) false
 -- the notes of consumer c on lane p, or none if it was not returned
 abbrev pub notes_in : ℕ → ℕ → HubView → List Note
 notes_in c p h =
-    option_map_or (λ l. option_map_or (λ ns. ns) (slice_get l.notes p) []) (kept_at h.ledgers c) []
+    option_map_or (λ l. option_map_or (λ ns. ns) (slice_get l.notes p) []) (kept_at h.records c) []
 
 -- whether a consumer of which this is kept holds a claim on lane p that has made an access. One of which nothing is
 -- kept was not returned
@@ -45,7 +45,7 @@ begun_of p kept = option_map_or (λ l. option_map_or has_begun_at (slice_get l.p
 
 -- whether consumer c was returned with a claim on lane p that has made an access
 abbrev pub begun_in : ℕ → ℕ → HubView → Bool
-begun_in c p h = begun_of p (kept_at h.ledgers c)
+begun_in c p h = begun_of p (kept_at h.records c)
 
 -- whether one of the first n consumers has noted that it took the item at position j of lane p
 abbrev pub is_taken_in : ℕ → ℕ → ℕ → HubView → Bool

@@ -16,8 +16,7 @@ pub record PutListView : Type 0 where
   pub items : List ℕ
   pub ended : Bool
 
--- what is kept of a consumer that was returned: its place on each lane, and its notes there. Names here call this
--- record a ledger
+-- what is kept of a consumer that was returned: its place on each lane, and its notes there.
 pub record ConsumerRecordView : Type 0 where
   pub places : List Place
   pub notes : List (List Note)
@@ -32,7 +31,7 @@ pub record HubView : Type 0 where
   pub cells : CellHubView
   pub claims : ClaimHubView
   pub puts : List (Option PutListView)
-  pub ledgers : List (Option ConsumerRecordView)
+  pub records : List (Option ConsumerRecordView)
 
 -- the put list is that of the producer of lane p, whose part in a pool of this many cells is `done`
 pub record IsPutList (cells p : ℕ) (done : History) (l : PutListView) : Type 0 where
@@ -44,11 +43,11 @@ pub record IsPutList (cells p : ℕ) (done : History) (l : PutListView) : Type 0
 
 -- the record is that of consumer c, with these two parts, if there are `count` lanes. The two parts fit each other.
 -- They determine the consumer's place on each lane and its notes there
-pub record IsLedger
+pub record IsConsumerRecord
     (table : ClaimTable) (count c : ℕ) (reads : History) (done : List ClaimAccess) (l : ConsumerRecordView)
     : Type 0 where
   pub size : TableSize
-  pub of : table.size ≡ Some size
+  pub sized : table.size ≡ Some size
   pub fit : Fits (claims_in size.layout size.cells) c (parts_by c reads done)
   pub places_count : length l.places ≡ count
   pub notes_count : length l.notes ≡ count
@@ -63,27 +62,27 @@ hub_empty m = record {
   cells = record { table = m.cells; roll = empty_roll };
   claims = record { table = name_of m.claims; roll = [] };
   puts = [];
-  ledgers = [];
+  records = [];
 }
 
 -- this is what each hub keeps. The number of a producer is that of its lane. The number of a consumer is that of its
 -- reader's seat, and that of its seat of the claims
 pub record IsHub (h : HubView) : Type 0 where
   pub lanes : length h.puts ≡ length h.cells.roll.lanes
-  pub readers : length h.ledgers ≡ length h.cells.roll.readers
-  pub seats : length h.ledgers ≡ length h.claims.roll
+  pub readers : length h.records ≡ length h.cells.roll.readers
+  pub seats : length h.records ≡ length h.claims.roll
   -- no more lanes were issued than the mailbox has, and no more consumers
   pub few_lanes : length h.puts ≤ h.cells.table.size.lanes
-  pub few_consumers : length h.ledgers ≤ (claims_at h.claims.table).table.values
+  pub few_consumers : length h.records ≤ (claims_at h.claims.table).table.values
   -- the part of a producer that was returned determines its put list. The two parts of a consumer that was returned
   -- determine its record
   pub put : (p : ℕ) (l : PutListView) → slice_get h.puts p ≡ Some (Some l)
       → (done : History) × (slice_get h.cells.roll.lanes p ≡ Some (Some done))
       × IsPutList h.cells.table.size.cells p done l
-  pub taken : (c : ℕ) (l : ConsumerRecordView) → slice_get h.ledgers c ≡ Some (Some l)
+  pub taken : (c : ℕ) (l : ConsumerRecordView) → slice_get h.records c ≡ Some (Some l)
       → (reads : History) × (slice_get h.cells.roll.readers c ≡ Some (Some reads))
       × ((done : List ClaimAccess) × (slice_get h.claims.roll c ≡ Some (Some done))
-      × IsLedger h.claims.table h.cells.table.size.lanes c reads done l)
+      × IsConsumerRecord h.claims.table h.cells.table.size.lanes c reads done l)
 
 -- the hub is one of this mailbox: both have the same tables
 pub record IsHubOf (m : MailboxView) (h : HubView) : Type 0 where
@@ -110,11 +109,11 @@ with_producer h = record h {
 pub record IsNewConsumer (m : MailboxView) (h : HubView) (s : ConsumerView) : Type 0 where
   pub reader : s.reader ≡ record {
     table = m.cells;
-    reader = length h.ledgers;
+    reader = length h.records;
     known = h.cells.roll.lanes;
     part = [];
   }
-  pub seat : s.seat ≡ record { table = name_of m.claims; consumer = length h.ledgers; part = [] }
+  pub seat : s.seat ≡ record { table = name_of m.claims; consumer = length h.records; part = [] }
   pub notes : (p : ℕ) (notes : List Note) → slice_get s.notes p ≡ Some notes → notes ≡ []
 
 -- the hub after it has issued one more consumer
@@ -122,7 +121,7 @@ abbrev pub with_consumer : HubView → HubView
 with_consumer h = record h {
   cells = record { table = h.cells.table; roll = roll_with_reader h.cells.roll };
   claims = record { table = h.claims.table; roll = h.claims.roll ++ None ∷ [] };
-  ledgers = h.ledgers ++ None ∷ [];
+  records = h.records ++ None ∷ [];
 }
 
 -- ---- what a hub takes back
@@ -131,8 +130,8 @@ abbrev pub put_list_of : ProducerView → PutListView
 put_list_of s = record { items = s.items; ended = has_ended s.seat.lane s.seat.part }
 
 -- what the hub keeps of this consumer
-abbrev pub ledger_of : ConsumerView → ConsumerRecordView
-ledger_of s = record { places = s.places; notes = s.notes }
+abbrev pub record_of : ConsumerView → ConsumerRecordView
+record_of s = record { places = s.places; notes = s.notes }
 
 -- the hub after it has taken back this producer
 abbrev pub with_taken_producer : ProducerView → HubView → HubView
@@ -155,5 +154,5 @@ with_taken_consumer s h = record h {
     table = h.claims.table;
     roll = slice_set h.claims.roll s.seat.consumer (Some s.seat.part);
   };
-  ledgers = slice_set h.ledgers s.seat.consumer (Some (ledger_of s));
+  records = slice_set h.records s.seat.consumer (Some (record_of s));
 }

@@ -34,7 +34,7 @@ pub record Laws : Type 0 where
   pub older : (size : PoolSize) (later older : History) → IsPoolLawful size (later ++ older)
       → IsPoolLawful size older
   -- ---- parts
-  pub of : (h : History) (who : Process) (a : PoolAccess) → Has (part who h) a
+  pub only : (h : History) (who : Process) (a : PoolAccess) → Has (part who h) a
       → Has h a × (a.process ≡ who)
   pub own : (h : History) (a : PoolAccess) → part a.process (a ∷ h) ≡ a ∷ part a.process h
   pub own_cell : (a : ClaimAccess) (h : List ClaimAccess)

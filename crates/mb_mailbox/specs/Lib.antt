@@ -26,6 +26,6 @@ pub mod Given
 pub mod Gathering
 pub mod ReportedRuns
 pub mod Filling
-pub mod GatheringExamples
+pub mod GatheringSamples
 pub mod ConsumerWords
 pub mod Vocabulary

@@ -19,7 +19,7 @@ pub record PutLaws : Type 0 where
   pub own : (h : History) (a : PoolAccess) → part a.process (a ∷ h) ≡ a ∷ part a.process h
   pub older : (size : PoolSize) (later older : History) → IsPoolLawful size (later ++ older) → IsPoolLawful size older
   pub all : (h : History) (who : Process) (a : PoolAccess) → Has h a → a.process ≡ who → Has (part who h) a
-  pub of : (h : History) (who : Process) (a : PoolAccess) → Has (part who h) a → Has h a × (a.process ≡ who)
+  pub only : (h : History) (who : Process) (a : PoolAccess) → Has (part who h) a → Has h a × (a.process ≡ who)
   pub link : (h : History) (p k : ℕ) (w : Word) → IsLinkWord w → k + 1 ≢ END
       → put_list p (store p w (k + 1) ∷ h) ≡ put_list p h ++ entry_at k h ∷ []
   pub fetched : (size : PoolSize) (h : History) (p q : ℕ) (e : Entry) → IsPoolLawful size (fetch p e ∷ h)

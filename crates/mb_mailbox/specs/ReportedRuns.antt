@@ -31,7 +31,7 @@ pub record IsReportedRun (may_stop may_pass : Who → ℕ → Type 0) (terms : T
   pub plan : plan_at mailbox ≡ terms.plan
   pub size : mailbox.cells.size ≡ size_of terms.plan
   pub hub : HubView
-  pub of : IsHubOf mailbox hub
+  pub belongs : IsHubOf mailbox hub
   -- each call of a consumer is a poll with this budget, and draws from the consumer's own source. Its field
   -- `worked` says: a worker was stopped only before a call at which the gate may stop it, or before call 2^64 - 1. Each
   -- other producer has put its list, or a fetch-add of its own found no cell. Each other consumer has a note at each

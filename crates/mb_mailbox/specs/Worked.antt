@@ -15,7 +15,7 @@ use Rattle.mb_mailbox.specs.declared.crew.Worked.{Worked}
 -- there are more lists than lanes that were not given yet, or more sources than numbers of consumers that were not
 abbrev pub AsksTooMany : MailboxView → ℕ → ℕ → HubView → Type 0
 AsksTooMany m lists sources h =
-    (m.cells.size.lanes - length h.puts < lists) ⊎ (consumer_count m.claims.layout - length h.ledgers < sources)
+    (m.cells.size.lanes - length h.puts < lists) ⊎ (consumer_count m.claims.layout - length h.records < sources)
 
 -- what a producer of a run came to: the items that it put, its part, and whether it was stopped
 pub record ProducerEnd : Type 0 where
@@ -25,7 +25,7 @@ pub record ProducerEnd : Type 0 where
 
 -- what a consumer of a run came to: what the hub keeps of it, its two parts, and whether it was stopped
 pub record ConsumerEnd : Type 0 where
-  pub ledger : ConsumerRecordView
+  pub kept : ConsumerRecordView
   pub reads : History
   pub claimed : List ClaimAccess
   pub stopped : Bool
@@ -45,7 +45,7 @@ pub record IsRunOf (lists : List (List ℕ)) (sources : ℕ) (lanes : List Produ
   pub puts : new.puts ≡ old.puts ++ map (λ l. Some (ended_list l)) lanes
   pub parts : new.cells.roll.lanes ≡ old.cells.roll.lanes ++ map (λ l. Some l.part) lanes
   pub fronts : AllZip (λ list l. IsFront l.put list) lists lanes
-  pub ledgers : new.ledgers ≡ old.ledgers ++ map (λ c. Some c.ledger) consumers
+  pub records : new.records ≡ old.records ++ map (λ c. Some c.kept) consumers
   pub reads : new.cells.roll.readers ≡ old.cells.roll.readers ++ map (λ c. Some c.reads) consumers
   pub claimed : new.claims.roll ≡ old.claims.roll ++ map (λ c. Some c.claimed) consumers
   pub count : length consumers ≡ sources
@@ -90,8 +90,8 @@ AreCutByCells cells p _ _ = ⊥
 -- ---- notes
 -- on each of these lanes, from p on, the consumer has as many notes as there are items: one at each
 abbrev pub HasNoteAtEach : ℕ → List ProducerEnd → ConsumerRecordView → Type 0
-HasNoteAtEach p [] ledger = Unit {0}
-HasNoteAtEach p (l ∷ ls) ledger = (length (notes_on p ledger.notes) ≡ length l.put) × HasNoteAtEach (suc p) ls ledger
+HasNoteAtEach p [] kept = Unit {0}
+HasNoteAtEach p (l ∷ ls) kept = (length (notes_on p kept.notes) ≡ length l.put) × HasNoteAtEach (suc p) ls kept
 
 -- ---- end marks
 -- consumer c has loaded the end mark of lane p, past cells of this lane that it met. By its path it met them before
@@ -153,14 +153,14 @@ pub record IsWorked (may_stop : Who → ℕ → Type 0) (budget : ℕ) (lists : 
   -- before call 2^64 - 1
   pub stopped : w.stopped ≡ sum_by (λ l. from_bool l.stopped) lanes + sum_by (λ c. from_bool c.stopped) consumers
   pub stopped_puts : AreStoppedPuts may_stop new.cells.table.size.cells (length old.puts) lists lanes
-  pub stopped_polls : AreStoppedPolls may_stop budget (length old.ledgers) consumers
+  pub stopped_polls : AreStoppedPolls may_stop budget (length old.records) consumers
   -- A consumer that was not stopped has loaded as many end marks as lanes were given in this call. One that was
   -- stopped has loaded fewer
   pub ends : All (λ c. c.stopped ≡ false → ends_met c.reads ≡ length lists) consumers
   pub unread : All (λ c. c.stopped ≡ true → ends_met c.reads < length lists) consumers
   -- Each consumer, stopped or not, has loaded the end marks of none, some or all of these lanes, and no more end
   -- marks. It loaded each past the cells of the lane that it met
-  pub met : HaveMetEnds (length old.puts) (length old.puts + length lists) (length old.ledgers) consumers
+  pub met : HaveMetEnds (length old.puts) (length old.puts + length lists) (length old.records) consumers
   -- No consumer has looked at the head of a lane that was not given in this call
   pub only : All (λ c. IsOnLanes (length old.puts) (length old.puts + length lists) c.reads) consumers
   -- `full` counts the items that the producers that were not stopped did not put, up to 2^64 - 1
@@ -168,4 +168,4 @@ pub record IsWorked (may_stop : Who → ℕ → Type 0) (budget : ℕ) (lists : 
   -- If a producer that was not stopped put less than its list, a fetch-add of its own found no cell
   pub cut : AreCutByCells new.cells.table.size.cells (length old.puts) lists lanes
   -- Each consumer that was not stopped has a note at each item of each of these lanes
-  pub noted : All (λ c. c.stopped ≡ false → HasNoteAtEach (length old.puts) lanes c.ledger) consumers
+  pub noted : All (λ c. c.stopped ≡ false → HasNoteAtEach (length old.puts) lanes c.kept) consumers

@@ -20,7 +20,7 @@ impl<A: Allocator + Clone + Drop> Mailbox<A> {
         ensures plan { IfOk result (λ made. plan_at made.0 ≡ plan_in setup) }
         ensures size { IfOk result (λ made. made.0.cells.size ≡ size_of (plan_in setup)) }
         ensures layout { IfOk result (λ made. made.0.claims.layout ≡ layout_of setup) }
-        ensures of { IfOk result (λ made. IsHubOf made.0 made.1) }
+        ensures belongs { IfOk result (λ made. IsHubOf made.0 made.1) }
         ensures empty { IfOk result (λ made. made.1 ≡ hub_empty made.0) }
     {
         let layout = setup.layout();
@@ -28,7 +28,7 @@ impl<A: Allocator + Clone + Drop> Mailbox<A> {
         let consumers = setup.consumers() as usize;
         let amount = setup.cells() as u32;
         let puts = Vec::with_capacity(alloc.clone()?, lanes as usize)?;
-        let ledgers = Vec::with_capacity(alloc.clone()?, consumers)?;
+        let records = Vec::with_capacity(alloc.clone()?, consumers)?;
         // The larger table is made first, since a table is held twice while it is made.
         let (claims, claims_hub) = SharedClaims::new(alloc.clone()?, layout, amount)?;
         let (cells, lanes_hub) = SharedCells::new(alloc, lanes, amount)?;
@@ -41,7 +41,7 @@ impl<A: Allocator + Clone + Drop> Mailbox<A> {
             cells: lanes_hub,
             claims: claims_hub,
             puts,
-            ledgers,
+            records,
         };
         Ok((mailbox, hub))
     }

@@ -109,7 +109,7 @@ pub fn work<
     rngs: Vec<R, A>,
     gate: &G,
 ) -> Result<Worked, WorkFault>
-    requires of { IsHubOf mailbox.now hub.old }
+    requires belongs { IsHubOf mailbox.now hub.old }
     ensures all_given { (result ≡ Err AllGiven)
         ↔ AsksTooMany mailbox.now (vec_len items) (vec_len rngs) hub.old }
     ensures bad_budget { (result ≡ Err BadBudget)
@@ -131,7 +131,7 @@ pub fn work<
     ensures some_thread { result ≡ Err NoThread → 0 < vec_len items + vec_len rngs }
     ensures no_memory { result ≡ Err NoMemory
         → WereTakenInEarly (lists_in items.items) (vec_len rngs) hub.old hub.new }
-    ensures of { IsHubOf mailbox.now hub.new }
+    ensures belongs { IsHubOf mailbox.now hub.new }
 {
     hub.has_history();
     if items.len() > lanes_left(mailbox, hub) || rngs.len() > consumers_left(mailbox, hub) {
@@ -166,9 +166,9 @@ pub fn consumers_left<A: Allocator + Drop, B: Allocator + Drop>(
     mailbox: &Mailbox<B>,
     hub: &Hub<A>,
 ) -> usize
-    ensures { result ≡ consumer_count mailbox.now.claims.layout - length hub.now.ledgers }
+    ensures { result ≡ consumer_count mailbox.now.claims.layout - length hub.now.records }
 {
-    (mailbox.claims.layout().consumers() as usize).saturating_sub(hub.ledgers.len())
+    (mailbox.claims.layout().consumers() as usize).saturating_sub(hub.records.len())
 }
 
 /// How many lanes the hub has issued.
@@ -230,9 +230,9 @@ fn work_with<
     gate: &G,
     memory: RunMemory<G, R, A>,
 ) -> Result<Worked, WorkFault>
-    requires of { IsHubOf mailbox.now hub.old }
+    requires belongs { IsHubOf mailbox.now hub.old }
     requires lanes { length hub.old.puts + vec_len load.items ≤ mailbox.now.cells.size.lanes }
-    requires consumers { length hub.old.ledgers + vec_len load.rngs ≤ consumer_count
+    requires consumers { length hub.old.records + vec_len load.rngs ≤ consumer_count
         mailbox.now.claims.layout }
     requires able { 0 < load.budget }
     requires jobs { HasJobRoom (vec_len load.items) (vec_len load.rngs) memory.jobs }
@@ -249,7 +249,7 @@ fn work_with<
     ensures some_thread { result ≡ Err NoThread → 0 < vec_len load.items + vec_len load.rngs }
     ensures no_memory { result ≡ Err NoMemory
         → WereTakenInEarly (lists_in load.items.items) (vec_len load.rngs) hub.old hub.new }
-    ensures of { IsHubOf mailbox.now hub.new }
+    ensures belongs { IsHubOf mailbox.now hub.new }
 {
     hub.has_history();
     lanes_are_few(mailbox);
@@ -305,7 +305,7 @@ fn settle<A: Allocator + Drop, B: Allocator + Drop>(
     ensures fault { IfErr result (λ e. e ≡ NoThread) }
     ensures some { IfErr result (λ _. 0 < length ends.puts.items + length ends.polls.items) }
     ensures hub { hub.new ≡ with_taken ends hub.old }
-    ensures of { IsHubOf mailbox.now hub.new }
+    ensures belongs { IsHubOf mailbox.now hub.new }
 {
     let WorkTotals {
         full,

@@ -57,13 +57,13 @@ impl<A: Allocator + Clone + Drop> Mailbox<A> {
         alloc: A,
         hub: Hub<A>,
     ) -> Result<Report<A>, (GatherFault, Mailbox<A>, Hub<A>)>
-        requires of { IsHubOf self hub }
+        requires belongs { IsHubOf self hub }
 
         // What is refused, and that nothing is lost then.
-        ensures missing { 0 < count_missing hub.puts + count_missing hub.ledgers
+        ensures missing { 0 < count_missing hub.puts + count_missing hub.records
             → result
-            ≡ Err (Missing (count_missing hub.puts) (count_missing hub.ledgers), self, hub) }
-        ensures refused { count_missing hub.puts + count_missing hub.ledgers ≡ 0
+            ≡ Err (Missing (count_missing hub.puts) (count_missing hub.records), self, hub) }
+        ensures refused { count_missing hub.puts + count_missing hub.records ≡ 0
             → IfErr result (λ e. e ≡ (NoMemory, self, hub)) }
         ensures same { IfErr result (λ e. (e.1 ≡ self) × (e.2 ≡ hub)) }
 
@@ -91,23 +91,23 @@ impl<A: Allocator + Clone + Drop> Mailbox<A> {
 
     /// How many producers, and how many consumers, were issued and not returned.
     pub fn missing(&self, hub: &Hub<A>) -> (u32, u32)
-        requires of { IsHubOf self.now hub.now }
+        requires belongs { IsHubOf self.now hub.now }
         ensures producers { result.0 ≡ count_missing hub.now.puts }
-        ensures consumers { result.1 ≡ count_missing hub.now.ledgers }
+        ensures consumers { result.1 ≡ count_missing hub.now.records }
     {
         layouts_are_sound();
         hub.has_history();
         let _ = &self.cells;
         (
             missing(hub.puts.as_slice()),
-            missing(hub.ledgers.as_slice()),
+            missing(hub.records.as_slice()),
         )
     }
 
     /// Makes the report of what was returned so far, but for the items put, with all the room that it needs. If memory
     /// is refused, the hub comes back as it was.
     pub fn draft(&self, alloc: A, hub: Hub<A>) -> Result<Draft<A>, Hub<A>>
-        requires of { IsHubOf self.now hub }
+        requires belongs { IsHubOf self.now hub }
         ensures drafted { IfOk result (λ draft. draft ≡ hub) }
         ensures refused { IfErr result (λ back. back ≡ hub) }
     {
@@ -120,9 +120,9 @@ impl<A: Allocator + Clone + Drop> Mailbox<A> {
 
     /// Ends the mailbox with a draft that was made after all were returned. It takes no memory, so it cannot fail.
     pub fn gather_with(self, draft: Draft<A>) -> Report<A>
-        requires of { IsHubOf self draft }
+        requires belongs { IsHubOf self draft }
         requires producers { count_missing draft.puts ≡ 0 }
-        requires consumers { count_missing draft.ledgers ≡ 0 }
+        requires consumers { count_missing draft.records ≡ 0 }
 
         // The report is as `gather` says it.
         ensures lists { IsReportIn self.cells.size.lanes (consumer_count self.claims.layout)
@@ -143,7 +143,7 @@ impl<A: Allocator + Clone + Drop> Mailbox<A> {
             cells: lanes_hub,
             claims: claims_hub,
             puts,
-            ledgers: _,
+            records: _,
         } = hub;
         let Report {
             lanes: mut reports,

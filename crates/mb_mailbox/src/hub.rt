@@ -47,7 +47,7 @@ pub struct Hub<A: Allocator + Drop> {
     pub(crate) cells: CellHub,
     pub(crate) claims: ClaimHub,
     pub(crate) puts: Vec<Option<PutList<A>>, A>,
-    pub(crate) ledgers: Vec<Option<ConsumerRecord<A>>, A>,
+    pub(crate) records: Vec<Option<ConsumerRecord<A>>, A>,
 }
 
 impl<A: Allocator + Drop> Model for Hub<A> {
@@ -61,17 +61,17 @@ impl<A: Allocator + Drop> Model for Hub<A> {
       cells = h.cells;
       claims = h.claims;
       puts = h.puts.items;
-      ledgers = h.ledgers.items;
+      records = h.records.items;
     } };
 
     ghost invariant = { λ h. IsHub (record {
       cells = h.cells;
       claims = h.claims;
       puts = h.puts.items;
-      ledgers = h.ledgers.items;
+      records = h.records.items;
     })
         × (h.cells.table.size.lanes ≤ vec_capacity h.puts)
-        × ((claims_at h.claims.table).table.values ≤ vec_capacity h.ledgers) };
+        × ((claims_at h.claims.table).table.values ≤ vec_capacity h.records) };
 }
 
 impl<A: Allocator + Drop> Hub<A> {
@@ -102,14 +102,14 @@ impl<A: Allocator + Drop> Hub<A> {
         alloc: A,
         mailbox: &Mailbox<B>,
     ) -> Result<Producer<A>, HubFault>
-        requires of { IsHubOf mailbox.now self.old }
+        requires belongs { IsHubOf mailbox.now self.old }
         ensures all_given { (result ≡ Err AllGiven)
             ↔ (mailbox.now.cells.size.lanes ≤ length self.old.puts) }
         ensures producer { IfOk result (λ given.
             given ≡ new_producer mailbox.now (length self.old.puts)) }
         ensures hub { IfOk result (λ _. self.new ≡ with_producer self.old) }
         ensures refused { OnErr result (self.new ≡ self.old) }
-        ensures of { IsHubOf mailbox.now self.new }
+        ensures belongs { IsHubOf mailbox.now self.new }
     {
         if self.puts.len() >= mailbox.lanes as usize {
             return Err(HubFault::AllGiven);
@@ -136,7 +136,7 @@ impl<A: Allocator + Drop> Hub<A> {
         requires producer { IsProducerOf mailbox.now producer }
         ensures was_out { slice_get self.old.puts producer.seat.lane ≡ Some None }
         ensures hub { self.new ≡ with_taken_producer producer self.old }
-        ensures of { IsHubOf mailbox.now self.new }
+        ensures belongs { IsHubOf mailbox.now self.new }
     {
         lanes_share_cells();
         parts_have_accesses();
@@ -160,9 +160,9 @@ impl<A: Allocator + Drop> Hub<A> {
     )
         requires hub { IsHubOf mailbox.now self.old }
         requires consumer { IsConsumerOf mailbox.now consumer }
-        ensures was_out { slice_get self.old.ledgers consumer.seat.consumer ≡ Some None }
+        ensures was_out { slice_get self.old.records consumer.seat.consumer ≡ Some None }
         ensures hub { self.new ≡ with_taken_consumer consumer self.old }
-        ensures of { IsHubOf mailbox.now self.new }
+        ensures belongs { IsHubOf mailbox.now self.new }
     {
         let ConsumerFields {
             reader,
@@ -174,7 +174,7 @@ impl<A: Allocator + Drop> Hub<A> {
         notes.trim();
         mailbox.cells.take_reader(&mut self.cells, reader);
         mailbox.claims.take_in(&mut self.claims, seat);
-        self.ledgers[number as usize] = Some(ConsumerRecord { places, notes });
+        self.records[number as usize] = Some(ConsumerRecord { places, notes });
     }
 }
 
@@ -192,16 +192,16 @@ impl<A: Allocator + Clone + Drop> Hub<A> {
         alloc: A,
         mailbox: &Mailbox<B>,
     ) -> Result<Consumer<A>, HubFault>
-        requires of { IsHubOf mailbox.now self.old }
+        requires belongs { IsHubOf mailbox.now self.old }
         ensures all_given { (result ≡ Err AllGiven)
-            ↔ (consumer_count mailbox.now.claims.layout ≤ length self.old.ledgers) }
+            ↔ (consumer_count mailbox.now.claims.layout ≤ length self.old.records) }
         ensures consumer { IfOk result (λ given. IsNewConsumer mailbox.now self.old given) }
         ensures hub { IfOk result (λ _. self.new ≡ with_consumer self.old) }
         ensures refused { OnErr result (self.new ≡ self.old) }
-        ensures of { IsHubOf mailbox.now self.new }
+        ensures belongs { IsHubOf mailbox.now self.new }
     {
         parts_fit_on();
-        if self.ledgers.len() >= mailbox.claims.layout().consumers() as usize {
+        if self.records.len() >= mailbox.claims.layout().consumers() as usize {
             return Err(HubFault::AllGiven);
         }
         let Ok(notes) = Notes::new(alloc, mailbox.lanes, mailbox.claims.cells() as usize) else {
@@ -211,7 +211,7 @@ impl<A: Allocator + Clone + Drop> Hub<A> {
             unreachable!()
         };
         let reader = mailbox.cells.enroll_reader(&mut self.cells);
-        self.ledgers.push_reserved(None);
+        self.records.push_reserved(None);
         let mut fields = ConsumerFields {
             reader,
             seat,

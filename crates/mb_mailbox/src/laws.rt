@@ -10,7 +10,7 @@ ghost use Rattle.mb_mailbox.specs.Mailboxes.{MailboxView};
 ghost use Rattle.mb_mailbox.specs.{Jobs.{accesses_made}, Steps.{AreDrawn, outcome}, Takes.{IsTakeOf}};
 ghost use Rattle.mb_mailbox.specs.declared.consumer.Poll.TheVariants.{Lost, Spent, Took};
 ghost use Rattle.mb_world.specs.{Agreement.{AreAllTaken, IsLeftBesideBegun}, Places.{has_begun_at}, Theorem.{ReportView, note}};
-ghost use Rattle.mb_mailbox.specs.GatheringExamples.{alone_undecided, two_undecided};
+ghost use Rattle.mb_mailbox.specs.GatheringSamples.{alone_undecided, two_undecided};
 ghost use Rattle.mb_mailbox.specs.Hubs.{HubView, with_taken_consumer, with_taken_producer};
 ghost use Rattle.mb_mailbox.specs.Producers.{ProducerView};
 ghost use Rattle.mb_world.specs.declared.place.Place.{Place, TheVariants.At};
@@ -44,8 +44,8 @@ pub fn polls_are_short()
 pub fn what_was_not_given_is_empty()
     ensures items { (h : HubView) (p : ℕ) → length h.puts ≤ p → items_in p h ≡ [] }
     ensures ended { (h : HubView) (p : ℕ) → length h.puts ≤ p → ended_in p h ≡ false }
-    ensures notes { (h : HubView) (c p : ℕ) → length h.ledgers ≤ c → notes_in c p h ≡ [] }
-    ensures begun { (h : HubView) (c p : ℕ) → length h.ledgers ≤ c → begun_in c p h ≡ false }
+    ensures notes { (h : HubView) (c p : ℕ) → length h.records ≤ c → notes_in c p h ≡ [] }
+    ensures begun { (h : HubView) (c p : ℕ) → length h.records ≤ c → begun_in c p h ≡ false }
 {}
 
 /// The report has what was returned: the producer's own items, and the consumer's own notes.
@@ -57,10 +57,10 @@ pub fn what_was_taken_in_is_told()
         → slice_get h.puts s.seat.lane ≡ Some None
         → ended_in s.seat.lane (with_taken_producer s h) ≡ has_ended s.seat.lane s.seat.part }
     ensures notes { (h : HubView) (s : ConsumerView) (p : ℕ) (notes : List Note)
-        → slice_get h.ledgers s.seat.consumer ≡ Some None → slice_get s.notes p ≡ Some notes
+        → slice_get h.records s.seat.consumer ≡ Some None → slice_get s.notes p ≡ Some notes
         → notes_in s.seat.consumer p (with_taken_consumer s h) ≡ notes }
     ensures begun { (h : HubView) (s : ConsumerView) (p : ℕ) (place : Place)
-        → slice_get h.ledgers s.seat.consumer ≡ Some None → slice_get s.places p ≡ Some place
+        → slice_get h.records s.seat.consumer ≡ Some None → slice_get s.places p ≡ Some place
         → begun_in s.seat.consumer p (with_taken_consumer s h) ≡ has_begun_at place }
 {}
 
@@ -97,9 +97,9 @@ pub fn calls_draw_the_first_words()
         → AreDrawn source (map (λ a. a.step.turn.word) new.seat.part) left }
 {}
 
-/// A take, by example. A poll that lost its item and a poll that took one make a take, if the second has what the first
+/// A sample of takes. A poll that lost its item and a poll that took one make a take, if the second has what the first
 /// left.
-pub fn takes_by_example()
+pub fn sample_takes()
     ensures past_one { (p most left w x : ℕ) (s t u : Stream) (old mid new : ConsumerView)
         → IsPollOf p most (Lost w) s t old mid
         → accesses_made mid + left ≡ accesses_made old + most
@@ -121,9 +121,9 @@ pub fn hubs_have_one_report()
         → IsReportIn lanes consumers h r → IsReportIn lanes consumers h s → r ≡ s }
 {}
 
-/// What is missing, by example. A report in which only one consumer has an undecided note, and no other competed, is
+/// A sample of what is missing. A report in which only one consumer has an undecided note, and no other competed, is
 /// not let in.
-pub fn reports_by_example()
+pub fn sample_reports()
     ensures two_missing { count_missing {X = ℕ} (None ∷ Some 7 ∷ None ∷ []) ≡ 2 }
     ensures none_missing { count_missing {X = ℕ} (Some 7 ∷ Some 8 ∷ []) ≡ 0 }
     ensures company { UndecidedHasCompany two_undecided }

@@ -59,7 +59,7 @@ impl<A: Allocator + Drop> Producer<A> {
     /// it makes none. Nor does one that returns [`Put::Closed`]. It takes no lock and no memory.
     #[inline(always)]
     pub fn put<B: Allocator + Drop>(&mut self, mailbox: &Mailbox<B>, x: u64) -> Put
-        requires of { IsProducerOf mailbox.now self.old }
+        requires belongs { IsProducerOf mailbox.now self.old }
         ensures linked { result ≡ Linked → (k : ℕ) × IsPutInto k x self.old self.new }
 
         // `Full` comes with the first fetch-add of the producer that finds no cell. From then on, up to the finish,
@@ -73,7 +73,7 @@ impl<A: Allocator + Drop> Producer<A> {
         // A put ends no lane.
         ensures stays { is_over self.new ≡ is_over self.old }
         ensures lane { IsSameLane self.old self.new }
-        ensures of { IsProducerOf mailbox.now self.new }
+        ensures belongs { IsProducerOf mailbox.now self.new }
     {
         producers_move_on();
         self.seat.has_history();
@@ -94,7 +94,7 @@ impl<A: Allocator + Drop> Producer<A> {
     /// before, it returns `Closed` and makes no access. It never returns `Busy`, since each item put is linked. It takes
     /// no lock and no memory.
     pub fn finish<B: Allocator + Drop>(&mut self, mailbox: &Mailbox<B>) -> Finish
-        requires of { IsProducerOf mailbox.now self.old }
+        requires belongs { IsProducerOf mailbox.now self.old }
         ensures ended { result ≡ finish.Ended → IsEndOfLane self.old self.new }
         ensures closed { (result ≡ finish.Closed) ↔ (is_over self.old ≡ true) }
         ensures closed_same { result ≡ finish.Closed → self.new ≡ self.old }
@@ -102,7 +102,7 @@ impl<A: Allocator + Drop> Producer<A> {
         ensures over { is_over self.new ≡ true }
         ensures lane { IsSameLane self.old self.new }
         ensures items { self.new.items ≡ self.old.items }
-        ensures of { IsProducerOf mailbox.now self.new }
+        ensures belongs { IsProducerOf mailbox.now self.new }
     {
         producers_move_on();
         self.seat.has_history();

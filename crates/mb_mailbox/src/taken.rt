@@ -20,8 +20,7 @@ impl<A: Allocator + Drop> Model for PutList<A> {
     ghost view = { λ l. record { items = l.items.items; ended = l.ended } };
 }
 
-/// What is kept of a consumer that was returned: its place on each lane, and its notes there. Fields call it a
-/// ledger.
+/// What is kept of a consumer that was returned: its place on each lane, and its notes there.
 #[derive(Drop)]
 pub(crate) struct ConsumerRecord<A: Allocator + Drop> {
     pub(crate) places: ArrayVec<Place, 16>,

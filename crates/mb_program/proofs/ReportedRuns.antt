@@ -32,12 +32,12 @@ pub reported_run : {budget : ℕ} {lists : List (List ℕ)} {words : List Stream
     → (gathered : IsGathered m h r) → FullTakesAll m h r
     → IsReportedRun (λ _ _. ⊥) (λ _ _. Unit {0}) (terms_asked o)
     (item_lists o.producers o.items) w gathered.histories r
-reported_run o m old h r w most plan size empty are drawn of called told gathered full = record {
+reported_run o m old h r w most plan size empty are drawn belongs called told gathered full = record {
   mailbox = m;
   plan = plan;
   size = size;
   hub = h;
-  of = of;
+  belongs = belongs;
   called = subst (λ (z : (ℕ × List (List ℕ)) × (List Stream × HubView)). IsCalled (λ _ _. ⊥)
       (λ _ _. Unit {0}) z.0.0 z.0.1 z.1.0 w z.1.1 h)
       (λ i. ((most i, are i), (drawn i, empty i))) called;

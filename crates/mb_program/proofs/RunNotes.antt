@@ -44,17 +44,17 @@ stopped_at may_stop budget from (x ∷ xs) (suc c) one all at =
     (stopped_at may_stop budget (suc from) xs c one all.1 at)
 
 -- a consumer with a note at each item has as many notes on lane p as items were put on that lane
-noted_at : (from : ℕ) (lanes : List ProducerEnd) (p : ℕ) (l : ProducerEnd) (ledger : ConsumerRecordView)
-    → HasNoteAtEach from lanes ledger → slice_get lanes p ≡ Some l
-    → length (notes_on (from + p) ledger.notes) ≡ length l.put
-noted_at from [] p l ledger has at = absurd (cc)
-noted_at from (x ∷ xs) zero l ledger has at =
+noted_at : (from : ℕ) (lanes : List ProducerEnd) (p : ℕ) (l : ProducerEnd) (kept : ConsumerRecordView)
+    → HasNoteAtEach from lanes kept → slice_get lanes p ≡ Some l
+    → length (notes_on (from + p) kept.notes) ≡ length l.put
+noted_at from [] p l kept has at = absurd (cc)
+noted_at from (x ∷ xs) zero l kept has at =
     let here : from + 0 ≡ from = omega arith in
-    ap (λ (k : ℕ). length (notes_on k ledger.notes)) here ∙ has.0 ∙ ap (λ (y : ProducerEnd). length y.put)
+    ap (λ (k : ℕ). length (notes_on k kept.notes)) here ∙ has.0 ∙ ap (λ (y : ProducerEnd). length y.put)
     (same_some at)
-noted_at from (x ∷ xs) (suc p) l ledger has at =
+noted_at from (x ∷ xs) (suc p) l kept has at =
     let next : from + suc p ≡ suc from + p = omega arith in
-    ap (λ (k : ℕ). length (notes_on k ledger.notes)) next ∙ noted_at (suc from) xs p l ledger has.1 at
+    ap (λ (k : ℕ). length (notes_on k kept.notes)) next ∙ noted_at (suc from) xs p l kept has.1 at
 
 -- at each place below its length a list has an element
 one_at : {X : Type 0} (xs : List X) (k : ℕ) → k < length xs → (x : X) × (slice_get xs k ≡ Some x)
@@ -87,14 +87,14 @@ pub notes_told : (may_stop : Who → ℕ → Type 0) (budget : ℕ) → ((w : Wh
     → (count : ℕ) (m : MailboxView) (h : HubView) (r : ReportView)
     (left : List ProducerEnd) (cs : List ConsumerEnd) (g : IsGathered m h r)
     → IsReportIn m.cells.size.lanes (consumer_count m.claims.layout) h r
-    → h.ledgers ≡ map (λ x. Some x.ledger) cs → h.cells.roll.readers ≡ map (λ x. Some x.reads) cs
+    → h.records ≡ map (λ x. Some x.kept) cs → h.cells.roll.readers ≡ map (λ x. Some x.reads) cs
     → h.claims.roll ≡ map (λ x. Some x.claimed) cs
     → length cs ≡ consumer_count m.claims.layout → AreStoppedPolls may_stop budget 0 cs
-    → All (λ x. x.stopped ≡ false → HasNoteAtEach 0 left x.ledger) cs
+    → All (λ x. x.stopped ≡ false → HasNoteAtEach 0 left x.kept) cs
     → ((p : ℕ) → p < m.cells.size.lanes → (l : ProducerEnd) × (slice_get left p ≡ Some l) × (length l.put ≡ count))
     → (c p : ℕ) → c < consumer_count m.claims.layout → p < m.cells.size.lanes
     → HasNotedAll count budget c p g.histories r
-notes_told may_stop budget never count m h r left cs g told ledgers readers claims many stopped
+notes_told may_stop budget never count m h r left cs g told records readers claims many stopped
     noted lanes c p low_c low_p = go one.stopped refl
   where
     -- consumer c is among those that worked, and this is what it left
@@ -110,16 +110,16 @@ notes_told may_stop budget never count m h r left cs g told ledgers readers clai
     at : slice_get cs c ≡ Some one
     at = found.1
 
-    -- the hub kept the ledger of consumer c
-    kept : kept_at h.ledgers c ≡ Some one.ledger
-    kept = ap (λ xs. kept_at xs c) ledgers ∙ rw (slice_get-map (λ (x : ConsumerEnd). Some x.ledger) cs c, at) refl
+    -- the hub kept the record of consumer c
+    kept : kept_at h.records c ≡ Some one.kept
+    kept = ap (λ xs. kept_at xs c) records ∙ rw (slice_get-map (λ (x : ConsumerEnd). Some x.kept) cs c, at) refl
 
-    -- the notes in the report are those of the hub, and these are those of the ledger
+    -- the notes in the report are those of the hub, and these are those of the record
     in_report : notes c p r ≡ notes_in c p h
     in_report = rw (told.lanes_count, lt-ltb p m.cells.size.lanes low_p, told.diary c p low_c low_p) refl
 
-    in_ledger : notes_in c p h ≡ notes_on p one.ledger.notes
-    in_ledger = rw kept refl
+    in_record : notes_in c p h ≡ notes_on p one.kept.notes
+    in_record = rw kept refl
 
     -- the parts of consumer c in the histories are those that it left, so its accesses are as many
     reads : part (Reader (g.histories.reader_of c)) g.histories.pool ≡ one.reads
@@ -137,10 +137,10 @@ notes_told may_stop budget never count m h r left cs g told ledgers readers clai
     go : (b : Bool) → one.stopped ≡ b → HasNotedAll count budget c p g.histories r
     go false e =
         let l = lanes p low_p in
-        let has = of_one (λ x. x.stopped ≡ false → HasNoteAtEach 0 left x.ledger) cs c one noted there at e in
+        let has = of_one (λ x. x.stopped ≡ false → HasNoteAtEach 0 left x.kept) cs c one noted there at e in
         let here : p ≡ 0 + p = omega arith in
-        inl (ap length (in_report ∙ in_ledger) ∙ ap (λ (k : ℕ). length (notes_on k one.ledger.notes)) here
-        ∙ noted_at 0 left p l.0 one.ledger has l.1 ∙ l.2)
+        inl (ap length (in_report ∙ in_record) ∙ ap (λ (k : ℕ). length (notes_on k one.kept.notes)) here
+        ∙ noted_at 0 left p l.0 one.kept has l.1 ∙ l.2)
     go true e =
         let last = come_to_last may_stop never budget (0 + c)
         (length one.reads + length one.claimed)

@@ -138,7 +138,7 @@ pub run_report : {budget : ℕ} (may_stop : Who → ℕ → Type 0) → ((w : Wh
     (item_lists o.producers o.items) w gathered.histories r
     → IsRunReport o r
 run_report {budget} may_stop never o m old h r lists n w few asked plan size empty are sources
-    worked of told gathered full run = record {
+    worked belongs told gathered full run = record {
       histories = gathered.histories;
       reader = gathered.reader;
       sound = subst (λ p. AreSound p gathered.histories) plan gathered.sound;
@@ -151,7 +151,7 @@ run_report {budget} may_stop never o m old h r lists n w few asked plan size emp
           (subst (λ ls. AllZip (λ list l. IsFront l.put list) ls worked.lanes) are worked.run.fronts) all_put;
       noted = λ c p low_c low_p. subst (λ (b : ℕ). HasNotedAll o.items b c p gathered.histories r) asked
           (notes_told may_stop budget never o.items m h r worked.lanes worked.consumers gathered told
-          ledgers readers claims many
+          records readers claims many
           polls noted whole c p (omega (arith, low_c, consumers)) (omega (arith, low_p, same)));
     }
   where
@@ -168,7 +168,7 @@ run_report {budget} may_stop never o m old h r lists n w few asked plan size emp
 
     -- the hub's table has as many cells as the mailbox
     cells : h.cells.table.size.cells ≡ m.cells.size.cells
-    cells = ap (λ (t : CellsName). t.size.cells) of.cells
+    cells = ap (λ (t : CellsName). t.size.cells) belongs.cells
 
     -- what the run says of stopped producers, and of those that found no cell, is said of the lists asked for
     stopped : AreStoppedPuts may_stop m.cells.size.cells 0 (item_lists o.producers o.items) worked.lanes
@@ -208,9 +208,9 @@ run_report {budget} may_stop never o m old h r lists n w few asked plan size emp
     consumers : o.consumers ≡ consumer_count m.claims.layout
     consumers = sym (ap consumers_of plan)
 
-    -- the hub has the ledger and both parts of each consumer as the workers left them
-    ledgers : h.ledgers ≡ map (λ x. Some x.ledger) worked.consumers
-    ledgers = worked.run.ledgers ∙ ap (λ (g : HubView). g.ledgers ++ map (λ x. Some x.ledger) worked.consumers) empty
+    -- the hub has the record and both parts of each consumer as the workers left them
+    records : h.records ≡ map (λ x. Some x.kept) worked.consumers
+    records = worked.run.records ∙ ap (λ (g : HubView). g.records ++ map (λ x. Some x.kept) worked.consumers) empty
 
     readers : h.cells.roll.readers ≡ map (λ x. Some x.reads) worked.consumers
     readers = worked.run.reads ∙ ap (λ (g : HubView). g.cells.roll.readers
@@ -226,12 +226,12 @@ run_report {budget} may_stop never o m old h r lists n w few asked plan size emp
 
     -- what the run says of stopped consumers, and of the notes of the others, is said from number 0 on
     polls : AreStoppedPolls may_stop budget 0 worked.consumers
-    polls = subst (λ (g : HubView). AreStoppedPolls may_stop budget (length g.ledgers)
+    polls = subst (λ (g : HubView). AreStoppedPolls may_stop budget (length g.records)
         worked.consumers) empty worked.stopped_polls
 
-    noted : All (λ x. x.stopped ≡ false → HasNoteAtEach 0 worked.lanes x.ledger) worked.consumers
+    noted : All (λ x. x.stopped ≡ false → HasNoteAtEach 0 worked.lanes x.kept) worked.consumers
     noted = subst (λ (g : HubView).
-        All (λ x. x.stopped ≡ false → HasNoteAtEach (length g.puts) worked.lanes x.ledger)
+        All (λ x. x.stopped ≡ false → HasNoteAtEach (length g.puts) worked.lanes x.kept)
         worked.consumers) empty worked.noted
 
     -- each producer has left as many items as are asked for
@@ -259,7 +259,7 @@ asks_enough o m old lists sources plan empty all each asks =
     let lanes : m.cells.size.lanes ≡ o.producers = ap (λ p. p.lanes) plan in
     let consumers : consumer_count m.claims.layout ≡ o.consumers = ap consumers_of plan in
     let none = ap (λ (g : HubView). length g.puts) empty in
-    let nobody = ap (λ (g : HubView). length g.ledgers) empty in
+    let nobody = ap (λ (g : HubView). length g.records) empty in
     elim asks [
       | inl more ↦ omega (arith, more, lanes, all, none)
       | inr more ↦ omega (arith, more, consumers, each, nobody)

@@ -47,18 +47,18 @@ of_one P xs k x all low at =
     subst P (some_same _ _ (sym (slice_get-get_or xs k x low) ∙ at)) (all k x low)
 
 -- a consumer with a note at each item has as many notes on a lane as items were put there
-noted_at : (from p : ℕ) (lanes : List ProducerEnd) (l : ProducerEnd) (ledger : ConsumerRecordView)
-    → HasNoteAtEach from lanes ledger → slice_get lanes p ≡ Some l
-    → length (notes_on (from + p) ledger.notes) ≡ length l.put
-noted_at from p [] l ledger has at = absurd (cc)
-noted_at from zero (x ∷ xs) l ledger has at =
+noted_at : (from p : ℕ) (lanes : List ProducerEnd) (l : ProducerEnd) (kept : ConsumerRecordView)
+    → HasNoteAtEach from lanes kept → slice_get lanes p ≡ Some l
+    → length (notes_on (from + p) kept.notes) ≡ length l.put
+noted_at from p [] l kept has at = absurd (cc)
+noted_at from zero (x ∷ xs) l kept has at =
     let here : from + 0 ≡ from = omega arith in
-    ap (λ (k : ℕ). length (notes_on k ledger.notes)) here ∙ has.0
+    ap (λ (k : ℕ). length (notes_on k kept.notes)) here ∙ has.0
     ∙ ap (λ (y : ProducerEnd). length y.put) (some_same x l at)
-noted_at from (suc p) (x ∷ xs) l ledger has at =
+noted_at from (suc p) (x ∷ xs) l kept has at =
     let next : from + suc p ≡ suc from + p = omega arith in
-    ap (λ (k : ℕ). length (notes_on k ledger.notes)) next
-    ∙ noted_at (suc from) p xs l ledger has.1 at
+    ap (λ (k : ℕ). length (notes_on k kept.notes)) next
+    ∙ noted_at (suc from) p xs l kept has.1 at
 
 module _ {may_stop may_pass : Who → ℕ → Type 0} (terms : Terms) (lists : List (List ℕ)) (w : Worked)
     (r : ReportView) (played : IsPlayed may_stop may_pass terms lists w r) where
@@ -78,7 +78,7 @@ module _ {may_stop may_pass : Who → ℕ → Type 0} (terms : Terms) (lists : L
 
   -- the notes of a consumer that worked are those that it left
   notes_are : (c p : ℕ) (one : ConsumerEnd) → c < consumers_of terms.plan → p < length r.lanes
-      → slice_get consumers c ≡ Some one → notes c p r ≡ notes_on p one.ledger.notes
+      → slice_get consumers c ≡ Some one → notes c p r ≡ notes_on p one.kept.notes
   notes_are c p one known low at =
       let run = played.run in
       let size = run.told.lanes_count in
@@ -87,9 +87,9 @@ module _ {may_stop may_pass : Who → ℕ → Type 0} (terms : Terms) (lists : L
       let within : p < run.mailbox.cells.size.lanes = omega (arith, low, size) in
       let told : notes c p r ≡ notes_in c p hub =
       rw (size, lt-ltb p run.mailbox.cells.size.lanes within, run.told.diary c p few within) refl in
-      let kept : kept_at hub.ledgers c ≡ Some one.ledger =
-      ap (λ xs. kept_at xs c) run.called.worked.run.ledgers
-      ∙ rw (map_get (λ (x : ConsumerEnd). Some x.ledger) consumers c one at) refl in
+      let kept : kept_at hub.records c ≡ Some one.kept =
+      ap (λ xs. kept_at xs c) run.called.worked.run.records
+      ∙ rw (map_get (λ (x : ConsumerEnd). Some x.kept) consumers c one at) refl in
       told ∙ rw kept refl
 
   -- the items of a lane are those that its producer put
@@ -126,10 +126,10 @@ module _ {may_stop may_pass : Who → ℕ → Type 0} (terms : Terms) (lists : L
           let free : one.0.stopped ≡ false =
           none_on (λ (x : ConsumerEnd). x.stopped) consumers c one.0
           (omega (arith, none, stopped)) one.1 in
-          let has = of_one (λ x. x.stopped ≡ false → HasNoteAtEach 0 lanes x.ledger) consumers c
+          let has = of_one (λ x. x.stopped ≡ false → HasNoteAtEach 0 lanes x.kept) consumers c
           one.0 worked.noted there one.1 free in
           let here : p ≡ 0 + p = omega arith in
           ap length (notes_are c p one.0 (omega (arith, low, few)) within one.1)
-          ∙ ap (λ (k : ℕ). length (notes_on k one.0.ledger.notes)) here
-          ∙ noted_at 0 p lanes put.0 one.0.ledger has put.1
+          ∙ ap (λ (k : ℕ). length (notes_on k one.0.kept.notes)) here
+          ∙ noted_at 0 p lanes put.0 one.0.kept has put.1
           ∙ ap length (sym (items_are p put.0 within put.1))

@@ -30,7 +30,7 @@ asks_enough plan m old lists sources same empty all few asks =
     let lanes : m.cells.size.lanes ≡ plan.lanes = ap (λ p. p.lanes) same in
     let consumers : consumer_count m.claims.layout ≡ consumers_of plan = ap consumers_of same in
     let none = ap (λ (g : HubView). length g.puts) empty in
-    let nobody = ap (λ (g : HubView). length g.ledgers) empty in
+    let nobody = ap (λ (g : HubView). length g.records) empty in
     elim asks [
       | inl more ↦ omega (arith, more, lanes, all, none)
       | inr more ↦ omega (arith, more, consumers, few, nobody)
@@ -49,7 +49,7 @@ pub played : (m : MailboxView) (old h : HubView) (r : ReportView) (terms : Terms
     → IsCalled may_stop may_pass terms.budget lists terms.sources w old h
     → IsReportIn m.cells.size.lanes (consumer_count m.claims.layout) h r
     → IsGathered m h r → FullTakesAll m h r → IsPlayed may_stop may_pass terms lists w r
-played m old h r terms lists may_stop may_pass w same size all empty of called told gathered full =
+played m old h r terms lists may_stop may_pass w same size all empty belongs called told gathered full =
     let worked = called.worked in
     record {
       fronts = fronts_told m.cells.size.lanes (consumer_count m.claims.layout) lists worked.lanes h r
@@ -65,7 +65,7 @@ played m old h r terms lists may_stop may_pass w same size all empty of called t
         plan = same;
         size = size;
         hub = h;
-        of = of;
+        belongs = belongs;
         called = subst (λ (o : HubView). IsCalled may_stop may_pass terms.budget lists terms.sources
             w o h) empty called;
         told = told;

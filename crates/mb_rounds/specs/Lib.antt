@@ -1,4 +1,4 @@
 pub mod Carried
 pub mod Round
 pub mod Turns
-pub mod TurnExamples
+pub mod TurnSamples

@@ -2,7 +2,7 @@
 ghost use Rattle.std.specs.Prelude.{ℕ, ◌≡◌, ◌≤◌, ◌++◌, List, [], ◌∷◌};
 ghost use Rattle.mb_rounds.specs.Carried.{AreSameItems, times};
 ghost use Rattle.mb_rounds.specs.Round.{AreEven};
-ghost use Rattle.mb_rounds.specs.TurnExamples.{two_rounds};
+ghost use Rattle.mb_rounds.specs.TurnSamples.{two_rounds};
 ghost use Rattle.mb_rounds.specs.Turns.{AreCarriedAfter, Turn, given_out, handed_in};
 
 /// Over any number of turns, in any order: each item that was handed in was given out once or is carried now. There are
@@ -14,17 +14,17 @@ pub fn nothing_is_lost_or_given_twice()
         → times x (given_out turns) ≤ times x (handed_in turns) }
 {}
 
-/// What is carried, by example. Two rounds gave out 7, 7 and 9 of the items 7, 8, 7 and 9. After them the item 8 is
+/// A sample of what is carried. Two rounds gave out 7, 7 and 9 of the items 7, 8, 7 and 9. After them the item 8 is
 /// carried. That nothing is carried, or a 7 in its place, is refused.
-pub fn carried_by_example()
+pub fn sample_carried()
     ensures one_left { AreCarriedAfter two_rounds (8 ∷ []) }
     ensures none_left { AreCarriedAfter two_rounds [] → ⊥ }
     ensures other_left { AreCarriedAfter two_rounds (7 ∷ []) → ⊥ }
 {}
 
-/// What is dealt evenly, by example. If one list has one item more than each other, that is even. If it has two items
+/// A sample of what is dealt evenly. If one list has one item more than each other, that is even. If it has two items
 /// more, it is not.
-pub fn even_by_example()
+pub fn sample_even()
     ensures one_more { AreEven ([] ∷ [] ∷ (7 ∷ []) ∷ []) }
     ensures two_more { AreEven ((7 ∷ 8 ∷ []) ∷ [] ∷ []) → ⊥ }
 {}

@@ -146,7 +146,7 @@ fn put_all(
     mut producer: Producer<Global>,
     first: u64,
 ) -> Producer<Global>
-    requires of { IsProducerOf mailbox.now producer }
+    requires belongs { IsProducerOf mailbox.now producer }
     requires small { first < 1000000 }
     ensures { IsProducerOf mailbox.now result }
 {
@@ -198,7 +198,7 @@ fn put_and_poll<R: Threads + Sync>(
     join(
         rt,
         || -> Producer<Global>
-            requires of { IsProducerOf mailbox.now producer }
+            requires belongs { IsProducerOf mailbox.now producer }
             requires small { first < 1000000 }
             ensures { IsProducerOf mailbox.entry.now result }
         { put_all(mailbox, producer, first) },

@@ -228,8 +228,8 @@ fn put_by<A: Allocator + Drop>(
     mailbox: &Mailbox<A>,
     x: u64,
 ) -> Option<Put>
-    requires of { IfSome producer.old (IsProducerOf mailbox.now) }
-    ensures of { IfSome producer.new (IsProducerOf mailbox.now) }
+    requires belongs { IfSome producer.old (IsProducerOf mailbox.now) }
+    ensures belongs { IfSome producer.new (IsProducerOf mailbox.now) }
 {
     match producer {
         Some(producer) => Some(producer.put(mailbox, x)),
@@ -242,8 +242,8 @@ fn finish_by<A: Allocator + Drop>(
     producer: &mut Option<Producer<A>>,
     mailbox: &Mailbox<A>,
 ) -> Option<Finish>
-    requires of { IfSome producer.old (IsProducerOf mailbox.now) }
-    ensures of { IfSome producer.new (IsProducerOf mailbox.now) }
+    requires belongs { IfSome producer.old (IsProducerOf mailbox.now) }
+    ensures belongs { IfSome producer.new (IsProducerOf mailbox.now) }
 {
     match producer {
         Some(producer) => Some(producer.finish(mailbox)),
@@ -259,8 +259,8 @@ fn poll_by<A: Allocator + Drop, R: Rng>(
     budget: u64,
     words: &mut R,
 ) -> Option<Poll>
-    requires of { IfSome consumer.old (IsConsumerOf mailbox.now) }
-    ensures of { IfSome consumer.new (IsConsumerOf mailbox.now) }
+    requires belongs { IfSome consumer.old (IsConsumerOf mailbox.now) }
+    ensures belongs { IfSome consumer.new (IsConsumerOf mailbox.now) }
 {
     match consumer {
         Some(consumer) => Some(consumer.poll(mailbox, lane, budget, words)),
@@ -276,8 +276,8 @@ fn take_by<A: Allocator + Drop, R: Rng>(
     most: u64,
     words: &mut R,
 ) -> Option<Poll>
-    requires of { IfSome consumer.old (IsConsumerOf mailbox.now) }
-    ensures of { IfSome consumer.new (IsConsumerOf mailbox.now) }
+    requires belongs { IfSome consumer.old (IsConsumerOf mailbox.now) }
+    ensures belongs { IfSome consumer.new (IsConsumerOf mailbox.now) }
 {
     match consumer {
         Some(consumer) => Some(consumer.take(mailbox, lane, most, words)),

@@ -25,7 +25,7 @@ pub(super) fn meet<A: Allocator + Drop, B: Allocator + Drop>(
 ) -> Look
     requires is { IsConsumer (at_link lane at (with_fields fields.old)) }
     requires lane { lane < array_vec_len fields.old.places }
-    requires of { IsConsumerOf mailbox.now (with_fields fields.old) }
+    requires belongs { IsConsumerOf mailbox.now (with_fields fields.old) }
 
     // The load is the next access on the lane, whatever place it leads to.
     ensures looks { (places : List Place) (t : Stream) → AreSteps lane 1 (link_answer result) t t
@@ -45,7 +45,7 @@ pub(super) fn meet<A: Allocator + Drop, B: Allocator + Drop>(
     ensures seat { fields.new.seat ≡ fields.old.seat }
     ensures places { fields.new.places.items ≡ fields.old.places.items }
     ensures notes { fields.new.notes ≡ fields.old.notes }
-    ensures of { IsConsumerOf mailbox.now (with_fields fields.new) }
+    ensures belongs { IsConsumerOf mailbox.now (with_fields fields.new) }
 {
     consumers_move_on();
     places_tell_steps();

@@ -34,7 +34,7 @@ fn settle<A: Allocator + Drop, B: Allocator + Drop, R: Rng>(
 ) -> Poll
     requires held { IsBeforeObject mailbox.now.claims.layout lane cell 0 fields.old.seat.consumer
         (with_fields fields.old) }
-    requires of { IsConsumerOf mailbox.now (with_fields fields.old) }
+    requires belongs { IsConsumerOf mailbox.now (with_fields fields.old) }
     requires wide { HasAllRoom fields.old.reader.table.size.cells fields.old.notes }
     requires alone { kinds_of mailbox.now.claims.layout ≡ LastObject ∷ [] }
     ensures pursued { (from : ConsumerView) (n left : ℕ) (t : Stream) (claim : Claim)
@@ -81,7 +81,7 @@ pub(super) fn pass<A: Allocator + Drop, B: Allocator + Drop, R: Rng>(
     requires is { IsConsumer (with_fields fields.old) }
     requires place { HasPlace lane (Before first) (with_fields fields.old) }
     requires lane { lane < array_vec_len fields.old.places }
-    requires of { IsConsumerOf mailbox.now (with_fields fields.old) }
+    requires belongs { IsConsumerOf mailbox.now (with_fields fields.old) }
     requires wide { HasAllRoom fields.old.reader.table.size.cells fields.old.notes }
     requires alone { kinds_of mailbox.now.claims.layout ≡ LastObject ∷ [] }
 
@@ -100,7 +100,7 @@ pub(super) fn pass<A: Allocator + Drop, B: Allocator + Drop, R: Rng>(
     ensures decided { IfSome result (λ answer. (answer ≢ poll.NoLane)
         × (answer ≢ poll.Undecided)) }
     ensures is { IsConsumer (with_fields fields.new) }
-    ensures of { IsConsumerOf mailbox.now (with_fields fields.new) }
+    ensures belongs { IsConsumerOf mailbox.now (with_fields fields.new) }
     ensures wide { HasAllRoom fields.new.reader.table.size.cells fields.new.notes }
 {
     let mut at = first;

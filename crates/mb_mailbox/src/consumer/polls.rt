@@ -31,7 +31,7 @@ impl<A: Allocator + Drop> Consumer<A> {
         budget: u64,
         rng: &mut R,
     ) -> Poll
-        requires of { IsConsumerOf mailbox.now self.old }
+        requires belongs { IsConsumerOf mailbox.now self.old }
         ensures no_lane { (result ≡ NoLane) ↔ (mailbox.now.cells.size.lanes ≤ lane) }
         ensures refused { result ≡ NoLane
             → (self.new ≡ self.old) × (R.stream rng.new ≡ R.stream rng.old) }
@@ -47,7 +47,7 @@ impl<A: Allocator + Drop> Consumer<A> {
 
         // What the answer says of the lane, even if its producer was taken in before the consumer was given.
         ensures told { result ≢ NoLane → AnswerTells lane (outcome result) self.old self.new }
-        ensures of { IsConsumerOf mailbox.now self.new }
+        ensures belongs { IsConsumerOf mailbox.now self.new }
     {
         let mut left = budget;
         match self.lane_of(mailbox, lane) {
@@ -63,7 +63,7 @@ impl<A: Allocator + Drop> Consumer<A> {
         mailbox: &Mailbox<B>,
         lane: u64,
     ) -> Option<u32>
-        requires of { IsConsumerOf mailbox.now self.now }
+        requires belongs { IsConsumerOf mailbox.now self.now }
         ensures none { result ≡ None → mailbox.now.cells.size.lanes ≤ lane }
         ensures some { IfSome result (λ p. (p ≡ lane) × (p < mailbox.now.cells.size.lanes)) }
     {
@@ -85,7 +85,7 @@ impl<A: Allocator + Drop> Consumer<A> {
         left: &mut u64,
         rng: &mut R,
     ) -> Poll
-        requires of { IsConsumerOf mailbox.now self.old }
+        requires belongs { IsConsumerOf mailbox.now self.old }
         requires lane { lane < mailbox.now.cells.size.lanes }
         ensures some { result ≢ NoLane }
         ensures polled { IsPollOf lane left.old result (R.stream rng.old) (R.stream rng.new)
@@ -94,7 +94,7 @@ impl<A: Allocator + Drop> Consumer<A> {
         ensures unspent { most_accesses mailbox.now.claims.layout + 2 ≤ left.old → result ≢ Spent }
         ensures decided { (shape_of mailbox.now.claims.layout).last ≡ true → result ≢ Undecided }
         ensures told { AnswerTells lane (outcome result) self.old self.new }
-        ensures of { IsConsumerOf mailbox.now self.new }
+        ensures belongs { IsConsumerOf mailbox.now self.new }
     {
         if *left == 0 {
             return Poll::Spent;

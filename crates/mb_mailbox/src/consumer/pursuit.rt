@@ -36,7 +36,7 @@ pub(super) fn run_held<A: Allocator + Drop, B: Allocator + Drop, R: Rng>(
     requires held { IsHolding lane (with_fields fields.old) }
     requires won { (k : ℕ) (claim : Claim) → HasPlace lane (At k claim) (with_fields fields.old)
         → claim_stage claim ≡ stage.Won → 0 < left.old }
-    requires of { IsConsumerOf mailbox.now (with_fields fields.old) }
+    requires belongs { IsConsumerOf mailbox.now (with_fields fields.old) }
     requires wide { HasAllRoom fields.old.reader.table.size.cells fields.old.notes }
 
     // If the accesses before came to no answer, the poll is these accesses and those made here.
@@ -109,7 +109,7 @@ pub(super) fn run_new<A: Allocator + Drop, B: Allocator + Drop, R: Rng>(
 ) -> Poll
     requires held { IsBeforeObject mailbox.now.claims.layout lane cell 0 fields.old.seat.consumer
         (with_fields fields.old) }
-    requires of { IsConsumerOf mailbox.now (with_fields fields.old) }
+    requires belongs { IsConsumerOf mailbox.now (with_fields fields.old) }
     requires wide { HasAllRoom fields.old.reader.table.size.cells fields.old.notes }
     ensures pursued { (from : ConsumerView) (n : ℕ) (t : Stream) (claim : Claim)
         → IsStanding mailbox.now.claims.layout fields.old.seat.consumer 0 fields.old.seat.consumer
@@ -177,7 +177,7 @@ fn run_rest<A: Allocator + Drop, B: Allocator + Drop, R: Rng>(
 ) -> Poll
     requires held { IsBeforeObject mailbox.now.claims.layout lane cell end.old.object
         end.old.value (with_fields fields.old) }
-    requires of { IsConsumerOf mailbox.now (with_fields fields.old) }
+    requires belongs { IsConsumerOf mailbox.now (with_fields fields.old) }
     requires wide { HasAllRoom fields.old.reader.table.size.cells fields.old.notes }
     ensures pursued { (from : ConsumerView) (n : ℕ) (t : Stream) (claim : Claim)
         → IsStanding mailbox.now.claims.layout fields.old.seat.consumer end.old.object

@@ -31,7 +31,7 @@ impl<A: Allocator + Drop> Consumer<A> {
         most: u64,
         rng: &mut R,
     ) -> Poll
-        requires of { IsConsumerOf mailbox.now self.old }
+        requires belongs { IsConsumerOf mailbox.now self.old }
         ensures no_lane { (result ≡ NoLane) ↔ (mailbox.now.cells.size.lanes ≤ lane) }
         ensures refused { result ≡ NoLane
             → (self.new ≡ self.old) × (R.stream rng.new ≡ R.stream rng.old) }
@@ -50,7 +50,7 @@ impl<A: Allocator + Drop> Consumer<A> {
 
         // What the answer says of the lane, even if its producer was taken in before the consumer was given.
         ensures told { result ≢ NoLane → AnswerTells lane (outcome result) self.old self.new }
-        ensures of { IsConsumerOf mailbox.now self.new }
+        ensures belongs { IsConsumerOf mailbox.now self.new }
     {
         let Some(lane) = self.lane_of(mailbox, lane) else {
             return Poll::NoLane;
@@ -76,7 +76,7 @@ impl<A: Allocator + Drop> Consumer<A> {
         left: &mut u64,
         rng: &mut R,
     ) -> Poll
-        requires of { IsConsumerOf mailbox.now self.old }
+        requires belongs { IsConsumerOf mailbox.now self.old }
         requires lane { lane < mailbox.now.cells.size.lanes }
         ensures some { result ≢ NoLane }
         ensures polled { IsPollOf lane left.old result (R.stream rng.old) (R.stream rng.new)
@@ -84,7 +84,7 @@ impl<A: Allocator + Drop> Consumer<A> {
         ensures left { accesses_made self.new + left.new ≡ accesses_made self.old + left.old }
         ensures decided { (shape_of mailbox.now.claims.layout).last ≡ true → result ≢ Undecided }
         ensures told { AnswerTells lane (outcome result) self.old self.new }
-        ensures of { IsConsumerOf mailbox.now self.new }
+        ensures belongs { IsConsumerOf mailbox.now self.new }
     {
         self.poll_rest(mailbox, lane, left, rng)
     }
@@ -99,7 +99,7 @@ impl<A: Allocator + Drop> Consumer<A> {
         left: &mut u64,
         rng: &mut R,
     ) -> Option<Poll>
-        requires of { IsConsumerOf mailbox.now self.old }
+        requires belongs { IsConsumerOf mailbox.now self.old }
         requires lane { lane < mailbox.now.cells.size.lanes }
 
         // Without an answer the items were lost, one after another, and `left` is what is left.
@@ -114,7 +114,7 @@ impl<A: Allocator + Drop> Consumer<A> {
             IsTakeOf lane left.old answer (R.stream rng.old) (R.stream rng.new) self.old self.new
             × AnswerTells lane (outcome answer) self.old self.new) }
         ensures decided { IfSome result (λ answer. (answer ≢ NoLane) × (answer ≢ Undecided)) }
-        ensures of { IsConsumerOf mailbox.now self.new }
+        ensures belongs { IsConsumerOf mailbox.now self.new }
     {
         if !mailbox.claims.layout().is_alone() {
             return None;

@@ -38,7 +38,7 @@ pub(super) fn take_puts<A: Allocator + Drop, B: Allocator + Drop>(
     ensures told { All (λ d. d.aborted ≡ false) ends.items → result.aborted ≡ false }
     ensures aborted { result.aborted ≡ true → 0 < length ends.items }
     ensures hub { hub.new ≡ with_taken_producers (map (λ d. d.producer) ends.items) hub.old }
-    ensures of { IsHubOf mailbox.now hub.new }
+    ensures belongs { IsHubOf mailbox.now hub.new }
 {
     let mut full = 0u64;
     let mut stopped = 0u64;
@@ -76,7 +76,7 @@ pub(super) fn take_polls<A: Allocator + Drop, B: Allocator + Drop>(
     ensures told { All (λ d. d.aborted ≡ false) ends.items → result.aborted ≡ false }
     ensures aborted { result.aborted ≡ true → 0 < length ends.items }
     ensures hub { hub.new ≡ with_taken_consumers (map (λ d. d.consumer) ends.items) hub.old }
-    ensures of { IsHubOf mailbox.now hub.new }
+    ensures belongs { IsHubOf mailbox.now hub.new }
 {
     let mut stopped = 0u64;
     let mut aborted = false;
@@ -114,7 +114,7 @@ pub(super) fn take_all<A: Allocator + Drop, B: Allocator + Drop>(
         → result.aborted ≡ false }
     ensures aborted { result.aborted ≡ true → 0 < length ends.puts.items + length ends.polls.items }
     ensures hub { hub.new ≡ with_taken ends hub.old }
-    ensures of { IsHubOf mailbox.now hub.new }
+    ensures belongs { IsHubOf mailbox.now hub.new }
 {
     let WorkerResults { puts, polls } = ends;
     let putting = take_puts(mailbox, hub, puts);

@@ -22,7 +22,7 @@ pub(super) fn give_producers<A: Allocator + Clone + Drop, B: Allocator + Drop>(
     items: Vec<Vec<u64, A>, A>,
     jobs: &mut Vec<PutJob<A>, A>,
 ) -> bool
-    requires of { IsHubOf mailbox.now hub.old }
+    requires belongs { IsHubOf mailbox.now hub.old }
     requires left { length hub.old.puts + vec_len items ≤ mailbox.now.cells.size.lanes }
     requires none { jobs.old.items ≡ [] }
     requires room { vec_len items ≤ vec_capacity jobs.old }
@@ -31,7 +31,7 @@ pub(super) fn give_producers<A: Allocator + Clone + Drop, B: Allocator + Drop>(
         → ArePutJobs mailbox.now (length hub.old.puts) items.items jobs.new.items }
     ensures few { vec_len jobs.new ≤ vec_len items }
     ensures hub { hub.new ≡ with_producers jobs.new.items hub.old }
-    ensures of { IsHubOf mailbox.now hub.new }
+    ensures belongs { IsHubOf mailbox.now hub.new }
 {
     for list in items {
         let Ok(theirs) = alloc.clone() else {
@@ -55,8 +55,8 @@ pub(super) fn give_consumers<R: Rng + Drop, A: Allocator + Clone + Drop, B: Allo
     rngs: Vec<R, A>,
     jobs: &mut Vec<PollJob<R, A>, A>,
 ) -> bool
-    requires of { IsHubOf mailbox.now hub.old }
-    requires left { length hub.old.ledgers + vec_len rngs ≤ consumer_count
+    requires belongs { IsHubOf mailbox.now hub.old }
+    requires left { length hub.old.records + vec_len rngs ≤ consumer_count
         mailbox.now.claims.layout }
     requires none { jobs.old.items ≡ [] }
     requires room { vec_len rngs ≤ vec_capacity jobs.old }
@@ -64,7 +64,7 @@ pub(super) fn give_consumers<R: Rng + Drop, A: Allocator + Clone + Drop, B: Allo
     ensures few { vec_len jobs.new ≤ vec_len rngs }
     ensures all { result ≡ true → map (λ j. j.rng) jobs.new.items ≡ rngs.items }
     ensures hub { hub.new ≡ with_consumers jobs.new.items hub.old }
-    ensures of { IsHubOf mailbox.now hub.new }
+    ensures belongs { IsHubOf mailbox.now hub.new }
 {
     for rng in rngs {
         let Ok(theirs) = alloc.clone() else {
@@ -89,14 +89,14 @@ pub(super) fn give<R: Rng + Drop, A: Allocator + Clone + Drop, B: Allocator + Dr
     rngs: Vec<R, A>,
     jobs: &mut WorkerInputs<R, A>,
 ) -> bool
-    requires of { IsHubOf mailbox.now hub.old }
+    requires belongs { IsHubOf mailbox.now hub.old }
     requires lanes { length hub.old.puts + vec_len items ≤ mailbox.now.cells.size.lanes }
-    requires consumers { length hub.old.ledgers + vec_len rngs ≤ consumer_count
+    requires consumers { length hub.old.records + vec_len rngs ≤ consumer_count
         mailbox.now.claims.layout }
     requires room { HasJobRoom (vec_len items) (vec_len rngs) jobs.old }
     ensures given { AreGiven mailbox.now items.items (vec_len rngs) jobs.new hub.old hub.new }
     ensures all { result ≡ true → AreAllGiven mailbox.now items.items rngs.items jobs.new hub.old }
-    ensures of { IsHubOf mailbox.now hub.new }
+    ensures belongs { IsHubOf mailbox.now hub.new }
 {
     if !give_producers(alloc, mailbox, hub, items, &mut jobs.puts) {
         return false;

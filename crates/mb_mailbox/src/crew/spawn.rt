@@ -22,7 +22,7 @@ fn start_put<'s, E: 's, A: Allocator + Drop + Send + Sync + 's, G: Gate + 's>(
     shared: &Shared<'s, A, G>,
     job: PutJob<A>,
 ) -> PutWorker<G, A>
-    requires of { IsProducerOf shared.now.mailbox.now job.producer }
+    requires belongs { IsProducerOf shared.now.mailbox.now job.producer }
     ensures { PutPromises G.may_stop G.may_pass shared.now.gate.now job result }
 {
     let mailbox = shared.mailbox;
@@ -55,7 +55,7 @@ pub(super) fn start_puts<'s, E: 's, A: Allocator + Drop + Send + Sync + 's, G: G
     jobs: Vec<PutJob<A>, A>,
     mut begun: Vec<PutWorker<G, A>, A>,
 ) -> Vec<PutWorker<G, A>, A>
-    requires of { All (λ j. IsProducerOf shared.now.mailbox.now j.producer) jobs.items }
+    requires belongs { All (λ j. IsProducerOf shared.now.mailbox.now j.producer) jobs.items }
     requires none { begun.items ≡ [] }
     requires room { vec_len jobs ≤ vec_capacity begun }
     ensures promised { AllZip (PutPromises G.may_stop G.may_pass shared.now.gate.now) jobs.items
@@ -76,7 +76,7 @@ fn start_poll<
     R: Rng + Send + Drop + 's,
     G: Gate + 's,
 >(scope: &Scope<'s, E>, shared: &Shared<'s, A, G>, job: PollJob<R, A>) -> PollWorker<G, R, A>
-    requires of { IsConsumerOf shared.now.mailbox.now job.consumer }
+    requires belongs { IsConsumerOf shared.now.mailbox.now job.consumer }
     requires few { shared.now.lanes.end ≤ shared.now.mailbox.now.cells.size.lanes }
     ensures { PollPromises G.may_stop G.may_pass R.stream shared.now.gate.now shared.now.lanes.from
         shared.now.lanes.end shared.now.lanes.budget job result }
@@ -94,7 +94,7 @@ fn start_poll<
         gate: Snapshot::of(gate),
     };
     let body = move || -> PollDone<A>
-        requires of { IsConsumerOf mailbox.now job.consumer }
+        requires belongs { IsConsumerOf mailbox.now job.consumer }
         requires few { lanes.end ≤ mailbox.now.cells.size.lanes }
         ensures { IsPollEnd (G.may_stop gate.entry.now) (G.may_pass gate.entry.now) lanes.from
             lanes.end lanes.budget (R.stream job.rng) job.consumer result }
@@ -126,7 +126,7 @@ pub(super) fn start_polls<
     mut begun: Vec<PollWorker<G, R, A>, A>,
     producers: &Vec<PutWorker<G, A>, A>,
 ) -> Vec<PollWorker<G, R, A>, A>
-    requires of { All (λ j. IsConsumerOf shared.now.mailbox.now j.consumer) jobs.items }
+    requires belongs { All (λ j. IsConsumerOf shared.now.mailbox.now j.consumer) jobs.items }
     requires few { shared.now.lanes.end ≤ shared.now.mailbox.now.cells.size.lanes }
     requires none { begun.items ≡ [] }
     requires room { vec_len jobs ≤ vec_capacity begun }

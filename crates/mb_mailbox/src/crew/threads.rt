@@ -34,7 +34,7 @@ fn run_in<
     jobs: WorkerInputs<R, A>,
     room: WorkerBuffers<G, R, A>,
 ) -> WorkerResults<A>
-    requires of { AreOf shared.now.mailbox.now jobs }
+    requires belongs { AreOf shared.now.mailbox.now jobs }
     requires few { shared.now.lanes.end ≤ shared.now.mailbox.now.cells.size.lanes }
     requires lanes { vec_len jobs.puts ≡ shared.now.lanes.end - shared.now.lanes.from }
     requires room { HasRoom (vec_len jobs.puts) (vec_len jobs.polls) room }
@@ -70,7 +70,7 @@ pub(super) fn run<
     jobs: WorkerInputs<R, A>,
     room: WorkerBuffers<G, R, A>,
 ) -> WorkerResults<A>
-    requires of { AreOf shared.now.mailbox.now jobs }
+    requires belongs { AreOf shared.now.mailbox.now jobs }
     requires few { shared.now.lanes.end ≤ shared.now.mailbox.now.cells.size.lanes }
     requires lanes { vec_len jobs.puts ≡ shared.now.lanes.end - shared.now.lanes.from }
     requires room { HasRoom (vec_len jobs.puts) (vec_len jobs.polls) room }
@@ -85,7 +85,7 @@ pub(super) fn run<
         thread::scope_env(),
         rt,
         |scope| -> WorkerResults<A>
-            requires of { AreOf mailbox.now jobs }
+            requires belongs { AreOf mailbox.now jobs }
             requires lanes { (lanes.end ≤ mailbox.now.cells.size.lanes)
                 × (vec_len jobs.puts ≡ lanes.end - lanes.from) }
             requires room { HasRoom (vec_len jobs.puts) (vec_len jobs.polls) room }
@@ -109,7 +109,7 @@ pub(super) fn end_puts<A: Allocator + Drop, B: Allocator + Drop>(
     jobs: Vec<PutJob<A>, A>,
     mut done: Vec<PutDone<A>, A>,
 ) -> Vec<PutDone<A>, A>
-    requires of { All (λ j. IsProducerOf mailbox.now j.producer) jobs.items }
+    requires belongs { All (λ j. IsProducerOf mailbox.now j.producer) jobs.items }
     requires none { done.items ≡ [] }
     requires room { vec_len jobs ≤ vec_capacity done }
     ensures { AllZip (IsPutEnd (λ _ _. ⊥) (λ _ _. ⊥)) jobs.items result.items }
@@ -142,7 +142,7 @@ pub(super) fn end_all<R: Rng + Drop, G: Gate, A: Allocator + Drop, B: Allocator 
     jobs: WorkerInputs<R, A>,
     room: WorkerBuffers<G, R, A>,
 ) -> WorkerResults<A>
-    requires of { AreOf mailbox.now jobs }
+    requires belongs { AreOf mailbox.now jobs }
     requires room { HasRoom (vec_len jobs.puts) (vec_len jobs.polls) room }
     ensures { (from end budget : ℕ) → AreEndsOf (λ _ _. ⊥) (λ _ _. ⊥) R.stream from end budget jobs
         result }

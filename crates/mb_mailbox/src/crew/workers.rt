@@ -36,7 +36,7 @@ fn put_items<A: Allocator + Drop, B: Allocator + Drop, G: Gate>(
     gate: &G,
     running: &AtomicBool,
 ) -> Linked
-    requires of { IsProducerOf mailbox.now producer.old }
+    requires belongs { IsProducerOf mailbox.now producer.old }
     requires fresh { producer.old.items ≡ [] }
     requires begun { is_over producer.old ≡ false }
     ensures linked { result.count ≤ length items.now }
@@ -97,7 +97,7 @@ pub(super) fn put_list<A: Allocator + Drop, B: Allocator + Drop, G: Gate>(
     gate: &G,
     running: &AtomicBool,
 ) -> PutDone<A>
-    requires of { IsProducerOf mailbox.now job.producer }
+    requires belongs { IsProducerOf mailbox.now job.producer }
     ensures { IsPutEnd (G.may_stop gate.now) (G.may_pass gate.now) job result }
 {
     let PutJob { mut producer, list } = job;
@@ -125,7 +125,7 @@ pub(super) fn put_nothing<A: Allocator + Drop, B: Allocator + Drop>(
     mailbox: &Mailbox<B>,
     job: PutJob<A>,
 ) -> PutDone<A>
-    requires of { IsProducerOf mailbox.now job.producer }
+    requires belongs { IsProducerOf mailbox.now job.producer }
     ensures { IsPutEnd (λ _ _. ⊥) (λ _ _. ⊥) job result }
 {
     let PutJob {
@@ -180,7 +180,7 @@ fn poll_lane<A: Allocator + Drop, B: Allocator + Drop, R: Rng>(
     rng: &mut R,
     ended: &mut [bool; 16],
 ) -> Poll
-    requires of { IsConsumerOf mailbox.now consumer.old }
+    requires belongs { IsConsumerOf mailbox.now consumer.old }
     requires few { (lane < mailbox.now.cells.size.lanes) × (lane < 16) }
     requires unmarked { slice_index_or ended.old lane true ≡ false }
     requires read { HasReadMarked ended.old consumer.old }
@@ -198,7 +198,7 @@ fn poll_lane<A: Allocator + Drop, B: Allocator + Drop, R: Rng>(
     ensures polled { IsPollOf lane budget result (R.stream rng.old) (R.stream rng.new)
         consumer.old consumer.new }
     ensures same { IsSameConsumer consumer.old consumer.new }
-    ensures of { IsConsumerOf mailbox.now consumer.new }
+    ensures belongs { IsConsumerOf mailbox.now consumer.new }
 {
     ends_are_kept();
     let poll = consumer.poll(mailbox, lane as u64, budget, rng);
@@ -230,7 +230,7 @@ pub(super) fn poll_lanes<A: Allocator + Drop, B: Allocator + Drop, R: Rng + Drop
     gate: &G,
     running: &AtomicBool,
 ) -> PollDone<A>
-    requires of { IsConsumerOf mailbox.now job.consumer }
+    requires belongs { IsConsumerOf mailbox.now job.consumer }
     requires few { lanes.end ≤ mailbox.now.cells.size.lanes }
     ensures { IsPollEnd (G.may_stop gate.now) (G.may_pass gate.now) lanes.from lanes.end
         lanes.budget

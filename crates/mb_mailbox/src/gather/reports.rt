@@ -38,11 +38,11 @@ impl<A: Allocator + Drop> Hub<A> {
     }
 
     /// What the hub keeps of consumer `c`, if it was returned.
-    fn ledger(&self, c: u32) -> Option<&ConsumerRecord<A>>
-        ensures { option_map (λ k. k.now) result ≡ kept_at self.now.ledgers c }
+    fn kept(&self, c: u32) -> Option<&ConsumerRecord<A>>
+        ensures { option_map (λ k. k.now) result ≡ kept_at self.now.records c }
     {
-        match self.ledgers.as_slice().get(c as usize) {
-            Some(Some(ledger)) => Some(ledger),
+        match self.records.as_slice().get(c as usize) {
+            Some(Some(kept)) => Some(kept),
             Some(None) => None,
             None => None,
         }
@@ -85,11 +85,11 @@ fn note_at<A: Allocator + Drop>(diaries: &[Diary<A>], at: usize, j: usize) -> Op
 
 /// Whether the consumer of this record holds a claim on lane `p` that has made an access.
 #[inline(always)]
-fn has_begun<A: Allocator + Drop>(ledger: Option<&ConsumerRecord<A>>, p: u32) -> bool
-    ensures { result ≡ begun_of p (option_map (λ k. k.now) ledger.entry) }
+fn has_begun<A: Allocator + Drop>(kept: Option<&ConsumerRecord<A>>, p: u32) -> bool
+    ensures { result ≡ begun_of p (option_map (λ k. k.now) kept.entry) }
 {
-    match ledger {
-        Some(ledger) => ledger.begun(p),
+    match kept {
+        Some(kept) => kept.begun(p),
         None => false,
     }
 }
@@ -101,16 +101,16 @@ fn add_outlines<A: Allocator + Clone + Drop>(
     alloc: &A,
     lanes: u32,
     c: u32,
-    ledger: Option<&ConsumerRecord<A>>,
+    kept: Option<&ConsumerRecord<A>>,
     counts: &PutCounts,
 ) -> Result<(), NoMemory>
     requires room { vec_len diaries.old + lanes ≤ vec_capacity diaries.old }
     ensures room { vec_capacity diaries.new ≡ vec_capacity diaries.old }
     ensures outlines { IfOk result (λ _. diaries.new.items
-        ≡ diaries.old.items ++ outline_row c (option_map (λ k. k.now) ledger.entry) lanes) }
+        ≡ diaries.old.items ++ outline_row c (option_map (λ k. k.now) kept.entry) lanes) }
 {
-    let rooms = match ledger {
-        Some(ledger) => ledger.notes.rooms(counts),
+    let rooms = match kept {
+        Some(kept) => kept.notes.rooms(counts),
         None => [0; 16],
     };
     for p in 0..lanes {
@@ -118,7 +118,7 @@ fn add_outlines<A: Allocator + Clone + Drop>(
             consumer: c,
             lane: p,
             notes: Vec::with_capacity(alloc.clone()?, rooms[p as usize % 16])?,
-            begun: has_begun(ledger, p),
+            begun: has_begun(kept, p),
         });
     }
     Ok(())
@@ -246,13 +246,11 @@ impl<A: Allocator + Clone + Drop> Hub<A> {
         // Naming a field makes the invariant known: each consumer has notes on each lane.
         let _ = &self.cells;
         let first = diaries.len();
-        let ledger = self.ledger(c);
-        add_outlines(diaries, alloc, lanes, c, ledger, counts)?;
-        match ledger {
-            Some(ledger) => {
-                ledger
-                    .notes
-                    .fill(alloc.clone()?, diaries.slice_mut(first..))?;
+        let kept = self.kept(c);
+        add_outlines(diaries, alloc, lanes, c, kept, counts)?;
+        match kept {
+            Some(kept) => {
+                kept.notes.fill(alloc.clone()?, diaries.slice_mut(first..))?;
                 Ok(())
             }
             None => Ok(()),

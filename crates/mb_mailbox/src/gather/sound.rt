@@ -23,14 +23,14 @@ use mb_world::steps::parts_fit_on;
 /// If no producer and no consumer is missing, what is gathered is sound, and the main theorem holds of its report.
 pub(super) fn gathering_is_sound()
     // If no consumer is missing, no seat of the claims is out.
-    ensures all_in { (h : HubView) → IsHub h → count_missing h.ledgers ≡ 0
+    ensures all_in { (h : HubView) → IsHub h → count_missing h.records ≡ 0
         → count_out h.claims.roll ≡ 0 }
 
     // The tables, once closed, have one history each, in which all parts are those that the hub has taken back. The
     // report of what the hub has taken back is that of these histories.
     ensures main_theorem { (m : MailboxView) (h : HubView) (r : ReportView) (pool : History)
         → IsMailbox m → IsHub h → IsHubOf m h
-        → count_missing h.puts ≡ 0 → count_missing h.ledgers ≡ 0
+        → count_missing h.puts ≡ 0 → count_missing h.records ≡ 0
         → AreOfOneHistory (claims_in m.claims.layout m.claims.cells) (taken_part h.claims.roll)
         → IsRollOf m.cells.size h.cells.roll pool
         → IsReportIn m.cells.size.lanes (consumer_count m.claims.layout) h r → IsGathered m h r }

@@ -42,5 +42,5 @@ returns-clause-some_thread g c = c.work_with.ensures.some_thread
 pub returns-clause-no_memory : goal.returns-clause-no_memory
 returns-clause-no_memory g c = c.work_with.ensures.no_memory
 
-pub returns-clause-of : goal.returns-clause-of
-returns-clause-of g c = c.work_with.ensures.of
+pub returns-clause-belongs : goal.returns-clause-belongs
+returns-clause-belongs g c = c.work_with.ensures.belongs

@@ -7,8 +7,8 @@ use Rattle.mb_mailbox.proofs.crew.work_with.Goals as goal
 
 -- `end_all` ends the jobs if a number was refused, and else `run` runs them. Each asks that the jobs are of the
 -- mailbox, and that there is room for their workers
-pub end_all-ends-requires-clause-of : goal.end_all-ends-requires-clause-of
-end_all-ends-requires-clause-of g c κs within =
+pub end_all-ends-requires-clause-belongs : goal.end_all-ends-requires-clause-belongs
+end_all-ends-requires-clause-belongs g c κs within =
     jobs_at c.args.mailbox.now c.args.load.items.items _ c.give.new.jobs c.args.hub.now c.give.new.hub
     c.give.ensures.given
 
@@ -17,8 +17,8 @@ end_all-ends-requires-clause-room g c κs within =
     room_for _ _ _ _ c.args.memory.room (omega (arith, c.give.ensures.given.small, c.args.load.items.ok.0))
     c.give.ensures.given.few c.requires.room
 
-pub run-ends-requires-clause-of : goal.run-ends-requires-clause-of
-run-ends-requires-clause-of g c κs within =
+pub run-ends-requires-clause-belongs : goal.run-ends-requires-clause-belongs
+run-ends-requires-clause-belongs g c κs within =
     jobs_at c.args.mailbox.now c.args.load.items.items _ c.give.new.jobs c.args.hub.now c.give.new.hub
     c.give.ensures.given
 
@@ -80,7 +80,7 @@ returns-in-Ok-clause-worked g c =
       c.consumers_are_few.ensures,
       c.args.load.items.ok.0,
     )) c.has_history-in-Ok.ensures.kept
-    c.settle.ensures.of c.has_history-in-Ok.ensures.pool.0
+    c.settle.ensures.belongs c.has_history-in-Ok.ensures.pool.0
     c.has_history-in-Ok.ensures.pool.1 (omega (arith, first, given))
     (omega (arith, last, given, c.len.ensures, c.args.load.items.ok.0)) c.ends_tell_notes.ensures)
 
@@ -110,9 +110,9 @@ returns-in-Ok-clause-called g c =
       c.consumers_are_few.ensures,
       c.args.load.items.ok.0,
     )) c.has_history-in-Ok.ensures.kept
-    c.settle.ensures.of c.has_history-in-Ok.ensures.pool.0
+    c.settle.ensures.belongs c.has_history-in-Ok.ensures.pool.0
     c.has_history-in-Ok.ensures.pool.1 (omega (arith, first, given))
-    (omega (arith, last, given, c.len.ensures, c.args.load.items.ok.0)) c.ends_tell_notes.ensures c.requires.of)
+    (omega (arith, last, given, c.len.ensures, c.args.load.items.ok.0)) c.ends_tell_notes.ensures c.requires.belongs)
 
 pub returns-clause-no_thread : goal.returns-clause-no_thread
 returns-clause-no_thread g c = λ e.

@@ -6,7 +6,7 @@ use Rattle.mb_mailbox.specs.Imports.{Claim, Note, cells_met, claims_in}
 use Rattle.mb_mailbox.specs.Consumers.{ConsumerView, IsConsumer, parts_of}
 use Rattle.mb_world.specs.Places.{has_begun_at}
 use Rattle.mb_mailbox.specs.Gathering.{kept_at}
-use Rattle.mb_mailbox.specs.Hubs.{ConsumerRecordView, ledger_of}
+use Rattle.mb_mailbox.specs.Hubs.{ConsumerRecordView, record_of}
 use Rattle.mb_mailbox.specs.Steps.{HasNoteOnEach, notes_on}
 use Rattle.mb_world.specs.declared.place.Place.{Place}
 use Rattle.mb_world.specs.declared.place.Place.TheVariants.{At, Before}
@@ -53,7 +53,7 @@ kept_there (y ∷ ys) (suc n) x = kept_there ys n x
 
 pub returns-clause-begun : goal.returns-clause-begun
 returns-clause-begun c h s p i each =
-    elim (kept_there h.ledgers s.seat.consumer (ledger_of s)) [
+    elim (kept_there h.records s.seat.consumer (record_of s)) [
       | inl kept ↦ ap begun_by kept ∙ none_begun s p i each
       | inr none ↦ ap begun_by none
     ]

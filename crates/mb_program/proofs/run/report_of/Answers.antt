@@ -38,7 +38,7 @@ returns-clause-report g c =
     c.in_ok-setup.ensures.few c.in_ok-lists.ensures.budget (c.in_ok-mailbox.ensures.plan ∙ c.in_ok-setup.ensures.made)
     (c.in_ok-mailbox.ensures.size ∙ ap size_of c.in_ok-setup.ensures.made)
     c.in_ok-mailbox.ensures.empty c.in_ok-lists.ensures.lists
-    c.in_ok-lists.ensures.consumers (IfOk-at_ok _ ended c.work-worked.ensures.worked) c.work-worked.ensures.of
+    c.in_ok-lists.ensures.consumers (IfOk-at_ok _ ended c.work-worked.ensures.worked) c.work-worked.ensures.belongs
     told gathered full
     (reported_run c.args.options c.in_ok-mailbox.mailbox c.in_ok-mailbox.hub c.work-worked.new.hub
     r came
@@ -46,5 +46,5 @@ returns-clause-report g c =
     (c.in_ok-mailbox.ensures.size ∙ ap size_of c.in_ok-setup.ensures.made)
     c.in_ok-mailbox.ensures.empty c.in_ok-lists.ensures.lists
     (words_given c.args.options _ c.in_ok-lists.ensures.words)
-    c.work-worked.ensures.of (IfOk-at_ok _ ended c.work-worked.ensures.called)
+    c.work-worked.ensures.belongs (IfOk-at_ok _ ended c.work-worked.ensures.called)
     told gathered full))

@@ -36,7 +36,7 @@ returns-clause-played g c =
     (terms_of c.args.setup.now c.args.means.budget (map g.R.Rng.stream rngs)) (lists_in items) _ _ _
     (c.in_ok-mailbox.ensures.plan ∙ copied) (c.in_ok-mailbox.ensures.size ∙ ap size_of copied)
     (sym long ∙ count_lists items)
-    c.in_ok-mailbox.ensures.empty c.work-worked.ensures.of
+    c.in_ok-mailbox.ensures.empty c.work-worked.ensures.belongs
     (IfOk-at_ok _ (IfOk-at_ok _ is c.report_after.ensures.worked) c.work-worked.ensures.called)
     (IfOk-at_ok _ is c.report_after.ensures.lists) (IfOk-at_ok _ is c.report_after.ensures.main_theorem)
     (IfOk-at_ok _ is c.report_after.ensures.full))

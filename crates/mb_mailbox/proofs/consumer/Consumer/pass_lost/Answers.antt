@@ -15,18 +15,20 @@ use Rattle.mb_mailbox.proofs.consumer.Consumer.pass_lost.Goals as goal
 pub place_at-requires : goal.place_at-requires
 place_at-requires g c =
     let lanes = c.self.invariant.0.places_count ∙ ap (λ (z : PoolSize). z.lanes)
-    (cells_size c.args.mailbox.now (with_fields c.self.inside.fields) c.args.self.now c.self.view_is c.requires.of) in
+    (cells_size c.args.mailbox.now (with_fields c.self.inside.fields)
+    c.args.self.now c.self.view_is c.requires.belongs) in
     omega (arith, lanes, c.requires.lane)
 
 pub pass-requires : goal.pass-requires
 pass-requires g c =
     let lanes = c.self.invariant.0.places_count ∙ ap (λ (z : PoolSize). z.lanes)
-    (cells_size c.args.mailbox.now (with_fields c.self.inside.fields) c.args.self.now c.self.view_is c.requires.of) in
+    (cells_size c.args.mailbox.now (with_fields c.self.inside.fields)
+    c.args.self.now c.self.view_is c.requires.belongs) in
     record {
       is = c.self.invariant.0;
       place = c.place_at.ensures ∙ ap (λ (z : Place). Some z) c.in-Before.is;
       lane = omega (arith, lanes, c.requires.lane);
-      of = subst (λ o. IsConsumerOf c.args.mailbox.now o) (sym c.self.view_is) c.requires.of;
+      belongs = subst (λ o. IsConsumerOf c.args.mailbox.now o) (sym c.self.view_is) c.requires.belongs;
       wide = c.self.invariant.1;
       alone = subst (λ (l : Layout). kinds_of l ≡ LastObject ∷ [])
           (c.layout.ensures ∙ ap (λ (v : MailboxView). v.claims.layout) c.mailbox.view_is)

@@ -78,7 +78,7 @@ module _ (g : Over) (c : After-consumer g) where
   -- the consumer's number is one of the mailbox's
   known : c.self.inside.fields.seat.consumer < consumer_count c.args.mailbox.now.claims.layout
   known =
-      known_in c.args.mailbox.now (with_fields c.self.inside.fields) c.args.self.now c.self.view_is c.requires.of
+      known_in c.args.mailbox.now (with_fields c.self.inside.fields) c.args.self.now c.self.view_is c.requires.belongs
       c.consumer.result c.consumer.ensures.exact c.consumer.ensures.known
 
   -- the claim, which has made no access
@@ -99,9 +99,9 @@ module _ (g : Over) (c : goal.After-run_new g) where
       (g.R.Rng.stream c.args.rng.now)
       (g.R.Rng.stream c.run_new.new.rng) c.args.self.now past_new
   goes_on_new =
-      let new = first g (goal.at.returns-clause-of g c).After-consumer in
+      let new = first g (goal.at.returns-clause-belongs g c).After-consumer in
       c.run_new.ensures.pursued c.args.self.now 1 (g.R.Rng.stream c.args.rng.now) new.0 new.1
-      (look_steps g (goal.at.returns-clause-of g c).After-look
+      (look_steps g (goal.at.returns-clause-belongs g c).After-look
       (slice_set c.self.inside.fields.places.items c.args.lane (At c.in-Cell.cell new.0))
       (look.Cell c.in-Cell.cell) c.in-Cell.ensures.makes refl)
 
@@ -131,18 +131,18 @@ returns-in-At-clause-told g c =
     pursuit_tells c.args.lane 0 c.args.left.now c.run_held.new.left c.run_held.result (g.R.Rng.stream c.args.rng.now)
     (g.R.Rng.stream c.run_held.new.rng) (at_claim g c) c.args.self.now (past_claim g c) (goes_on g c)
 
-pub returns-in-At-clause-of : goal.returns-in-At-clause-of
-returns-in-At-clause-of g c =
+pub returns-in-At-clause-belongs : goal.returns-in-At-clause-belongs
+returns-in-At-clause-belongs g c =
     still_of c.args.mailbox.now c.args.lane 0 c.args.left.now c.run_held.new.left c.run_held.result
     (g.R.Rng.stream c.args.rng.now) (g.R.Rng.stream c.run_held.new.rng) (at_claim g c) (past_claim g c) (goes_on g c)
-    (subst (λ o. IsConsumerOf c.args.mailbox.now o) (sym c.self.view_is) c.requires.of)
+    (subst (λ o. IsConsumerOf c.args.mailbox.now o) (sym c.self.view_is) c.requires.belongs)
 
 pub look-requires-clause-may : goal.look-requires-clause-may
 look-requires-clause-may g c =
     let s = with_fields c.self.inside.fields in
     let e = c.place_at.ensures ∙ ap (λ (z : Place). Some z) c.in-Before.is in
     let size : s.reader.table.size ≡ c.mailbox.inside.cells.size =
-    cells_size c.args.mailbox.now s c.args.self.now c.self.view_is c.requires.of
+    cells_size c.args.mailbox.now s c.args.self.now c.self.view_is c.requires.belongs
     ∙ sym (ap (λ (v : MailboxView). v.cells.size) c.mailbox.view_is) in
     subst (λ (z : PoolSize). MayRead z.lanes (word_of c.in-Before.at) s.reader.part) size
     (c.consumers_move_on.ensures.may_look s c.args.lane c.in-Before.at c.self.invariant.0 c.has_history.ensures e)
@@ -205,7 +205,7 @@ run_new-requires-clause-held g c =
     let comes = subst (λ n. IsAccessAfter s.reader.table.size s.reader.known
     (load s.reader.reader (word_of c.in-Before.at) n) s.reader.part) is.0 m.2.0 in
     let size : TableSize = record { layout = layout; cells = c.args.mailbox.now.claims.cells } in
-    let is_size = claims_size c.args.mailbox.now s c.args.self.now c.self.view_is c.requires.of in
+    let is_size = claims_size c.args.mailbox.now s c.args.self.now c.self.view_is c.requires.belongs in
     let turns = λ (z : TableSize) (there : s.seat.table.size ≡ Some z).
     subst (λ (y : TableSize). IsClaimIn y.layout new.0 []) (some_same size z (sym is_size ∙ there)) new.2 in
     let done = c.consumers_move_on.ensures.finds s c.args.lane k c.in-Before.at new.0
@@ -239,11 +239,11 @@ returns-clause-told g c =
     (g.R.Rng.stream c.args.rng.now)
     (g.R.Rng.stream c.run_new.new.rng) c.args.self.now c.args.self.now (past_new g c) (goes_on_new g c)
 
-pub returns-clause-of : goal.returns-clause-of
-returns-clause-of g c =
+pub returns-clause-belongs : goal.returns-clause-belongs
+returns-clause-belongs g c =
     still_of c.args.mailbox.now c.args.lane 1 (c.args.left.now - 1) c.run_new.new.left c.run_new.result
     (g.R.Rng.stream c.args.rng.now) (g.R.Rng.stream c.run_new.new.rng) c.args.self.now (past_new g c)
-    (goes_on_new g c) c.requires.of
+    (goes_on_new g c) c.requires.belongs
 
 pub returns-in-At-clause-unspent : goal.returns-in-At-clause-unspent
 returns-in-At-clause-unspent g c = λ more spent.

@@ -36,7 +36,7 @@ items-preserved g c =
         record { left = c.pass_lost.new.left; rest = rest; poll = c.in-Lost.ensures.polled },
       );
       rest = left ∙ rest;
-      all_of = c.poll_apart.ensures.of;
+      all_of = c.poll_apart.ensures.belongs;
       lane = inv.lane;
     }
 
@@ -66,7 +66,7 @@ returns-in-Some-pass_lost g c =
           (told_from p (outcome answer) c.args.self.now c.items.self c.pass_lost.new.self
           (passed_known p c.args.most inv.winners (g.R.Rng.stream c.args.rng.now) (g.R.Rng.stream c.items.rng)
           c.args.self.now c.items.self inv.passed) taken.1);
-      of = c.pass_lost.ensures.of;
+      belongs = c.pass_lost.ensures.belongs;
     }
 
 -- ---- an answer of a poll
@@ -96,5 +96,5 @@ returns-in_default-poll_apart g c =
       spent = spent_by p c.args.most answer _ _ c.args.self.now take.0.mid c.poll_apart.new.self take.0.last;
       decided = c.poll_apart.ensures.decided;
       told = λ there. subst (λ q. AnswerTells q (outcome answer) c.args.self.now c.poll_apart.new.self) is take.1;
-      of = c.poll_apart.ensures.of;
+      belongs = c.poll_apart.ensures.belongs;
     }

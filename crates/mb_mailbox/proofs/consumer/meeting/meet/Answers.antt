@@ -31,7 +31,7 @@ look-requires-clause-may g c =
     let at = (goal.at.look-requires-clause-may g c).After-has_history in
     let f = with_fields c.args.fields.now in
     let size : f.reader.table.size ≡ c.mailbox.inside.cells.size =
-    cells_size c.args.mailbox.now f f refl c.requires.of
+    cells_size c.args.mailbox.now f f refl c.requires.belongs
     ∙ sym (ap (λ (v : MailboxView). v.cells.size) c.mailbox.view_is) in
     subst (λ (z : PoolSize). MayRead z.lanes (word_of c.args.at) f.reader.part) size
     (c.consumers_move_on.ensures.may_look (seen g at) c.args.lane c.args.at c.requires.is c.has_history.ensures
@@ -74,7 +74,7 @@ returns-clause-finds g c k found =
     let layout = c.args.mailbox.now.claims.layout in
     let d = s.seat.consumer in
     let known : d < consumer_count layout =
-    known_in c.args.mailbox.now f f refl c.requires.of c.consumer.result c.consumer.ensures.exact
+    known_in c.args.mailbox.now f f refl c.requires.belongs c.consumer.result c.consumer.ensures.exact
     c.consumer.ensures.known in
     let new = c.claims_begin_objects.ensures.new layout d known in
     let m = subst (λ (l : Look). LookMakes s.reader c.args.at l c.look.new.seat) found c.look.ensures.makes in
@@ -83,7 +83,7 @@ returns-clause-finds g c k found =
     let comes = subst (λ n. IsAccessAfter s.reader.table.size s.reader.known
     (load s.reader.reader (word_of c.args.at) n) s.reader.part) is.0 m.2.0 in
     let size : TableSize = record { layout = layout; cells = c.args.mailbox.now.claims.cells } in
-    let is_size = claims_size c.args.mailbox.now f f refl c.requires.of in
+    let is_size = claims_size c.args.mailbox.now f f refl c.requires.belongs in
     let turns = λ (z : TableSize) (there : s.seat.table.size ≡ Some z).
     subst (λ (y : TableSize). IsClaimIn y.layout new.0 []) (some_same size z (sym is_size ∙ there)) new.2 in
     let done = c.consumers_move_on.ensures.finds s c.args.lane k c.args.at new.0

@@ -29,7 +29,7 @@ items-init g c =
       passed = (refl, same);
       rest = refl;
       is = subst IsConsumer (sym same) c.requires.is;
-      of = c.requires.of;
+      belongs = c.requires.belongs;
       wide = c.requires.wide;
       lane = c.requires.lane;
     }
@@ -90,7 +90,7 @@ module _ (g : Over) (c : After-meet g) where
   look_keeps new is told = (
     subst IsConsumer (sym is) (c.meet.ensures.waits told).0,
     subst (λ z. IsConsumerOf c.args.mailbox.now z) (sym is)
-        (record { cells = c.meet.ensures.of.cells; claims = c.meet.ensures.of.claims }),
+        (record { cells = c.meet.ensures.belongs.cells; claims = c.meet.ensures.belongs.claims }),
   )
 
 -- after the claim
@@ -132,7 +132,7 @@ module _ (g : Over) (c : After-settle g) where
   still =
       let inv = c.items.invariant in
       still_of c.args.mailbox.now c.args.lane 1 (claim_takes c.settle.result + 0) 0 c.settle.result t u from past
-      (pursued 0) (record { cells = inv.of.cells; claims = inv.of.claims })
+      (pursued 0) (record { cells = inv.belongs.cells; claims = inv.belongs.claims })
 
   -- it has as many places
   lanes : c.args.lane < length c.settle.new.fields.places.items
@@ -161,16 +161,16 @@ module _ (g : Over) (c : After-settle g) where
 
 pub meet-requires : goal.meet-requires
 meet-requires g c =
-    let inv = c.items.invariant in record { is = inv.is; lane = inv.lane; of = inv.of }
+    let inv = c.items.invariant in record { is = inv.is; lane = inv.lane; belongs = inv.belongs }
 
 pub settle-requires : goal.settle-requires
 settle-requires g c =
     let inv = c.items.invariant in
     record {
       held = c.in-Cell.ensures.finds c.in-Cell.cell refl;
-      of = c.in-Cell.ensures.of;
+      belongs = c.in-Cell.ensures.belongs;
       wide = wide_still c.args.mailbox.now c.items.fields.reader c.meet.new.fields.reader c.items.fields.notes
-          c.meet.new.fields.notes inv.of.cells c.meet.ensures.of.cells c.meet.ensures.notes inv.wide;
+          c.meet.new.fields.notes inv.belongs.cells c.meet.ensures.belongs.cells c.meet.ensures.notes inv.wide;
       alone = c.requires.alone;
     }
 
@@ -202,7 +202,7 @@ items-preserved g c =
       passed = (t g at, from g at, inv.passed, last);
       rest = let more = one.1 in let rest = inv.rest in omega (arith, more, rest);
       is = (pursued g at 0).is;
-      of = record { cells = (still g at).cells; claims = (still g at).claims };
+      belongs = record { cells = (still g at).cells; claims = (still g at).claims };
       wide = c.settle.ensures.wide;
       lane = lanes g at;
     })
@@ -263,7 +263,7 @@ returns-in_default g c =
         λ e. c.settle.ensures.ends.1 (sym same ∙ e),
       );
       is = subst IsConsumer (sym view) so.is;
-      of = subst (λ z. IsConsumerOf c.args.mailbox.now z) (sym view) (still g at);
+      belongs = subst (λ z. IsConsumerOf c.args.mailbox.now z) (sym view) (still g at);
       wide = subst (λ (z : ReaderSeatView × NotesView). HasAllRoom z.0.table.size.cells z.1)
           (λ i. (ap (λ (v : ConsumerView). v.reader) (sym view) i, sym c.stop-in_default.ensures.notes i))
           c.settle.ensures.wide;

@@ -39,7 +39,7 @@ module _ (g : Over) (c : After-has_history g) where
   start : Start c.args.mailbox.now pending c.args.fields.now
   start = record {
     held = c.requires.held.is;
-    of = c.requires.of;
+    belongs = c.requires.belongs;
     lane = c.requires.held.lane;
     wide = c.requires.wide;
     loads = c.has_history.ensures;
@@ -142,10 +142,10 @@ exchange-stage-requires g c =
     let low = c.consumers_move_on.ensures.within (with_claim g at) c.args.lane c.args.cell (claim g at)
     c.requires.held.is c.has_history.ensures (stands g at) in
     let cells : c.args.fields.now.reader.table.size.cells ≡ c.mailbox.inside.claims.cells =
-    ap (λ (n : CellsName). n.size.cells) (c.requires.of.cells
+    ap (λ (n : CellsName). n.size.cells) (c.requires.belongs.cells
     ∙ sym (ap (λ (v : MailboxView). v.cells) c.mailbox.view_is)) ∙ sym c.mailbox.invariant.0.cells in
     record {
-      table = c.requires.of.claims ∙ sym (ap (λ (v : MailboxView). name_of v.claims) c.mailbox.view_is);
+      table = c.requires.belongs.claims ∙ sym (ap (λ (v : MailboxView). name_of v.claims) c.mailbox.view_is);
       cell = subst (λ n. c.args.cell < n) cells low;
       alone = subst (λ (y : MailboxView). kinds_of y.claims.layout ≡ LastObject ∷ []) (sym c.mailbox.view_is)
           c.requires.alone;
@@ -181,7 +181,7 @@ pub item-item-requires : goal.item-item-requires
 item-item-requires g c =
     let at = (goal.at.item-item-requires g c).After-has_history in
     record {
-      table = c.requires.of.cells ∙ sym (ap (λ (v : MailboxView). v.cells) c.mailbox.view_is);
+      table = c.requires.belongs.cells ∙ sym (ap (λ (v : MailboxView). v.cells) c.mailbox.view_is);
       may = given g at;
     }
 

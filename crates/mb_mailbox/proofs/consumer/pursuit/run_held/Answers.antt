@@ -77,7 +77,7 @@ module _ (g : Over) (c : After-stage g) where
   start : Start c.args.mailbox.now pending c.args.fields.now
   start = record {
     held = subst IsConsumer (sym hold) c.requires.is;
-    of = c.requires.of;
+    belongs = c.requires.belongs;
     lane = c.requires.lane;
     wide = c.requires.wide;
     loads = c.has_history.ensures;
@@ -217,10 +217,10 @@ compete-stage-requires g c =
     let low = c.consumers_move_on.ensures.within (with_claim g at) c.args.lane c.in-At.cell
     c.in-At.claim (start g at).held c.has_history.ensures (stands g at) in
     let cells : f.reader.table.size.cells ≡ c.mailbox.inside.claims.cells =
-    ap (λ (n : CellsName). n.size.cells) (c.requires.of.cells
+    ap (λ (n : CellsName). n.size.cells) (c.requires.belongs.cells
     ∙ sym (ap (λ (v : MailboxView). v.cells) c.mailbox.view_is)) ∙ sym c.mailbox.invariant.0.cells in
     record {
-      table = c.requires.of.claims ∙ sym (ap (λ (v : MailboxView). name_of v.claims) c.mailbox.view_is);
+      table = c.requires.belongs.claims ∙ sym (ap (λ (v : MailboxView). name_of v.claims) c.mailbox.view_is);
       cell = subst (λ n. c.in-At.cell < n) cells low;
       consumer = c.consumers_move_on.ensures.own (with_claim g at) c.args.lane c.in-At.cell c.in-At.claim
           (start g at).held (stands g at);
@@ -234,7 +234,7 @@ pub take-requires-then-left-ne0 : goal.take-requires-then-left-ne0
 take-requires-then-left-ne0 g c =
     let at = (goal.at.take-requires-then-left-ne0 g c).After-stage in
     record {
-      table = c.requires.of.cells;
+      table = c.requires.belongs.cells;
       may = given g at;
       place = still_lane g at (At c.in-At.cell c.compete-stage.new.claim);
       room = has_room g at;

@@ -36,7 +36,7 @@ module _ (g : Over) (c : After-has_history g) where
   start : Start c.args.mailbox.now pending c.args.fields.now
   start = record {
     held = c.requires.held.is;
-    of = c.requires.of;
+    belongs = c.requires.belongs;
     lane = c.requires.held.lane;
     wide = c.requires.wide;
     loads = c.has_history.ensures;
@@ -149,10 +149,10 @@ straight-end-requires g c =
     let low = c.consumers_move_on.ensures.within (with_claim g at) c.args.lane c.args.cell (claim g at)
     c.requires.held.is c.has_history.ensures (stands g at) in
     let cells : c.args.fields.now.reader.table.size.cells ≡ c.mailbox.inside.claims.cells =
-    ap (λ (n : CellsName). n.size.cells) (c.requires.of.cells
+    ap (λ (n : CellsName). n.size.cells) (c.requires.belongs.cells
     ∙ sym (ap (λ (v : MailboxView). v.cells) c.mailbox.view_is)) ∙ sym c.mailbox.invariant.0.cells in
     record {
-      table = c.requires.of.claims ∙ sym (ap (λ (v : MailboxView). name_of v.claims) c.mailbox.view_is);
+      table = c.requires.belongs.claims ∙ sym (ap (λ (v : MailboxView). name_of v.claims) c.mailbox.view_is);
       cell = subst (λ n. c.args.cell < n) cells low;
       fresh = standing_fresh c.args.mailbox.now.claims.layout c.args.fields.now.seat.consumer
           c.args.fields.now.seat.consumer (claim g at) c.requires.held.standing
@@ -162,7 +162,7 @@ straight-end-requires g c =
 pub take-requires : goal.take-requires
 take-requires g c =
     let at = (goal.at.take-requires g c).After-has_history in
-    record { table = c.requires.of.cells; may = given g at; place = c.requires.held.lane; room = has_room g at }
+    record { table = c.requires.belongs.cells; may = given g at; place = c.requires.held.lane; room = has_room g at }
 
 pub returns-in-Won : goal.returns-in-Won
 returns-in-Won g c =
@@ -265,16 +265,16 @@ run_rest-answer-requires-clause-held g c =
           (with_claim g at.After-has_history) c.straight-end.new.seat going so;
     }
 
-pub run_rest-answer-requires-clause-of : goal.run_rest-answer-requires-clause-of
-run_rest-answer-requires-clause-of g c =
-    let at = goal.at.run_rest-answer-requires-clause-of g c in
+pub run_rest-answer-requires-clause-belongs : goal.run_rest-answer-requires-clause-belongs
+run_rest-answer-requires-clause-belongs g c =
+    let at = goal.at.run_rest-answer-requires-clause-belongs g c in
     let s = start g at.After-has_history in
     let rng = g.R.Rng.stream c.args.rng.now in
     let so = ran_on g at.After-straight-end s (with_claim g at.After-has_history) 0 rng c.requires.held.claim
     c.requires.held.standing (no_steps c.args.lane rng (with_claim g at.After-has_history)) in
     record {
-      cells = c.requires.of.cells;
-      claims = ap (λ (z : SeatView). z.table) so.same ∙ c.requires.of.claims;
+      cells = c.requires.belongs.cells;
+      claims = ap (λ (z : SeatView). z.table) so.same ∙ c.requires.belongs.claims;
     }
 
 pub returns-in-Going-clause-pursued : goal.returns-in-Going-clause-pursued

@@ -30,7 +30,7 @@ module _ (g : Over) (c : After-has_history g) where
   start : Start c.args.mailbox.now pending c.args.fields.now
   start = record {
     held = c.requires.held.is;
-    of = c.requires.of;
+    belongs = c.requires.belongs;
     lane = c.requires.held.lane;
     wide = c.requires.wide;
     loads = c.has_history.ensures;

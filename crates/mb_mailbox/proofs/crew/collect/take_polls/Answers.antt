@@ -30,7 +30,7 @@ loop-end-preserved g c = record {
   aborted = λ o. some_seen c.loop-end.yielded c.in-Some.end;
   hub = took_consumer_more (λ d. d.consumer) c.args.hub.now c.loop-end.yielded c.in-Some.end _ _
       c.loop-end.invariant.hub c.take_consumer.ensures.hub;
-  all_of = c.take_consumer.ensures.of;
+  all_of = c.take_consumer.ensures.belongs;
 }
 
 -- the iterator is empty, so all ends were yielded
@@ -50,5 +50,5 @@ returns g c =
       aborted = λ o. subst (λ (l : List (PollDone _)). 0 < length l) all (i.aborted o);
       hub = i.hub ∙ ap (λ (l : List (PollDone _)). with_taken_consumers
           (map (λ d. d.consumer) l) c.args.hub.now) all;
-      of = i.all_of;
+      belongs = i.all_of;
     }

@@ -32,7 +32,7 @@ loop-end-preserved g c = record {
   aborted = λ o. some_seen c.loop-end.yielded c.in-Some.end;
   hub = took_producer_more (λ d. d.producer) c.args.hub.now c.loop-end.yielded c.in-Some.end _ _
       c.loop-end.invariant.hub c.take_producer.ensures.hub;
-  all_of = c.take_producer.ensures.of;
+  all_of = c.take_producer.ensures.belongs;
 }
 
 -- the iterator is empty, so all ends were yielded
@@ -55,5 +55,5 @@ returns g c =
       aborted = λ o. subst (λ (l : List (PutDone _)). 0 < length l) all (i.aborted o);
       hub = i.hub ∙ ap (λ (l : List (PutDone _)). with_taken_producers
           (map (λ d. d.producer) l) c.args.hub.now) all;
-      of = i.all_of;
+      belongs = i.all_of;
     }

@@ -8,9 +8,9 @@ use Rattle.mb_mailbox.proofs.crew.issue.give.Goals as goal
 -- `same` says that producers leave the number of consumers given as it is
 pub give_consumers-requires-clause-left : goal.give_consumers-requires-clause-left
 give_consumers-requires-clause-left g c =
-    let same : length c.give_producers.new.hub.ledgers ≡ length c.args.hub.now.ledgers =
-    ap (λ (h : HubView). length h.ledgers) c.give_producers.ensures.hub
-    ∙ ap length (same_by_producers (λ h. h.ledgers) (λ h. refl) c.give_producers.new.jobs.items c.args.hub.now) in
+    let same : length c.give_producers.new.hub.records ≡ length c.args.hub.now.records =
+    ap (λ (h : HubView). length h.records) c.give_producers.ensures.hub
+    ∙ ap length (same_by_producers (λ h. h.records) (λ h. refl) c.give_producers.new.jobs.items c.args.hub.now) in
     omega (arith, same, c.requires.consumers)
 
 pub returns-clause-given : goal.returns-clause-given

@@ -9,10 +9,10 @@ use Rattle.mb_mailbox.proofs.crew.issue.give_consumers.Goals as goal
 pub loop-rng-preserved : goal.loop-rng-preserved
 loop-rng-preserved g c =
     let i = c.loop-rng.invariant in
-    let count = i.ledgers in
+    let count = i.records in
     let hub = c.in-Ok-consumer.ensures.hub in
     let len = c.push_reserved.ensures.len in
-    let longer = ap (λ (h : HubView). length h.ledgers) hub ∙ length-append c.loop-rng.hub.ledgers (None ∷ []) in
+    let longer = ap (λ (h : HubView). length h.records) hub ∙ length-append c.loop-rng.hub.records (None ∷ []) in
     record {
       rest = next_seen _ _ _ _ _ i.rest c.in-Some.ensures.steps.0;
       sources = rw c.push_reserved.ensures.items
@@ -26,8 +26,8 @@ loop-rng-preserved g c =
       hub = rw c.push_reserved.ensures.items
           (hub ∙ ap with_consumer i.hub ∙
           sym (consumers_snoc c.loop-rng.jobs.items _ c.args.hub.now));
-      all_of = c.in-Ok-consumer.ensures.of;
-      ledgers = omega (arith, count, len, longer);
+      all_of = c.in-Ok-consumer.ensures.belongs;
+      records = omega (arith, count, len, longer);
     }
 
 -- the iterator is empty, so all sources were yielded

@@ -15,5 +15,5 @@ invariant-loop-rng g l = record {
   jobs : ArePollJobs l.mailbox l.fn.hub l.jobs.items;
   hub : l.hub ≡ with_consumers l.jobs.items l.fn.hub;
   all_of : IsHubOf l.mailbox l.hub;
-  ledgers : length l.hub.ledgers ≡ length l.fn.hub.ledgers + vec_len l.jobs;
+  records : length l.hub.records ≡ length l.fn.hub.records + vec_len l.jobs;
 }

@@ -26,6 +26,6 @@ loop-list-preserved g c =
       hub = rw c.push_reserved.ensures.items
           (hub ∙ ap with_producer i.hub ∙
           sym (producers_snoc c.loop-list.jobs.items _ c.args.hub.now));
-      all_of = c.in-Ok-producer.ensures.of;
+      all_of = c.in-Ok-producer.ensures.belongs;
       puts = omega (arith, count, len, longer);
     }

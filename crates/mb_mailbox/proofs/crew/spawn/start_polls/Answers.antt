@@ -23,8 +23,8 @@ loop-job-preserved g c = record {
       c.start_poll.ensures);
 }
 
-pub start_poll-requires-clause-of : goal.start_poll-requires-clause-of
-start_poll-requires-clause-of g c κs within = All-head
+pub start_poll-requires-clause-belongs : goal.start_poll-requires-clause-belongs
+start_poll-requires-clause-belongs g c κs within = All-head
     (λ j. IsConsumerOf c.args.shared.now.mailbox.now j.consumer) c.in-Some.job _
     (subst (All (λ j. IsConsumerOf c.args.shared.now.mailbox.now j.consumer)) c.in-Some.ensures.steps.0
     c.loop-job.invariant.all_of)

@@ -22,8 +22,8 @@ loop-job-preserved g c = record {
       c.start_put.ensures);
 }
 
-pub start_put-requires-clause-of : goal.start_put-requires-clause-of
-start_put-requires-clause-of g c κs within = All-head
+pub start_put-requires-clause-belongs : goal.start_put-requires-clause-belongs
+start_put-requires-clause-belongs g c κs within = All-head
     (λ j. IsProducerOf c.args.shared.now.mailbox.now j.producer) c.in-Some.job _
     (subst (All (λ j. IsProducerOf c.args.shared.now.mailbox.now j.producer)) c.in-Some.ensures.steps.0
     c.loop-job.invariant.all_of)

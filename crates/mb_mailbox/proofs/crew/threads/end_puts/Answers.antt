@@ -22,7 +22,7 @@ loop-job-preserved g c = record {
 pub put_nothing-requires : goal.put_nothing-requires
 put_nothing-requires g c =
     record {
-      of = All-head (λ j. IsProducerOf c.args.mailbox.now j.producer) c.in-Some.job _
+      belongs = All-head (λ j. IsProducerOf c.args.mailbox.now j.producer) c.in-Some.job _
           (subst (All (λ j. IsProducerOf c.args.mailbox.now j.producer)) c.in-Some.ensures.steps.0
           c.loop-job.invariant.all_of);
     }

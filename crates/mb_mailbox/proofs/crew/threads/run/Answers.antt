@@ -9,7 +9,7 @@ scoped-requires g c =
     let t = c.type_bounds in
     record {
       at = λ a. (
-        c.requires.of,
+        c.requires.belongs,
         (
           (c.requires.few, c.requires.lanes),
           (

@@ -27,7 +27,7 @@ left_of (Some x) e h i = (x, h, i)
 pub loop-call-init : goal.loop-call-init
 loop-call-init g c = record {
   place = c.args.lanes.ordered;
-  all_of = c.requires.of;
+  all_of = c.requires.belongs;
   same = record { cells = refl; reader = refl; claims = refl; consumer = refl };
   read = λ p e. absurd (clear sixteen p (tt {0}) e);
   only = none_on c.args.lanes.from c.args.lanes.end c.args.job.consumer;
@@ -45,7 +45,7 @@ loop-call-preserved g c =
     let more = c.poll_lane-poll.ensures.made in
     record {
       place = omega (arith, c.in-Some.ensures.some.0);
-      all_of = c.poll_lane-poll.ensures.of;
+      all_of = c.poll_lane-poll.ensures.belongs;
       same = record {
         cells = c.poll_lane-poll.ensures.same.cells ∙ was.same.cells;
         reader = c.poll_lane-poll.ensures.same.reader ∙ was.same.reader;

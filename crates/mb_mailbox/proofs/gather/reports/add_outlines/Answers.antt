@@ -10,7 +10,7 @@ use Rattle.mb_mailbox.proofs.gather.reports.add_outlines.Goals as goal
 -- the diary `made` at this turn is the outline of that on lane p
 pub loop-p-preserved : goal.loop-p-preserved
 loop-p-preserved g c =
-    let kept : Option ConsumerRecordView = option_map (λ k. k.now) c.args.ledger in
+    let kept : Option ConsumerRecordView = option_map (λ k. k.now) c.args.kept in
     let made : DiaryView = record {
       consumer = c.args.c;
       lane = c.loop-p.p;

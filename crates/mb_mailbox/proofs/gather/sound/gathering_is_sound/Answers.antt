@@ -34,12 +34,12 @@ path : (m : MailboxView) (d : ℕ) (claim : Claim) (xs : List ObjectTurn)
 path m d claim xs is own = subst (λ e. IsClaimPrefix (plan_at m).claims e xs (claim_stage claim)) own is.prefix
 
 pub returns-clause-main_theorem : goal.returns-clause-main_theorem
-returns-clause-main_theorem c m h r pool mailbox i of puts ledgers one is rep =
+returns-clause-main_theorem c m h r pool mailbox i belongs puts records one is rep =
     let plan = plan_at m in
     let hs = histories_in one.0 pool in
     let table = c.layouts_are_sound.ensures.table m.claims.layout in
-    let kept = keeps m h one.0 pool i of c.accesses_lengthen_one_part.ensures.cells one.2 is ledgers in
-    let tell = tells m h pool i of is (λ p. c.parts_tell_lanes.ensures.put m.cells.size pool p is.lawful)
+    let kept = keeps m h one.0 pool i belongs c.accesses_lengthen_one_part.ensures.cells one.2 is records in
+    let tell = tells m h pool i belongs is (λ p. c.parts_tell_lanes.ensures.put m.cells.size pool p is.lawful)
     (λ p. c.parts_tell_lanes.ensures.ended pool p) (λ p. c.parts_tell_lanes.ensures.linked pool p)
     (λ who a. c.parts_have_accesses.ensures.all pool who a) puts in
     let sound : AreSound plan hs = record {
@@ -67,15 +67,15 @@ returns-clause-main_theorem c m h r pool mailbox i of puts ledgers one is rep =
     }
 
 pub returns-clause-full : goal.returns-clause-full
-returns-clause-full c m h r i of puts g p done e found =
+returns-clause-full c m h r i belongs puts g p done e found =
     let pool = g.histories.pool in
     let size = m.cells.size in
-    let tell = tells m h pool i of g.pool (λ q. c.parts_tell_lanes.ensures.put size pool q g.pool.lawful)
+    let tell = tells m h pool i belongs g.pool (λ q. c.parts_tell_lanes.ensures.put size pool q g.pool.lawful)
     (λ q. c.parts_tell_lanes.ensures.ended pool q) (λ q. c.parts_tell_lanes.ensures.linked pool q)
     (λ who a. c.parts_have_accesses.ensures.all pool who a) puts in
     let own : part (Producer p) pool ≡ done = g.pool.parts (Producer p) done e in
     let has : Has pool (fetch p found.entry) =
-    (c.parts_have_accesses.ensures.of pool (Producer p) (fetch p found.entry)
+    (c.parts_have_accesses.ensures.only pool (Producer p) (fetch p found.entry)
     (subst (λ d. Has d (fetch p found.entry)) (sym own) found.offered)).0 in
     counted (plan_at m) g.histories r g.report
     ∙ c.lanes_share_cells.ensures.all size pool p found.entry g.pool.lawful has found.past

@@ -20,47 +20,47 @@ add_outlines-requires g c =
 pub fill-requires : goal.fill-requires
 fill-requires g c =
     let h = c.args.self.now in
-    let l = c.in-Some.ledger.now in
+    let l = c.in-Some.kept.now in
     let ds = c.args.diaries.now.items in
     let row = outline_row c.args.c (Some l) c.args.lanes in
-    let told : Option ConsumerRecordView = option_map (λ k. k.now) c.ledger-ledger.result in
-    let here = kept_at h.ledgers c.args.c in
+    let told : Option ConsumerRecordView = option_map (λ k. k.now) c.kept-kept.result in
+    let here = kept_at h.records c.args.c in
     let all = c.add_outlines.new.diaries in
     let more = outlined c.args.c c.args.lanes ds all.items told (Some l) here c.in_ok-add_outlines.ensures.outlines
-    c.ledger-ledger.ensures c.in-Some.ensures in
+    c.kept-kept.ensures c.in-Some.ensures in
     let at = c.len-first.ensures ∙ c.args.diaries.now.ok.0 in
     let part : c.slice_mut.result.now ≡ row =
     c.slice_mut.ensures.value ∙ part_past ds row all.items c.len-first.result all.len more at all.ok.0 in
-    let full : length c.ledger.inside.notes.lists ≡ c.args.lanes =
-    ap (λ (v : ConsumerRecordView). length v.notes) c.ledger.view_is
+    let full : length c.kept.inside.notes.lists ≡ c.args.lanes =
+    ap (λ (v : ConsumerRecordView). length v.notes) c.kept.view_is
     ∙ notes_full h c.args.c l (subst IsHub c.self.view_is c.self.invariant.0) c.in-Some.ensures
     ∙ sym c.requires.lanes in
-    rw part (outlines_empty c.args.c c.args.lanes (length c.ledger.inside.notes.lists) (Some l) full)
+    rw part (outlines_empty c.args.c c.args.lanes (length c.kept.inside.notes.lists) (Some l) full)
 
 pub returns-in_ok-fill-in-Some-clause-diaries : goal.returns-in_ok-fill-in-Some-clause-diaries
 returns-in_ok-fill-in-Some-clause-diaries g c =
     let h = c.args.self.now in
-    let l = c.in-Some.ledger.now in
+    let l = c.in-Some.kept.now in
     let ds = c.args.diaries.now.items in
     let row = outline_row c.args.c (Some l) c.args.lanes in
-    let told : Option ConsumerRecordView = option_map (λ k. k.now) c.ledger-ledger.result in
-    let here = kept_at h.ledgers c.args.c in
+    let told : Option ConsumerRecordView = option_map (λ k. k.now) c.kept-kept.result in
+    let here = kept_at h.records c.args.c in
     let all = c.add_outlines.new.diaries in
     let more = outlined c.args.c c.args.lanes ds all.items told (Some l) here c.in_ok-add_outlines.ensures.outlines
-    c.ledger-ledger.ensures c.in-Some.ensures in
+    c.kept-kept.ensures c.in-Some.ensures in
     let at = c.len-first.ensures ∙ c.args.diaries.now.ok.0 in
     let part : c.slice_mut.result.now ≡ row =
     c.slice_mut.ensures.value ∙ part_past ds row all.items c.len-first.result all.len more at all.ok.0 in
     row_filled c.args.lanes c.args.c h l all ds c.slice_mut.result.now c.fill.new.row c.len-first.result
-    c.ledger.inside.notes.lists c.requires.before c.in-Some.ensures more at part c.in_ok-fill-in-Some.ensures.notes
-    (ap (λ (v : ConsumerRecordView). v.notes) c.ledger.view_is) c.in_ok-fill-in-Some.ensures.same
+    c.kept.inside.notes.lists c.requires.before c.in-Some.ensures more at part c.in_ok-fill-in-Some.ensures.notes
+    (ap (λ (v : ConsumerRecordView). v.notes) c.kept.view_is) c.in_ok-fill-in-Some.ensures.same
 
 pub returns-in-None-clause-diaries : goal.returns-in-None-clause-diaries
 returns-in-None-clause-diaries g c =
     let h = c.args.self.now in
     let ds = c.args.diaries.now.items in
-    let told : Option ConsumerRecordView = option_map (λ k. k.now) c.ledger-ledger.result in
+    let told : Option ConsumerRecordView = option_map (λ k. k.now) c.kept-kept.result in
     let all = c.add_outlines.new.diaries.items in
     row_kept c.args.lanes c.args.c h ds all c.requires.before c.in-None.ensures
-    (outlined c.args.c c.args.lanes ds all told None (kept_at h.ledgers c.args.c) c.in_ok-add_outlines.ensures.outlines
-    c.ledger-ledger.ensures c.in-None.ensures)
+    (outlined c.args.c c.args.lanes ds all told None (kept_at h.records c.args.c) c.in_ok-add_outlines.ensures.outlines
+    c.kept-kept.ensures c.in-None.ensures)

@@ -18,17 +18,17 @@ invariant_of-result g c =
       cells = c.self.inside.cells;
       claims = c.self.inside.claims;
       puts = c.self.inside.puts.items;
-      ledgers = c.self.inside.ledgers.items;
+      records = c.self.inside.records.items;
     } in
     let m : MailboxView = record { cells = c.mailbox.inside.cells; claims = c.mailbox.inside.claims } in
     let table : h.cells.table ≡ m.cells =
-    ap (λ (v : HubView). v.cells.table) c.self.view_is ∙ c.requires.of.cells
+    ap (λ (v : HubView). v.cells.table) c.self.view_is ∙ c.requires.belongs.cells
     ∙ sym (ap (λ (v : MailboxView). v.cells) c.mailbox.view_is) in
     let claims : h.claims.table ≡ name_of m.claims =
-    ap (λ (v : HubView). v.claims.table) c.self.view_is ∙ c.requires.of.claims
+    ap (λ (v : HubView). v.claims.table) c.self.view_is ∙ c.requires.belongs.claims
     ∙ sym (ap (λ (v : MailboxView). name_of v.claims) c.mailbox.view_is) in
     let i = c.self.invariant.0 in
-    let n = length h.ledgers in
+    let n = length h.records in
     let reader : c.enroll_reader-reader.result ≡ new_reader m n h.cells.roll.lanes =
     c.enroll_reader-reader.ensures.seat ∙ ap (λ (k : ℕ). new_reader m k h.cells.roll.lanes) (sym i.readers) in
     let seat : c.in-Ok-enroll.seat ≡ new_seat m n =
@@ -52,17 +52,17 @@ invariant_of-self g c =
       cells = c.self.inside.cells;
       claims = c.self.inside.claims;
       puts = c.self.inside.puts.items;
-      ledgers = c.self.inside.ledgers.items;
+      records = c.self.inside.records.items;
     } in
     let m : MailboxView = record { cells = c.mailbox.inside.cells; claims = c.mailbox.inside.claims } in
     let table : h.cells.table ≡ m.cells =
-    ap (λ (v : HubView). v.cells.table) c.self.view_is ∙ c.requires.of.cells
+    ap (λ (v : HubView). v.cells.table) c.self.view_is ∙ c.requires.belongs.cells
     ∙ sym (ap (λ (v : MailboxView). v.cells) c.mailbox.view_is) in
     let claims : h.claims.table ≡ name_of m.claims =
-    ap (λ (v : HubView). v.claims.table) c.self.view_is ∙ c.requires.of.claims
+    ap (λ (v : HubView). v.claims.table) c.self.view_is ∙ c.requires.belongs.claims
     ∙ sym (ap (λ (v : MailboxView). name_of v.claims) c.mailbox.view_is) in
     let i = c.self.invariant.0 in
-    let n = length h.ledgers in
+    let n = length h.records in
     let reader : c.enroll_reader-reader.result ≡ new_reader m n h.cells.roll.lanes =
     c.enroll_reader-reader.ensures.seat ∙ ap (λ (k : ℕ). new_reader m k h.cells.roll.lanes) (sym i.readers) in
     let seat : c.in-Ok-enroll.seat ≡ new_seat m n =
@@ -77,17 +77,17 @@ invariant_of-self g c =
       cells = c.enroll_reader-reader.new.hub;
       claims = c.enroll.new.hub;
       puts = h.puts;
-      ledgers = c.push_reserved.new.self.items;
+      records = c.push_reserved.new.self.items;
     } = λ j. record {
       cells = sym cells j;
       claims = sym seats j;
       puts = h.puts;
-      ledgers = sym c.push_reserved.ensures.items j;
+      records = sym c.push_reserved.ensures.items j;
     } in
     let cap = c.push_reserved.ensures.capacity in
     let wide = subst (λ (t : ClaimHubView). (claims_at t.table).table.values ≤
-    c.self.inside.ledgers.cap) (sym seats) c.self.invariant.2 in
-    let low : length h.ledgers < (claims_at h.claims.table).table.values =
+    c.self.inside.records.cap) (sym seats) c.self.invariant.2 in
+    let low : length h.records < (claims_at h.claims.table).table.values =
     (let few = c.if-len-consumers.false in
     let n = c.len.ensures in
     let all : c.consumers.result ≡ (claims_at h.claims.table).table.values =
@@ -105,17 +105,17 @@ returns-clause-consumer g c =
       cells = c.self.inside.cells;
       claims = c.self.inside.claims;
       puts = c.self.inside.puts.items;
-      ledgers = c.self.inside.ledgers.items;
+      records = c.self.inside.records.items;
     } in
     let m : MailboxView = record { cells = c.mailbox.inside.cells; claims = c.mailbox.inside.claims } in
     let table : h.cells.table ≡ m.cells =
-    ap (λ (v : HubView). v.cells.table) c.self.view_is ∙ c.requires.of.cells
+    ap (λ (v : HubView). v.cells.table) c.self.view_is ∙ c.requires.belongs.cells
     ∙ sym (ap (λ (v : MailboxView). v.cells) c.mailbox.view_is) in
     let claims : h.claims.table ≡ name_of m.claims =
-    ap (λ (v : HubView). v.claims.table) c.self.view_is ∙ c.requires.of.claims
+    ap (λ (v : HubView). v.claims.table) c.self.view_is ∙ c.requires.belongs.claims
     ∙ sym (ap (λ (v : MailboxView). name_of v.claims) c.mailbox.view_is) in
     let i = c.self.invariant.0 in
-    let n = length h.ledgers in
+    let n = length h.records in
     let reader : c.enroll_reader-reader.result ≡ new_reader m n h.cells.roll.lanes =
     c.enroll_reader-reader.ensures.seat ∙ ap (λ (k : ℕ). new_reader m k h.cells.roll.lanes) (sym i.readers) in
     let seat : c.in-Ok-enroll.seat ≡ new_seat m n =

@@ -13,12 +13,12 @@ invariant_of-self g c =
       cells = c.self.inside.cells;
       claims = c.self.inside.claims;
       puts = c.self.inside.puts.items;
-      ledgers = c.self.inside.ledgers.items;
+      records = c.self.inside.records.items;
     } in
     let lists : c.push_reserved.new.self.items ≡ c.self.inside.puts.items ++ None
     ∷ [] = c.push_reserved.ensures.items in
     let table : h.cells.table ≡ c.mailbox.inside.cells =
-    ap (λ (v : HubView). v.cells.table) c.self.view_is ∙ c.requires.of.cells
+    ap (λ (v : HubView). v.cells.table) c.self.view_is ∙ c.requires.belongs.cells
     ∙ sym (ap (λ (m : MailboxView). m.cells) c.mailbox.view_is) in
     let hub = c.in-Ok-enroll_lane.ensures.hub in
     let cells : c.enroll_lane.new.hub ≡ (with_producer h).cells =
@@ -31,12 +31,12 @@ invariant_of-self g c =
       cells = c.enroll_lane.new.hub;
       claims = c.self.inside.claims;
       puts = c.push_reserved.new.self.items;
-      ledgers = c.self.inside.ledgers.items;
+      records = c.self.inside.records.items;
     } = λ j. record {
       cells = sym cells j;
       claims = c.self.inside.claims;
       puts = sym lists j;
-      ledgers = c.self.inside.ledgers.items;
+      records = c.self.inside.records.items;
     } in
     let low : length h.puts < h.cells.table.size.lanes =
     (let few = c.if-len-mailbox.false in

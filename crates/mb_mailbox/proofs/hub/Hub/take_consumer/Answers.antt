@@ -5,21 +5,21 @@ use Rattle.mb_shared_claims.specs.Vocabulary.{HubView as ClaimHubView}
 use Rattle.mb_mailbox.specs.Imports.{claims_at, name_of, Reader}
 use Rattle.mb_mailbox.specs.Consumers.{ConsumerView}
 use Rattle.mb_mailbox.specs.Mailboxes.{MailboxView}
-use Rattle.mb_mailbox.specs.Hubs.{ConsumerRecordView, HubView, IsHub, ledger_of, with_taken_consumer}
+use Rattle.mb_mailbox.specs.Hubs.{ConsumerRecordView, HubView, IsHub, record_of, with_taken_consumer}
 use Rattle.mb_mailbox.specs.Pursuits.{with_fields}
 use Rattle.mb_mailbox.proofs.HubMoves.{seat_is_out, took_consumer}
 use Rattle.mb_mailbox.proofs.hub.Hub.take_consumer.Goals as goal
 
 -- Each proof begins with h, the hub before the call, and s, the consumer, by their fields. The
 -- first two proofs then show that the call leaves `with_taken_consumer s h`. `cells` and `seats`
--- say so of the hubs of both tables, and `ledgers` of the records. The put lists are those of h
+-- say so of the hubs of both tables, and `records` of the records. The put lists are those of h
 pub invariant_of-self : goal.invariant_of-self
 invariant_of-self g c =
     let h : HubView = record {
       cells = c.self.inside.cells;
       claims = c.self.inside.claims;
       puts = c.self.inside.puts.items;
-      ledgers = c.self.inside.ledgers.items;
+      records = c.self.inside.records.items;
     } in
     let s = with_fields c.consumer.inside.fields in
     let table : h.cells.table ≡ c.mailbox.inside.cells =
@@ -36,15 +36,15 @@ invariant_of-self g c =
     let seats : c.take_in.new.hub ≡ (with_taken_consumer s h).claims = c.take_in.ensures.hub in
     let number : c.consumer-number.result ≡ s.seat.consumer = c.consumer-number.ensures.exact in
     let taken : ConsumerRecordView = record { places = s.places; notes = c.trim.new.self.lists } in
-    let ledgers : slice_set h.ledgers c.consumer-number.result (Some taken)
-    ≡ slice_set h.ledgers s.seat.consumer (Some (ledger_of s)) =
-    λ j. slice_set h.ledgers (number j) (Some (record { places = s.places; notes = c.trim.ensures j })) in
+    let records : slice_set h.records c.consumer-number.result (Some taken)
+    ≡ slice_set h.records s.seat.consumer (Some (record_of s)) =
+    λ j. slice_set h.records (number j) (Some (record { places = s.places; notes = c.trim.ensures j })) in
     let is : with_taken_consumer s h ≡ record {
       cells = c.take_reader.new.hub;
       claims = c.take_in.new.hub;
       puts = h.puts;
-      ledgers = slice_set h.ledgers c.consumer-number.result (Some taken);
-    } = λ j. record { cells = sym cells j; claims = sym seats j; puts = h.puts; ledgers = sym ledgers j } in
+      records = slice_set h.records c.consumer-number.result (Some taken);
+    } = λ j. record { cells = sym cells j; claims = sym seats j; puts = h.puts; records = sym records j } in
     let same : s.seat.table ≡ h.claims.table =
     ap (λ (v : ConsumerView). v.seat.table) c.consumer.view_is ∙ c.requires.consumer.claims
     ∙ sym (ap (λ (m : MailboxView). name_of m.claims) c.mailbox.view_is) ∙ sym claims in
@@ -55,7 +55,7 @@ invariant_of-self g c =
     c.take_reader.ensures.was_out c.take_in.ensures.was_out in (
       subst IsHub is took,
       subst (λ (t : CellHubView). t.table.size.lanes ≤ c.self.inside.puts.cap) (sym cells) c.self.invariant.1,
-      subst (λ (t : ClaimHubView). (claims_at t.table).table.values ≤ c.self.inside.ledgers.cap)
+      subst (λ (t : ClaimHubView). (claims_at t.table).table.values ≤ c.self.inside.records.cap)
           (sym seats) c.self.invariant.2,
     )
 
@@ -65,7 +65,7 @@ returns-clause-hub g c =
       cells = c.self.inside.cells;
       claims = c.self.inside.claims;
       puts = c.self.inside.puts.items;
-      ledgers = c.self.inside.ledgers.items;
+      records = c.self.inside.records.items;
     } in
     let s = with_fields c.consumer.inside.fields in
     let table : h.cells.table ≡ c.mailbox.inside.cells =
@@ -79,19 +79,19 @@ returns-clause-hub g c =
     let seats : c.take_in.new.hub ≡ (with_taken_consumer s h).claims = c.take_in.ensures.hub in
     let number : c.consumer-number.result ≡ s.seat.consumer = c.consumer-number.ensures.exact in
     let taken : ConsumerRecordView = record { places = s.places; notes = c.trim.new.self.lists } in
-    let ledgers : slice_set h.ledgers c.consumer-number.result (Some taken)
-    ≡ slice_set h.ledgers s.seat.consumer (Some (ledger_of s)) =
-    λ j. slice_set h.ledgers (number j) (Some (record { places = s.places; notes = c.trim.ensures j })) in
+    let records : slice_set h.records c.consumer-number.result (Some taken)
+    ≡ slice_set h.records s.seat.consumer (Some (record_of s)) =
+    λ j. slice_set h.records (number j) (Some (record { places = s.places; notes = c.trim.ensures j })) in
     let is : record {
       cells = c.take_reader.new.hub;
       claims = c.take_in.new.hub;
       puts = h.puts;
-      ledgers = slice_set h.ledgers c.consumer-number.result (Some taken);
+      records = slice_set h.records c.consumer-number.result (Some taken);
     } ≡ with_taken_consumer s h = λ j. record {
       cells = cells j;
       claims = seats j;
       puts = h.puts;
-      ledgers = ledgers j;
+      records = records j;
     } in
     is ∙ (λ j. with_taken_consumer (c.consumer.view_is j) (c.self.view_is j))
 
@@ -101,9 +101,9 @@ returns-clause-was_out g c =
       cells = c.self.inside.cells;
       claims = c.self.inside.claims;
       puts = c.self.inside.puts.items;
-      ledgers = c.self.inside.ledgers.items;
+      records = c.self.inside.records.items;
     } in
     let s = with_fields c.consumer.inside.fields in
-    subst (λ (z : HubView × ConsumerView). slice_get z.0.ledgers z.1.seat.consumer ≡ Some None)
+    subst (λ (z : HubView × ConsumerView). slice_get z.0.records z.1.seat.consumer ≡ Some None)
     (λ j. (c.self.view_is j, c.consumer.view_is j))
     (seat_is_out h s.seat.consumer c.self.invariant.0 c.take_in.ensures.was_out)

@@ -18,7 +18,7 @@ invariant_of-self g c =
       cells = c.self.inside.cells;
       claims = c.self.inside.claims;
       puts = c.self.inside.puts.items;
-      ledgers = c.self.inside.ledgers.items;
+      records = c.self.inside.records.items;
     } in
     let s : ProducerView = record { seat = c.producer.inside.seat; items = c.producer.inside.items.items } in
     let table : h.cells.table ≡ c.mailbox.inside.cells =
@@ -44,12 +44,12 @@ invariant_of-self g c =
       cells = c.take_lane.new.hub;
       claims = c.self.inside.claims;
       puts = slice_set h.puts c.lane-lane.result (Some kept);
-      ledgers = c.self.inside.ledgers.items;
+      records = c.self.inside.records.items;
     } = λ j. record {
       cells = sym cells j;
       claims = c.self.inside.claims;
       puts = sym lists j;
-      ledgers = c.self.inside.ledgers.items;
+      records = c.self.inside.records.items;
     } in
     let pool = c.has_history.ensures.history.0 in
     let lawful = c.has_history.ensures.history.1 in
@@ -62,7 +62,7 @@ invariant_of-self g c =
     (c.parts_tell_lanes.ensures.linked pool s.seat.lane ∙ ap (linked_cells s.seat.lane) part_is)
     (c.lanes_share_cells.ensures.idle s.seat.table.size pool s.seat.lane s.seat.place e lawful place
     c.producer.invariant.0.idle
-    (c.parts_have_accesses.ensures.of pool (Producer s.seat.lane) (fetch s.seat.lane e)
+    (c.parts_have_accesses.ensures.only pool (Producer s.seat.lane) (fetch s.seat.lane e)
     (subst (λ d. Has d (fetch s.seat.lane e)) (sym part_is) has)).0 low)) in
     let size : s.seat.table.size ≡ h.cells.table.size =
     ap (λ (v : ProducerView). v.seat.table.size) c.producer.view_is
@@ -83,7 +83,7 @@ returns-clause-was_out g c =
       cells = c.self.inside.cells;
       claims = c.self.inside.claims;
       puts = c.self.inside.puts.items;
-      ledgers = c.self.inside.ledgers.items;
+      records = c.self.inside.records.items;
     } in
     let s : ProducerView = record { seat = c.producer.inside.seat; items = c.producer.inside.items.items } in
     subst (λ (z : HubView × ProducerView). slice_get z.0.puts z.1.seat.lane ≡ Some None)
@@ -96,7 +96,7 @@ returns-clause-hub g c =
       cells = c.self.inside.cells;
       claims = c.self.inside.claims;
       puts = c.self.inside.puts.items;
-      ledgers = c.self.inside.ledgers.items;
+      records = c.self.inside.records.items;
     } in
     let s : ProducerView = record { seat = c.producer.inside.seat; items = c.producer.inside.items.items } in
     let table : h.cells.table ≡ c.mailbox.inside.cells =
@@ -122,11 +122,11 @@ returns-clause-hub g c =
       cells = c.take_lane.new.hub;
       claims = c.self.inside.claims;
       puts = slice_set h.puts c.lane-lane.result (Some kept);
-      ledgers = c.self.inside.ledgers.items;
+      records = c.self.inside.records.items;
     } = λ j. record {
       cells = sym cells j;
       claims = c.self.inside.claims;
       puts = sym lists j;
-      ledgers = c.self.inside.ledgers.items;
+      records = c.self.inside.records.items;
     } in
     sym is ∙ (λ j. with_taken_producer (c.producer.view_is j) (c.self.view_is j))

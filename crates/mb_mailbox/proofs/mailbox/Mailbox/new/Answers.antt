@@ -8,10 +8,10 @@ use Rattle.mb_mailbox.proofs.mailbox.Mailbox.new.Goals as goal
 pub invariant_of-hub : goal.invariant_of-hub
 invariant_of-hub g c = (
   new_hub c.in_ok-cells.lanes_hub c.in_ok-claims.claims_hub c.in_ok-puts.puts.items
-      c.in_ok-ledgers.ledgers.items
+      c.in_ok-records.records.items
       (ap (λ (h : CellHubView). h.roll) c.in_ok-cells.ensures.hub)
       (ap (λ (h : ClaimHubView). h.roll) c.in_ok-claims.ensures.hub)
-      c.in_ok-puts.ensures.items c.in_ok-ledgers.ensures.items,
+      c.in_ok-puts.ensures.items c.in_ok-records.ensures.items,
   search rules,
   search rules,
 )

@@ -1,6 +1,6 @@
--- Proof of `laws::even_by_example`: what is dealt evenly, by example.
+-- Proof of `laws::sample_even`: a sample of what is dealt evenly.
 use Rattle.std.proofs.Common.{[], arith}
-use Rattle.mb_rounds.proofs.laws.even_by_example.Goals as goal
+use Rattle.mb_rounds.proofs.laws.sample_even.Goals as goal
 
 -- the first list has two items, and the second none
 pub returns-clause-two_more : goal.returns-clause-two_more

@@ -4,8 +4,8 @@ use Rattle.std.specs.Prelude.{Option, Some, None, slice_get}
 use Rattle.std.specs.Option.{option_map_or}
 use Rattle.mb_world.specs.Theorem.{DiaryView, HasCompeted, diary, note}
 use Rattle.mb_mailbox.specs.Imports.{Note, Undecided}
-use Rattle.mb_mailbox.specs.GatheringExamples.{diary_of, one_left, two_undecided}
-use Rattle.mb_mailbox.proofs.laws.reports_by_example.Goals as goal
+use Rattle.mb_mailbox.specs.GatheringSamples.{diary_of, one_left, two_undecided}
+use Rattle.mb_mailbox.proofs.laws.sample_reports.Goals as goal
 
 -- the diary of consumer d on lane 0 stands at place d
 at_place : (d : ℕ) (ds : List DiaryView) → diary d 0 (one_left ds) ≡ slice_get ds d

@@ -1,9 +1,9 @@
--- Proof of `laws::takes_by_example`: takes of no item, of one item past another, and what is no take.
+-- Proof of `laws::sample_takes`: takes of no item, of one item past another, and what is no take.
 use Rattle.std.proofs.Common.{[], ◌∷◌, arith, refl}
 use Rattle.mb_mailbox.specs.declared.consumer.Poll.TheVariants as poll
 use Rattle.mb_mailbox.proofs.Polls.{no_steps, poll_of}
 use Rattle.mb_mailbox.proofs.Takes.{spent_by}
-use Rattle.mb_mailbox.proofs.laws.takes_by_example.Goals as goal
+use Rattle.mb_mailbox.proofs.laws.sample_takes.Goals as goal
 
 pub returns-clause-past_one : goal.returns-clause-past_one
 returns-clause-past_one c p most left w x s t u old mid new lost rest took = record {

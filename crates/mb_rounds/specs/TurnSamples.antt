@@ -1,4 +1,4 @@
--- A life of two rounds by example.
+-- A sample: a life of two rounds.
 use Rattle.std.specs.Prelude.{List, [], ◌∷◌}
 use Rattle.mb_rounds.specs.Turns.{Gave, HandedIn, Turn}
 

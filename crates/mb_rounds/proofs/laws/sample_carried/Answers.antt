@@ -1,9 +1,9 @@
--- Proof of `laws::carried_by_example`: what is carried, by example.
+-- Proof of `laws::sample_carried`: a sample of what is carried.
 use Rattle.std.proofs.Common.{[], ◌∷◌, refl, arith}
-use Rattle.mb_rounds.specs.TurnExamples.{two_rounds}
+use Rattle.mb_rounds.specs.TurnSamples.{two_rounds}
 use Rattle.mb_rounds.proofs.Counts.{times_first}
 use Rattle.mb_rounds.proofs.Turning.{all_there}
-use Rattle.mb_rounds.proofs.laws.carried_by_example.Goals as goal
+use Rattle.mb_rounds.proofs.laws.sample_carried.Goals as goal
 
 -- the items carried before each turn, and that each round kept all values: 8, 7 and 9 were carried into the second
 pub returns-clause-one_left : goal.returns-clause-one_left
