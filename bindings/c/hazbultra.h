@@ -33,7 +33,7 @@
  * HZ_LINKED, HZ_FULL and those of a poll or a take nothing has changed, if no line below says otherwise. No call loses what a
  * handle leads to, also if memory is refused.
  *
- * STACK. hz_mailbox_new takes up to 17 kB of it, and no other call takes more than 8 kB. A backtrace ends at the library's
+ * STACK. hz_mailbox_new takes up to 24 kB of it, and no other call takes more than 8 kB. A backtrace ends at the library's
  * functions: they have no unwind tables, and keep no frame pointer.
  */
 #ifndef HAZBULTRA_H
@@ -167,7 +167,7 @@ typedef struct {
  * a copy each. Their equal numbers do no harm if none is given a handle of another's. */
 extern uint64_t hz_next_id(void);
 
-/* A mailbox of this setup, and its hub. It takes up to 17 kB of stack: a thread of the least size, 16 kB, is too small.
+/* A mailbox of this setup, and its hub. It takes up to 24 kB of stack: a thread of the least size, 16 kB, is too small.
  * HZ_DONE: hub leads to the hub. HZ_BAD_HANDLE: hub is not HZ_NONE. HZ_NO_MEMORY. HZ_BAD_TABLE .. HZ_BAD_PAIRS. */
 HZ_CHECKED HZ_NONNULL
 uint32_t hz_mailbox_new(uint64_t id, const hz_setup *setup, hz_handle *hub);

@@ -11,7 +11,7 @@ use std::fmt;
 pub enum Table {
     /// One register for each consumer.
     Unary,
-    /// Two registers for each bit of a consumer's number. This one is taken if you name none.
+    /// Two registers for each bit of a consumer's number. This one is taken if you name none, and a shape with pairs.
     #[default]
     Bits,
     /// The fewest registers that can do. Take it for more than four consumers.
@@ -28,11 +28,11 @@ pub enum Shape {
     Fast,
     /// An object after the pairs, which makes one compare-exchange: no poll is undecided. Take it for four consumers or more.
     Last,
-    /// Both. This one is taken if you name none.
-    #[default]
+    /// Both.
     FastLast,
-    /// That object alone: each claim on an item is one compare-exchange. It takes the least time and memory. The pairs and
-    /// the table that you name do not count.
+    /// That object alone: each claim on an item is one compare-exchange. It takes the fewest instructions and the least
+    /// memory. The pairs and the table that you name do not count. This one is taken if you name none.
+    #[default]
     Exchange,
 }
 
@@ -91,12 +91,13 @@ impl<T> Builder<T> {
         Builder { cells, ..self }
     }
 
-    /// The number of pairs of deciding objects in each cell, 1 to 8. If you name none, it is 4. [`Shape::Exchange`] has none.
+    /// The number of pairs of deciding objects in each cell, 1 to 8. If you name none, it is 4. They count only if you name
+    /// another shape than [`Shape::Exchange`].
     pub fn pairs(self, pairs: usize) -> Self {
         Builder { pairs, ..self }
     }
 
-    /// This quorum table.
+    /// This quorum table. It counts only if you name another shape than [`Shape::Exchange`].
     pub fn table(self, table: Table) -> Self {
         Builder { table, ..self }
     }
@@ -108,7 +109,7 @@ impl<T> Builder<T> {
 
     /// This seed for the random words of all consumers, each of which draws from a stream of `ChaCha8` of its own. There is
     /// no other source of random words. So in one thread all goes the same way once more. If you give none, each mailbox
-    /// gets a seed of the system's, as hash maps do.
+    /// gets a seed of the system's, as hash maps do. [`Shape::Exchange`] looks at no word.
     pub fn seed(self, seed: [u8; 32]) -> Self {
         Builder {
             seed: Some(seed),

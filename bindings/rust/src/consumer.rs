@@ -124,8 +124,9 @@ impl<T> Consumer<T> {
     }
 
     /// Competes for the next item of a lane, until it knows the result. It waits for nobody, and is never
-    /// [`Poll::Spent`]. As the builder has it by default, it makes at most 31, 47, 63, 95 or 127 accesses with 1, 2, 4, 16
-    /// or 64 consumers. An access is a load, store or exchange of one shared word.
+    /// [`Poll::Spent`]. As the builder has it by default, it makes at most 3 accesses. With
+    /// [`Shape::FastLast`](crate::Shape::FastLast) it makes at most 31, 47, 63, 95 or 127 with 1, 2, 4, 16 or 64 consumers.
+    /// An access is a load, store or exchange of one shared word.
     ///
     /// ```
     /// # fn main() -> Result<(), Box<dyn std::error::Error>> {
@@ -175,7 +176,19 @@ impl<T> Consumer<T> {
     /// # }
     /// ```
     pub fn take(&mut self, lane: usize) -> Poll<T> {
-        self.take_within(lane, u64::MAX)
+        match self.part.poll_or_take(lane as u64) {
+            Poll::Took(value) => Poll::Took(value),
+            polled => self.go_on(lane, polled),
+        }
+    }
+
+    /// The result of a take whose first call took nothing, and had this result.
+    #[inline(never)]
+    fn go_on(&mut self, lane: usize, polled: Poll<T>) -> Poll<T> {
+        match polled {
+            Poll::Lost(_) => self.take_within(lane, u64::MAX),
+            polled => self.noted(lane, polled),
+        }
     }
 
     /// The same with at most this many accesses. After [`Poll::Spent`] the next call for the lane goes on.
@@ -205,7 +218,11 @@ impl<T> Consumer<T> {
                 quiet += 1;
                 continue;
             }
-            match self.take(lane) {
+            let polled = match self.part.poll_or_take(lane as u64) {
+                Poll::Took(value) => return Sweep::Took(value),
+                polled => self.go_on(lane, polled),
+            };
+            match polled {
                 Poll::Took(value) => return Sweep::Took(value),
                 Poll::Nothing | Poll::Ended | Poll::NoLane => quiet += 1,
                 Poll::Lost(_) | Poll::Undecided | Poll::Spent => quiet = 0,

@@ -1,5 +1,7 @@
 //! Producers and consumers return by themselves, and the report waits for them.
-use hazbultra::{BuildError, Consumer, GatherError, IssueError, Mailbox, Poll, Producer, Sweep};
+use hazbultra::{
+    BuildError, Consumer, GatherError, IssueError, Mailbox, Poll, Producer, Shape, Sweep,
+};
 use std::cell::Cell;
 use std::mem;
 use std::panic::{self, AssertUnwindSafe};
@@ -199,7 +201,8 @@ fn numbers_out_of_range_are_refused_in_order() {
     let built = |producers, consumers, cells, pairs| {
         let builder = Mailbox::<u8>::builder()
             .producers(producers)
-            .consumers(consumers);
+            .consumers(consumers)
+            .shape(Shape::FastLast);
         builder.cells(cells).pairs(pairs).build().map(|_| ())
     };
     assert_eq!(built(0, 0, 1 << 25, 0), Err(BuildError::BadProducers));

@@ -1,9 +1,16 @@
 //! Polls of consumers that come to one item together.
-use hazbultra::{BuildError, Mailbox, Note, Poll, Shape};
+use hazbultra::{BuildError, Builder, Mailbox, Note, Poll, Shape};
 use std::thread;
 
-/// How many accesses a poll makes at most, with this many consumers. The docs of `Consumer::poll` say it.
-const MOST: [(usize, u64); 5] = [(1, 31), (2, 47), (4, 63), (16, 95), (64, 127)];
+/// Setups, their numbers of consumers, and how many accesses a poll makes at most. The docs of `Consumer::poll` say it.
+fn most() -> impl Iterator<Item = (Builder<u64>, usize, u64)> {
+    let counts = [(1, 31), (2, 47), (4, 63), (16, 95), (64, 127)];
+    counts.into_iter().flat_map(|(count, fast_last)| {
+        let by_default = Mailbox::numbers().consumers(count);
+        let shaped = by_default.clone().shape(Shape::FastLast);
+        [(by_default, count, 3), (shaped, count, fast_last)]
+    })
+}
 
 /// Two consumers in turn, each poll with a budget of three accesses. With other seeds one of them may win.
 #[test]
@@ -36,9 +43,8 @@ fn a_poll_and_its_note_may_be_undecided() {
 /// once.
 #[test]
 fn consumers_in_step_need_no_larger_budget_than_the_docs_say() {
-    for (count, most) in MOST {
-        let builder = Mailbox::numbers().consumers(count).seed([1; 32]);
-        let mailbox = builder.build().unwrap();
+    for (builder, count, most) in most() {
+        let mailbox = builder.seed([1; 32]).build().unwrap();
         let mut producer = mailbox.producer().unwrap();
         (0..most).for_each(|item| producer.put(item).unwrap());
         let mut consumers: Vec<_> = (0..count).map(|_| mailbox.consumer().unwrap()).collect();
@@ -61,8 +67,8 @@ fn consumers_in_step_need_no_larger_budget_than_the_docs_say() {
 
 #[test]
 fn threads_that_contend_need_no_larger_budget_than_the_docs_say() {
-    for (count, most) in MOST {
-        let mailbox = Mailbox::numbers().consumers(count).build().unwrap();
+    for (builder, count, most) in most() {
+        let mailbox = builder.build().unwrap();
         let mut producer = mailbox.producer().unwrap();
         (0..200).for_each(|item| producer.put(item).unwrap());
         producer.finish();

@@ -5,5 +5,6 @@ pub mod Refusals
 pub mod Reports
 pub mod Handles
 pub mod Defaults
+pub mod Samples
 pub mod Lending
 pub mod Zeros

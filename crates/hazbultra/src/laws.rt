@@ -1,23 +1,66 @@
-//! A law of mailboxes as plain Rust makes them by default. The function computes nothing: its contract is the law.
-ghost use Rattle.std.specs.Prelude.{ℕ, ◌≡◌, ◌+◌, length};
-ghost use Rattle.mb_claim.specs.Vocabulary.{most_accesses};
+//! Laws of mailboxes as plain Rust makes them by default, and examples of what this crate defines. The functions compute
+//! nothing: their contracts are the laws.
+ghost use Rattle.std.specs.Prelude.{ℕ, ◌≡◌, ◌+◌, [], List, None, Some, false, length, true};
+ghost use Rattle.rand_chacha.specs.ChaCha.{of_seed};
+ghost use Rattle.mb_quorum.specs.declared.table.TableName.TheVariants.{Bits, Middle};
+ghost use Rattle.mb_claim.specs.{Vocabulary.{most_accesses}, declared.layout.Layout.{Layout}};
 ghost use Rattle.mb_mailbox.specs.Vocabulary.{MailboxView, plan_at};
-ghost use Rattle.hazbultra.specs.Defaults.{by_default};
+ghost use Rattle.mb_world.specs.Vocabulary.{shaped_plan};
+ghost use Rattle.hazbultra.specs.{Calls.{source_of, words_of}, Defaults.{by_default, by_fast_last}};
+ghost use Rattle.hazbultra.specs.{Samples.{asked}, Lending.{handle_to, leading_to}};
+ghost use Rattle.hazbultra.specs.{Refusals.{plan_asked, refusal_of}, Zeros.{zeros}};
+ghost use Rattle.hazbultra.specs.declared.handle.{Handle.{Handle}, block.Block.{Block}};
+ghost use Rattle.hazbultra.specs.declared.thing.Thing.{Thing};
 
-/// The most accesses of a claim, with the load of its link and that of its item, for 1, 2, 4, 16 and 64 consumers. A
-/// poll with this budget is never spent (`unspent` of `hz_poll`).
+/// The most accesses of a claim, with the load of its link and that of its item: 3 by default, and with `FastLast` these
+/// for 1, 2, 4, 16 and 64 consumers. A poll with this budget is never spent (`unspent` of `hz_poll`).
 pub fn whole_items_take_few_accesses()
-    ensures one { (m : MailboxView) (p k : ℕ) → plan_at m ≡ by_default p 1 k
+    ensures exchange { (m : MailboxView) (p n k : ℕ) → plan_at m ≡ by_default p n k
+        → most_accesses m.claims.layout + 2 ≡ 3 }
+    ensures one { (m : MailboxView) (p k : ℕ) → plan_at m ≡ by_fast_last p 1 k
         → most_accesses m.claims.layout + 2 ≡ 31 }
-    ensures two { (m : MailboxView) (p k : ℕ) → plan_at m ≡ by_default p 2 k
+    ensures two { (m : MailboxView) (p k : ℕ) → plan_at m ≡ by_fast_last p 2 k
         → most_accesses m.claims.layout + 2 ≡ 47 }
-    ensures four { (m : MailboxView) (p k : ℕ) → plan_at m ≡ by_default p 4 k
+    ensures four { (m : MailboxView) (p k : ℕ) → plan_at m ≡ by_fast_last p 4 k
         → most_accesses m.claims.layout + 2 ≡ 63 }
-    ensures sixteen { (m : MailboxView) (p k : ℕ) → plan_at m ≡ by_default p 16 k
+    ensures sixteen { (m : MailboxView) (p k : ℕ) → plan_at m ≡ by_fast_last p 16 k
         → most_accesses m.claims.layout + 2 ≡ 95 }
-    ensures most { (m : MailboxView) (p k : ℕ) → plan_at m ≡ by_default p 64 k
+    ensures most { (m : MailboxView) (p k : ℕ) → plan_at m ≡ by_fast_last p 64 k
         → most_accesses m.claims.layout + 2 ≡ 127 }
 
-    // Two ratifiers, four pairs and a last object stand in each cell.
-    ensures objects { (p n k : ℕ) → length (by_default p n k).claims.kinds ≡ 11 }
+    // By default a last object alone stands in each cell. Else two ratifiers and four pairs come before it.
+    ensures alone { (p n k : ℕ) → length (by_default p n k).claims.kinds ≡ 1 }
+    ensures objects { (p n k : ℕ) → length (by_fast_last p n k).claims.kinds ≡ 11 }
+{}
+
+/// What C asks for by a setup: samples. With no pairs, and a last object alone, each claim is one exchange, whatever
+/// the table.
+pub fn sample_setups()
+    ensures exchanges { plan_asked (asked 2 0 false) Middle
+        ≡ shaped_plan (record { fast = false; last = true }) 3 4 8 0 Bits }
+    ensures pairs { plan_asked (asked 2 5 true) Middle
+        ≡ shaped_plan (record { fast = true; last = true }) 3 4 8 5 Middle }
+    ensures let_in { refusal_of (asked 2 0 false) ≡ None }
+
+    // With a fast path no pairs are too few (36). A number that names no table comes first (32).
+    ensures no_pairs { refusal_of (asked 2 0 true) ≡ Some 36 }
+    ensures no_table { refusal_of (asked 3 0 true) ≡ Some 32 }
+{}
+
+/// Where a consumer's words come from: samples. If a claim makes two accesses, it is a generator, and else there is
+/// none. Then all words are 0, and no word is 1.
+pub fn sample_sources()
+    ensures drawn { (layout : Layout) (seed : List ℕ) → most_accesses layout ≡ 2
+        → source_of layout seed 3 ≡ Some (record (of_seed seed) { stream = 3 }) }
+    ensures alone { (layout : Layout) (seed : List ℕ) → most_accesses layout ≡ 1
+        → source_of layout seed 3 ≡ None }
+    ensures zero { (words_of None).u64_after [] ≡ 0 }
+    ensures not_one { zeros.u64_after [] ≡ 1 → ⊥ }
+{}
+
+/// What a handle leads to once what it lent comes back, by example: to what was left there last, at the same address.
+pub fn sample_handles()
+    ensures last { (b : Block) (x y : Thing) → leading_to (leading_to b x) y ≡ leading_to b y }
+    ensures full { (h : Handle) (x : Thing) → (handle_to h x).block ≡ leading_to h.block x }
+    ensures not_empty { (h : Handle) (x : Thing) → (handle_to h x).block.thing ≡ None → ⊥ }
 {}

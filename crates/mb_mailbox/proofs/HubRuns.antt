@@ -8,7 +8,7 @@ use Rattle.mb_mailbox.specs.HubRuns.{with_consumers, with_producers, with_taken_
 use Rattle.mb_mailbox.specs.Producers.{ProducerView}
 
 -- ---- one more at the end of the list
--- for a list with one more at its end, a hub gives or takes in one more after the others. There are four such lemmas
+-- for a list with one more at its end, a hub gives one more after the others. There are two such lemmas
 pub producers_snoc : {X : Type 0} (xs : List X) (x : X) (h : HubView)
     → with_producers (xs ++ x ∷ []) h ≡ with_producer (with_producers xs h)
 producers_snoc [] x h = refl
@@ -18,16 +18,6 @@ pub consumers_snoc : {X : Type 0} (xs : List X) (x : X) (h : HubView)
     → with_consumers (xs ++ x ∷ []) h ≡ with_consumer (with_consumers xs h)
 consumers_snoc [] x h = refl
 consumers_snoc (y ∷ ys) x h = consumers_snoc ys x (with_consumer h)
-
-pub taken_producers_snoc : (ss : List ProducerView) (s : ProducerView) (h : HubView)
-    → with_taken_producers (ss ++ s ∷ []) h ≡ with_taken_producer s (with_taken_producers ss h)
-taken_producers_snoc [] s h = refl
-taken_producers_snoc (t ∷ ts) s h = taken_producers_snoc ts s (with_taken_producer t h)
-
-pub taken_consumers_snoc : (ss : List ConsumerView) (s : ConsumerView) (h : HubView)
-    → with_taken_consumers (ss ++ s ∷ []) h ≡ with_taken_consumer s (with_taken_consumers ss h)
-taken_consumers_snoc [] s h = refl
-taken_consumers_snoc (t ∷ ts) s h = taken_consumers_snoc ts s (with_taken_consumer t h)
 
 -- ---- lists of what is out, filled place by place
 -- a list with as many elements, each of them out

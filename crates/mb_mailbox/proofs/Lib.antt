@@ -49,6 +49,7 @@ pub mod Called
 pub mod PutEnds
 pub mod Kept
 pub mod Noted
+pub mod Parted
 pub mod Final
 -- What is gathered
 pub mod Filled

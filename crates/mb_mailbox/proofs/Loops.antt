@@ -1,20 +1,22 @@
 -- What the loops of a run keep when one more element is done.
-use Rattle.std.proofs.Common.{◌≡◌, ℕ, suc, ◌+◌, ◌<◌, ◌||◌, Bool, true, false, refl, List, [], ◌∷◌, ◌++◌, ◌-◌, ◌*◌, ◌≤◌, length, map, min, sym, ap, ◌∙◌, subst, arith}
+use Rattle.std.proofs.Common.{◌≡◌, ℕ, zero, suc, ◌+◌, ◌<◌, ◌||◌, Bool, true, false, refl, List, [], ◌∷◌, ◌++◌, ◌-◌, ◌*◌, ◌≤◌, length, map, min, sym, ap, ◌∙◌, subst, arith}
 use Rattle.std.specs.Prelude.{Vec}
 use Rattle.std.proofs.Math.Nat.{mul-suc}
 use Rattle.std.specs.List.{All, sum_by}
-use Rattle.std.proofs.lemmas.List.{length-append, map-append}
+use Rattle.std.proofs.lemmas.List.{append-nil, append_assoc, length-append, length-map, map-append}
 use Rattle.std.proofs.lemmas.List.Elements.{All-cons, All-head, All-push, All-tail}
 use Rattle.std.proofs.lemmas.List.Sums.{sum_by-append, sum_by-cons}
-use Rattle.mb_mailbox.specs.Consumers.{ConsumerView}
-use Rattle.mb_mailbox.specs.Given.{ArePollJobs, ArePutJobs}
-use Rattle.mb_mailbox.specs.HubRuns.{with_consumers, with_taken_consumers, with_taken_producers}
-use Rattle.mb_mailbox.specs.Hubs.{HubView, IsNewConsumer, new_producer, with_consumer, with_taken_consumer, with_taken_producer}
+use Rattle.mb_mailbox.specs.Given.{AreGiven, ArePollJobs, ArePollsGiven, ArePutJobs, ArePutsGiven}
+use Rattle.mb_mailbox.specs.HubRuns.{with_consumers}
+use Rattle.mb_mailbox.specs.Hubs.{HubView, IsNewConsumer, new_producer, with_consumer, with_producer}
 use Rattle.mb_mailbox.specs.Mailboxes.{MailboxView}
-use Rattle.mb_mailbox.specs.Producers.{ProducerView}
+use Rattle.mb_mailbox.specs.Runs.{ArePutsFirst, with_taken, with_taken_one}
+use Rattle.mb_mailbox.proofs.HubRuns.{consumers_snoc, producers_snoc}
+use Rattle.mb_mailbox.specs.declared.crew.jobs.Done.{Done}
+use Rattle.mb_mailbox.specs.declared.crew.jobs.Job.{Job}
+use Rattle.mb_mailbox.specs.declared.crew.jobs.Job.TheVariants as job
 use Rattle.mb_mailbox.specs.declared.crew.jobs.PollJob.{PollJob}
 use Rattle.mb_mailbox.specs.declared.crew.jobs.PutJob.{PutJob}
-use Rattle.mb_mailbox.proofs.HubRuns.{taken_consumers_snoc, taken_producers_snoc}
 
 -- ---- jobs for which numbers are given
 module _ {Z : Type 0} (m : MailboxView) where
@@ -35,24 +37,108 @@ module _ {Z : Type 0} (m : MailboxView) where
   poll_jobs_more h [] j a new = (new, tt)
   poll_jobs_more h (i ∷ js) j a new = (a.0, poll_jobs_more (with_consumer h) js j a.1 new)
 
--- ---- what is taken in
-module _ {X : Type 0} (f : X → ProducerView) (h : HubView) where
-  -- the hub has taken in one producer more
-  pub took_producer_more : (xs : List X) (x : X) (was now : HubView) → was
-      ≡ with_taken_producers (map f xs) h → now ≡ with_taken_producer (f x) was
-      → now ≡ with_taken_producers (map f (xs ++ x ∷ [])) h
-  took_producer_more xs x was now e is =
-      is ∙ ap (with_taken_producer (f x)) e ∙ sym (taken_producers_snoc (map f xs) (f x) h)
-      ∙ ap (λ (l : List ProducerView). with_taken_producers l h) (sym (map-append f xs (x ∷ [])))
+module _ {R Z : Type 0} (m : MailboxView) (h was now : HubView) where
+  -- the hub has given one producer more
+  pub puts_given_more : (vs : List (Vec ℕ Z)) (js : List (Job R Z)) (v : Vec ℕ Z) (j : PutJob Z)
+      → ArePutsGiven m vs js h was → length was.puts ≡ length h.puts + length js
+      → j.producer ≡ new_producer m (length was.puts) → j.list ≡ v → now ≡ with_producer was
+      → ArePutsGiven m (vs ++ v ∷ []) (js ++ job.Put j ∷ []) h now
+  puts_given_more vs js v j g count is list e =
+      let each = ap length g.whole ∙ length-map g.puts job.Put in
+      record {
+        puts = g.puts ++ j ∷ [];
+        whole = ap (λ l. l ++ job.Put j ∷ []) g.whole ∙ sym (map-append job.Put g.puts (j ∷ []));
+        are = put_jobs_more m (length h.puts) (length was.puts) vs g.puts v j g.are (omega (arith, count, each)) is
+            list;
+        hub = e ∙ ap with_producer g.hub ∙ sym (producers_snoc g.puts j h);
+      }
 
-module _ {X : Type 0} (f : X → ConsumerView) (h : HubView) where
-  -- the hub has taken in one consumer more
-  pub took_consumer_more : (xs : List X) (x : X) (was now : HubView) → was
-      ≡ with_taken_consumers (map f xs) h → now ≡ with_taken_consumer (f x) was
-      → now ≡ with_taken_consumers (map f (xs ++ x ∷ [])) h
-  took_consumer_more xs x was now e is =
-      is ∙ ap (with_taken_consumer (f x)) e ∙ sym (taken_consumers_snoc (map f xs) (f x) h)
-      ∙ ap (λ (l : List ConsumerView). with_taken_consumers l h) (sym (map-append f xs (x ∷ [])))
+  -- the hub has given one consumer more
+  pub polls_given_more : (rs : List R) (first js : List (Job R Z)) (r : R) (j : PollJob R Z)
+      → ArePollsGiven m rs true first js h was → IsNewConsumer m was j.consumer → j.rng ≡ r → now ≡ with_consumer was
+      → ArePollsGiven m (rs ++ r ∷ []) true first (js ++ job.Poll j ∷ []) h now
+  polls_given_more rs first js r j g new is e =
+      let longer = length-append g.polls (j ∷ []) in
+      let all = length-append rs (r ∷ []) in
+      let few = g.few in
+      record {
+        polls = g.polls ++ j ∷ [];
+        whole = ap (λ l. l ++ job.Poll j ∷ []) g.whole ∙ append_assoc first (map job.Poll g.polls) (job.Poll j ∷ [])
+            ∙ ap (λ l. first ++ l) (sym (map-append job.Poll g.polls (j ∷ [])));
+        are = poll_jobs_more m h g.polls j g.are (subst (λ (u : HubView). IsNewConsumer m u j.consumer) g.hub new);
+        few = omega (arith, longer, all, few);
+        all_sources = λ t. map-append (λ (k : PollJob R Z). k.rng) g.polls (j ∷ [])
+            ∙ (λ i. g.all_sources refl i ++ is i ∷ []);
+        hub = e ∙ ap with_consumer g.hub ∙ sym (consumers_snoc g.polls j h);
+      }
+
+  -- the consumers for a beginning of these sources are some of those for all
+  pub polls_given_early : (rs rest all : List R) (first js : List (Job R Z)) → rs ++ rest ≡ all
+      → ArePollsGiven m rs true first js h now → ArePollsGiven m all false first js h now
+  polls_given_early rs rest all first js whole g =
+      let longer = sym (length-append rs rest) ∙ ap length whole in
+      let few = g.few in
+      record {
+        polls = g.polls;
+        whole = g.whole;
+        are = g.are;
+        few = omega (arith, longer, few);
+        all_sources = λ t. absurd (cc);
+        hub = g.hub;
+      }
+
+  -- the hub has given no consumer yet
+  abbrev pub no_polls_given : (first : List (Job R Z)) → now ≡ h → ArePollsGiven m [] true first first h now
+  no_polls_given first e = record {
+    polls = [];
+    whole = sym (append-nil first);
+    are = tt;
+    few = omega arith;
+    all_sources = λ t. refl;
+    hub = e;
+  }
+
+  -- the hub has given producers, and then consumers
+  abbrev pub both_given : (vs : List (Vec ℕ Z)) (rs : List R) (all : Bool) (first js : List (Job R Z))
+      → ArePutsGiven m vs first h was → ArePollsGiven m rs all first js was now → AreGiven m vs js h now
+  both_given vs rs all first js p q = record {
+    puts = p.puts;
+    polls = q.polls;
+    whole = q.whole ∙ ap (λ l. l ++ map job.Poll q.polls) p.whole;
+    are_puts = p.are;
+    are_polls = subst (λ (u : HubView). ArePollJobs m u q.polls) p.hub q.are;
+    hub = q.hub ∙ ap (with_consumers q.polls) p.hub;
+  }
+
+-- ---- what is taken in
+-- the hub has taken in one more
+pub took_more : {Z : Type 0} (ds : List (Done Z)) (d : Done Z) (h was now : HubView) → was ≡ with_taken ds h
+    → now ≡ with_taken_one d was → now ≡ with_taken (ds ++ d ∷ []) h
+took_more [] d h was now e is = is ∙ ap (with_taken_one d) e
+took_more (c ∷ ds) d h was now e is = took_more ds d (with_taken_one c h) was now e is
+
+-- ---- producers' jobs come first
+module _ {R Z : Type 0} where
+  -- in a list that begins with this job, and by `first_more` in the rest of that list
+  pub first_of : (n : ℕ) (j : Job R Z) (js : List (Job R Z)) → ArePutsFirst n (j ∷ js) → ArePutsFirst n (j ∷ [])
+  first_of zero (job.Put j) js a = absurd a
+  first_of (suc n) (job.Put j) js a = tt
+  first_of zero (job.Poll j) js a = tt
+  first_of (suc n) (job.Poll j) js a = absurd a
+
+  pub first_more : (n k : ℕ) (j : Job R Z) (js : List (Job R Z)) → k ≡ n - 1 → ArePutsFirst n (j ∷ js)
+      → ArePutsFirst k js
+  first_more zero k (job.Put j) js e a = absurd a
+  first_more (suc n) k (job.Put j) js e a = subst (λ (i : ℕ). ArePutsFirst i js) (omega (arith, e)) a
+  first_more zero k (job.Poll j) js e a = subst (λ (i : ℕ). ArePutsFirst i js) (omega (arith, e)) a
+  first_more (suc n) k (job.Poll j) js e a = absurd a
+
+  -- in a list of them that goes on with consumers' jobs
+  pub puts_first : (ps : List (PutJob Z)) (qs : List (PollJob R Z))
+      → ArePutsFirst (length ps) (map job.Put ps ++ map job.Poll qs)
+  puts_first [] [] = tt
+  puts_first [] (q ∷ qs) = puts_first [] qs
+  puts_first (p ∷ ps) qs = puts_first ps qs
 
 -- ---- what is done and what is to come
 -- one more is done, and one less is to come

@@ -1,11 +1,12 @@
 -- The jobs of a run's workers: which producer or consumer each is given, and for which a hub has given numbers.
-use Rattle.std.specs.Prelude.{ℕ, suc, ◌≡◌, ◌≤◌, ◌++◌, List, [], ◌∷◌, Vec, length, map, vec_len}
+use Rattle.std.specs.Prelude.{ℕ, suc, ◌≡◌, ◌≤◌, ◌++◌, Bool, List, [], ◌∷◌, Vec, length, map, true}
 use Rattle.mb_mailbox.specs.HubRuns.{with_consumers, with_producers}
 use Rattle.mb_mailbox.specs.Hubs.{HubView, IsNewConsumer, new_producer, with_consumer}
 use Rattle.mb_mailbox.specs.Mailboxes.{MailboxView}
+use Rattle.mb_mailbox.specs.declared.crew.jobs.Job.{Job}
+use Rattle.mb_mailbox.specs.declared.crew.jobs.Job.TheVariants as job
 use Rattle.mb_mailbox.specs.declared.crew.jobs.PollJob.{PollJob}
 use Rattle.mb_mailbox.specs.declared.crew.jobs.PutJob.{PutJob}
-use Rattle.mb_mailbox.specs.declared.crew.room.WorkerInputs.{WorkerInputs}
 
 -- ---- the jobs of lists and of consumers, with numbers in a row
 module _ {Z : Type 0} where
@@ -15,33 +16,59 @@ module _ {Z : Type 0} where
   ArePutJobs m p (v ∷ vs) (j ∷ js) = (j.producer ≡ new_producer m p) × (j.list ≡ v) × ArePutJobs m (suc p) vs js
   ArePutJobs m p _ _ = ⊥
 
-  -- the jobs are those of a beginning of these lists, and of new producers with the numbers from p on
-  pub record ArePutJobsOfFront (m : MailboxView) (p : ℕ) (lists : List (Vec ℕ Z))
-      (jobs : List (PutJob Z)) : Type 0 where
-    pub front : List (Vec ℕ Z)
-    pub rest : List (Vec ℕ Z)
-    pub whole : front ++ rest ≡ lists
-    pub are : ArePutJobs m p front jobs
-
   -- the jobs are those of new consumers, which this hub gives one after the other
   abbrev pub ArePollJobs : {R : Type 0} → MailboxView → HubView → List (PollJob R Z) → Type 0
   ArePollJobs m h [] = Unit {0}
   ArePollJobs m h (j ∷ js) = IsNewConsumer m h j.consumer × ArePollJobs m (with_consumer h) js
 
 -- ---- the jobs for which a hub has given numbers
-module _ {R Z : Type 0} where
-  -- the jobs are those of a beginning of these lists, and of at most this many consumers, with the next numbers. The
-  -- hub has given these numbers
-  pub record AreGiven (m : MailboxView) (lists : List (Vec ℕ Z)) (sources : ℕ) (jobs : WorkerInputs R Z)
-      (old new : HubView) : Type 0 where
-    pub puts : ArePutJobsOfFront m (length old.puts) lists jobs.puts.items
-    pub polls : ArePollJobs m (with_producers jobs.puts.items old) jobs.polls.items
-    pub small : vec_len jobs.puts ≤ length lists
-    pub few : vec_len jobs.polls ≤ sources
-    pub hub : new ≡ with_consumers jobs.polls.items (with_producers jobs.puts.items old)
+module _ {R Z : Type 0} (m : MailboxView) where
+  -- the jobs are those of these lists, and of producers with the next numbers. The hub has given these numbers
+  pub record ArePutsGiven (lists : List (Vec ℕ Z)) (jobs : List (Job R Z)) (old new : HubView) : Type 0 where
+    pub puts : List (PutJob Z)
+    pub whole : jobs ≡ map job.Put puts
+    pub are : ArePutJobs m (length old.puts) lists puts
+    pub hub : new ≡ with_producers puts old
 
-  -- the jobs are those of all lists and all sources: each consumer has the source in its place
-  pub record AreAllGiven (m : MailboxView) (lists : List (Vec ℕ Z)) (sources : List R)
-      (jobs : WorkerInputs R Z) (old : HubView) : Type 0 where
-    pub puts : ArePutJobs m (length old.puts) lists jobs.puts.items
-    pub polls : map (λ j. j.rng) jobs.polls.items ≡ sources
+  -- so it is for a beginning of these lists
+  pub record ArePutsGivenEarly (lists : List (Vec ℕ Z)) (jobs : List (Job R Z)) (old new : HubView) : Type 0 where
+    pub front : List (Vec ℕ Z)
+    pub rest : List (Vec ℕ Z)
+    pub whole : front ++ rest ≡ lists
+    pub given : ArePutsGiven front jobs old new
+
+  -- the jobs after these first ones are those of new consumers, for a beginning of these sources, or for all of them.
+  -- The hub has given their numbers
+  pub record ArePollsGiven (sources : List R) (all : Bool) (first jobs : List (Job R Z)) (old new : HubView)
+      : Type 0 where
+    pub polls : List (PollJob R Z)
+    pub whole : jobs ≡ first ++ map job.Poll polls
+    pub are : ArePollJobs m old polls
+    pub few : length polls ≤ length sources
+    pub all_sources : all ≡ true → map (λ j. j.rng) polls ≡ sources
+    pub hub : new ≡ with_consumers polls old
+
+  -- the jobs are those of these lists, and then those of consumers, with the next numbers. The hub has given these
+  -- numbers
+  pub record AreGiven (lists : List (Vec ℕ Z)) (jobs : List (Job R Z)) (old new : HubView) : Type 0 where
+    pub puts : List (PutJob Z)
+    pub polls : List (PollJob R Z)
+    pub whole : jobs ≡ map job.Put puts ++ map job.Poll polls
+    pub are_puts : ArePutJobs m (length old.puts) lists puts
+    pub are_polls : ArePollJobs m (with_producers puts old) polls
+    pub hub : new ≡ with_consumers polls (with_producers puts old)
+
+  -- so it is for a beginning of these lists and at most this many consumers
+  pub record AreGivenEarly (lists : List (Vec ℕ Z)) (sources : ℕ) (jobs : List (Job R Z)) (old new : HubView)
+      : Type 0 where
+    pub front : List (Vec ℕ Z)
+    pub rest : List (Vec ℕ Z)
+    pub whole : front ++ rest ≡ lists
+    pub given : AreGiven front jobs old new
+    pub few : length given.polls ≤ sources
+
+  -- so it is for all these lists and sources: each consumer has the source in its place
+  pub record AreAllGiven (lists : List (Vec ℕ Z)) (sources : List R) (jobs : List (Job R Z)) (old new : HubView)
+      : Type 0 where
+    pub given : AreGiven lists jobs old new
+    pub all_sources : map (λ j. j.rng) given.polls ≡ sources

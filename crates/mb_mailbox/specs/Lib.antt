@@ -17,7 +17,6 @@ pub mod Jobs
 pub mod Begun
 pub mod Calls
 pub mod Takes
-pub mod Rooms
 pub mod Runs
 pub mod Worked
 pub mod Called

@@ -1,52 +1,75 @@
 -- The jobs of a run, and their ends.
-use Rattle.std.specs.Prelude.{ℕ, ◌≡◌, ◌+◌, false, map}
-use Rattle.std.specs.Int.{from_bool}
-use Rattle.std.specs.List.{All, AllZip, sum_by}
+use Rattle.std.specs.Prelude.{ℕ, suc, zero, ◌≡◌, ◌≤◌, Bool, List, [], ◌∷◌, Vec, true, vec_capacity}
 use Rattle.mb_mailbox.specs.Imports.{Stream}
 use Rattle.mb_mailbox.specs.Consumers.{IsConsumerOf}
-use Rattle.mb_mailbox.specs.HubRuns.{with_taken_consumers, with_taken_producers}
-use Rattle.mb_mailbox.specs.Hubs.{HubView}
+use Rattle.mb_mailbox.specs.Hubs.{HubView, with_taken_consumer, with_taken_producer}
 use Rattle.mb_mailbox.specs.Jobs.{IsPollEnd, IsPutEnd}
 use Rattle.mb_mailbox.specs.Mailboxes.{MailboxView}
 use Rattle.mb_mailbox.specs.Producers.{IsProducerOf}
 use Rattle.mb_mailbox.specs.declared.gate.Who.{Who}
-use Rattle.mb_mailbox.specs.declared.crew.room.WorkerResults.{WorkerResults}
-use Rattle.mb_mailbox.specs.declared.crew.room.WorkerInputs.{WorkerInputs}
+use Rattle.mb_mailbox.specs.declared.crew.jobs.Done.{Done}
+use Rattle.mb_mailbox.specs.declared.crew.jobs.Done.TheVariants as done
+use Rattle.mb_mailbox.specs.declared.crew.jobs.Job.{Job}
+use Rattle.mb_mailbox.specs.declared.crew.jobs.Job.TheVariants as job
+use Rattle.mb_mailbox.specs.declared.crew.jobs.Lanes.{Lanes}
+
+-- the list is empty, and has room for this many elements
+abbrev pub HasRoom : {X Z : Type 0} → ℕ → Vec X Z → Type 0
+HasRoom n v = (v.items ≡ []) × (n ≤ vec_capacity v)
 
 module _ {R Z : Type 0} where
-  -- the producer or consumer of each job is one of the mailbox
-  pub record AreOf (m : MailboxView) (jobs : WorkerInputs R Z) : Type 0 where
-    pub puts : All (λ j. IsProducerOf m j.producer) jobs.puts.items
-    pub polls : All (λ j. IsConsumerOf m j.consumer) jobs.polls.items
+  -- the producer or consumer of the job is one of the mailbox
+  abbrev pub IsJobOf : MailboxView → Job R Z → Type 0
+  IsJobOf m (job.Put j) = IsProducerOf m j.producer
+  IsJobOf m (job.Poll j) = IsConsumerOf m j.consumer
 
-  -- these are the ends of the jobs, in their order. Consumers read the lanes from `from` on and below `end` with this
-  -- budget, each with the words of its own source. `may_stop` and `may_pass` say before which calls the gate may stop
-  -- which worker, or let it pass
-  pub record AreEndsOf (may_stop may_pass : Who → ℕ → Type 0) (stream : R → Stream)
-      (from end budget : ℕ) (jobs : WorkerInputs R Z) (ends : WorkerResults Z)
-      : Type 0 where
-    pub puts : AllZip (IsPutEnd may_stop may_pass) jobs.puts.items ends.puts.items
-    pub polls : AllZip (λ j d. IsPollEnd may_stop may_pass from end budget (stream j.rng) j.consumer
-        d) jobs.polls.items ends.polls.items
+  -- this many producers' jobs come first, or fewer if the list ends with them
+  abbrev pub ArePutsFirst : ℕ → List (Job R Z) → Type 0
+  ArePutsFirst n [] = Unit {0}
+  ArePutsFirst (suc n) (job.Put j ∷ js) = ArePutsFirst n js
+  ArePutsFirst zero (job.Poll j ∷ js) = ArePutsFirst zero js
+  ArePutsFirst _ _ = ⊥
 
+  -- `d` is the end of this job. A consumer polls these lanes, with the words of its own source. `may_stop` and
+  -- `may_pass` say before which calls the gate may stop which worker, or let it pass
+  abbrev pub IsEnd : (Who → ℕ → Type 0) → (Who → ℕ → Type 0) → (R → Stream) → Lanes → Job R Z → Done Z → Type 0
+  IsEnd may_stop may_pass stream lanes (job.Put j) (done.Put d) = IsPutEnd may_stop may_pass j d
+  IsEnd may_stop may_pass stream lanes (job.Poll j) (done.Poll d) =
+      IsPollEnd may_stop may_pass lanes.from lanes.end lanes.budget (stream j.rng) j.consumer d
+  IsEnd _ _ _ _ _ _ = ⊥
+
+-- ---- what an end says
 module _ {Z : Type 0} where
-  -- the producer or consumer of each end is one of the mailbox
-  pub record AreEndsAt (m : MailboxView) (ends : WorkerResults Z) : Type 0 where
-    pub puts : All (λ d. IsProducerOf m d.producer) ends.puts.items
-    pub polls : All (λ d. IsConsumerOf m d.consumer) ends.polls.items
+  -- the producer or consumer of the end is one of the mailbox
+  abbrev pub IsDoneOf : MailboxView → Done Z → Type 0
+  IsDoneOf m (done.Put d) = IsProducerOf m d.producer
+  IsDoneOf m (done.Poll d) = IsConsumerOf m d.consumer
 
-  -- no end says that the run is aborted
-  pub record AreOn (ends : WorkerResults Z) : Type 0 where
-    pub puts : All (λ d. d.aborted ≡ false) ends.puts.items
-    pub polls : All (λ d. d.aborted ≡ false) ends.polls.items
+  -- how many items of the worker's list were not put because no cell was left
+  abbrev pub full_of : Done Z → ℕ
+  full_of (done.Put d) = d.full
+  full_of (done.Poll d) = 0
 
-  -- how many of these workers were stopped
-  abbrev pub count_stopped : WorkerResults Z → ℕ
-  count_stopped ends = sum_by (λ d. from_bool d.stopped) ends.puts.items + sum_by
-      (λ d. from_bool d.stopped) ends.polls.items
+  -- whether the worker was stopped
+  abbrev pub is_stopped : Done Z → Bool
+  is_stopped (done.Put d) = d.stopped
+  is_stopped (done.Poll d) = d.stopped
 
-  -- the hub after it has taken in the producers of these ends and then the consumers, in their order
-  abbrev pub with_taken : WorkerResults Z → HubView → HubView
-  with_taken ends h =
-      with_taken_consumers (map (λ d. d.consumer) ends.polls.items)
-      (with_taken_producers (map (λ d. d.producer) ends.puts.items) h)
+  -- whether the end says that the run is aborted
+  abbrev pub is_aborted : Done Z → Bool
+  is_aborted (done.Put d) = d.aborted
+  is_aborted (done.Poll d) = d.aborted
+
+  -- the same end, which says that the run is aborted
+  abbrev pub with_abort : Done Z → Done Z
+  with_abort (done.Put d) = done.Put (record d { aborted = true })
+  with_abort (done.Poll d) = done.Poll (record d { aborted = true })
+
+  -- the hub after it has taken in the producer or consumer of this end, and by `with_taken` those of all these ends
+  abbrev pub with_taken_one : Done Z → HubView → HubView
+  with_taken_one (done.Put d) h = with_taken_producer d.producer h
+  with_taken_one (done.Poll d) h = with_taken_consumer d.consumer h
+
+  abbrev pub with_taken : List (Done Z) → HubView → HubView
+  with_taken [] h = h
+  with_taken (d ∷ ds) h = with_taken ds (with_taken_one d h)

@@ -6,8 +6,7 @@ ghost use Rattle.mb_mailbox.specs.declared.crew.WorkFault.TheVariants.{AllGiven,
 ghost use Rattle.mb_mailbox.specs.Imports.{consumer_count};
 ghost use Rattle.mb_mailbox.specs.Called.{IsCalled};
 ghost use Rattle.mb_mailbox.specs.Hubs.{HubView, IsHubOf};
-ghost use Rattle.mb_mailbox.specs.Rooms.{HasJobRoom, HasRoom};
-ghost use Rattle.mb_mailbox.specs.Runs.{AreEndsAt, AreOn, count_stopped, with_taken};
+ghost use Rattle.mb_mailbox.specs.Runs.{HasRoom};
 ghost use Rattle.mb_mailbox.specs.Worked.{AsksTooMany, IsWorked, WereTakenIn, WereTakenInEarly, lists_in};
 
 mod collect;
@@ -24,17 +23,16 @@ mod workers;
 use crate::gate::Gate;
 use crate::hub::Hub;
 use crate::mailbox::Mailbox;
-use collect::{WorkTotals, take_all};
+use collect::settle;
 use ends::ends_tell_notes;
 use issue::give;
 use jobs::{Lanes, Shared};
 use rand_core::Rng;
-use room::{RunMemory, WorkerResults, memory_for_run};
+use room::{RunMemory, memory_for_run};
 use std::alloc::Allocator;
 use std::error::Error;
 use std::fmt;
-use std::sync::Wait;
-use std::sync::atomic::AtomicBool;
+use std::sync::{OnceLock, Wait};
 use std::thread::Threads;
 use threads::{end_all, run};
 
@@ -140,7 +138,9 @@ pub fn work<
     if budget == 0 {
         return Err(WorkFault::BadBudget);
     }
-    let Ok(memory) = memory_for_run(alloc, items.len(), rngs.len()) else {
+    lanes_are_few(mailbox);
+    consumers_are_few(mailbox);
+    let Ok(memory) = memory_for_run(alloc, items.len() + rngs.len()) else {
         return Err(WorkFault::NoMemory);
     };
     let load = Workload {
@@ -235,13 +235,11 @@ fn work_with<
     requires consumers { length hub.old.records + vec_len load.rngs ≤ consumer_count
         mailbox.now.claims.layout }
     requires able { 0 < load.budget }
-    requires jobs { HasJobRoom (vec_len load.items) (vec_len load.rngs) memory.jobs }
-    requires room { HasRoom (vec_len load.items) (vec_len load.rngs) memory.room }
+    requires jobs { HasRoom (vec_len load.items + vec_len load.rngs) memory.jobs }
+    requires begun { HasRoom (vec_len load.items + vec_len load.rngs) memory.begun }
+    requires ends { HasRoom (vec_len load.items + vec_len load.rngs) memory.ends }
     ensures all_given { result ≢ Err AllGiven }
     ensures bad_budget { result ≢ Err BadBudget }
-    ensures worked { IfOk result (λ w.
-        IsWorked (G.may_stop gate.now) load.budget (lists_in load.items.items) (vec_len load.rngs)
-        w hub.old hub.new) }
     ensures called { IfOk result (λ w. IsCalled (G.may_stop gate.now) (G.may_pass gate.now)
         load.budget (lists_in load.items.items) (map R.stream load.rngs.items) w hub.old hub.new) }
     ensures no_thread { result ≡ Err NoThread
@@ -262,22 +260,24 @@ fn work_with<
     let RunMemory {
         alloc,
         mut jobs,
-        room,
+        begun,
+        ends,
     } = memory;
     let lanes = next_lanes(lanes_given(hub), items.len(), budget);
-    if !give(&alloc, mailbox, hub, items, rngs, &mut jobs) {
-        let ends = end_all(mailbox, jobs, room);
-        take_all(mailbox, hub, ends);
-        return Err(WorkFault::NoMemory);
-    }
-    let running = AtomicBool::new(true);
+    let abort = OnceLock::new();
     let shared = Shared {
         mailbox,
         lanes,
         gate,
-        running: &running,
+        abort: &abort,
     };
-    let ends = run(rt, &shared, jobs, room);
+    if !give(&alloc, mailbox, hub, items, rngs, &mut jobs) {
+        let aborted = abort.init(rt, || ());
+        let ends = end_all(&shared, &aborted, jobs, ends);
+        let _ = settle(mailbox, hub, ends);
+        return Err(WorkFault::NoMemory);
+    }
+    let ends = run(rt, &shared, jobs, begun, ends);
     match settle(mailbox, hub, ends) {
         Ok(worked) => {
             ends_tell_notes();
@@ -285,36 +285,5 @@ fn work_with<
             Ok(worked)
         }
         Err(fault) => Err(fault),
-    }
-}
-
-/// Takes the workers of all these ends in, and returns what the run came to. There is a fault exactly if one of the
-/// ends says that the run is aborted.
-fn settle<A: Allocator + Drop, B: Allocator + Drop>(
-    mailbox: &Mailbox<B>,
-    hub: &mut Hub<A>,
-    ends: WorkerResults<A>,
-) -> Result<Worked, WorkFault>
-    requires hub { IsHubOf mailbox.now hub.old }
-    requires ends { AreEndsAt mailbox.now ends }
-    ensures full { IfOk result (λ w. w.full ≡ min (2 ^ 64 - 1)
-        (sum_by (λ d. d.full) ends.puts.items)) }
-    ensures stopped { IfOk result (λ w. w.stopped ≡ min (2 ^ 64 - 1) (count_stopped ends)) }
-    ensures on { IfOk result (λ _. AreOn ends) }
-    ensures aborted { AreOn ends → IsOk result }
-    ensures fault { IfErr result (λ e. e ≡ NoThread) }
-    ensures some { IfErr result (λ _. 0 < length ends.puts.items + length ends.polls.items) }
-    ensures hub { hub.new ≡ with_taken ends hub.old }
-    ensures belongs { IsHubOf mailbox.now hub.new }
-{
-    let WorkTotals {
-        full,
-        stopped,
-        aborted,
-    } = take_all(mailbox, hub, ends);
-    if aborted {
-        Err(WorkFault::NoThread)
-    } else {
-        Ok(Worked { full, stopped })
     }
 }

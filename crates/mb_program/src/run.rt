@@ -146,7 +146,7 @@ fn report_after<A: Allocator + Copy + Drop>(
     mailbox: Mailbox<A>,
     hub: Hub<A>,
 ) -> Result<Report<A>, RunFault>
-    requires of { IsHubOf mailbox hub }
+    requires belongs { IsHubOf mailbox hub }
     requires numbers { worked ≢ Err work.AllGiven }
     requires budget { worked ≢ Err work.BadBudget }
     ensures ok { OnOk result (IsOk worked) }

@@ -37,7 +37,7 @@ fn report_after<A: Allocator + Clone + Drop>(
     mailbox: Mailbox<A>,
     hub: Hub<A>,
 ) -> Result<(Worked, Report<A>), RoundFault>
-    requires of { IsHubOf mailbox hub }
+    requires belongs { IsHubOf mailbox hub }
     requires numbers { worked ≢ Err work.AllGiven }
     requires budget { worked ≢ Err work.BadBudget }
     ensures worked { IfOk result (λ o. worked ≡ Ok o.0) }

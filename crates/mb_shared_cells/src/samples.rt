@@ -5,8 +5,8 @@ ghost use Rattle.mb_cells.specs.Vocabulary.{one_put};
 ghost use Rattle.mb_shared_cells.specs.Samples.{IsStateOfOne, hub_of_one, lane_with, new_hub};
 
 use crate::laws::processes_stand_once;
-use mb_cells::samples::one_item_is_put_and_read;
 use mb_cells::laws::parts_tell_lanes;
+use mb_cells::samples::one_item_is_put_and_read;
 use mb_cells::steps::history_extends;
 
 /// Words and views of a table of one lane and one cell. The words are, in this order, the counter,

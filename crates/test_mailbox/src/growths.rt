@@ -139,14 +139,14 @@ const CALLS: &[(&str, Call, u64)] = &[
     ("gather of two", Call::Gather(ONE_TAKEN_AND_ONE_LEFT), 5),
     // At least the list of the producer's items.
     ("lone producer", ENDED_LANE, 1),
-    // Three lists for each kind of worker, the producer's items, the marks and words of the consumer's notes.
-    ("two workers", Call::TwoWorkers, 9),
+    // Three lists for the workers, the producer's items, the marks and words of the consumer's notes.
+    ("two workers", Call::TwoWorkers, 6),
     // As many as in a mailbox of one lane: one lane more needs no further list.
-    ("second call", Call::SecondCall, 9),
-    // Three lists for each kind of worker, each producer's items, each consumer's marks and words.
-    ("four workers", Call::FourWorkers, 12),
+    ("second call", Call::SecondCall, 6),
+    // Three lists for the workers, each producer's items, each consumer's marks and words.
+    ("four workers", Call::FourWorkers, 9),
     // The items, two lists of lists with two lists each, the mailbox and its workers, and what is given out and carried.
-    ("round", Call::Round, 20),
+    ("round", Call::Round, 17),
 ];
 
 /// Checks that the call is refused if any of its allocations is, keeps no memory, and is then served. It makes this many

@@ -1,9 +1,9 @@
 //! A hub of the archive, with its mailbox.
 use super::calls::{self, excluded, expect_done, hz_consumer_new, hz_gather, hz_mailbox_new};
-use super::calls::{hz_producer_new, hz_take_back, number, Missing, Setup};
+use super::calls::{hz_poll, hz_producer_new, hz_take, hz_take_back, number, Missing, Setup};
 use super::carrier::Carrier;
 use super::handle::Handle;
-use super::parts::{Consumer, Producer};
+use super::parts::{Call, Consumer, Producer};
 use super::report::{read_diaries, read_lanes};
 use crate::errors::BuildError;
 use crate::report::Report;
@@ -19,6 +19,8 @@ static NUMBERS: AtomicU64 = AtomicU64::new(0);
 pub(crate) struct Hub<T> {
     handle: Handle,
     carrier: Carrier<T>,
+    /// The shorter call of a consumer for an item that is not lost. If claims have pairs, that is a poll.
+    shortest: Call,
     values: PhantomData<Cell<T>>,
 }
 
@@ -47,6 +49,7 @@ impl<T> Hub<T> {
             calls::DONE => Ok(Hub {
                 handle,
                 carrier,
+                shortest: if setup.pairs == 0 { hz_take } else { hz_poll },
                 values: PhantomData,
             }),
             calls::NO_MEMORY => Err(BuildError::NoMemory),
@@ -80,6 +83,7 @@ impl<T> Hub<T> {
         issued("hz_consumer_new", code)?;
         let consumer = Consumer {
             handle,
+            shortest: self.shortest,
             carrier: self.carrier,
             values: PhantomData,
         };

@@ -14,9 +14,13 @@ pub(crate) struct Producer<T> {
     pub(super) values: PhantomData<Cell<T>>,
 }
 
+/// `hz_poll` or `hz_take`.
+pub(super) type Call = unsafe extern "C" fn(&mut Handle, u64, u64, &mut u64) -> u32;
+
 /// A consumer, which turns the items that it takes into values again. The marker is that of a producer.
 pub(crate) struct Consumer<T> {
     pub(super) handle: Handle,
+    pub(super) shortest: Call,
     pub(super) carrier: Carrier<T>,
     pub(super) values: PhantomData<Cell<T>>,
 }
@@ -54,6 +58,15 @@ impl<T> Consumer<T> {
         unsafe { self.told("hz_poll", code, value) }
     }
 
+    /// Polls a lane or takes an item of it, without a limit: by the call that is the shorter one for the mailbox.
+    pub(crate) fn poll_or_take(&mut self, lane: u64) -> Poll<T> {
+        let mut value = 0;
+        // SAFETY: the rules of calls, which are alike for both.
+        let code = unsafe { (self.shortest)(&mut self.handle, lane, u64::MAX, &mut value) };
+        // SAFETY: these are of that call.
+        unsafe { self.told("hz_poll or hz_take", code, value) }
+    }
+
     /// Takes an item of a lane, past those that are lost.
     pub(crate) fn take(&mut self, lane: u64, most: u64) -> Poll<T> {
         let mut value = 0;
@@ -68,21 +81,22 @@ impl<T> Consumer<T> {
     /// # Safety
     /// The last call of this consumer's returned this code and wrote this value, and nobody else was told them.
     unsafe fn told(&self, call: &str, code: u32, value: u64) -> Poll<T> {
-        match code {
+        if code == calls::TOOK {
             // SAFETY: ownership. A producer of this mailbox, with this carrier, made the word of the item, and this
             // consumer alone takes it, now.
-            calls::TOOK => Poll::Took(unsafe { self.carrier.unpack(value) }),
-            calls::LOST => Poll::Lost(number(value)),
-            calls::NOTHING => Poll::Nothing,
-            other => rare(call, other),
+            Poll::Took(unsafe { self.carrier.unpack(value) })
+        } else {
+            untaken(call, code, value)
         }
     }
 }
 
-/// What the codes tell that come seldom.
-#[cold]
-fn rare<T>(call: &str, code: u32) -> Poll<T> {
+/// What the other codes tell. (It is a call of its own, so that what is taken costs no jump by a table.)
+#[inline(never)]
+fn untaken<T>(call: &str, code: u32, value: u64) -> Poll<T> {
     match code {
+        calls::LOST => Poll::Lost(number(value)),
+        calls::NOTHING => Poll::Nothing,
         calls::UNDECIDED => Poll::Undecided,
         calls::ENDED => Poll::Ended,
         calls::SPENT => Poll::Spent,

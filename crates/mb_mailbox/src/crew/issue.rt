@@ -1,13 +1,12 @@
 //! The numbers that are given to a run, in order.
-ghost use Rattle.std.specs.Prelude.{◌≡◌, ◌+◌, ◌≤◌, [], length, map, true, vec_capacity, vec_len};
-ghost use Rattle.mb_mailbox.specs.Rooms.{HasJobRoom};
+ghost use Rattle.std.specs.Prelude.{◌≡◌, ◌+◌, ◌≤◌, [], length, true, vec_capacity, vec_len};
+ghost use Rattle.std.specs.List.{All};
 ghost use Rattle.mb_mailbox.specs.Imports.{consumer_count};
 ghost use Rattle.mb_mailbox.specs.Hubs.{IsHubOf};
-ghost use Rattle.mb_mailbox.specs.Given.{AreAllGiven, AreGiven, ArePollJobs, ArePutJobs, ArePutJobsOfFront};
-ghost use Rattle.mb_mailbox.specs.HubRuns.{with_consumers, with_producers};
+ghost use Rattle.mb_mailbox.specs.Given.{AreAllGiven, AreGivenEarly, ArePollsGiven, ArePutsGiven, ArePutsGivenEarly};
+ghost use Rattle.mb_mailbox.specs.Runs.{HasRoom, IsJobOf};
 
-use super::jobs::{PollJob, PutJob};
-use super::room::WorkerInputs;
+use super::jobs::{Job, PollJob, PutJob};
 use crate::hub::{Hub, HubFault};
 use crate::mailbox::Mailbox;
 use rand_core::Rng;
@@ -15,22 +14,22 @@ use std::alloc::Allocator;
 
 /// Gives a producer for each list, in order, and adds its job to `jobs`, which has room for all. If the allocator
 /// refuses what one of them needs, this stops there and returns `false`.
-pub(super) fn give_producers<A: Allocator + Clone + Drop, B: Allocator + Drop>(
+pub(super) fn give_producers<R: Drop, A: Allocator + Clone + Drop, B: Allocator + Drop>(
     alloc: &A,
     mailbox: &Mailbox<B>,
     hub: &mut Hub<A>,
     items: Vec<Vec<u64, A>, A>,
-    jobs: &mut Vec<PutJob<A>, A>,
+    jobs: &mut Vec<Job<R, A>, A>,
 ) -> bool
     requires belongs { IsHubOf mailbox.now hub.old }
     requires left { length hub.old.puts + vec_len items ≤ mailbox.now.cells.size.lanes }
-    requires none { jobs.old.items ≡ [] }
-    requires room { vec_len items ≤ vec_capacity jobs.old }
-    ensures jobs { ArePutJobsOfFront mailbox.now (length hub.old.puts) items.items jobs.new.items }
+    requires room { HasRoom (vec_len items) jobs.old }
+    ensures early { ArePutsGivenEarly mailbox.now items.items jobs.new.items hub.old hub.new }
     ensures all { result ≡ true
-        → ArePutJobs mailbox.now (length hub.old.puts) items.items jobs.new.items }
+        → ArePutsGiven mailbox.now items.items jobs.new.items hub.old hub.new }
+    ensures jobs { All (IsJobOf mailbox.now) jobs.new.items }
     ensures few { vec_len jobs.new ≤ vec_len items }
-    ensures hub { hub.new ≡ with_producers jobs.new.items hub.old }
+    ensures room { vec_capacity jobs.new ≡ vec_capacity jobs.old }
     ensures belongs { IsHubOf mailbox.now hub.new }
 {
     for list in items {
@@ -38,7 +37,7 @@ pub(super) fn give_producers<A: Allocator + Clone + Drop, B: Allocator + Drop>(
             return false;
         };
         match hub.producer(theirs, mailbox) {
-            Ok(producer) => jobs.push_reserved(PutJob { producer, list }),
+            Ok(producer) => jobs.push_reserved(Job::Put(PutJob { producer, list })),
             Err(HubFault::NoMemory) => return false,
             Err(HubFault::AllGiven) => unreachable!(),
         }
@@ -53,17 +52,17 @@ pub(super) fn give_consumers<R: Rng + Drop, A: Allocator + Clone + Drop, B: Allo
     mailbox: &Mailbox<B>,
     hub: &mut Hub<A>,
     rngs: Vec<R, A>,
-    jobs: &mut Vec<PollJob<R, A>, A>,
+    jobs: &mut Vec<Job<R, A>, A>,
 ) -> bool
     requires belongs { IsHubOf mailbox.now hub.old }
     requires left { length hub.old.records + vec_len rngs ≤ consumer_count
         mailbox.now.claims.layout }
-    requires none { jobs.old.items ≡ [] }
-    requires room { vec_len rngs ≤ vec_capacity jobs.old }
-    ensures jobs { ArePollJobs mailbox.now hub.old jobs.new.items }
-    ensures few { vec_len jobs.new ≤ vec_len rngs }
-    ensures all { result ≡ true → map (λ j. j.rng) jobs.new.items ≡ rngs.items }
-    ensures hub { hub.new ≡ with_consumers jobs.new.items hub.old }
+    requires jobs { All (IsJobOf mailbox.now) jobs.old.items }
+    requires room { vec_len jobs.old + vec_len rngs ≤ vec_capacity jobs.old }
+    ensures given { ArePollsGiven mailbox.now rngs.items result jobs.old.items jobs.new.items
+        hub.old hub.new }
+    ensures jobs { All (IsJobOf mailbox.now) jobs.new.items }
+    ensures few { vec_len jobs.new ≤ vec_len jobs.old + vec_len rngs }
     ensures belongs { IsHubOf mailbox.now hub.new }
 {
     for rng in rngs {
@@ -71,7 +70,7 @@ pub(super) fn give_consumers<R: Rng + Drop, A: Allocator + Clone + Drop, B: Allo
             return false;
         };
         match hub.consumer(theirs, mailbox) {
-            Ok(consumer) => jobs.push_reserved(PollJob { consumer, rng }),
+            Ok(consumer) => jobs.push_reserved(Job::Poll(PollJob { consumer, rng })),
             Err(HubFault::NoMemory) => return false,
             Err(HubFault::AllGiven) => unreachable!(),
         }
@@ -87,19 +86,23 @@ pub(super) fn give<R: Rng + Drop, A: Allocator + Clone + Drop, B: Allocator + Dr
     hub: &mut Hub<A>,
     items: Vec<Vec<u64, A>, A>,
     rngs: Vec<R, A>,
-    jobs: &mut WorkerInputs<R, A>,
+    jobs: &mut Vec<Job<R, A>, A>,
 ) -> bool
     requires belongs { IsHubOf mailbox.now hub.old }
     requires lanes { length hub.old.puts + vec_len items ≤ mailbox.now.cells.size.lanes }
     requires consumers { length hub.old.records + vec_len rngs ≤ consumer_count
         mailbox.now.claims.layout }
-    requires room { HasJobRoom (vec_len items) (vec_len rngs) jobs.old }
-    ensures given { AreGiven mailbox.now items.items (vec_len rngs) jobs.new hub.old hub.new }
-    ensures all { result ≡ true → AreAllGiven mailbox.now items.items rngs.items jobs.new hub.old }
+    requires room { HasRoom (vec_len items + vec_len rngs) jobs.old }
+    ensures early { AreGivenEarly mailbox.now items.items (vec_len rngs) jobs.new.items hub.old
+        hub.new }
+    ensures all { result ≡ true
+        → AreAllGiven mailbox.now items.items rngs.items jobs.new.items hub.old hub.new }
+    ensures jobs { All (IsJobOf mailbox.now) jobs.new.items }
+    ensures few { vec_len jobs.new ≤ vec_len items + vec_len rngs }
     ensures belongs { IsHubOf mailbox.now hub.new }
 {
-    if !give_producers(alloc, mailbox, hub, items, &mut jobs.puts) {
+    if !give_producers(alloc, mailbox, hub, items, jobs) {
         return false;
     }
-    give_consumers(alloc, mailbox, hub, rngs, &mut jobs.polls)
+    give_consumers(alloc, mailbox, hub, rngs, jobs)
 }

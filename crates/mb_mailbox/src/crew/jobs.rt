@@ -9,7 +9,7 @@ use crate::producer::Producer;
 use rand_core::Rng;
 use std::alloc::Allocator;
 use std::snapshot::Snapshot;
-use std::sync::atomic::AtomicBool;
+use std::sync::OnceLock;
 use std::thread::Promise;
 
 /// The lanes from `from` on and below `end`, and how many accesses a poll of one of them makes at most.
@@ -23,14 +23,13 @@ pub(crate) struct Lanes {
     pub(crate) ghost able: { 0 < budget },
 }
 
-/// What all workers of a run share: the mailbox, the lanes, the gate, and a word that becomes false when a thread could
-/// not be started.
+/// What all workers of a run share: the mailbox, the lanes, the gate, and a lock that is set once the run is aborted.
 #[derive(Drop)]
 pub(crate) struct Shared<'s, A: Allocator + Drop, G: Gate> {
     pub(crate) mailbox: &'s Mailbox<A>,
     pub(crate) lanes: Lanes,
     pub(crate) gate: &'s G,
-    pub(crate) running: &'s AtomicBool,
+    pub(crate) abort: &'s OnceLock<()>,
 }
 
 /// A producer that has put nothing and has not ended its lane, and the list that it is to put.
@@ -42,35 +41,29 @@ pub(crate) struct PutJob<A: Allocator + Drop> {
     pub(crate) ghost begun: { is_over producer ≡ false },
 }
 
+/// A consumer that is to poll, and its source of random words.
+#[derive(Drop)]
+pub(crate) struct PollJob<R: Drop, A: Allocator + Drop> {
+    pub(crate) consumer: Consumer<A>,
+    pub(crate) rng: R,
+}
+
+/// What a worker is to do.
+#[derive(Drop)]
+pub(crate) enum Job<R: Drop, A: Allocator + Drop> {
+    Put(PutJob<A>),
+    Poll(PollJob<R, A>),
+}
+
 /// The end of a producer's worker. The producer has ended its lane. `full` says how many items of its list it did not
 /// put because no cell was left. `stopped` says whether it was stopped before the end of its list. `aborted` says
-/// whether the run is aborted: a thread could not be started, its own or another's.
+/// whether that was because the run is aborted.
 #[derive(Drop)]
 pub(crate) struct PutDone<A: Allocator + Drop> {
     pub(crate) producer: Producer<A>,
     pub(crate) full: u64,
     pub(crate) stopped: bool,
     pub(crate) aborted: bool,
-}
-
-/// What a producer's thread promises, by its job and the gate.
-#[derive(Drop)]
-pub(crate) struct Puts<G: Gate, A: Allocator + Drop> {
-    pub(crate) job: Snapshot<PutJob<A>>,
-    pub(crate) gate: Snapshot<G>,
-}
-
-impl<G: Gate, A: Allocator + Drop> Promise<PutDone<A>> for Puts<G, A> {
-    ghost use Rattle.mb_mailbox.specs.Jobs.{IsPutEnd};
-
-    ghost kept_by = { λ p d. IsPutEnd (G.may_stop p.gate.value) (G.may_pass p.gate.value) p.job.value d };
-}
-
-/// A consumer that is to poll, and its source of random words.
-#[derive(Drop)]
-pub(crate) struct PollJob<R: Drop, A: Allocator + Drop> {
-    pub(crate) consumer: Consumer<A>,
-    pub(crate) rng: R,
 }
 
 /// The end of a consumer's worker. `stopped` says whether it was stopped before all lanes had ended. `aborted` says
@@ -82,20 +75,23 @@ pub(crate) struct PollDone<A: Allocator + Drop> {
     pub(crate) aborted: bool,
 }
 
-/// What a consumer's thread promises, by the consumer, its source, the lanes, the budget and the gate.
+/// The end of a worker.
 #[derive(Drop)]
-pub(crate) struct Polls<G: Gate, R: Rng + Drop, A: Allocator + Drop> {
-    pub(crate) consumer: Snapshot<Consumer<A>>,
-    pub(crate) rng: Snapshot<R>,
-    pub(crate) from: u32,
-    pub(crate) end: u32,
-    pub(crate) budget: u64,
+pub(crate) enum Done<A: Allocator + Drop> {
+    Put(PutDone<A>),
+    Poll(PollDone<A>),
+}
+
+/// What a worker's thread promises, by its job, the lanes and the gate.
+#[derive(Drop)]
+pub(crate) struct Pledge<G: Gate, R: Rng + Drop, A: Allocator + Drop> {
+    pub(crate) job: Snapshot<Job<R, A>>,
+    pub(crate) lanes: Lanes,
     pub(crate) gate: Snapshot<G>,
 }
 
-impl<G: Gate, R: Rng + Drop, A: Allocator + Drop> Promise<PollDone<A>> for Polls<G, R, A> {
-    ghost use Rattle.mb_mailbox.specs.Jobs.{IsPollEnd};
+impl<G: Gate, R: Rng + Drop, A: Allocator + Drop> Promise<Done<A>> for Pledge<G, R, A> {
+    ghost use Rattle.mb_mailbox.specs.Runs.{IsEnd};
 
-    ghost kept_by = { λ p d. IsPollEnd (G.may_stop p.gate.value) (G.may_pass p.gate.value) p.from p.end p.budget
-        (R.stream p.rng.value) p.consumer.value d };
+    ghost kept_by = { λ p d. IsEnd (G.may_stop p.gate.value) (G.may_pass p.gate.value) R.stream p.lanes p.job.value d };
 }

@@ -1,5 +1,5 @@
 //! Workers that were begun.
-use super::jobs::{PollDone, Polls, PutDone, Puts};
+use super::jobs::{Done, Pledge};
 use std::thread::{Promise, PromisedHandle};
 
 /// A worker that was begun. It has a thread of its own. If no thread could be made, it was ended here.
@@ -9,8 +9,5 @@ pub(crate) enum Worker<D: Drop, P: Promise<D>> {
     Inline(D),
 }
 
-/// The worker of a producer.
-pub(crate) type PutWorker<G, A> = Worker<PutDone<A>, Puts<G, A>>;
-
-/// The worker of a consumer.
-pub(crate) type PollWorker<G, R, A> = Worker<PollDone<A>, Polls<G, R, A>>;
+/// A worker of a run.
+pub(crate) type RunWorker<G, R, A> = Worker<Done<A>, Pledge<G, R, A>>;

@@ -4,18 +4,19 @@ ghost use Rattle.mb_mailbox.specs.Calls.{ArePassed};
 ghost use Rattle.mb_mailbox.specs.Consumers.{IsConsumerOf};
 ghost use Rattle.mb_mailbox.specs.declared.gate.Who.TheVariants as who;
 ghost use Rattle.mb_mailbox.specs.Jobs.{HasReadMarked, IsOnLanes, IsPollEnd, IsPutEnd, IsSameConsumer, IsStopBefore, accesses_made, count_marks, ends_met};
+ghost use Rattle.mb_mailbox.specs.Runs.{IsEnd, IsJobOf};
 ghost use Rattle.mb_mailbox.specs.Producers.{FoundNoCell, IsProducerOf, IsSameLane, is_over};
 ghost use Rattle.mb_mailbox.specs.Steps.{IsPollOf};
 
 use super::ends::ends_are_kept;
-use super::jobs::{Lanes, PollDone, PollJob, PutDone, PutJob};
+use super::jobs::{Done, Job, Lanes, PollDone, PollJob, PutDone, PutJob};
 use crate::consumer::{Consumer, Poll};
 use crate::gate::{Gate, Who};
 use crate::mailbox::Mailbox;
 use crate::producer::{Producer, Put};
 use rand_core::Rng;
 use std::alloc::Allocator;
-use std::sync::atomic::{AtomicBool, Ordering};
+use std::sync::OnceLock;
 use std::thread::yield_now;
 
 /// What came of a list: how many items were linked, and whether the producer was stopped before the end of the list.
@@ -34,7 +35,7 @@ fn put_items<A: Allocator + Drop, B: Allocator + Drop, G: Gate>(
     producer: &mut Producer<A>,
     items: &[u64],
     gate: &G,
-    running: &AtomicBool,
+    abort: &OnceLock<()>,
 ) -> Linked
     requires belongs { IsProducerOf mailbox.now producer.old }
     requires fresh { producer.old.items ≡ [] }
@@ -58,7 +59,7 @@ fn put_items<A: Allocator + Drop, B: Allocator + Drop, G: Gate>(
 {
     let who = Who::Producer(producer.seat.lane());
     for (i, item) in items.iter().enumerate() {
-        if !running.load(Ordering::SeqCst) {
+        if abort.get().is_some() {
             return Linked {
                 count: i,
                 stopped: true,
@@ -91,11 +92,11 @@ fn put_items<A: Allocator + Drop, B: Allocator + Drop, G: Gate>(
 }
 
 /// Puts the list in order up to the first item that finds no cell, and ends the lane.
-pub(super) fn put_list<A: Allocator + Drop, B: Allocator + Drop, G: Gate>(
+fn put_list<A: Allocator + Drop, B: Allocator + Drop, G: Gate>(
     mailbox: &Mailbox<B>,
     job: PutJob<A>,
     gate: &G,
-    running: &AtomicBool,
+    abort: &OnceLock<()>,
 ) -> PutDone<A>
     requires belongs { IsProducerOf mailbox.now job.producer }
     ensures { IsPutEnd (G.may_stop gate.now) (G.may_pass gate.now) job result }
@@ -105,7 +106,7 @@ pub(super) fn put_list<A: Allocator + Drop, B: Allocator + Drop, G: Gate>(
         count,
         stopped,
         aborted,
-    } = put_items(mailbox, &mut producer, &list, gate, running);
+    } = put_items(mailbox, &mut producer, &list, gate, abort);
     producer.finish(mailbox);
     let full = if stopped {
         0
@@ -117,27 +118,6 @@ pub(super) fn put_list<A: Allocator + Drop, B: Allocator + Drop, G: Gate>(
         full,
         stopped,
         aborted,
-    }
-}
-
-/// Ends the lane of a producer that puts nothing.
-pub(super) fn put_nothing<A: Allocator + Drop, B: Allocator + Drop>(
-    mailbox: &Mailbox<B>,
-    job: PutJob<A>,
-) -> PutDone<A>
-    requires belongs { IsProducerOf mailbox.now job.producer }
-    ensures { IsPutEnd (λ _ _. ⊥) (λ _ _. ⊥) job result }
-{
-    let PutJob {
-        producer: mut idle,
-        list: _,
-    } = job;
-    idle.finish(mailbox);
-    PutDone {
-        producer: idle,
-        full: 0,
-        stopped: true,
-        aborted: true,
     }
 }
 
@@ -223,12 +203,12 @@ fn rest(poll: Poll, idle: u32, lanes: u32) -> u32 {
 }
 
 /// Polls the lanes round and round, each until it has ended.
-pub(super) fn poll_lanes<A: Allocator + Drop, B: Allocator + Drop, R: Rng + Drop, G: Gate>(
+fn poll_lanes<A: Allocator + Drop, B: Allocator + Drop, R: Rng + Drop, G: Gate>(
     mailbox: &Mailbox<B>,
     job: PollJob<R, A>,
     lanes: Lanes,
     gate: &G,
-    running: &AtomicBool,
+    abort: &OnceLock<()>,
 ) -> PollDone<A>
     requires belongs { IsConsumerOf mailbox.now job.consumer }
     requires few { lanes.end ≤ mailbox.now.cells.size.lanes }
@@ -253,7 +233,7 @@ pub(super) fn poll_lanes<A: Allocator + Drop, B: Allocator + Drop, R: Rng + Drop
                 aborted: false,
             };
         };
-        if !running.load(Ordering::SeqCst) {
+        if abort.get().is_some() {
             return PollDone {
                 consumer,
                 stopped: true,
@@ -277,16 +257,20 @@ pub(super) fn poll_lanes<A: Allocator + Drop, B: Allocator + Drop, R: Rng + Drop
     }
 }
 
-/// The end of a consumer that polls nothing.
-pub(super) fn poll_nothing<A: Allocator + Drop, R: Drop>(job: PollJob<R, A>) -> PollDone<A>
-    ensures consumer { result.consumer ≡ job.consumer }
-    ensures stopped { result.stopped ≡ true }
-    ensures aborted { result.aborted ≡ true }
+/// Does this job: puts the list and ends the lane, or polls the lanes.
+pub(super) fn do_job<A: Allocator + Drop, B: Allocator + Drop, R: Rng + Drop, G: Gate>(
+    mailbox: &Mailbox<B>,
+    job: Job<R, A>,
+    lanes: Lanes,
+    gate: &G,
+    abort: &OnceLock<()>,
+) -> Done<A>
+    requires belongs { IsJobOf mailbox.now job }
+    requires few { lanes.end ≤ mailbox.now.cells.size.lanes }
+    ensures { IsEnd (G.may_stop gate.now) (G.may_pass gate.now) R.stream lanes job result }
 {
-    let PollJob { consumer, rng: _ } = job;
-    PollDone {
-        consumer,
-        stopped: true,
-        aborted: true,
+    match job {
+        Job::Put(put) => Done::Put(put_list(mailbox, put, gate, abort)),
+        Job::Poll(poll) => Done::Poll(poll_lanes(mailbox, poll, lanes, gate, abort)),
     }
 }

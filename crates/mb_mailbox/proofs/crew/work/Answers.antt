@@ -1,7 +1,8 @@
-use Rattle.std.proofs.Common.{⊎_elim, arith}
-use Rattle.mb_mailbox.proofs.Final.{nothing_taken}
-use Rattle.mb_mailbox.specs.Worked.{lists_in}
+use Rattle.std.proofs.Common.{⊎_elim, arith, map, sym, ◌∙◌}
 use Rattle.std.specs.Prelude.{vec_len}
+use Rattle.std.proofs.lemmas.List.{length-map}
+use Rattle.mb_mailbox.specs.Worked.{lists_in}
+use Rattle.mb_mailbox.proofs.Final.{nothing_taken, worked_of}
 use Rattle.mb_mailbox.proofs.crew.work.Goals as goal
 
 -- if room is refused, nothing was given
@@ -28,7 +29,10 @@ returns-clause-nothing_given g c = λ a. absurd (⊎_elim
     (λ e. c.work_with.ensures.all_given e) (λ e. c.work_with.ensures.bad_budget e) a)
 
 pub returns-clause-worked : goal.returns-clause-worked
-returns-clause-worked g c = c.work_with.ensures.worked
+returns-clause-worked g c = worked_of (g.G.Gate.may_stop c.args.gate.now) (g.G.Gate.may_pass c.args.gate.now)
+    c.args.budget (vec_len c.args.rngs) (lists_in c.args.items.items) (map g.R.Rng.stream c.args.rngs.items)
+    c.args.hub.now c.work_with.new.hub c.work_with.result
+    (length-map c.args.rngs.items g.R.Rng.stream ∙ sym c.args.rngs.ok.0) c.work_with.ensures.called
 
 pub returns-clause-called : goal.returns-clause-called
 returns-clause-called g c = c.work_with.ensures.called

@@ -11,9 +11,9 @@ scoped-requires g c =
       at = λ a. (
         c.requires.belongs,
         (
-          (c.requires.few, c.requires.lanes),
+          (c.requires.few, c.requires.first),
           (
-            c.requires.room,
+            (c.requires.begun, c.requires.done),
             (
               record {
                 owned = t.send-A.owned;

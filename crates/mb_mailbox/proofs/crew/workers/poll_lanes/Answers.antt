@@ -8,7 +8,7 @@ use Rattle.mb_mailbox.proofs.EndsMet.{none_met}
 use Rattle.mb_mailbox.proofs.Looks.{none_on}
 use Rattle.mb_mailbox.proofs.Marks.{clear, marks_all, marks_fewer, within}
 use Rattle.mb_mailbox.proofs.crew.workers.poll_lanes.Goals as goal
-use Rattle.mb_mailbox.proofs.crew.workers.poll_lanes.Goals.{else-loop-call-test, then-loop-call-test+in-Some+else-not-load+then-not-enter}
+use Rattle.mb_mailbox.proofs.crew.workers.poll_lanes.Goals.{else-loop-call-test, then-loop-call-test+in-Some+else-is_some+then-not-enter}
 
 -- no lane is marked
 abbrev sixteen : List Bool
@@ -118,7 +118,7 @@ returns g c =
     (who.Consumer c.args.job.consumer.seat.consumer) c.loop-call.call = elim
     c.loop-call-test.branch [
       | else-loop-call-test w ↦ inr (omega (arith, w.loop-call-test.false, c.loop-call.auto.call))
-      | then-loop-call-test+in-Some+else-not-load+then-not-enter w ↦ inl (search rules)
+      | then-loop-call-test+in-Some+else-is_some+then-not-enter w ↦ inl (search rules)
     ] in
     let ended = λ (f : c.is_some-stopped.result ≡ false) (p : ℕ) (low : c.args.lanes.from ≤ p)
     (high : p < c.args.lanes.end). within c.loop-call.ended p
