@@ -1,5 +1,6 @@
 -- A mailbox in which workers worked, from its making to its report.
-use Rattle.std.proofs.Common.{◌≡◌, ◌≤◌, ◌++◌, ℕ, List, Some, arith, inl, inr, length, map, refl, sym, ap, subst, ◌∙◌}
+use Rattle.std.proofs.Common.{◌≡◌, ◌≤◌, ◌++◌, ℕ, List, Some, Result, Ok, Err, arith, inl, inr, length, map, refl, sym, ap, subst, ◌∙◌}
+use Rattle.std.specs.Prelude.{IfOk}
 use Rattle.std.proofs.lemmas.List.{length-map}
 use Rattle.mb_mailbox.specs.Imports.{Stream, consumer_count}
 use Rattle.mb_mailbox.specs.Called.{IsCalled}
@@ -34,6 +35,11 @@ asks_enough plan m old lists sources same empty all few asks =
       | inl more ↦ omega (arith, more, lanes, all, none)
       | inr more ↦ omega (arith, more, consumers, few, nobody)
     ]
+
+-- what holds of each value that a result can have holds if it has one
+pub of_value : {Y F : Type 0} (P : Y → Type 0) (r : Result Y F) → ((y : Y) → r ≡ Ok y → P y) → IfOk r P
+of_value P (Ok y) holds = holds y refl
+of_value P (Err e) holds = tt
 
 -- workers that led from a new hub to the hub of a report have played the round
 pub played : (m : MailboxView) (old h : HubView) (r : ReportView) (terms : Terms) (lists : List (List ℕ))

@@ -1,8 +1,9 @@
 -- One round: which items went in, what its report says of them, what was given out, and what stays.
-use Rattle.std.specs.Prelude.{ℕ, zero, suc, ◌≡◌, ◌<◌, ◌≤◌, ◌++◌, List, [], ◌∷◌, drop, length, min}
+use Rattle.std.specs.Prelude.{ℕ, zero, suc, ◌≡◌, ◌<◌, ◌≤◌, ◌++◌, List, [], ◌∷◌, Result, Err, drop, length, min}
 use Rattle.std.specs.List.{All, AllZip, concat, filter_map}
 use Rattle.mb_mailbox.specs.Jobs.{IsFront}
-use Rattle.mb_mailbox.specs.declared.crew.Worked.{Worked}
+use Rattle.mb_mailbox.specs.declared.crew.{WorkFault.WorkFault, Worked.Worked}
+use Rattle.mb_mailbox.specs.declared.crew.WorkFault.TheVariants as work
 use Rattle.mb_mailbox.specs.declared.gate.Who.{Who}
 use Rattle.mb_world.specs.Theorem.{LaneView, MainTheorem, ReportView, item_taken, items_put, ledger, notes}
 use Rattle.mb_world.specs.Plan.{Histories, consumers_of}
@@ -10,6 +11,7 @@ use Rattle.mb_world.specs.Reporting.{IsReportOf}
 use Rattle.mb_world.specs.Sound.{AreSound}
 use Rattle.mb_world.specs.declared.report.Note.{Note}
 use Rattle.mb_mailbox.specs.ReportedRuns.{IsReportedRun, Terms}
+use Rattle.mb_rounds.specs.declared.rounds.RoundFault.{RoundFault, TheVariants.NoMemory, TheVariants.NoThread}
 
 -- the items are dealt evenly: no list has two items more than another
 abbrev pub AreEven : List (List ℕ) → Type 0
@@ -32,6 +34,11 @@ pub record IsPlayed (may_stop may_pass : Who → ℕ → Type 0) (terms : Terms)
   -- a producer for each list and a consumer for each source did this, and went on until they were done or stopped. The
   -- counts are of these workers
   pub run : IsReportedRun may_stop may_pass terms lists counts histories r
+
+-- the fault of a round whose workers came to this, if it has no report: a refused thread, or else out of memory
+abbrev pub fault_after : Result Worked WorkFault → RoundFault
+fault_after (Err work.NoThread) = NoThread
+fault_after worked = NoMemory
 
 -- the items that notes say were taken
 abbrev pub taken_in : List Note → List ℕ

@@ -1,15 +1,16 @@
 //! One mailbox, from its making to its report.
-ghost use Rattle.std.specs.Prelude.{◌≡◌, ◌<◌, ◌≤◌, ◌≢◌, Err, IfOk, map, vec_len};
-ghost use Rattle.mb_mailbox.specs.Worked.{lists_in};
+ghost use Rattle.std.specs.Prelude.{◌≡◌, ◌<◌, ◌≤◌, ◌≢◌, Err, IfErr, IfOk, Ok, map, vec_len};
+ghost use Rattle.mb_mailbox.specs.Gathering.{FullTakesAll, IsGathered, IsReportIn};
+ghost use Rattle.mb_mailbox.specs.Vocabulary.{IsHubOf, consumer_count, lists_in};
 ghost use Rattle.mb_world.specs.Plan.{consumers_of};
 ghost use Rattle.mb_world.specs.Setups.{plan_in};
 ghost use Rattle.mb_mailbox.specs.ReportedRuns.{terms_of};
-ghost use Rattle.mb_rounds.specs.Round.{IsPlayed};
+ghost use Rattle.mb_rounds.specs.Round.{IsPlayed, fault_after};
 ghost use Rattle.mb_mailbox.specs.declared.crew.WorkFault.TheVariants as work;
-ghost use Rattle.mb_rounds.specs.declared.rounds.RoundFault.TheVariants.{BadBudget, NoMemory, NoThread, TooManySources};
+ghost use Rattle.mb_rounds.specs.declared.rounds.RoundFault.TheVariants.{BadBudget, TooManySources};
 
 use crate::rounds::RoundFault;
-use mb_mailbox::{Gate, Mailbox, WorkFault, Worked, work};
+use mb_mailbox::{Gate, Hub, Mailbox, WorkFault, Worked, work};
 use mb_world::{Report, Setup};
 use rand_core::Rng;
 use std::alloc::{AllocError, Allocator};
@@ -28,20 +29,32 @@ fn three_of<A: Allocator + Clone>(alloc: &A) -> Result<(A, A, A), AllocError> {
     Ok((alloc.clone()?, alloc.clone()?, alloc.clone()?))
 }
 
-/// The fault of a round for a fault of `work`. The mailbox has numbers for all workers and the budget is not 0, so two
-/// of the faults do not come.
-fn fault_of_work(fault: WorkFault) -> RoundFault
-    requires numbers { fault ≢ work.AllGiven }
-    requires budget { fault ≢ work.BadBudget }
-    ensures no_memory { fault ≡ work.NoMemory → result ≡ NoMemory }
-    ensures no_thread { fault ≡ work.NoThread → result ≡ NoThread }
-    ensures too_many { result ≢ TooManySources }
-    ensures bad_budget { result ≢ BadBudget }
+/// What the workers of a round came to and the report of its mailbox, or the fault of the round. A refused thread keeps
+/// its name.
+fn report_after<A: Allocator + Clone + Drop>(
+    alloc: A,
+    worked: Result<Worked, WorkFault>,
+    mailbox: Mailbox<A>,
+    hub: Hub<A>,
+) -> Result<(Worked, Report<A>), RoundFault>
+    requires belongs { IsHubOf mailbox hub }
+    requires numbers { worked ≢ Err work.AllGiven }
+    requires budget { worked ≢ Err work.BadBudget }
+    ensures worked { IfOk result (λ o. worked ≡ Ok o.0) }
+    ensures fault { IfErr result (λ e. e ≡ fault_after worked) }
+    ensures lists { IfOk result (λ o. IsReportIn mailbox.cells.size.lanes
+        (consumer_count mailbox.claims.layout) hub o.1) }
+    ensures main_theorem { IfOk result (λ o. IsGathered mailbox hub o.1) }
+    ensures full { IfOk result (λ o. FullTakesAll mailbox hub o.1) }
 {
-    match fault {
-        WorkFault::NoMemory => RoundFault::NoMemory,
-        WorkFault::NoThread => RoundFault::NoThread,
-        WorkFault::AllGiven | WorkFault::BadBudget => unreachable!(),
+    match worked {
+        Ok(worked) => match mailbox.gather(alloc, hub) {
+            Ok(report) => Ok((worked, report)),
+            Err(_) => Err(RoundFault::NoMemory),
+        },
+        Err(WorkFault::NoMemory) => Err(RoundFault::NoMemory),
+        Err(WorkFault::NoThread) => Err(RoundFault::NoThread),
+        Err(WorkFault::AllGiven | WorkFault::BadBudget) => unreachable!(),
     }
 }
 
@@ -72,14 +85,8 @@ pub(crate) fn play<
     let (for_mailbox, for_work, for_report) = three_of(alloc)?;
     let (mailbox, mut hub) = Mailbox::new(for_mailbox, setup.copy())?;
     let Means { sources, budget } = means;
-    let worked = match work(
+    let worked = work(
         for_work, rt, &mailbox, &mut hub, lists, budget, sources, gate,
-    ) {
-        Ok(worked) => worked,
-        Err(fault) => return Err(fault_of_work(fault)),
-    };
-    let Ok(report) = mailbox.gather(for_report, hub) else {
-        return Err(RoundFault::NoMemory);
-    };
-    Ok((worked, report))
+    );
+    report_after(for_report, worked, mailbox, hub)
 }
