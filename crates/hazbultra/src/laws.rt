@@ -1,4 +1,4 @@
-//! Laws of mailboxes as plain Rust makes them by default, and examples of what this crate defines. The functions compute
+//! Laws of mailboxes as plain Rust makes them by default, and samples of what this crate defines. The functions compute
 //! nothing: their contracts are the laws.
 ghost use Rattle.std.specs.Prelude.{ℕ, ◌≡◌, ◌+◌, [], List, None, Some, false, length, true};
 ghost use Rattle.rand_chacha.specs.ChaCha.{of_seed};
@@ -36,21 +36,23 @@ pub fn whole_items_take_few_accesses()
 /// What C asks for by a setup: samples. With no pairs, and a last object alone, each claim is one exchange, whatever
 /// the table.
 pub fn sample_setups()
-    ensures exchanges { plan_asked (asked 2 0 false) Middle
+    ensures exchanges { plan_asked (asked 2 0 false true) Middle
         ≡ shaped_plan (record { fast = false; last = true }) 3 4 8 0 Bits }
-    ensures pairs { plan_asked (asked 2 5 true) Middle
-        ≡ shaped_plan (record { fast = true; last = true }) 3 4 8 5 Middle }
-    ensures let_in { refusal_of (asked 2 0 false) ≡ None }
+    ensures pairs { plan_asked (asked 2 5 false true) Middle
+        ≡ shaped_plan (record { fast = false; last = true }) 3 4 8 5 Middle }
+    ensures let_in { refusal_of (asked 2 0 false true) ≡ None }
 
-    // With a fast path no pairs are too few (36). A number that names no table comes first (32).
-    ensures no_pairs { refusal_of (asked 2 0 true) ≡ Some 36 }
-    ensures no_table { refusal_of (asked 3 0 true) ≡ Some 32 }
+    // With a fast path, or without a last object, no pairs are too few (36). A number that names no table comes first
+    // (32).
+    ensures no_pairs { refusal_of (asked 2 0 true true) ≡ Some 36 }
+    ensures no_object { refusal_of (asked 2 0 false false) ≡ Some 36 }
+    ensures no_table { refusal_of (asked 3 0 true true) ≡ Some 32 }
 {}
 
-/// Where a consumer's words come from: samples. If a claim makes two accesses, it is a generator, and else there is
-/// none. Then all words are 0, and no word is 1.
+/// Where a consumer's words come from: samples. If a claim makes up to six accesses, it is a generator. If a claim makes
+/// one, there is none: then all words are 0, and no word is 1.
 pub fn sample_sources()
-    ensures drawn { (layout : Layout) (seed : List ℕ) → most_accesses layout ≡ 2
+    ensures drawn { (layout : Layout) (seed : List ℕ) → most_accesses layout ≡ 6
         → source_of layout seed 3 ≡ Some (record (of_seed seed) { stream = 3 }) }
     ensures alone { (layout : Layout) (seed : List ℕ) → most_accesses layout ≡ 1
         → source_of layout seed 3 ≡ None }
@@ -58,9 +60,10 @@ pub fn sample_sources()
     ensures not_one { zeros.u64_after [] ≡ 1 → ⊥ }
 {}
 
-/// What a handle leads to once what it lent comes back, by example: to what was left there last, at the same address.
+/// What a handle leads to once what it lent comes back, by samples: to what was left there last, at the same address.
 pub fn sample_handles()
-    ensures last { (b : Block) (x y : Thing) → leading_to (leading_to b x) y ≡ leading_to b y }
+    ensures last { (b : Block) (x y : Thing) → (leading_to (leading_to b x) y).thing ≡ Some y }
+    ensures address { (b : Block) (x : Thing) → (leading_to b x).at ≡ b.at }
     ensures full { (h : Handle) (x : Thing) → (handle_to h x).block ≡ leading_to h.block x }
     ensures not_empty { (h : Handle) (x : Thing) → (handle_to h x).block.thing ≡ None → ⊥ }
 {}
