@@ -51,7 +51,9 @@ class Rattle:
         return measuring.nanoseconds(re.search(r"worked: ([^ ,]+)", said)[1]) / items
 
     def large(self, producers, consumers, items):
-        return measuring.used((LARGE, producers, consumers, 4, items, 1, self.shape, self.words))
+        """A run of `bench_large`: its nanoseconds, its bytes, and what it printed."""
+        pairs, seed = 4, 1
+        return measuring.used((LARGE, producers, consumers, pairs, items, seed, self.shape, self.words))
 
     def instructions(self, consumers):
         return self.loop(consumers, COUNTED_TIMES, measuring.instructions)

@@ -86,7 +86,7 @@ fn panic_over_one(receiver: &Receiver<Value>) -> bool {
 }
 
 fn receive(mut receiver: Receiver<Value>, mut dice: Dice, tally: &Mutex<Tally>) {
-    let (mut next, mut values) = (BTreeMap::new(), Vec::new());
+    let (mut expected, mut values) = (BTreeMap::new(), Vec::new());
     let (mut count, mut given_back) = (0, 0);
     loop {
         if dice.one_of(500) && count > 0 {
@@ -114,7 +114,8 @@ fn receive(mut receiver: Receiver<Value>, mut dice: Dice, tally: &Mutex<Tally>) 
         count += 1;
         values.push((value.sender, value.place));
         if !value.came_back {
-            let earliest = next.insert(value.sender, value.place + 1).unwrap_or(0);
+            // (`insert` returns what stood there: one past the place of the last value from this sender)
+            let earliest = expected.insert(value.sender, value.place + 1).unwrap_or(0);
             assert!(value.place >= earliest, "the order of each sender");
         }
     }
