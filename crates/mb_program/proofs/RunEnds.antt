@@ -1,16 +1,14 @@
 -- How a run ends: by a fault before it writes, or with its writing.
 use Rattle.std.proofs.Common.{◌≡◌, ◌≢◌, ℕ, List, Option, Some, None, Result, Ok, Err, refl, sym, ap, ◌∙◌, subst}
-use Rattle.std.specs.Prelude.{IfErr, IfOk, IsErrAnd, IsOk, MatchOption, ◌↔◌}
+use Rattle.std.specs.Prelude.{IsErrAnd, IsOk, MatchOption, ◌↔◌}
 use Rattle.std.specs.Io.KnownBytes.{Appends}
-use Rattle.mb_mailbox.specs.declared.crew.{WorkFault.WorkFault, Worked.Worked}
-use Rattle.mb_mailbox.specs.declared.crew.WorkFault.TheVariants as work
 use Rattle.mb_world.specs.declared.setup.Setup.{Setup}
 use Rattle.mb_world.specs.declared.setup.SetupFault.{SetupFault}
 use Rattle.mb_script.specs.Vocabulary.{AppendsFront, IoModel, one_more}
 use Rattle.mb_program.specs.declared.fault.RunFault.{RunFault}
 use Rattle.mb_program.specs.declared.fault.RunFault.TheVariants.{BadSetup, NoMemory, WriteFault}
 use Rattle.mb_program.specs.declared.options.Options.{Options}
-use Rattle.mb_program.specs.Running.{IsRun, IsRunText, fault_after, setup_refused}
+use Rattle.mb_program.specs.Running.{IsRun, IsRunText, setup_refused}
 use Rattle.mb_program.proofs.RunSetups.{no_refusal}
 
 -- ---- which setups are refused
@@ -23,7 +21,7 @@ no_ok : {Y : Type 0} (y : Y) (e : RunFault) → ◌≡◌ {A = Result Y RunFault
 no_ok y e is = absurd (cc)
 
 -- equal results have one fault
-same_err : {Y : Type 0} (e f : RunFault) → ◌≡◌ {A = Result Y RunFault} (Err e) (Err f) → e ≡ f
+pub same_err : {Y : Type 0} (e f : RunFault) → ◌≡◌ {A = Result Y RunFault} (Err e) (Err f) → e ≡ f
 same_err e f is = cc
 
 -- if a run has no fault, its setup is not refused
@@ -31,37 +29,16 @@ not_refused : {Y : Type 0} (o : Options) (y : Y) → Refuses o (Ok y) → (why :
     → setup_refused o ≡ Some why → ⊥
 not_refused o y refuses why is = no_ok y _ ((refuses why).1 is)
 
--- ---- what follows the workers
--- the fault after the workers is none of a setup
-no_setup : (w : Result Worked WorkFault) (why : SetupFault) → fault_after w ≢ BadSetup why
-no_setup (Ok came) why is = absurd (cc)
-no_setup (Err work.AllGiven) why is = absurd (cc)
-no_setup (Err work.BadBudget) why is = absurd (cc)
-no_setup (Err work.NoMemory) why is = absurd (cc)
-no_setup (Err work.NoThread) why is = absurd (cc)
-
--- so what follows the workers refuses no setup
-pub refused_before : {Y : Type 0} (o : Options) (s : Setup) (w : Result Worked WorkFault) (r : Result Y RunFault)
+-- a fault that comes after the setup was made is no refusal of it
+pub fault_behind : {Y : Type 0} (o : Options) (s : Setup) (e : RunFault)
     → MatchOption (setup_refused o) (IsOk {E = SetupFault} (Ok s))
     (λ why. ◌≡◌ {A = Result Setup SetupFault} (Ok s) (Err why))
-    → IfErr r (λ e. e ≡ fault_after w) → Refuses o r
-refused_before {Y} o s w r made named = λ why. (
-  λ is. absurd (go r named why is),
+    → ((why : SetupFault) → e ≢ BadSetup why) → Refuses {Y = Y} o (Err e)
+fault_behind {Y} o s e made other = λ why. (
+  λ is. absurd (other why (same_err {Y = Y} e _ is)),
   λ refused. let both : ◌≡◌ {A = Option SetupFault} (Some why) None = sym refused
       ∙ no_refusal (setup_refused o) s made in absurd (cc),
 )
-  where
-    go : (r : Result Y RunFault) → IfErr r (λ e. e ≡ fault_after w) → (why : SetupFault) → r ≢ Err (BadSetup why)
-    go (Ok y) named why is = no_ok y _ is
-    go (Err e) named why is = no_setup w why (sym named ∙ same_err {Y = Y} e _ is)
-
--- if there is a report, the workers came to their end
-pub of_report : {Y : Type 0} (P : Y → Type 0) (w : Result Worked WorkFault) (r : Result Y RunFault)
-    → IfOk r (λ _. IsOk w)
-    → ((came : Worked) (y : Y) → w ≡ Ok came → r ≡ Ok y → P y) → IfOk r P
-of_report P (Ok came) (Ok y) ended holds = holds came y refl refl
-of_report P (Err e) (Ok y) ended holds = absurd (cc)
-of_report P w (Err e) ended holds = tt
 
 -- ---- the ways in which a run ends
 -- `IsRun` holds of a run that fails before it writes, and leaves its writer as it was

@@ -13,11 +13,10 @@ use Rattle.mb_world.specs.Sound.{AreSound}
 use Rattle.mb_script.specs.Vocabulary.{AppendsFront, IoModel, one_more, report_text}
 use Rattle.mb_mailbox.specs.Imports.{Reader, Stream, consumer_part, part}
 use Rattle.mb_mailbox.specs.ReportedRuns.{IsReportedRun, Terms}
-use Rattle.mb_mailbox.specs.declared.crew.{WorkFault.WorkFault, Worked.Worked}
-use Rattle.mb_mailbox.specs.declared.crew.WorkFault.TheVariants as work
+use Rattle.mb_mailbox.specs.declared.crew.Worked.{Worked}
 use Rattle.mb_program.specs.Source.{source_from, words_from}
 use Rattle.mb_program.specs.declared.fault.RunFault.{RunFault}
-use Rattle.mb_program.specs.declared.fault.RunFault.TheVariants.{BadSetup, NoMemory, NoThread, WriteFault}
+use Rattle.mb_program.specs.declared.fault.RunFault.TheVariants.{BadSetup, WriteFault}
 use Rattle.mb_program.specs.declared.options.Options.{Options}
 
 -- ---- the mailbox that the options ask for
@@ -104,11 +103,6 @@ abbrev pub IsRunText : Options → List ℕ → Type 0
 IsRunText o text = (r : ReportView) × IsRunReport o r × (text ≡ report_text r)
 
 -- ---- a call of the command
--- the fault of a run whose workers came to this, if it has no report: a refused thread, or else out of memory
-abbrev pub fault_after : Result Worked WorkFault → RunFault
-fault_after (Err work.NoThread) = NoThread
-fault_after worked = NoMemory
-
 -- one call of the command `run` has this result, with its writer before it and after it
 pub record IsRun {X W : Type 0} (o : Options) (sink : IoModel W) (writer writer' : W)
     (result : Result X RunFault) : Type 0 where

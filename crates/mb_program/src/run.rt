@@ -1,18 +1,18 @@
 //! The command `run`: producers and consumers in threads, and the report of what they did.
-ghost use Rattle.std.specs.Prelude.{◌≡◌, ◌≢◌, ◌≤◌, ◌↔◌, Err, IfErr, IfOk, IsOk, MatchOption, OnOk, Some, map, vec_len};
+ghost use Rattle.std.specs.Prelude.{◌≡◌, ◌≢◌, ◌≤◌, ◌↔◌, Err, IfOk, IsOk, MatchOption, OnOk, Some, map, vec_len};
 ghost use Rattle.std.specs.List.{range_with_len};
 ghost use Rattle.mb_script.specs.Vocabulary.{meter};
 ghost use Rattle.mb_world.specs.Setups.{plan_in};
-ghost use Rattle.mb_mailbox.specs.Gathering.{FullTakesAll, IsGathered, IsReportIn};
-ghost use Rattle.mb_mailbox.specs.Vocabulary.{IsHubOf, consumer_count, lists_in};
+ghost use Rattle.mb_mailbox.specs.Worked.{lists_in};
 ghost use Rattle.mb_mailbox.specs.declared.crew.WorkFault.TheVariants as work;
 ghost use Rattle.mb_program.specs.declared.fault.RunFault.TheVariants as run;
-ghost use Rattle.mb_program.specs.Vocabulary.{AreFew, IsRun, IsRunReport, fault_after, item_lists, items_of, plan_asked, setup_refused, source_from};
+ghost use Rattle.mb_program.specs.declared.fault.RunFault.TheVariants.{BadSetup, WriteFault};
+ghost use Rattle.mb_program.specs.Vocabulary.{AreFew, IsRun, IsRunReport, item_lists, items_of, plan_asked, setup_refused, source_from};
 
 use crate::fault::{NoMemory, RunFault};
 use crate::options::Options;
 use crate::source::source_of;
-use mb_mailbox::{Hub, Mailbox, OpenGate, WorkFault, Worked, work};
+use mb_mailbox::{GatherFault, Mailbox, OpenGate, WorkFault, work};
 use mb_quorum::TableName;
 use mb_script::{CountedWrite, report_text, write_all};
 use mb_world::{Report, Setup, SetupFault};
@@ -129,39 +129,13 @@ pub fn fault_of_work(fault: WorkFault) -> RunFault
     requires budget { fault ≢ work.BadBudget }
     ensures no_memory { fault ≡ work.NoMemory → result ≡ run.NoMemory }
     ensures no_thread { fault ≡ work.NoThread → result ≡ run.NoThread }
-    ensures refusal { (why : SetupFault) → result ≢ run.BadSetup why }
-    ensures no_device { result ≢ run.WriteFault }
+    ensures refusal { (why : SetupFault) → result ≢ BadSetup why }
+    ensures no_device { result ≢ WriteFault }
 {
     match fault {
         WorkFault::NoMemory => RunFault::NoMemory,
         WorkFault::NoThread => RunFault::NoThread,
         WorkFault::AllGiven | WorkFault::BadBudget => unreachable!(),
-    }
-}
-
-/// The report of a mailbox after its workers came to this, or the fault of the run. A refused thread keeps its name.
-fn report_after<A: Allocator + Copy + Drop>(
-    alloc: A,
-    worked: Result<Worked, WorkFault>,
-    mailbox: Mailbox<A>,
-    hub: Hub<A>,
-) -> Result<Report<A>, RunFault>
-    requires belongs { IsHubOf mailbox hub }
-    requires numbers { worked ≢ Err work.AllGiven }
-    requires budget { worked ≢ Err work.BadBudget }
-    ensures ok { OnOk result (IsOk worked) }
-    ensures fault { IfErr result (λ e. e ≡ fault_after worked) }
-    ensures lists { IfOk result (λ r. IsReportIn mailbox.cells.size.lanes
-        (consumer_count mailbox.claims.layout) hub r) }
-    ensures main_theorem { IfOk result (λ r. IsGathered mailbox hub r) }
-    ensures full { IfOk result (λ r. FullTakesAll mailbox hub r) }
-{
-    match worked {
-        Ok(_) => match mailbox.gather(alloc, hub) {
-            Ok(report) => Ok(report),
-            Err(_) => Err(RunFault::NoMemory),
-        },
-        Err(fault) => Err(fault_of_work(fault)),
     }
 }
 
@@ -173,9 +147,9 @@ fn report_of<A: Allocator + Copy + Drop + Send + Sync, T: Threads + Wait + Sync>
 ) -> Result<Report<A>, RunFault>
     requires budget { 1 ≤ options.budget }
     ensures report { IfOk result (λ r. IsRunReport options r) }
-    ensures refused { (why : SetupFault) → (result ≡ Err (run.BadSetup why))
+    ensures refused { (why : SetupFault) → (result ≡ Err (BadSetup why))
         ↔ (setup_refused options ≡ Some why) }
-    ensures no_device { result ≢ Err run.WriteFault }
+    ensures no_device { result ≢ Err WriteFault }
 {
     let setup = setup_of(options)?;
     let Workload {
@@ -187,7 +161,14 @@ fn report_of<A: Allocator + Copy + Drop + Send + Sync, T: Threads + Wait + Sync>
     let worked = work(
         alloc, rt, &mailbox, &mut hub, lists, budget, rngs, &OpenGate,
     );
-    report_after(alloc, worked, mailbox, hub)
+    if let Err(fault) = worked {
+        return Err(fault_of_work(fault));
+    }
+    match mailbox.gather(alloc, hub) {
+        Ok(report) => Ok(report),
+        Err((GatherFault::NoMemory, _, _)) => Err(RunFault::NoMemory),
+        Err((GatherFault::Missing(_, _), _, _)) => unreachable!(),
+    }
 }
 
 /// Lets producers and consumers work in threads, one for each, and writes the report of what they did and nothing else.
