@@ -53,7 +53,7 @@ module _ (n : ℕ) (r : ReportView) (right : AreNotesRight n r) where
       theirs =
           is_took-at (note found.0 p j r) (last_below-at n (λ d. is_took (note d p j r)) found.0 found.1).1
 
-      -- two takers of one item are one
+      -- two consumers that took one item are the same
       same : found.0 ≡ c
       same = right.one found.0 c p j (Took theirs.0) (Took taken.0) found.0 c theirs.1 taken.1 refl refl
 
@@ -61,11 +61,11 @@ module _ (n : ℕ) (r : ReportView) (right : AreNotesRight n r) where
   has_taken : (c p j : ℕ) → taker p j ≡ Some c → HasTaken c p j r
   has_taken c p j e = is_took-at (note c p j r) (last_below-at n (λ d. is_took (note d p j r)) c e).1
 
-  -- the test of a share is that the consumer took the item
+  -- an item passes the test for the share of consumer c exactly if c has taken it
   share_test : (c p j : ℕ) → is_consumer c (taker p j) ≡ is_took (note c p j r)
   share_test c p j = at_taker (taker p j) refl (is_took (note c p j r)) refl
     where
-      -- the test of a share agrees with c's note on the item, whatever the assignment has for it
+      -- whatever the assignment has for the item, the test for the share of c agrees with c's note on the item
       at_taker : (o : Option ℕ) → taker p j ≡ o → (b : Bool) → is_took (note c p j r) ≡ b → is_consumer c o ≡ b
       at_taker None o true b = absurd (let q = given_to c p j (is_took-at (note c p j r) b) in cc)
       at_taker None o false b = refl

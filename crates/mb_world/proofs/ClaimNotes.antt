@@ -1,4 +1,4 @@
--- The state after a step of a claim, as its place and its note are written.
+-- The state after a step of a claim, in the form in which the code writes its place and its note.
 use Rattle.std.proofs.Common.{◌≡◌, ℕ, ◌+◌, ◌*◌, ◌<◌, List, Option, Some, None, refl, sym, ◌∙◌, ap, subst, get_or}
 use Rattle.std.specs.Prelude.{slice_set}
 use Rattle.std.proofs.lemmas.List.{set-set}
@@ -15,21 +15,21 @@ use Rattle.mb_world.specs.Vocabulary.{with_words}
 use Rattle.mb_world.specs.declared.place.Place.TheVariants.{At, Before}
 use Rattle.mb_world.proofs.NewWorlds.{position_within}
 
--- a claim that ends with a note leaves its cell
+-- if a claim is lost or undecided after a step, the consumer's place is then past cell k
 past_cell : (k : ℕ) (now : Claim) (z : Stage) (n : Note) → note_of z ≡ Some n → place_after k now z ≡ Before (Past k)
 past_cell k now stage.Going n e = absurd (cc)
 past_cell k now stage.Won n e = absurd (cc)
 past_cell k now (stage.Lost w) n e = refl
 past_cell k now stage.Undecided n e = refl
 
--- a claim without a note stays at its cell
+-- if a claim goes on or is won after a step, the consumer's place is then at cell k, with the claim
 at_cell : (k : ℕ) (now : Claim) (z : Stage) → note_of z ≡ None → place_after k now z ≡ At k now
 at_cell k now stage.Going e = refl
 at_cell k now stage.Won e = refl
 at_cell k now (stage.Lost w) e = absurd (cc)
 at_cell k now stage.Undecided e = absurd (cc)
 
--- a place that is read at the position of consumer c and lane p is that of the consumer there
+-- the place that the code reads at the position of consumer c and lane p is the place of c on p
 pub place_found : (s : WorldState) (h : WorldHistory) → IsWorldAfter h s → (c p lanes : ℕ)
     → c < consumers_of (plan_in s.setup) → p < (plan_in s.setup).lanes → lanes ≡ (plan_in s.setup).lanes → (d : Place)
     → d ≡ get_or s.places (c * lanes + p) d → HasPlace c p d s
@@ -57,14 +57,14 @@ module _ {h : WorldHistory} {c p word k object : ℕ} {act : Act} {z : Stage}
     (adds : EventAdds (event.Step c p word) (answer.Claimed k object act (claim_stage now))
     (with_note_if c k (note_of (claim_stage now))
     (with_place c p (place_after k now (claim_stage now)) (with_words words s))) h) where
-  -- the event leads to the state as the step leaves it, written with a stage that equals that of the claim now
+  -- the event leaves the state with the place and the note of stage z, the stage of the claim after the step
   by_stage : EventAdds (event.Step c p word) (answer.Claimed k object act z)
       (with_note_if c k (note_of z) (with_place c p (place_after k now z) (with_words words s))) h
   by_stage =
       subst (λ (y : Stage). EventAdds (event.Step c p word) (answer.Claimed k object act y)
       (with_note_if c k (note_of y) (with_place c p (place_after k now y) (with_words words s))) h) (sym stage_is) adds
 
-  -- the event leads to that state, written with a note and a place that are those of the stage
+  -- the event leaves that state, too, if note o and place d stand for those of stage z
   by_note : (o : Option Note) (d : Place) → note_of z ≡ o → place_after k now z ≡ d
       → EventAdds (event.Step c p word) (answer.Claimed k object act z)
       (with_note_if c k o (with_place c p d (with_words words s))) h
@@ -74,7 +74,7 @@ module _ {h : WorldHistory} {c p word k object : ℕ} {act : Act} {z : Stage}
       (subst (λ (e : Place). EventAdds (event.Step c p word) (answer.Claimed k object act z)
       (with_note_if c k (note_of z) (with_place c p e (with_words words s))) h) at by_stage)
 
-  -- if the claim has a note, the event leads to the state that the code writes: the claim at its place, then over it
+  -- if the claim has a note, the event leaves the state that the code writes: the claim at its place, then over it
   -- the place past the cell, and the note
   pub noted : (cell : ℕ) {lanes cells : ℕ} {o : Option Note} {n : Note} → lanes ≡ (plan_in s.setup).lanes
       → cells ≡ (plan_in s.setup).claims.cells → o ≡ note_of z → o ≡ Some n
@@ -93,7 +93,7 @@ module _ {h : WorldHistory} {c p word k object : ℕ} {act : Act} {z : Stage}
       )
       (by_note (Some n) (Before (Past k)) note (past_cell k now z n note))
 
-  -- if the claim has no note, the event leads to the state that the code writes: the claim at its place, and no more
+  -- if the claim has no note, the event leaves the state that the code writes: the claim at its place, and no more
   pub unnoted : {cell lanes : ℕ} → cell ≡ k → lanes ≡ (plan_in s.setup).lanes
       → (o : Option Note) → o ≡ note_of z → ((n : Note) → o ≡ Some n → ⊥)
       → EventAdds (event.Step c p word) (answer.Claimed k object act z)

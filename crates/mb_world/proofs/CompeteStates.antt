@@ -25,7 +25,7 @@ module _ (s : WorldState) (h : WorldHistory) (is : IsWorldAfter h s) (c p : ℕ)
     (keeps : consumer_of now ≡ consumer_of claim)
     (made : IsClaimOn (layout_of s.setup) (plan s h is).claims.cells k now words
     (claim_access claim k x ∷ claim_accesses h)) where
-  -- what the place of a consumer that holds this claim says
+  -- the consumer's path has met cell k last and holds this claim, as its place says
   abbrev at : AtCell s h is c p cs ps known k claim here
   at = at_cell s h is c p cs ps known k claim here
 
@@ -43,30 +43,30 @@ module _ (s : WorldState) (h : WorldHistory) (is : IsWorldAfter h s) (c p : ℕ)
       subst (λ (i : ℕ). IsMemoryOf (plan s h is).claims words (path.claim_access i k x ∷ claim_accesses h)) at.own
       made.memory
 
-  -- the consumer's part on the cell has this step more
+  -- the consumer's part on the cell is its steps before, and this one
   part_now : claim_part c k (claim_accesses (a ∷ h)) ≡ x ∷ at.steps
   part_now =
       part-own c k step (claim_accesses h) refl refl
       ∙ ap (λ xs. x ∷ xs) (part_is s h is c p cs ps known k claim here)
 
-  -- the claim is still the consumer's
+  -- after the step the claim is still one of consumer c
   own_now : consumer_of now ≡ c
   own_now = keeps ∙ at.own
 
-  -- the claim has made the consumer's steps, with this one
+  -- after the step the claim has made the consumer's steps before, and this one
   is_in : IsClaimIn (layout_of s.setup) now (x ∷ at.steps)
   is_in =
       subst (λ (xs : List ObjectTurn). IsClaimIn (layout_of s.setup) now xs)
       (ap (λ (i : ℕ). part_on i k (claim_access claim k x ∷ claim_accesses h)) own_now
       ∙ (ap (λ (i : ℕ). part_on c k (path.claim_access i k x ∷ claim_accesses h)) at.own ∙ part_now)) made.standing
 
-  -- with this step, the consumer's steps are a prefix of its claim path
+  -- with this step, the consumer's steps are a prefix of a claim path, with the stage of the claim after the step
   prefix_now : (r : Stage) → claim_stage now ≡ r → IsClaimPrefix (plan s h is).claims c (x ∷ at.steps) r
   prefix_now r e =
       subst (λ (z : Stage). IsClaimPrefix (plan s h is).claims c (x ∷ at.steps) z) e
       (subst (λ (i : ℕ). IsClaimPrefix (plan s h is).claims i (x ∷ at.steps) (claim_stage now)) own_now is_in.prefix)
 
-  -- the access is true to memory, and of words
+  -- the access is true to memory, and its values and its random word are below 2^64
   truth : IsTrueTo a h
   truth = (memory.lawful.words.0, memory.lawful.memory.0)
 
@@ -76,7 +76,7 @@ module _ (s : WorldState) (h : WorldHistory) (is : IsWorldAfter h s) (c p : ℕ)
       subst (λ xs. IsClaimPrefix (plan s h is).claims c xs stage.Going)
       (sym (part_is s h is c p cs ps known k claim here)) (prefix s h is c p cs ps known k claim here stage.Going going)
 
-  -- by the consumer's part, the claim's stage after the step is that of the claim as it is now
+  -- after the step, the consumer's part on the cell has the stage of the claim
   is_now : (r : Stage) → claim_stage now ≡ r
       → IsClaimPrefix (plan s h is).claims c (claim_part c k (claim_accesses (a ∷ h))) r
   is_now r e = subst (λ xs. IsClaimPrefix (plan s h is).claims c xs r) (sym part_now) (prefix_now r e)
@@ -111,11 +111,11 @@ module _ (s : WorldState) (h : WorldHistory) (is : IsWorldAfter h s) (c p : ℕ)
       (ks : List ℕ) (ns : List Note) (held : Option (List ObjectTurn)) (d : Place)
       (next : ConsumerPath (plan s h is).claims c p (a ∷ lane_part c p h) ks ns held)
       (placed : IsPlaceAt (layout_of s.setup) c p ks held d) where
-    -- what the access adds to the history
+    -- the history with the access is lawful, and only the part of consumer c on lane p changes: it has the access more
     pub adds : ConsumerAdds (plan s h is) c p a h
     adds = known.goes a ks ns held truth next
 
-    -- the event leaves the state with the consumer's place and these notes, if the notes are right after the access
+    -- if the notes are right after the access, the event leaves the state with them, the new words and the new place
     claim_adds : (notes : List (Option Note)) → length notes ≡ consumers_of (plan s h is) * (plan s h is).claims.cells
         → AreNotes s h is (a ∷ h) notes
         → EventAdds (event.Step c p word) (answer.Claimed k x.object x.turn.act r)
@@ -150,7 +150,7 @@ module _ (s : WorldState) (h : WorldHistory) (is : IsWorldAfter h s) (c p : ℕ)
         (with_place c p d (record s { words = words })) h
     keeps_notes still = claim_adds s.notes is.notes_count (notes_kept s h is c p cs ps a adds (ends_stay still))
 
-    -- if the claim has ended with a note, that is the one note which is written
+    -- if the claim has ended as note n says, and as no other note says, then n is the one note that is written
     pub sets_note : (n : Note) → Ends (plan s h is).claims (a ∷ h) c k n
         → ((m : Note) → Ends (plan s h is).claims (a ∷ h) c k m → n ≡ m)
         → EventAdds (event.Step c p word) (answer.Claimed k x.object x.turn.act r)
@@ -161,7 +161,7 @@ module _ (s : WorldState) (h : WorldHistory) (is : IsWorldAfter h s) (c p : ℕ)
         (notes_set s h is c p cs ps a adds k (below s h is c p cs ps known k claim here) n end only
         (λ e j m other. step_keeps (plan s h is).claims c h k x e j m other))
 
-  -- the state after the step, by the stage of the claim
+  -- the step leaves the new words, the place that the stage gives, and the note of the stage if it has one
   pub competed : (r : Stage) → claim_stage now ≡ r → (word : ℕ) → x.turn.word ≡ word
       → EventAdds (event.Step c p word) (answer.Claimed k x.object x.turn.act r)
       (with_note_if c k (note_of r) (with_place c p (place_after k now r) (record s { words = words }))) h

@@ -1,4 +1,4 @@
--- Who competed for an item by its diary has an access to the claim there, and the other way round.
+-- By the report a consumer competed for an item exactly if it has an access to the claim on the item's cell.
 use Rattle.std.proofs.Common.{◌≡◌, ◌≢◌, ◌⊎◌, ◌↔◌, ℕ, ◌<◌, true, List, [], length, Some, sym, ◌∙◌, subst, inl, inr, get_or}
 use Rattle.std.specs.Prelude.{reverse, slice_get}
 use Rattle.std.proofs.lemmas.Option.{slice_get-get_or}
@@ -29,7 +29,7 @@ module _ (plan : Plan) (hs : Histories) (known : Known plan hs)
   diary : IsDiaryOf plan c p hs d
   diary = (is.diary c p cs ps).2
 
-  -- cell k stands at position j of the lane
+  -- cell k is at position j of the lane
   on_lane : HasPosition (linked_cells p hs.pool) j k
   on_lane = at_reverse (linked_cells p hs.pool) j k here
 
@@ -45,11 +45,11 @@ module _ (plan : Plan) (hs : Histories) (known : Known plan hs)
   end_made i (Lost w) e = not_fresh i (stage.Lost w) e (λ f. cc)
   end_made i Undecided e = not_fresh i stage.Undecided e (λ f. cc)
 
-  -- the cell at the position of a note is that of the item
+  -- the cell that consumer c met at position j is cell k
   cell_at : (i : ℕ) → HasPosition diary.cells j i → i ≡ k
   cell_at i at = at_one (linked_cells p hs.pool) j i k (placed plan hs known c p cs d diary j i at) on_lane
 
-  -- who competed by its diary has an access to the claim on cell k
+  -- if consumer c competed for the item by its diary, it has an access to the claim on cell k
   has_access : (j < length d.notes) ⊎ ((length d.notes ≡ j) × (d.begun ≡ true)) → claim_part c k hs.claims ≢ []
   has_access (inl before) =
       let n = get_or d.notes j Undecided in

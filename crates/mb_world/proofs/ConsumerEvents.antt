@@ -20,7 +20,7 @@ module _ (plan : Plan) (h : WorldHistory) (known : EventKnown plan h) (c p word 
   abbrev IsStep : WorldAccess → Type 0
   IsStep a = IsAccessOf (event.Step c p word) a h
 
-  -- an access for which a step asks is of a consumer and a lane that there are
+  -- the mailbox has the step's consumer and lane
   record IsInside (a : WorldAccess) : Type 0 where
     pub consumer : c < consumers_of plan
     pub lane : p < plan.lanes
@@ -48,7 +48,7 @@ module _ (plan : Plan) (h : WorldHistory) (known : EventKnown plan h) (c p word 
   step_refused_once r s (inr (ps, _, _)) (inl (past, _)) = absurd (omega (arith, past, ps))
   step_refused_once r s (inr (_, _, e)) (inr (_, _, f)) = e ∙ sym f
 
-  -- the access comes in front of the consumer's part on the lane
+  -- the access is the newest of the consumer's part on the lane
   own_front : (a : WorldAccess) → IsStep a → lane_part c p (a ∷ h) ≡ a ∷ lane_part c p h
   own_front a made =
       ap (λ (ls : List ℕ). filter (is_on c p ls) (a ∷ h)) (linked_same c p a h made.0)
@@ -61,7 +61,7 @@ module _ (plan : Plan) (h : WorldHistory) (known : EventKnown plan h) (c p word 
         → v ≡ value_in w (pool_accesses h)
     loaded x lawful w v e = (subst (λ z. IsWorldLawful plan (z ∷ h)) e lawful).cells_memory.0
 
-    -- with a step of a claim the history of the claims is lawful
+    -- the history of the claims with the step is lawful
     claimed : (x : WorldAccess) → IsWorldLawful plan (x ∷ h) → (k : ℕ) (t : ObjectTurn) → x ≡ claim_step c k t
         → IsClaimLawful plan.claims (claim_access c k t ∷ claim_accesses h)
     claimed x lawful k t e =
@@ -71,7 +71,7 @@ module _ (plan : Plan) (h : WorldHistory) (known : EventKnown plan h) (c p word 
     random : (x : WorldAccess) → HasRandom word x → (k : ℕ) (t : ObjectTurn) → x ≡ claim_step c k t → t.turn.word ≡ word
     random x with_word k t e = subst (λ z. HasRandom word z) e with_word
 
-    -- two accesses for which the step asks are alike
+    -- two accesses for which the step asks load one value if they are of one word, and are one step if on one cell
     alike : AreAlike plan.claims c p a b
     alike = record {
       loads = λ w v u e f. loaded a la w v e ∙ sym (loaded b lb w u f);
@@ -82,7 +82,7 @@ module _ (plan : Plan) (h : WorldHistory) (known : EventKnown plan h) (c p word 
           (random a made_a.2 k x e ∙ sym (random b made_b.2 k y f)));
     }
 
-    -- two accesses for which the step asks are one
+    -- two accesses for which the step asks are equal
     pub one_step_access : a ≡ b
     one_step_access =
         let i = inside a made_a la in

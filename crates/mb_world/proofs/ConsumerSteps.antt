@@ -63,7 +63,7 @@ one_lane_of h one c d p q (ToCells a) x y =
     by (Link k) x y = one p q k (cell-of_true (linked_cells p h) k x) (cell-of_true (linked_cells q h) k y)
     by (Item k) x y = one p q k (cell-of_true (linked_cells p h) k x) (cell-of_true (linked_cells q h) k y)
 
--- an access that consumer c made is on a lane for no other consumer
+-- if an access that consumer c made is on a lane as one of consumer d, then d is c
 one_maker : (c d p : ℕ) (ls : List ℕ) (a : WorldAccess) → IsBy c a → is_on d p ls a ≡ true → d ≡ c
 one_maker c d p ls (ToClaims a) own on =
     sym (eqb-true a.consumer d (and_parts (nat_eq a.consumer d) (has_cell ls a.cell) on).0) ∙ own
@@ -72,13 +72,13 @@ one_maker c d p ls (ToCells a) own on =
     let f : Reader d ≡ Reader c = is_same_process-eq (Reader d) a.process same ∙ own in
     cc
 
--- an access has at most one consumer that made it
+-- if consumers c and d both made an access, they are the same
 same_maker : (c d : ℕ) (a : WorldAccess) → IsBy c a → IsBy d a → c ≡ d
 same_maker c d (ToClaims a) x y = sym x ∙ y
 same_maker c d (ToCells a) x y = let f : Reader c ≡ Reader d = sym x ∙ y in cc
 
 -- ---- what producers did stays
--- a consumer links nothing
+-- an access of a consumer links no cell to any lane
 pub linked_same : (c q : ℕ) (a : WorldAccess) (h : WorldHistory) → IsBy c a
     → linked_cells q (pool_accesses (a ∷ h)) ≡ linked_cells q (pool_accesses h)
 linked_same c q (ToClaims a) h own = refl
@@ -111,13 +111,13 @@ module _ (plan : Plan) (h : WorldHistory) (lawful : IsWorldLawful plan h)
   pub on : is_on c p (linked_cells p (pool_accesses h)) a ≡ true
   on = next_on plan.claims c p a (lane_part c p h) ks ns held (linked_cells p (pool_accesses h)) (start c p) next
 
-  -- the consumer's part on the lane has the access more
+  -- the consumer's part on the lane has one access more: this one
   pub own_part : lane_part c p (a ∷ h) ≡ a ∷ lane_part c p h
   own_part =
       ap (λ (ls : List ℕ). filter (is_on c p ls) (a ∷ h)) (linked_same c p a h own)
       ∙ ap (λ (b : Bool). cond b (a ∷ lane_part c p h) (lane_part c p h)) on
 
-  -- all other parts of consumers stay
+  -- the parts of other consumers, and those on other lanes, stay
   pub other_parts : (d q : ℕ) → ((d ≡ c) → (q ≡ p) → ⊥) → lane_part d q (a ∷ h) ≡ lane_part d q h
   other_parts d q other =
       ap (λ (ls : List ℕ). filter (is_on d q ls) (a ∷ h)) (linked_same c q a h own)
@@ -131,11 +131,11 @@ module _ (plan : Plan) (h : WorldHistory) (lawful : IsWorldLawful plan h)
           (one_lane_of (pool_accesses h) one d c q p a e on))
       by (inr e) = ap (λ (b : Bool). cond b (a ∷ lane_part d q h) (lane_part d q h)) e
 
-  -- each part of a consumer on a lane is on a path still
+  -- each consumer's part on each lane is still a prefix of a consumer path
   paths : (d q : ℕ) → d < consumers_of plan → q < plan.lanes → IsOnPath plan d q (a ∷ h)
   paths d q ds qs = by (cases_eq d c) (cases_eq q p)
     where
-      -- a part to which the access adds nothing is on its path still
+      -- a part to which the access adds nothing is still a prefix of a consumer path
       same : ((d ≡ c) → (q ≡ p) → ⊥) → IsOnPath plan d q (a ∷ h)
       same other =
           let y = lawful.consumers d q ds qs in
@@ -159,7 +159,7 @@ module _ (plan : Plan) (h : WorldHistory) (lawful : IsWorldLawful plan h)
       by (inr n) f = same (λ e _. n e)
       by (inl e) (inr n) = same (λ _ f. n f)
 
-  -- no access of a consumer is outside its parts
+  -- no access of a consumer is outside its parts on the lanes
   on_lanes : (d : ℕ) (x : WorldAccess) → Has (a ∷ h) x → IsBy d x → IsOnLane plan d x (a ∷ h)
   on_lanes d x (inl e) by_d =
       let same : c ≡ d = same_maker c d x (subst (IsBy c) e own) by_d in
@@ -180,7 +180,7 @@ module _ (plan : Plan) (h : WorldHistory) (lawful : IsWorldLawful plan h)
         on = subst (λ (ls : List ℕ). is_on d y.lane ls x ≡ true) (sym (linked_same c y.lane a h own)) y.on;
       }
 
-  -- the accesses to the cells are in range
+  -- the values of the accesses to the cells are below 2^64, and each producer there has a lane
   fits_cells : (b : WorldAccess) → IsBy c b → IsTrueTo b h → AllFit plan.lanes (pool_accesses (b ∷ h))
   fits_cells (ToCells b) by_c true_to = (true_to.0, subst (ProcessFits plan.lanes) (sym by_c) tt, lawful.cells_fit)
   fits_cells (ToClaims b) by_c true_to = lawful.cells_fit

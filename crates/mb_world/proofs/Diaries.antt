@@ -25,7 +25,7 @@ values_length p pool =
     length-map (put_list p pool) (λ (e : Entry). e.value)
     ∙ (length-reverse (map (entry_of items) (linked_cells p pool)) ∙ length-map (linked_cells p pool) (entry_of items))
 
--- each value stands at the position of its cell
+-- the value at position j of those put is the item of the cell linked at position j
 value_at : (p j k : ℕ) (pool : History) → HasPosition (linked_cells p pool) j k
     → slice_get (values_put p pool) j ≡ Some (item_of k pool)
 value_at p j k pool at =
@@ -45,24 +45,24 @@ module _ (plan : Plan) (hs : Histories) (known : Known plan hs) where
   one_stage : (c k : ℕ) (s r : Stage) → Comes c k s → Comes c k r → s ≡ r
   one_stage c k s r = known.stage c (claim_part c k hs.claims) s r
 
-  -- a claim that goes on has no end
+  -- a claim that goes on has not ended
   going_on : (c k : ℕ) → Comes c k stage.Going → (n : Note) → Ends c k n → ⊥
   going_on c k going (Took v) end = let e = one_stage c k stage.Going stage.Won going end.0 in cc
   going_on c k going (Lost w) end = let e = one_stage c k stage.Going (stage.Lost w) going end in cc
   going_on c k going Undecided end = let e = one_stage c k stage.Going stage.Undecided going end in cc
 
-  -- a claim that is won has no end before the item is loaded
+  -- a claim that is won has not ended before the item is loaded
   not_taken : (c k : ℕ) → Comes c k stage.Won → ((v : ℕ) → HasRead (Item k) v (parts_of c hs).reads → ⊥)
       → (n : Note) → Ends c k n → ⊥
   not_taken c k won never (Took v) end = never v end.1
   not_taken c k won never (Lost w) end = let e = one_stage c k stage.Won (stage.Lost w) won end in cc
   not_taken c k won never Undecided end = let e = one_stage c k stage.Won stage.Undecided won end in cc
 
-  -- whether a claim has ended can be told
+  -- a claim with a step either has ended as some note says, or has not ended
   ended_or_not : (c k : ℕ) → claim_part c k hs.claims ≢ [] → ((n : Note) × Ends c k n) ⊎ ((n : Note) → Ends c k n → ⊥)
   ended_or_not c k some = let q = (known.claimant c k some).1 in by_stage q.0 q.1
     where
-      -- whether a claim of this stage has ended can be told
+      -- a claim of this stage either has ended as some note says, or has not ended
       by_stage : (s : Stage) → Comes c k s → ((n : Note) × Ends c k n) ⊎ ((n : Note) → Ends c k n → ⊥)
       by_stage stage.Going q = inr (going_on c k q)
       by_stage stage.Won q = elim (read_or_not (parts_of c hs).reads (Item k)) [
@@ -91,13 +91,13 @@ module _ (plan : Plan) (hs : Histories) (known : Known plan hs) where
       by_stage stage.Undecided q over = (Undecided, q)
 
   module _ (c p : ℕ) (cs : c < consumers_of plan) (d : DiaryView) (diary : IsDiaryOf plan c p hs d) where
-    -- a cell that the consumer met stands at the same position on the lane
+    -- a cell that the consumer met has the same position among the cells linked on the lane
     pub placed : (j k : ℕ) → HasPosition diary.cells j k → HasPosition (linked_cells p hs.pool) j k
     placed j k at =
         let s = known.start (hs.reader_of c) p diary.cells diary.met.met in
         subst (λ (ls : List ℕ). HasPosition ls j k) s.1 (at_start s.0 diary.cells j k at)
 
-    -- a cell of the lane that the consumer was given stands at the same position among the cells met
+    -- a cell of the lane that the consumer was given has the same position among the cells that it met
     pub met_at : (j k : ℕ) → HasPosition (linked_cells p hs.pool) j k → Gave k (part (Reader (hs.reader_of c)) hs.pool)
         → HasPosition diary.cells j k
     met_at j k at gave =
@@ -144,7 +144,7 @@ module _ (plan : Plan) (hs : Histories) (known : Known plan hs) where
             let q = note_at (length diary.cells) n (slice_get-get_or d.notes (length diary.cells) Undecided more) in
             omega (arith, at_within diary.cells (length diary.cells) q.0 q.1)
 
-    -- a claim without an end is on the last cell met, and the claims on all cells before it have notes
+    -- a cell met whose claim has not ended is the last one met, and the claims on all cells before it have notes
     pub open_last : (j k : ℕ) → HasPosition diary.cells j k → ((n : Note) → Ends c k n → ⊥)
         → (length d.notes ≡ j) × (suc j ≡ length diary.cells)
     open_last j k at none = (omega (arith, not_more, no_less, last), last)

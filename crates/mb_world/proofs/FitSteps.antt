@@ -18,7 +18,7 @@ fits_empty cs c = record {
 }
 
 module _ (cs : Claims) (c : ℕ) (x : Parts) (f : Fits cs c x) where
-  -- a cell on which the claim goes on was not left
+  -- if the claim on a cell goes on, its consumer has loaded neither the item nor the link of the cell
   pub not_passed : (k : ℕ) → ((s : Stage) → HasStageIn cs c k s x → s ≡ stage.Going) → HasNotPassed k x
   not_passed k goes = (
     λ v r. let e = goes stage.Won (f.won k v r) in cc,
@@ -31,19 +31,19 @@ module _ (cs : Claims) (c : ℕ) (x : Parts) (f : Fits cs c x) where
     abbrev a : PoolAccess
     a = load q (place_past p (cells_met p x.reads)) v
 
-    -- a consumer that looks past a cell is done with the cell
+    -- if the consumer may load the link of cell k, it is done with the cell
     done_with : (k : ℕ) (ks : List ℕ) → MayLookPast cs c ks x → place_past p ks ≡ Link k → IsDoneWith cs c k x
     done_with k [] m e = absurd (cc)
     done_with k (j ∷ ks) m e = let same : j ≡ k = cc in subst (λ i. IsDoneWith cs c i x) same m
 
-    -- the claims on the cells past which the consumer has looked have ended
+    -- with this load, too, the claim on each cell whose link was loaded has ended
     ended : (k u : ℕ) → HasRead (Link k) u (a ∷ x.reads) → (s : Stage) × HasStageIn cs c k s x × (s ≢ stage.Going)
     ended k u r = elim (read-cases a x.reads (Link k) u r) [
       | inl e ↦ (done_with k (cells_met p x.reads) may e).ended
       | inr old ↦ f.ended k u old
     ]
 
-    -- if a claim on a cell past which the consumer has looked is won, the item of the cell was loaded
+    -- with this load, too, if a cell's link was loaded and the claim there is won, its item was loaded
     taken : (k u : ℕ) → HasRead (Link k) u (a ∷ x.reads) → HasStageIn cs c k stage.Won x
         → (y : ℕ) × HasRead (Item k) y (a ∷ x.reads)
     taken k u r won =
@@ -94,15 +94,15 @@ module _ (cs : Claims) (c : ℕ) (x : Parts) (f : Fits cs c x) where
     abbrev now : Parts
     now = with_step k t x
 
-    -- the claims on other cells stay
+    -- the steps on other cells stay
     other_cell : (j : ℕ) → (j ≡ k → ⊥) → now.claimed j ≡ x.claimed j
     other_cell j ne = ap (λ b. cond b (t ∷ x.claimed j) (x.claimed j)) (ne_eqb j k ne)
 
-    -- the link of the cell was not loaded
+    -- the link of cell k was not loaded
     not_here : (j u : ℕ) → HasRead (Link j) u x.reads → j ≡ k → ⊥
     not_here j u r e = here.1 u (subst (λ i. HasRead (Link i) u x.reads) e r)
 
-    -- the item of the cell was not loaded
+    -- the item of cell k was not loaded
     not_taken : (j u : ℕ) → HasRead (Item j) u x.reads → j ≡ k → ⊥
     not_taken j u r e = here.0 u (subst (λ i. HasRead (Item i) u x.reads) e r)
 

@@ -29,7 +29,7 @@ some_with : (fast : Bool) (rest : List Kind) → rest ≢ [] → fast_row fast +
 some_with true rest some e = cc
 some_with false rest some e = some e
 
--- pairs and a last object are not nothing, if without pairs there is a last object
+-- a row of pairs and perhaps a last object is not empty, if it has a last object when there are no pairs
 some_pairs : (s n : ℕ) (b : Bool) → (n ≡ 0 → b ≡ true) → pairs_of s n ++ last_row b ≢ []
 some_pairs s (suc n) b some e = cc
 some_pairs s zero true some e = cc

@@ -1,17 +1,17 @@
--- Grids, of rows and columns in one list, of which no element changes, or one.
+-- Grids: rows and columns in one list, row by row. No element of the grid changes, or one does.
 use Rattle.std.proofs.Common.{◌≡◌, ◌⊎◌, ℕ, zero, suc, ◌+◌, ◌*◌, ◌<◌, List, [], ◌∷◌, length, Some, refl, sym, ◌∙◌, ap, subst, inl, inr, arith}
 use Rattle.std.specs.Prelude.{slice_get, slice_set}
 use Rattle.std.proofs.lemmas.Bool.{cases_eq}
 use Rattle.std.proofs.lemmas.Nat.{same_from_place}
 use Rattle.mb_world.proofs.NewWorlds.{position_within}
 
--- what is set at a position of a list stands there
+-- an element set at a position of a list is at that position
 pub get_set_same : {X : Type 0} (xs : List X) (i : ℕ) (x : X) → i < length xs → slice_get (slice_set xs i x) i ≡ Some x
 get_set_same [] i x less = absurd (omega arith)
 get_set_same (y ∷ xs) zero x less = refl
 get_set_same (y ∷ xs) (suc i) x less = get_set_same xs i x (omega arith)
 
--- what stands at any other position stays
+-- at each other position the list stays as it was
 pub get_set_other : {X : Type 0} (xs : List X) (i j : ℕ) (x : X) → (j ≡ i → ⊥)
     → slice_get (slice_set xs i x) j ≡ slice_get xs j
 get_set_other [] i j x other = refl
@@ -35,7 +35,7 @@ module _ {X : Type 0} (rows columns : ℕ) where
     -- one element changes: that at row c and column p
     module _ (c p : ℕ) (cs : c < rows) (ps : p < columns) (count : length xs ≡ rows * columns) (y : X) (new : Q c p y)
         (keeps : (d q : ℕ) (x : X) → d < rows → q < columns → (d ≡ c → q ≡ p → ⊥) → P d q x → Q d q x) where
-      -- the element that changes stands within the list
+      -- the position of the element that changes is within the list
       inside : c * columns + p < length xs
       inside = omega (arith, count, position_within c p rows columns cs ps)
 

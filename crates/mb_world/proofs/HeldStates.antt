@@ -27,7 +27,7 @@ module _ (s : WorldState) (h : WorldHistory) (is : IsWorldAfter h s) (c p : ℕ)
     pub own : consumer_of claim ≡ c
     pub is_in : IsClaimIn (layout_of s.setup) claim steps
 
-  -- what the place says, if the consumer's path leads to it
+  -- if a path leads to this place, `AtCell` holds of it
   cell_at : (ks : List ℕ) (ns : List Note) (held : Option (List ObjectTurn))
       → ConsumerPath (plan s h is).claims c p (lane_part c p h) ks ns held
       → IsPlaceAt (layout_of s.setup) c p ks held (At k claim) → AtCell
@@ -44,12 +44,12 @@ module _ (s : WorldState) (h : WorldHistory) (is : IsWorldAfter h s) (c p : ℕ)
     is_in = on.2;
   }
 
-  -- what the place of this consumer says
+  -- `AtCell` holds of the path of this consumer
   pub at_cell : AtCell
   at_cell =
       let y = place_here s h is c p (At k claim) cs ps here in cell_at y.cells y.notes y.held y.path y.is
 
-  -- the consumer's part on the lane is on a path
+  -- the consumer's part on the lane is a prefix of a consumer path
   abbrev on_path : IsOnPath (plan s h is) c p h
   on_path = record {
     cells = k ∷ at_cell.cells;
@@ -71,14 +71,14 @@ module _ (s : WorldState) (h : WorldHistory) (is : IsWorldAfter h s) (c p : ℕ)
   pub below : k < (plan s h is).claims.cells
   below = held_so.1
 
-  -- the steps are a prefix of the claim path, with the claim's stage
+  -- the steps are a prefix of a claim path, with the claim's stage
   pub prefix : (r : Stage) → claim_stage claim ≡ r → IsClaimPrefix (plan s h is).claims c at_cell.steps r
   prefix r e =
       subst (λ (z : Stage). IsClaimPrefix (plan s h is).claims c at_cell.steps z) e
       (subst (λ (i : ℕ). IsClaimPrefix (plan s h is).claims i at_cell.steps (claim_stage claim)) at_cell.own
       at_cell.is_in.prefix)
 
-  -- the words and the claim are those of one history
+  -- the history leaves the words, and in it the claim's consumer has made the claim's steps on cell k
   pub claim_on : IsClaimOn (layout_of s.setup) (plan s h is).claims.cells k claim s.words (claim_accesses h)
   claim_on = record {
     cell = below;
@@ -87,7 +87,7 @@ module _ (s : WorldState) (h : WorldHistory) (is : IsWorldAfter h s) (c p : ℕ)
         (sym (ap (λ (i : ℕ). part_on i k (claim_accesses h)) at_cell.own ∙ part_is)) at_cell.is_in;
   }
 
-  -- the item of the cell was not loaded
+  -- the consumer has not loaded the item of the cell
   pub unread : (v : ℕ) → HasItem (plan s h is).claims h c k v → ⊥
   unread v read =
       let once : IsOnceEach (k ∷ at_cell.cells) = met_once (plan s h is) h is.lawful known.world c p on_path in
@@ -98,7 +98,7 @@ module _ (s : WorldState) (h : WorldHistory) (is : IsWorldAfter h s) (c p : ℕ)
       (read_there (plan s h is) h is.lawful c p (Item k) v read
       (subst (λ (w : Word). is_of_lane p (linked_cells p (pool_accesses h)) w ≡ true) (sym read.2) there)))
 
-  -- a claim that is held has a stage without a note, so it has not come to its end
+  -- a claim that is held has a stage without a note: it goes on or is won
   still_open : {done : WorldHistory} {ks : List ℕ} {ns : List Note} (xs : List ObjectTurn)
       → ConsumerPath (plan s h is).claims c p done ks ns (Some xs)
       → (r : Stage) × IsClaimPrefix (plan s h is).claims c xs r × (note_of r ≡ None)

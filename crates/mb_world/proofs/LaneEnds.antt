@@ -1,4 +1,4 @@
--- Past the end mark of a lane, a consumer has a note at each position there.
+-- A consumer that has loaded the end mark of a lane has a note at each position there.
 use Rattle.std.proofs.Common.{◌≡◌, ◌⊎◌, ℕ, suc, ◌<◌, ◌≤◌, true, List, [], ◌∷◌, ◌++◌, length, refl, sym, subst, inl, inr, arith, eqb-true}
 use Rattle.std.proofs.lemmas.Bool.{cases_lt}
 use Rattle.mb_world.specs.Imports.{Counter, END, Gave, Has, HasLoaded, HasMet, Head, IsLinkWord, Item, Link, Reader, Word, is_of_lane, linked_cells, part, place_past}
@@ -22,7 +22,7 @@ module _ (plan : Plan) (hs : Histories) (known : Known plan hs) where
   met_lane : (q p : ℕ) → HasMetEnd q p hs.pool → HasMetLane q p
   met_lane q p end = by_word end.0 end.1 end.2 end.3
     where
-      -- past the cells met, the end mark says that they are all of the lane
+      -- if the link past the cells met held the end mark, they are all cells of the lane
       met_all : (ks : List ℕ) → HasMet q p ks hs.pool → HasLoaded q (place_past p ks) END hs.pool → HasMetLane q p
       met_all ks met loaded =
           let all = known.end q p ks met loaded in
@@ -31,7 +31,7 @@ module _ (plan : Plan) (hs : Histories) (known : Known plan hs) where
             last = subst (λ ls. HasLoaded q (place_past p ls) END hs.pool) all loaded;
           }
 
-      -- past a cell of the lane, the reader has met this cell on this lane
+      -- if the reader loaded the end mark from the link of a cell of the lane, it has met all cells of the lane
       past_cell : (k : ℕ) → Has (linked_cells p hs.pool) k → HasLoaded q (Link k) END hs.pool → HasMetLane q p
       past_cell k here loaded = met_all (k ∷ chain.1.0) met loaded
         where
@@ -63,7 +63,7 @@ module _ (plan : Plan) (hs : Histories) (known : Known plan hs) where
       by_word (Item k) link on loaded = absurd link
 
   module _ (c p : ℕ) (cs : c < consumers_of plan) (d : DiaryView) (diary : IsDiaryOf plan c p hs d) where
-    -- a consumer that has loaded the end mark has a note at each position
+    -- a consumer that has loaded the end mark of the lane has a note at each position there
     pub ends_noted : (j : ℕ) → HasMetEnd (hs.reader_of c) p hs.pool → j < length (values_put p hs.pool)
         → j < length d.notes
     ends_noted j end inside = noted_there (cases_lt (suc j) (length (linked_cells p hs.pool)))
@@ -71,7 +71,7 @@ module _ (plan : Plan) (hs : Histories) (known : Known plan hs) where
         lane : HasMetLane (hs.reader_of c) p
         lane = met_lane (hs.reader_of c) p end
 
-        -- cell x stands at position j of the lane
+        -- some cell is at position j of the lane
         here : (x : ℕ) × HasPosition (linked_cells p hs.pool) j x
         here = at_some (linked_cells p hs.pool) j (omega (arith, inside, values_length p hs.pool))
 
@@ -82,7 +82,7 @@ module _ (plan : Plan) (hs : Histories) (known : Known plan hs) where
             (met_given (hs.reader_of c) p hs.pool (linked_cells p hs.pool) here.0 lane.all
             (at_has (linked_cells p hs.pool) j here.0 here.1))
 
-        -- if the lane ends at position j, the end mark is in the link of this cell
+        -- if this cell is the last of the lane, the consumer loaded the end mark from its link
         last_link : (ls : List ℕ) → HasPosition ls j here.0 → length ls ≤ suc j
             → HasLoaded (hs.reader_of c) (place_past p ls) END hs.pool
             → HasLoaded (hs.reader_of c) (Link here.0) END hs.pool
@@ -91,7 +91,7 @@ module _ (plan : Plan) (hs : Histories) (known : Known plan hs) where
             subst (λ (x : ℕ). HasLoaded (hs.reader_of c) (Link x) END hs.pool) at.1 loaded
         last_link (k ∷ ks) (inr at) low loaded = absurd (omega (arith, low, at_within ks j here.0 at))
 
-        -- if the cell is not the last, the link past it was met, else the end mark is in its link
+        -- the consumer loaded the cell's link, as it met the next cell or the end mark there. So there is a note at j
         noted_there : (suc j < length (linked_cells p hs.pool)) ⊎ (length (linked_cells p hs.pool) ≤ suc j)
             → j < length d.notes
         noted_there (inl more) =

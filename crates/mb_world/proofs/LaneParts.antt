@@ -1,4 +1,4 @@
--- The part of a consumer on a lane, cut into its loads and its claims.
+-- The part of a consumer on a lane: its loads of cells, and its steps of claims.
 use Rattle.std.proofs.Common.{◌≡◌, ◌≢◌, ◌⊎◌, ℕ, Bool, true, false, cond, List, [], ◌∷◌, refl, sym, ◌∙◌, ap, subst, inl, inr, eq-eqb}
 use Rattle.std.specs.Prelude.{filter}
 use Rattle.std.proofs.lemmas.Bool.{cases_eq, cond_both}
@@ -30,26 +30,26 @@ pub filter_none : {A : Type 0} (test : A → Bool) (xs : List A) → ((a : A) �
 filter_none test [] none = refl
 filter_none test (x ∷ xs) none = rw (none x) (filter_none test xs none)
 
--- a list in which nothing is, is empty
+-- a list that has no element is empty
 pub nothing : {A : Type 0} (xs : List A) → ((a : A) → Has xs a → ⊥) → xs ≡ []
 nothing [] none = refl
 nothing (x ∷ xs) none = absurd (none x (inl refl))
 
--- tests that agree on a list choose the same of it
+-- if two tests agree on the elements of a list, the list filtered by either is the same
 pub filter_same : {A : Type 0} (f g : A → Bool) (xs : List A) → ((x : A) → Has xs x → f x ≡ g x)
     → filter f xs ≡ filter g xs
 filter_same f g [] same = refl
 filter_same f g (x ∷ xs) same = rw (same x (inl refl), filter_same f g xs (λ y m. same y (inr m))) refl
 
 -- ---- the loads and the claims of a consumer's part on a lane
--- an access to the cells that a world's history has is among the world's accesses
+-- an access to the cells in a world's history is one of the world's accesses
 pub pool_has : (h : WorldHistory) (a : PoolAccess) → Has (pool_accesses h) a → Has h (ToCells a)
 pool_has [] a has = absurd has
 pool_has (ToCells b ∷ h) a (inl e) = inl (ap ToCells e)
 pool_has (ToCells b ∷ h) a (inr has) = inr (pool_has h a has)
 pool_has (ToClaims b ∷ h) a has = inr (pool_has h a has)
 
--- the loads in a part on a lane are those of the lane among the consumer's loads
+-- the loads in the part of consumer c on a lane are c's loads of the lane's words
 pub pool_on : (c p : ℕ) (ks : List ℕ) (h : WorldHistory) → pool_accesses (filter (is_on c p ks) h)
     ≡ filter (λ (a : PoolAccess). is_of_lane p ks a.word) (part (Reader c) (pool_accesses h))
 pool_on c p ks [] = refl
@@ -104,7 +104,7 @@ claim_on c p ks k (ToClaims a ∷ h) here = by (cases_eq a.consumer c) (cases_eq
         ∙ (rest ∙ sym (part-another c k a (claim_accesses h) other)))
         (λ _. rest ∙ sym (part-another c k a (claim_accesses h) other))
 
--- a claim with steps has an access
+-- if the claim of consumer c on cell k has steps, the history has an access of c to that claim
 pub claim_has : (c k : ℕ) (h : WorldHistory) → claim_part c k (claim_accesses h) ≢ []
     → (a : ClaimAccess) × Has h (ToClaims a) × (a.consumer ≡ c) × (a.cell ≡ k)
 claim_has c k [] some = absurd (some refl)
@@ -121,7 +121,7 @@ claim_has c k (ToClaims a ∷ h) some = by (cases_eq a.consumer c) (cases_eq a.c
     by (inr other) cell older =
         let q = older (λ e. some (part-another c k a (claim_accesses h) other ∙ e)) in (q.0, inr q.1, q.2, q.3)
 
--- a cell that some of the accesses gave is given by all of them
+-- if some of the accesses gave a cell, all of them together gave it
 pub gave-filter : (test : PoolAccess → Bool) (d : History) (k : ℕ) → Gave k (filter test d) → Gave k d
 gave-filter test [] k gave = gave
 gave-filter test (a ∷ d) k gave =

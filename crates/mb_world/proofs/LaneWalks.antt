@@ -1,4 +1,4 @@
--- A walk along the links of a lane.
+-- A walk along the links of a lane: looks at the head, and then at one link after another.
 use Rattle.std.proofs.Common.{◌≡◌, ℕ, ◌<◌, ◌≤◌, ◌++◌, Bool, true, false, List, [], ◌∷◌, length, map, refl, sym, ◌∙◌, ap, subst, inl, inr, arith}
 use Rattle.std.specs.Prelude.{if◌then◌else◌}
 use Rattle.mb_cells.specs.declared.answer.Look.TheVariants as look
@@ -25,18 +25,18 @@ cells_in es = map (λ (e : Entry). e.cell) es
 abbrev pub values_in : List Entry → List ℕ
 values_in es = map (λ (e : Entry). e.value) es
 
--- after a history, looks from the cursor on give what is put on the lane past these cells, whose items the pool holds
+-- after a history, lane p has first these cells, with the pool's items, and looks from the cursor on find the rest
 pub record WalksTo (s : PoolState) (p : ℕ) (ks : List ℕ) (at : Cursor) (pool : History) : Type 0 where
   pub rest : List Entry
   pub cells : cells_in (put_list p pool) ≡ ks ++ cells_in rest
   pub values : values_put p pool ≡ map (λ k. item_in k s) ks ++ values_in rest
   pub reads : Reads (λ c. look_in c s) (λ k. item_in k s) at rest (lane_end p pool)
 
--- after each history that leaves the pool, looks from the cursor on give what is put on the lane past these cells
+-- after each history that leaves the pool, lane p has these cells first, and looks from the cursor on find the rest
 abbrev pub WalksOn : PoolState → ℕ → List ℕ → Cursor → Type 0
 WalksOn s p ks at = (pool : History) → IsAfter pool s → WalksTo s p ks at pool
 
--- a walk begins at the head of the lane, past no cell
+-- if looks from the head on find the put list of lane p, a walk begins there, past no cell
 pub walk_begins : (s : PoolState) (p : ℕ) → ((pool : History) → IsAfter pool s
     → Reads (λ c. look_in c s) (λ k. item_in k s) (cursor.Head p) (put_list p pool) (lane_end p pool))
     → WalksOn s p [] (cursor.Head p)
@@ -48,12 +48,12 @@ append_more : {A : Type 0} (xs : List A) (y : A) (ys : List A) → xs ++ y ∷ y
 append_more [] y ys = refl
 append_more (x ∷ xs) y ys = ap (λ zs. x ∷ zs) (append_more xs y ys)
 
--- a function over a list gives the value of the last element at the end
+-- f of each element of a list, and then f of y, is f of each element of the list with y at its end
 map_more : (f : ℕ → ℕ) (xs : List ℕ) (y : ℕ) → map f xs ++ f y ∷ [] ≡ map f (xs ++ y ∷ [])
 map_more f [] y = refl
 map_more f (x ∷ xs) y = ap (λ zs. f x ∷ zs) (map_more f xs y)
 
--- a look that finds no cell is none that finds cell k
+-- a look that finds nothing or the end does not find cell k
 not_cell : (b : Bool) (k : ℕ) → (if b then look.Ended else look.Nothing) ≡ look.Cell k → ⊥
 not_cell true k e = cc
 not_cell false k e = cc
@@ -80,20 +80,20 @@ walk_step s p k ks at pool seen (e ∷ es) cells values reads =
           reads.2;
     }
 
--- if a look at the cursor finds a cell, the walk goes on past the cell
+-- if a look at the cursor finds cell k, the walk goes on past cell k
 pub walk_goes : (s : PoolState) (p k : ℕ) (ks : List ℕ) (at : Cursor) → look_in at s ≡ look.Cell k → WalksOn s p ks at
     → WalksOn s p (ks ++ k ∷ []) (cursor.Past k)
 walk_goes s p k ks at seen walks pool after =
     let w = walks pool after in walk_step s p k ks at pool seen w.rest w.cells w.values w.reads
 
--- two looks that find no cell and are equal say the same of the end mark
+-- if two equal looks find no cell, both find the end mark or neither does
 end_is : (b e : Bool) → (if e then look.Ended else look.Nothing) ≡ (if b then look.Ended else look.Nothing) → b ≡ e
 end_is true true e = refl
 end_is true false e = absurd (cc)
 end_is false true e = absurd (cc)
 end_is false false e = refl
 
--- a look that finds cell k is none that finds no cell
+-- a look that finds cell k does not find nothing or the end
 is_cell : (b : Bool) (k : ℕ) → look.Cell k ≡ (if b then look.Ended else look.Nothing) → ⊥
 is_cell true k e = cc
 is_cell false k e = cc
@@ -112,7 +112,7 @@ walk_end s p ks at ended pool seen [] cells values reads = record {
 }
 walk_end s p ks at ended pool seen (e ∷ es) cells values reads = absurd (is_cell ended e.cell (sym reads.0 ∙ seen))
 
--- if a look at the cursor finds no cell, all cells of the lane were met
+-- if a look at the cursor finds no cell, the walk is past all cells of the lane, and the look says whether it has ended
 pub walk_ends : (s : PoolState) (p : ℕ) (ks : List ℕ) (at : Cursor) (ended : Bool)
     → look_in at s ≡ (if ended then look.Ended else look.Nothing) → WalksOn s p ks at → IsWalked s p ks ended
 walk_ends s p ks at ended seen walks pool after =
@@ -123,7 +123,7 @@ apart : (x : ℕ) (xs : List ℕ) → (Has xs x → ⊥) → AllByRecursion (λ 
 apart x [] none = tt
 apart x (y ∷ ys) none = (ne_eqb x y (λ e. none (inl (sym e))), apart x ys (λ has. none (inr has)))
 
--- a list that has each number once has distinct numbers
+-- a list that has each number once has distinct numbers, as the library says it
 distinct : (xs : List ℕ) → IsOnceEach xs → IsDistinct eqb xs
 unfolding IsDistinct
 distinct [] once = tt

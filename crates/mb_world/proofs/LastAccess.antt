@@ -1,4 +1,4 @@
--- The last access of a consumer's path on a lane: where it came from, and what it made of that.
+-- The last access of a consumer's path on a lane: to which place the path led before it, and to which it then leads.
 use Rattle.std.proofs.Common.{◌≡◌, ◌≢◌, ◌⊎◌, ◌+◌, ℕ, List, [], ◌∷◌, ◌++◌, Option, Some, None, refl}
 use Rattle.mb_claim.specs.declared.access.Stage.TheVariants as stage
 use Rattle.mb_world.specs.declared.report.Note.{Note}
@@ -13,7 +13,7 @@ pub record PathEnd : Type 0 where
   pub notes : List Note
   pub held : Option (List ObjectTurn)
 
--- what a path with these cells, notes and steps has led to
+-- the place with these cells, notes and steps
 abbrev pub path_end : List ℕ → List Note → Option (List ObjectTurn) → PathEnd
 path_end ks ns held = record { cells = ks; notes = ns; held = held }
 
@@ -40,13 +40,13 @@ module _ (cs : Claims) (c p : ℕ) where
         → a ≡ item_load c k v
         → Leads a (path_end (k ∷ ks) ns (Some xs)) (path_end (k ∷ ks) (Took v ∷ ns) None)
 
-  -- what was done before the last access led to a place, from which the access leads on
+  -- the older accesses led to the place `was`, and the access leads from there to the place `now`
   pub record CameFrom (a : WorldAccess) (older : WorldHistory) (now : PathEnd) : Type 0 where
     pub was : PathEnd
     pub path : ConsumerPath cs c p older was.cells was.notes was.held
     pub leads : Leads a was now
 
-  -- a path with an access came from the place before that access
+  -- if a path has a last access, the path before it led to a place from which this access leads on
   pub came_from : {a : WorldAccess} {older : WorldHistory} {ks : List ℕ} {ns : List Note} {held : Option
       (List ObjectTurn)}
       → ConsumerPath cs c p (a ∷ older) ks ns held → CameFrom a older (path_end ks ns held)
@@ -61,7 +61,7 @@ module _ (cs : Claims) (c p : ℕ) where
   came_from (takes {ks = ks} {ns = ns} {k = k} {xs = xs} {v = v} q s) =
       record { was = path_end (k ∷ ks) ns (Some xs); path = s; leads = took ks ns k xs v q refl }
 
-  -- if what was done leads to a place, each older part of it does
+  -- if accesses lead to a place, the older ones of them lead to a place, too
   pub older_path : (later older : WorldHistory) (now : PathEnd)
       → ConsumerPath cs c p (later ++ older) now.cells now.notes now.held
       → (was : PathEnd) × ConsumerPath cs c p older was.cells was.notes was.held

@@ -1,4 +1,4 @@
--- What a report shows of items left, if no note is undecided. With a last object in each cell none is.
+-- What a report shows of items left if no note is undecided. No note is, if each cell has a last object.
 use Rattle.std.proofs.Common.{◌≡◌, ◌≢◌, ℕ, ◌<◌, true, Option, Some, None, length, refl, sym, ◌∙◌, inl, inr, get_or}
 use Rattle.std.proofs.lemmas.Option.{slice_get-get_or}
 use Rattle.mb_world.specs.declared.report.Note.{Note}
@@ -10,14 +10,14 @@ use Rattle.mb_world.specs.Agreement.{AreAllTaken, IsLeftBesideBegun}
 -- the report agrees with one assignment, and has no undecided note
 module _ (hs : Histories) (r : ReportView) (main_theorem : MainTheorem hs.pool hs.reader_of r)
     (decided : (c p j : ℕ) → note c p j r ≢ Some Undecided) where
-  -- a competitor for an item that nobody took has no note on it if it did not lose it
+  -- if nobody took an item, and consumer d did not lose it, then d has no note on it
   no_note : (d p j : ℕ) → ((e : ℕ) → HasTaken e p j r → ⊥) → (HasTakenOrLost d p j r → ⊥) → (n : Note)
       → note d p j r ≡ Some n → ⊥
   no_note d p j none neither (Took x) e = none d (x, e)
   no_note d p j none neither (Lost w) e = neither (inr (w, e))
   no_note d p j none neither Undecided e = decided d p j e
 
-  -- of an item that nobody took, the claim of a competitor that did not lose it is begun, after the notes of its diary
+  -- if nobody took an item, and a competitor did not lose it, the competitor's claim there is begun, after its notes
   begun_next : (d p j : ℕ) → ((e : ℕ) → HasTaken e p j r → ⊥) → (HasTakenOrLost d p j r → ⊥) → HasCompeted d p j r
       → (length (notes d p r) ≡ j) × (is_begun d p r ≡ true)
   begun_next d p j none neither (inl before) =

@@ -20,14 +20,14 @@ pub items_where-none : (f : ℕ → Bool) (xs : List ℕ) → ((j : ℕ) → f j
 items_where-none f [] h = refl
 items_where-none f (x ∷ xs) h = rw (h 0) (items_where-none (λ j. f (suc j)) xs (λ j. h (suc j)))
 
--- a note of an item taken has a value
+-- what passes `is_took` is a note that an item was taken
 pub is_took-at : (o : Option Note) → is_took o ≡ true → (x : ℕ) × (o ≡ Some (Took x))
 is_took-at None e = absurd (cc)
 is_took-at (Some (Took x)) e = (x, refl)
 is_took-at (Some (Lost w)) e = absurd (cc)
 is_took-at (Some Undecided) e = absurd (cc)
 
--- the items taken are those whose positions have a note of an item taken
+-- the values in the notes of items taken are the items at the positions of these notes
 pub taken-items_where : (ns : List Note) (xs : List ℕ) (f : ℕ → Bool) → length ns ≤ length xs
     → ((j : ℕ) → f j ≡ is_took (slice_get ns j))
     → ((j x : ℕ) → slice_get ns j ≡ Some (Took x) → slice_get xs j ≡ Some x)
@@ -52,13 +52,13 @@ abbrev pub last_below : ℕ → (ℕ → Bool) → Option ℕ
 last_below zero f = None
 last_below (suc n) f = cond (f n) (Some n) (last_below n f)
 
--- if one more number is tested, the number found is below the bound and passes
+-- if a number found below n is below n and passes, a number found below n + 1 is below n + 1 and passes
 at_top : (n : ℕ) (f : ℕ → Bool) (c : ℕ) → (last_below n f ≡ Some c → (c < n) × (f c ≡ true)) → (b : Bool) → f n ≡ b
     → cond b (Some n) (last_below n f) ≡ Some c → (c < suc n) × (f c ≡ true)
 at_top n f c below true h k = let same : n ≡ c = cc in (omega arith, rw (← same) h)
 at_top n f c below false h k = let b = below k in (omega arith, b.1)
 
--- the last number is below n and passes
+-- the number found is below n and passes
 pub last_below-at : (n : ℕ) (f : ℕ → Bool) (c : ℕ) → last_below n f ≡ Some c → (c < n) × (f c ≡ true)
 last_below-at zero f c e = absurd (cc)
 last_below-at (suc n) f c e = at_top n f c (last_below-at n f c) (f n) refl e
@@ -78,7 +78,7 @@ pub last_below-some : (n : ℕ) (f : ℕ → Bool) (c : ℕ) → c < n → f c �
 last_below-some zero f c h e = absurd (omega arith)
 last_below-some (suc n) f c h e = some_top n f c (λ below. last_below-some n f c below e) h e (f n) refl
 
--- if one more number is tested, none is found exactly if none passes
+-- if below n none is found exactly if none passes, so it is below n + 1
 none_top : (b : Bool) (o : Option ℕ) (n : ℕ) (a : Bool) → is_none o ≡ not a → is_none (cond b (Some n) o) ≡ not (b || a)
 none_top true o n a h = refl
 none_top false o n a h = h

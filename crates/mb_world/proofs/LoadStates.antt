@@ -21,7 +21,7 @@ use Rattle.mb_world.proofs.WorldClaims.{met_all}
 
 module _ (s : WorldState) (h : WorldHistory) (is : IsWorldAfter h s) (c p : ℕ) (cs : c < consumers_of (plan s h is))
     (ps : p < (plan s h is).lanes) (known : StepKnown s h c p) where
-  -- the consumer was given each cell that it met
+  -- the consumer's loads gave it each cell that it met
   pub given : (ks : List ℕ) (ns : List Note) (held : Option (List ObjectTurn))
       → ConsumerPath (plan s h is).claims c p (lane_part c p h) ks ns held → (k : ℕ) → Has ks k
       → Gave k (part (Reader c) (pool_accesses h))
@@ -31,7 +31,7 @@ module _ (s : WorldState) (h : WorldHistory) (is : IsWorldAfter h s) (c p : ℕ)
       (record { cells = ks; notes = ns; held = held; path = path })) has
 
   module _ (w : Word) (may : MayRead (plan s h is).lanes w (part (Reader c) (pool_accesses h))) where
-    -- what the load finds
+    -- the value that the load finds
     abbrev pub found : ℕ
     found = value_in w (pool_accesses h)
 
@@ -51,7 +51,7 @@ module _ (s : WorldState) (h : WorldHistory) (is : IsWorldAfter h s) (c p : ℕ)
 
     module _ (ks : List ℕ) (ns : List Note) (held : Option (List ObjectTurn))
         (next : ConsumerPath (plan s h is).claims c p (loaded ∷ lane_part c p h) ks ns held) where
-      -- what the load adds to the history
+      -- the history with the load is lawful, and only the part of consumer c on lane p changes: it has the load more
       pub adds : ConsumerAdds (plan s h is) c p loaded h
       adds = known.goes loaded ks ns held truth next
 

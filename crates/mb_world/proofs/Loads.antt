@@ -27,7 +27,7 @@ pub gift_past : (p : ℕ) (ks : List ℕ) (k : ℕ) → k + 1 ≢ END → IsGift
 gift_past p [] k ne = (refl, ne)
 gift_past p (j ∷ ks) k ne = (refl, ne)
 
--- each cell met was given
+-- a reader's loads gave it each cell that it met
 pub met_given : (q p : ℕ) (h : History) (ks : List ℕ) (k : ℕ) → HasMet q p ks h → Has ks k → Gave k (part (Reader q) h)
 met_given q p h [] k met has = absurd has
 met_given q p h (j ∷ ks) k met (inl e) =
@@ -49,15 +49,15 @@ met_link q p h (a ∷ b ∷ ks) j k met (inr (inr at)) less =
     met_link q p h (b ∷ ks) j k met.2 (inr at) (omega (arith, at_within ks j k at))
 
 -- ---- whether a word was loaded
--- the word was loaded, or it was not
+-- a value was loaded from the word, or none was
 abbrev pub IsTold : Word → History → Type 0
 IsTold w d = ((v : ℕ) × HasRead w v d) ⊎ ((v : ℕ) → HasRead w v d → ⊥)
 
--- a word that older accesses loaded is loaded after one more
+-- if older accesses loaded the word, the accesses with one more did, too
 older_read : (b : PoolAccess) (d : History) (w : Word) → (v : ℕ) × HasRead w v d → (v : ℕ) × HasRead w v (b ∷ d)
 older_read b d w h = (h.0, (h.1.0, inr h.1.1, h.1.2, h.1.3))
 
--- if it can be told whether the word was loaded, it can be told after one more access that is no load of the word
+-- if a word was loaded or was not, so it is after one more access that is no load of the word
 other_access : (b : PoolAccess) (d : History) (w : Word) → ((u : ℕ) → b.word ≡ w → b.act ≡ Load u → ⊥) → IsTold w d
     → IsTold w (b ∷ d)
 other_access b d w other (inl h) = inl (older_read b d w h)
@@ -68,7 +68,7 @@ other_access b d w other (inr n) = inr (λ u h. none u h.0 h.1 h.2 h.3)
     none u a (inl e) ew ea = other u (ap (λ (y : PoolAccess). y.word) e ∙ ew) (ap (λ (y : PoolAccess). y.act) e ∙ ea)
     none u a (inr m) ew ea = n u (a, m, ew, ea)
 
--- if it can be told whether the word was loaded, it can be told after one more access to the word
+-- if a word was loaded or was not, so it is after one more access to the word
 by_act : (d : History) (b : PoolAccess) (w : Word) (x : PoolAct) → b.word ≡ w → b.act ≡ x → IsTold w d
     → IsTold w (b ∷ d)
 by_act d b w (Load v) same is rest = inl (v, (b, inl refl, same, is))
@@ -76,12 +76,12 @@ by_act d b w (Store v) same is rest = other_access b d w (λ u _ e. let f : Stor
 by_act d b w (FetchAdd x i) same is rest =
     other_access b d w (λ u _ e. let f : FetchAdd x i ≡ Load u = sym is ∙ e in cc) rest
 
--- of each word it can be told whether it was loaded
+-- each word was loaded or was not
 pub read_or_not : (d : History) (w : Word) → IsTold w d
 read_or_not [] w = inr (λ v h. h.1)
 read_or_not (b ∷ d) w = by_word (cases_Bool (is_same_word b.word w)) (read_or_not d w)
   where
-    -- whether a word was loaded can be told, by whether the newest access is to it
+    -- so it is whether or not the newest access is to the word
     by_word : (is_same_word b.word w ≡ true) ⊎ (is_same_word b.word w ≡ false) → IsTold w d → IsTold w (b ∷ d)
     by_word (inl same) rest = by_act d b w b.act (is_same_word-eq b.word w same) refl rest
     by_word (inr other) rest = other_access b d w (λ u e _. differs e) rest

@@ -1,4 +1,4 @@
--- What a look of a consumer that holds no claim makes of the state of a world.
+-- A consumer that holds no claim loads the link at its cursor (it *looks*): what this makes of the state of a world.
 use Rattle.std.proofs.Common.{◌≡◌, ◌≢◌, ◌⊎◌, ℕ, ◌+◌, ◌*◌, ◌-◌, ◌<◌, Bool, true, false, cond, List, [], ◌∷◌, Option, Some, None, refl, sym, ◌∙◌, ap, subst, inl, inr, arith, nat_eq, slice_get}
 use Rattle.std.proofs.Common.{slice_set}
 use Rattle.std.proofs.lemmas.{Bool.eqb-true, Bool.eqb-false, List.length-set}
@@ -45,12 +45,12 @@ cell_told v k tells = by (nat_eq v 0) (nat_eq v END) refl refl tells
         let more : v ≡ k + 1 = omega (arith, same, some) in
         (more, λ g. no_end (more ∙ g))
 
--- the answer that names a load at a cursor is what the value tells
+-- the answer that names a load of the word at a cursor is `Looked`, with what the value loaded says
 told : (cells : ℕ) (at : Cursor) (v : ℕ) → answer_to cells (word_of at) (Load v) ≡ Some (answer.Looked (look_of v))
 told cells (cursor.Head q) v = refl
 told cells (cursor.Past q) v = refl
 
--- a cursor stands at no item word
+-- the word at a cursor is a head or a link, and no item
 not_item : (at : Cursor) (k : ℕ) → word_of at ≡ Item k → ⊥
 not_item (cursor.Head q) k e = cc
 not_item (cursor.Past q) k e = cc
@@ -66,7 +66,7 @@ module _ (s : WorldState) (h : WorldHistory) (is : IsWorldAfter h s) (c p : ℕ)
     pub path : ConsumerPath (plan s h is).claims c p (lane_part c p h) cells notes None
     pub word : word_of at ≡ place_past p cells
 
-  -- what the place says, if the consumer's path leads to it
+  -- if a path leads to this place, `AtLink` holds of it
   link_at : (ks : List ℕ) (ns : List Note) (held : Option (List ObjectTurn))
       → ConsumerPath (plan s h is).claims c p (lane_part c p h) ks ns held
       → IsPlaceAt (layout_of s.setup) c p ks held (Before at) → AtLink
@@ -74,12 +74,12 @@ module _ (s : WorldState) (h : WorldHistory) (is : IsWorldAfter h s) (c p : ℕ)
   link_at [] ns (Some xs) path on = absurd on
   link_at (k ∷ ks) ns (Some xs) path on = absurd on
 
-  -- what the place of this consumer says
+  -- `AtLink` holds of the path of this consumer
   at_link : AtLink
   at_link =
       let y = place_here s h is c p (Before at) cs ps here in link_at y.cells y.notes y.held y.path y.is
 
-  -- the cursor of a consumer whose path holds no claim is within the pool
+  -- the cursor of a consumer whose path holds no claim is at a word of the pool
   within_by : (ks : List ℕ) (ns : List Note) (it : Cursor)
       → ConsumerPath (plan s h is).claims c p (lane_part c p h) ks ns None → word_of it ≡ place_past p ks
       → IsWithin it s.pool
@@ -94,7 +94,7 @@ module _ (s : WorldState) (h : WorldHistory) (is : IsWorldAfter h s) (c p : ℕ)
   within_by [] ns (cursor.Past j) path e = absurd (cc)
   within_by (k ∷ ks) ns (cursor.Head q) path e = absurd (cc)
 
-  -- this consumer's cursor is within the pool
+  -- this consumer's cursor is at a word of the pool
   pub within : IsWithin at s.pool
   within = within_by at_link.cells at_link.notes at at_link.path at_link.word
 
@@ -110,7 +110,7 @@ module _ (s : WorldState) (h : WorldHistory) (is : IsWorldAfter h s) (c p : ℕ)
       subst (λ (w : Word). MayRead (plan s h is).lanes w (part (Reader c) (pool_accesses h))) (sym at_link.word)
       (may_past at_link.cells (given s h is c p cs ps known at_link.cells at_link.notes None at_link.path))
 
-  -- what the word holds
+  -- the value that the word at the cursor holds
   abbrev v : ℕ
   v = value_in (word_of at) (pool_accesses h)
 
@@ -118,7 +118,7 @@ module _ (s : WorldState) (h : WorldHistory) (is : IsWorldAfter h s) (c p : ℕ)
   abbrev a : WorldAccess
   a = loaded s h is c p cs ps known (word_of at) may
 
-  -- a path that goes on with a load of the link past the cells met goes on with this load
+  -- if the word holds i, and the path goes on with a load of i from the link past the cells met, this is that load
   on_link : (held : Option (List ObjectTurn)) (ks : List ℕ) (i : ℕ) → v ≡ i
       → ConsumerPath (plan s h is).claims c p (link_load c p at_link.cells i ∷ lane_part c p h) ks at_link.notes held
       → ConsumerPath (plan s h is).claims c p (a ∷ lane_part c p h) ks at_link.notes held
@@ -128,7 +128,7 @@ module _ (s : WorldState) (h : WorldHistory) (is : IsWorldAfter h s) (c p : ℕ)
       (subst (λ (w : Word). ConsumerPath (plan s h is).claims c p (ToCells (load c w i) ∷ lane_part c p h) ks
       at_link.notes held) (sym at_link.word) path)
 
-  -- no note changes
+  -- all notes are still right after the load
   notes_stay : (held : Option (List ObjectTurn)) (ks : List ℕ)
       (next : ConsumerPath (plan s h is).claims c p (a ∷ lane_part c p h) ks at_link.notes held)
       → AreNotes s h is (a ∷ h) s.notes

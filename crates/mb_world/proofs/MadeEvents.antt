@@ -48,7 +48,7 @@ module _ (plan : Plan) (h : WorldHistory) (p : ℕ) (ps : p < plan.lanes) (lane 
         (fits : (w : Word) (v : ℕ) → push_store p lane ≡ Some (w, v) → v < 2 ^ 64)
         (within : (w : Word) (v : ℕ) → push_store p lane ≡ Some (w, v) → IsLaneWord (size_of plan) w)
         (no_mark : (w : Word) → push_store p lane ≡ Some (w, END) → IsLinkWord w → ⊥) where
-      -- a store of a word of the lane is a push, and has an answer
+      -- a store that the producer's place names is one that a push makes, and has an answer
       pushed : (w : Word) (v : ℕ) → push_store p lane ≡ Some (w, v) → IsLaneWord (size_of plan) w
           → IsPushed w v × ((r : Answer) × (answer_to plan.claims.cells w (Store v) ≡ Some r))
       pushed Counter v e word = absurd word

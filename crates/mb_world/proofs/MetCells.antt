@@ -14,7 +14,7 @@ use Rattle.mb_world.proofs.Positions.{at_has, at_start, has_at}
 use Rattle.mb_world.proofs.ReaderParts.{of_part}
 use Rattle.mb_world.proofs.WorldFollows.{met_stay}
 
--- what gives a cell is a load of its number plus one, and not of the end mark
+-- an act that leads to cell k is a load of k + 1, which is no end mark
 given_load : (act : PoolAct) (k : ℕ) → cell_given act ≡ Some k → (act ≡ Load (k + 1)) × (k + 1 ≢ END)
 given_load (Load v) k e = by (cases_eq v 0) (cases_eq v END)
   where
@@ -29,7 +29,7 @@ given_load (Load v) k e = by (cases_eq v 0) (cases_eq v END)
 given_load (Store v) k e = absurd (cc)
 given_load (FetchAdd x n) k e = absurd (cc)
 
--- a gift is of a link, and gives the cell
+-- an act that gives cell k is on a head or a link, and leads to cell k
 gift_link : (w : Word) (act : PoolAct) (k : ℕ) → IsGift k w act → IsLinkWord w × (cell_given act ≡ Some k)
 gift_link Counter act k g = absurd g
 gift_link (Head p) (Load v) k g = (tt, ap (λ i. cell_given (Load i)) g.0 ∙ one_given k (λ e. g.1 (g.0 ∙ e)))
@@ -47,7 +47,7 @@ met_cells q p (a ∷ older) own =
     by (cases_Bool (is_same_word a.word (place_past p (cells_met p older))))
     (HasMet-more q p older (a ∷ older) (cells_met p older) (λ b m. inr m) (met_cells q p older (λ b m. own b (inr m))))
   where
-    -- if the load gave a cell, the cell comes after those met before
+    -- if the load leads to a cell, the reader has met this cell after those met before
     by_given : (o : Option ℕ) → cell_given a.act ≡ o → a.word ≡ place_past p (cells_met p older)
         → HasMet q p (cells_met p older) (a ∷ older) → HasMet q p (push_if o (cells_met p older)) (a ∷ older)
     by_given None e at older_met = older_met
@@ -82,7 +82,7 @@ gave_met (a ∷ older) k f (inl g) =
 gave_met (a ∷ older) k f (inr g) = let q = gave_met older k f.1 g in (q.0, met_stay q.0 a older k q.1)
 
 -- ---- the cells met by the part of a reader in a lawful history
--- the cells that a reader's part met were met in the history
+-- the cells that the loads of a reader's part met are cells that the reader met in the whole history
 pub met_in : (q p : ℕ) (h : History) → HasMet q p (cells_met p (part (Reader q) h)) h
 met_in q p h =
     HasMet-more q p (part (Reader q) h) h (cells_met p (part (Reader q) h)) (λ a m. (of_part q h a m).0)
@@ -91,7 +91,7 @@ met_in q p h =
 module _ (q : ℕ) (h : History)
     (start : (p : ℕ) (ks : List ℕ) → HasMet q p ks h → IsStart ks (linked_cells p h))
     (one_lane : (p r k : ℕ) → Has (linked_cells p h) k → Has (linked_cells r h) k → p ≡ r) where
-  -- the cells that the reader's part met on a lane are cells of the lane
+  -- the cells that the reader's part met on a lane are linked there
   pub on_lane_in : (p k : ℕ) → Has (cells_met p (part (Reader q) h)) k → Has (linked_cells p h) k
   on_lane_in p k has =
       let s = start p (cells_met p (part (Reader q) h)) (met_in q p h) in
@@ -128,7 +128,7 @@ module _ (plan : Plan) (hs : Histories) (known : Known plan hs) (c p : ℕ) (cs 
       HasMet-more (hs.reader_of c) q reads hs.pool (cells_met q reads) (λ a m. (of_part (hs.reader_of c) hs.pool a m).0)
       (met_cells (hs.reader_of c) q reads (λ a m. (of_part (hs.reader_of c) hs.pool a m).1))
 
-  -- the cells that these loads met on a lane are cells of the lane
+  -- the cells that these loads met on a lane are linked there
   on_lane : (q k : ℕ) → Has (cells_met q reads) k → Has (linked_cells q hs.pool) k
   on_lane q k has =
       let s = known.start (hs.reader_of c) q (cells_met q reads) (met_on q) in

@@ -17,12 +17,12 @@ get-replicate zero i x less = absurd (omega (arith, less))
 get-replicate (suc n) zero x less = refl
 get-replicate (suc n) (suc i) x less = get-replicate n i x (omega (arith, less))
 
--- if no value has the property, what has it is None
+-- if P holds of no `Some x`, whatever P holds of is `None`
 pub none_alone : {X : Type 0} (P : Option X → Type 0) → ((x : X) → P (Some x) → ⊥) → (y : Option X) → P y → y ≡ None
 none_alone P never None h = refl
 none_alone P never (Some x) h = absurd (never x h)
 
--- the position of a row and a column lies within the rows
+-- the position of row c and column p is within the grid
 pub position_within : (c p rows columns : ℕ) → c < rows → p < columns → c * columns + p < rows * columns
 position_within c p rows columns cs ps = omega (arith, mul-le-mul_right columns cs, ps)
 

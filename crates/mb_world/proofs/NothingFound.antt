@@ -1,4 +1,4 @@
--- A step of a consumer finds nothing exactly if the consumer has met all cells and the lane goes on.
+-- A step of a consumer finds nothing exactly if it has met all cells, holds no claim, and the lane has not ended.
 use Rattle.std.proofs.Common.{◌≡◌, ◌⊎◌, ℕ, ◌+◌, ◌-◌, ◌<◌, Bool, true, false, cond, List, [], ◌∷◌, ◌++◌, Option, Some, None, refl, sym, ◌∙◌, ap, subst, inl, inr, arith}
 use Rattle.std.specs.Prelude.{filter, nat_eq}
 use Rattle.std.proofs.lemmas.Bool.{eqb-true}
@@ -14,7 +14,7 @@ use Rattle.mb_world.proofs.ConsumerSteps.{linked_same, one_lane_of}
 use Rattle.mb_world.proofs.LastAccess.{CameFrom, Leads, PathEnd, came_from, ended, found, path_end, took, waited, went}
 use Rattle.mb_world.proofs.WorldClaims.{met_all}
 
--- only the value 0 tells that nothing is there yet
+-- a look that loads v finds nothing only if v is 0
 nothing_told : (v : ℕ) → look_of v ≡ look.Nothing → v ≡ 0
 nothing_told v tells = by (nat_eq v 0) (nat_eq v END) refl tells
   where
@@ -24,7 +24,7 @@ nothing_told v tells = by (nat_eq v 0) (nat_eq v END) refl tells
     by false true e h = absurd (cc)
     by false false e h = absurd (cc)
 
--- the answer to a load of the link past cells is what the value tells
+-- the answer that names a load of the link past cells is `Looked`, with what the value loaded says
 link_answer : (cells p : ℕ) (ks : List ℕ) (v : ℕ)
     → answer_to cells (place_past p ks) (Load v) ≡ Some (answer.Looked (look_of v))
 link_answer cells p [] v = refl
@@ -46,7 +46,7 @@ module _ (plan : Plan) (h : WorldHistory) (lawful : IsWorldLawful plan h) (known
     (end : (p : ℕ) → value_in (place_past p (linked_cells p (pool_accesses h))) (pool_accesses h)
     ≡ cond (has_ended p (pool_accesses h)) END 0)
     (c p word : ℕ) where
-  -- an access of the consumer on the lane is in front of its part there
+  -- an access of the consumer on the lane is the newest of its part there
   front : (x : WorldAccess) → IsBy c x → is_on c p (linked_cells p (pool_accesses h)) x ≡ true
       → lane_part c p (x ∷ h) ≡ x ∷ lane_part c p h
   front x own on =
@@ -65,12 +65,12 @@ module _ (plan : Plan) (h : WorldHistory) (lawful : IsWorldLawful plan h) (known
             (front x own on) y.path),
       )
 
-  -- a load of a link found what the link held
+  -- a load of a link found the value that the link held
   loaded : (x : WorldAccess) → IsWorldLawful plan (x ∷ h) → (ks : List ℕ) (v : ℕ) → x ≡ link_load c p ks v
       → v ≡ value_in (place_past p ks) (pool_accesses h)
   loaded x longer ks v e = (subst (λ y. IsWorldLawful plan (y ∷ h)) e longer).cells_memory.0
 
-  -- the answer that names a load of a link is what its value tells
+  -- the answer that names a load of a link is `Looked`, with what the value loaded says
   answered : (x : WorldAccess) (r : Answer) → AnswerNames plan r x h → (ks : List ℕ) (v : ℕ) → x ≡ link_load c p ks v
       → r ≡ answer.Looked (look_of v)
   answered x r names ks v e =
@@ -79,14 +79,14 @@ module _ (plan : Plan) (h : WorldHistory) (lawful : IsWorldLawful plan h) (known
       let both : Some r ≡ Some (answer.Looked (look_of v)) = sym named ∙ link_answer plan.claims.cells p ks v in
       cc
 
-  -- ---- if nothing is found, all was met and the lane goes on
+  -- ---- if nothing is found, all cells were met and the lane has not ended
   -- if the link past these cells holds 0, they are all of the lane, which has not ended
   all_met : (ks : List ℕ) → IsStart ks (linked_cells p (pool_accesses h))
       → value_in (place_past p ks) (pool_accesses h) ≡ 0
       → (ks ≡ linked_cells p (pool_accesses h)) × (has_ended p (pool_accesses h) ≡ false)
   all_met ks (later, start) zero = by (with_last later)
     where
-      -- if the link past all cells holds 0, it has no end mark
+      -- if the link past all cells holds 0, the lane has not ended
       by_end : (b : Bool) → has_ended p (pool_accesses h) ≡ b → cond b END 0 ≡ 0 → has_ended p (pool_accesses h) ≡ false
       by_end true e f = absurd (cc)
       by_end false e f = e
@@ -105,7 +105,7 @@ module _ (plan : Plan) (h : WorldHistory) (lawful : IsWorldLawful plan h) (known
           let more = next p y ys ks split in
           absurd (omega (arith, more, zero))
 
-  -- an access whose answer is that nothing is found waits past all cells
+  -- if the answer to an access is that nothing was found, the consumer has met all cells, and the lane has not ended
   waits_there : {was now : PathEnd} (x : WorldAccess) (r : Answer) → IsWorldLawful plan (x ∷ h) → AnswerNames plan r x h
       → r ≡ answer.Looked look.Nothing → c < consumers_of plan → p < plan.lanes
       → ConsumerPath plan.claims c p (lane_part c p h) was.cells was.notes was.held
@@ -140,7 +140,7 @@ module _ (plan : Plan) (h : WorldHistory) (lawful : IsWorldLawful plan h) (known
       let other : answer.Took k v ≡ r = cc in
       let both = other ∙ is in absurd (cc)
 
-  -- if a step's answer is that nothing is found, there is nothing
+  -- if a step's answer is that nothing was found, there is nothing for the consumer on the lane
   pub nothing_there : (r : Answer) (a : Option WorldAccess) → HasAnswer plan (event.Step c p word) r a h
       → r ≡ answer.Looked look.Nothing → HasNothing plan c p h
   nothing_there r None (inl (past, e)) is = let other = sym e ∙ is in absurd (cc)
@@ -153,7 +153,7 @@ module _ (plan : Plan) (h : WorldHistory) (lawful : IsWorldLawful plan h) (known
       let l = last x own on longer there.known ps in
       waits_there x r longer names is there.known ps l.1.path l.1.leads
 
-  -- ---- if all was met and the lane goes on, nothing is found
+  -- ---- if all cells were met and the lane has not ended, nothing is found
   module _ (one_place : (js : List ℕ) (ms : List Note) (held : Option (List ObjectTurn))
       → ConsumerPath plan.claims c p (lane_part c p h) js ms held → (ks : List ℕ) (ns : List Note)
       → ConsumerPath plan.claims c p (lane_part c p h) ks ns None → (js ≡ ks) × (ms ≡ ns) × (held ≡ None)) where
@@ -184,7 +184,7 @@ module _ (plan : Plan) (h : WorldHistory) (lawful : IsWorldLawful plan h) (known
         by (ended ks ns k xs y n s q note e) same none = absurd (cc)
         by (took ks ns k xs v won e) same none = absurd (cc)
 
-    -- if there is nothing, a step's answer says so
+    -- if there is nothing for the consumer on the lane, a step's answer says so
     pub nothing_found : (r : Answer) (a : Option WorldAccess) → HasAnswer plan (event.Step c p word) r a h
         → HasNothing plan c p h → r ≡ answer.Looked look.Nothing
     nothing_found r None (inl (past, e)) f = absurd (omega (arith, past, f.lane))

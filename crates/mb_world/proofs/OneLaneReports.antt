@@ -33,7 +33,7 @@ module _ (t : Assignment) (xs ys : List ℕ) (ds : List DiaryView) where
     abbrev IsOutside : ℕ → ℕ → Type 0
     IsOutside c p = (diary c p r ≡ None) × ((j : ℕ) → t p j ≡ Some c → ⊥)
 
-    -- either p is the one lane and c has a diary, or consumer c is outside there
+    -- either p is lane 0 and consumer c has a diary there, or c has no diary on lane p and is given nothing there
     inside_or_not : (c p : ℕ) → ((p ≡ 0) × (c < length ds)) ⊎ IsOutside c p
     inside_or_not c zero = elim (cases_lt c (length ds)) [
       | inl here ↦ inl (refl, here)
@@ -46,7 +46,7 @@ module _ (t : Assignment) (xs ys : List ℕ) (ds : List DiaryView) where
     no_notes : (c p : ℕ) → diary c p r ≡ None → notes c p r ≡ []
     no_notes c p none = ap (λ (o : Option DiaryView). option_map_or (λ d. d.notes) o []) none
 
-    -- below stand the parts of `AgreesWith` for all consumers and lanes, each for those inside and those outside
+    -- an item is taken exactly by the consumer to which it is given. This and the next lemmas go by `inside_or_not`
     taken : (c p j : ℕ) → HasTaken c p j r ↔ (t p j ≡ Some c)
     taken c p j = by p (inside_or_not c p)
       where
@@ -55,7 +55,7 @@ module _ (t : Assignment) (xs ys : List ℕ) (ds : List DiaryView) where
         by (suc q) (inl here) = absurd (let e = here.0 in cc)
         by q (inr out) = ((λ h. absurd (not_noted c q j r (Took h.0) out.0 h.1)), (λ e. absurd (out.1 j e)))
 
-    -- a consumer that is not given an item fails the test of its share
+    -- an item that is not given to consumer c fails the test for the share of c
     not_given : (o : Option ℕ) (c : ℕ) → (o ≡ Some c → ⊥) → is_consumer c o ≡ false
     not_given None c none = refl
     not_given (Some d) c none = ne_eqb d c (λ e. none (ap Some e))

@@ -8,13 +8,13 @@ use Rattle.mb_world.specs.World.{ToCells, ToClaims, WorldAccess, WorldHistory}
 use Rattle.mb_world.specs.ConsumerPath.{ConsumerPath, begins, claim_access, claim_step, item_load, link_load, note_of}
 use Rattle.mb_world.proofs.LastAccess.{Leads, PathEnd, came_from, ended, found, path_end, took, waited, went}
 
--- the value of a load
+-- the value of a load, and 0 for any other act
 abbrev act_value : PoolAct → ℕ
 act_value (Load v) = v
 act_value (Store v) = 0
 act_value (FetchAdd x n) = 0
 
--- the value of a world's access, if it is a load
+-- the value of a world's access if it is a load of the cells, and 0 for any other access
 abbrev value_of : WorldAccess → ℕ
 value_of (ToCells a) = act_value a.act
 value_of (ToClaims a) = 0
@@ -45,7 +45,7 @@ module _ (cs : Claims) (c p : ℕ) where
         → note_of s ≡ None → note_of r ≡ Some n → ⊥
     noted_once xs s r n q w e f = let same = ap note_of (one_stage xs s r q w) in cc
 
-    -- if two accesses that are alike lead on from one place, they are one access and lead to one place
+    -- if two accesses that are alike both lead on from one place, they are equal and lead to one place
     pub one_next : {a b : WorldAccess} {was x y : PathEnd} → AreAlike a b → Leads cs c p a was x → Leads cs c p b was y
         → (a ≡ b) × (x ≡ y)
     one_next l (waited ks ns v says e) (waited _ _ u tells f) =
@@ -89,11 +89,11 @@ module _ (cs : Claims) (c p : ℕ) where
         let same = l.loads (Item k) v u e f in
         (e ∙ (ap (λ (i : ℕ). item_load c k i) same ∙ sym f), ap (λ (i : ℕ). path_end (k ∷ ks) (Took i ∷ ns) None) same)
 
-    -- two loads of one word that are one access find one value
+    -- two equal loads of one word have one value
     value_in_load : (w : Word) (v u : ℕ) → ToCells (load c w v) ≡ ToCells (load c w u) → v ≡ u
     value_in_load w v u e = ap value_of e
 
-    -- two steps on one cell that are one access are one step
+    -- two equal accesses that are steps on one cell are one step
     step_in : (k : ℕ) (x y : ObjectTurn) → claim_step c k x ≡ claim_step c k y → x ≡ y
     step_in k x y e = let f : claim_access c k x ≡ claim_access c k y = cc in ap (λ (z : ClaimAccess). z.step) f
 
@@ -104,12 +104,12 @@ module _ (cs : Claims) (c p : ℕ) where
       steps = λ k x y e f. step_in k x y (sym e ∙ f);
     }
 
-    -- who has done nothing stands at the head
+    -- a consumer that has done nothing on the lane has met no cell there, and has no note and no claim
     at_first : {ks : List ℕ} {ns : List Note} {z : Option (List ObjectTurn)} → ConsumerPath cs c p [] ks ns z
         → path_end ks ns z ≡ path_end [] [] None
     at_first begins = refl
 
-    -- what was done leads to at most one place
+    -- what a consumer did on a lane leads to at most one place
     pub one_place : (done : WorldHistory) (x y : PathEnd) → ConsumerPath cs c p done x.cells x.notes x.held
         → ConsumerPath cs c p done y.cells y.notes y.held → x ≡ y
     one_place [] x y s r = at_first s ∙ sym (at_first r)
@@ -119,7 +119,7 @@ module _ (cs : Claims) (c p : ℕ) where
         let same : m.was ≡ n.was = one_place older m.was n.was m.path n.path in
         (one_next (alike_same a) (subst (λ (z : PathEnd). Leads cs c p a z x) same m.leads) n.leads).1
 
-    -- what was done goes on with at most one access, among those that are alike
+    -- if two accesses that are alike may both follow what a consumer did on a lane, they are equal
     pub one_more : (done : WorldHistory) (a b : WorldAccess) (x y : PathEnd) → AreAlike a b
         → ConsumerPath cs c p (a ∷ done) x.cells x.notes x.held
         → ConsumerPath cs c p (b ∷ done) y.cells y.notes y.held → a ≡ b

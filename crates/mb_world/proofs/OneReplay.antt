@@ -14,7 +14,7 @@ use Rattle.mb_world.specs.EventKnown.{EventKnown}
 use Rattle.mb_world.proofs.ProducerEvents.{finish_never_both, finish_refused_once, offer_never_both, offer_refused_once, one_finish, one_offer, one_push, push_never_both, push_refused_once}
 
 module _ (plan : Plan) (h : WorldHistory) (known : EventKnown plan h) where
-  -- an event asks for one access at most
+  -- at most one access for which an event asks keeps the history lawful
   one_access : (e : Event) (a b : WorldAccess) → IsAccessOf e a h → IsWorldLawful plan (a ∷ h) → IsAccessOf e b h
       → IsWorldLawful plan (b ∷ h) → a ≡ b
   one_access (event.Offer p x) a b x_a la x_b lb = one_offer plan h known p x a b x_a la x_b lb
@@ -56,7 +56,7 @@ module _ (plan : Plan) (h : WorldHistory) (known : EventKnown plan h) where
       (named_once b r s (subst (λ z. AnswerNames plan r z h) same x.1) y.1, ap Some same)
 
 module _ (plan : Plan) (known : (h : WorldHistory) → IsWorldLawful plan h → EventKnown plan h) where
-  -- an event that has an answer leaves the history lawful
+  -- after an event that has an answer the history is still lawful
   lawful_on : (e : Event) (r : Answer) (a : Option WorldAccess) (h : WorldHistory) → IsWorldLawful plan h
       → HasAnswer plan e r a h
       → IsWorldLawful plan (with_access a h)

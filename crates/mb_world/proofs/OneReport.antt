@@ -1,4 +1,4 @@
--- Two histories have one report.
+-- Two histories, of the claims and of the pool, have one report.
 use Rattle.std.proofs.Common.{◌≡◌, ◌+◌, ◌*◌, ◌/◌, ◌%◌, ◌<◌, ℕ, zero, suc, Bool, true, false, List, [], ◌∷◌, length, Some, None, refl, sym, ◌∙◌, ap, subst, arith, get_or}
 use Rattle.std.proofs.lemmas.Option.{slice_get-get_or, slice_get_within}
 use Rattle.std.proofs.Math.Nat.{div-lt_iff_lt-mul, mod-add-div, mod-lt}
@@ -18,11 +18,11 @@ use Rattle.mb_world.proofs.Loads.{met_given}
 use Rattle.mb_world.proofs.ReaderParts.{loaded-read}
 
 -- ---- lists that have one element at each position
--- what stands at a position of the one list stands there in the other
+-- each element of the first list is at the same position of the second
 abbrev StandsIn : {A : Type 0} → List A → List A → Type 0
 StandsIn {A} xs ys = (j : ℕ) (x : A) → slice_get xs j ≡ Some x → slice_get ys j ≡ Some x
 
--- two lists that have the same at each position are one
+-- two lists are equal if each element of either is at the same position of the other
 one_list : {A : Type 0} (xs ys : List A) → StandsIn xs ys → StandsIn ys xs → xs ≡ ys
 one_list [] [] f g = refl
 one_list [] (y ∷ ys) f g = absurd (let e : None ≡ Some y = g 0 y refl in cc)
@@ -33,20 +33,20 @@ one_list {A} (x ∷ xs) (y ∷ ys) f g =
     let tails = one_list xs ys (λ j z. f (suc j) z) (λ j z. g (suc j) z) in
     rw (heads, tails) refl
 
--- if there are diaries for n consumers and m lanes, there is a lane
+-- if there is a position i for diaries of n consumers on m lanes, there is a lane
 some_lanes : (n m i : ℕ) → i < n * m → 0 < m
 some_lanes n zero i less = omega (arith, less)
 some_lanes n (suc m) i less = omega arith
 
--- a diary made of these parts
+-- the diary of consumer c on lane p with these notes, and with a begun claim if b is true
 abbrev diary_of : ℕ → ℕ → List Note → Bool → DiaryView
 diary_of c p ns b = record { consumer = c; lane = p; notes = ns; begun = b }
 
--- a report made of these parts
+-- the report with these lanes and these diaries
 abbrev report_of : List LaneView → List DiaryView → ReportView
 report_of ls ds = record { lanes = ls; diaries = ds }
 
--- two truth values are one, if each is true if the other is
+-- two truth values are equal if each is true if the other is
 one_bool : (a b : Bool) → (a ≡ true → b ≡ true) → (b ≡ true → a ≡ true) → a ≡ b
 one_bool true true f g = refl
 one_bool true false f g = sym (f refl)
@@ -64,7 +64,7 @@ module _ (plan : Plan) (hs : Histories) (known : Known plan hs) where
       → HasStageIn plan.claims c k r (parts_of c hs) → s ≡ r
   one_stage c k s r = known.stage c (claim_part c k hs.claims) s r
 
-  -- the end of a claim has one note
+  -- a claim has ended as at most one note says
   one_end : (c k : ℕ) (n m : Note) → Ends c k n → Ends c k m → n ≡ m
   one_end c k (Took v) (Took u) x y =
       let value : (z : ℕ) → Ends c k (Took z) → z ≡ _ =
@@ -82,14 +82,14 @@ module _ (plan : Plan) (hs : Histories) (known : Known plan hs) where
 
   -- ---- a consumer has one diary on a lane
   module _ (c p : ℕ) (cs : c < consumers_of plan) where
-    -- a cell met stands at the same position by both diaries
+    -- if one diary has cell k at position j of the cells met, the other has it there, too
     same_at : (d e : DiaryView) (x : IsDiaryOf plan c p hs d) (y : IsDiaryOf plan c p hs e) (j k : ℕ)
         → HasPosition x.cells j k → HasPosition y.cells j k
     same_at d e x y j k at =
         met_at plan hs known c p cs e y j k (placed plan hs known c p cs d x j k at)
         (met_given (hs.reader_of c) p hs.pool x.cells k x.met.met (at_has x.cells j k at))
 
-    -- a note of the one diary stands at the same position in the other
+    -- a note of the one diary is at the same position of the other
     same_note : (d e : DiaryView) → IsDiaryOf plan c p hs d → IsDiaryOf plan c p hs e → StandsIn d.notes e.notes
     same_note d e x y j n is =
         let q = note_at plan hs known c p cs d x j n is in
@@ -108,7 +108,7 @@ module _ (plan : Plan) (hs : Histories) (known : Known plan hs) where
         let at = has_at x.cells q.0 q.1 in
         y.begun.1 (q.0, at_has y.cells at.0 q.0 (same_at d e x y at.0 q.0 at.1), q.2, q.3)
 
-    -- two diaries of a consumer on a lane are one
+    -- two diaries of a consumer on a lane are equal
     pub one_diary : (d e : DiaryView) → IsDiaryOf plan c p hs d → IsDiaryOf plan c p hs e → d ≡ e
     one_diary d e x y =
         let consumers : d.consumer ≡ e.consumer = x.consumer ∙ sym y.consumer in
@@ -147,7 +147,7 @@ module _ (plan : Plan) (hs : Histories) (known : Known plan hs) where
       let views : lane_view plan p hs s ≡ lane_view plan p hs r = rw (diaries, lanes) refl in
       y.lane p less ∙ (ap Some views ∙ e)
 
-  -- two reports of the same histories are one
+  -- two reports of the same histories are equal
   pub one_report : (r s : ReportView) → IsReportOf plan hs r → IsReportOf plan hs s → r ≡ s
   one_report r s x y =
       let diaries = one_list r.diaries s.diaries (same_diary r s x y) (same_diary s r y x) in

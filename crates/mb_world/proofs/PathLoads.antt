@@ -13,16 +13,16 @@ use Rattle.mb_world.specs.ConsumerPath.{ConsumerPath, begins, ends, finds, goes,
 use Rattle.mb_world.proofs.Loads.{gift_past}
 
 -- ---- what a load gives
--- 0 and the end mark give no cell
+-- a load of 0 or of the end mark leads to no cell
 pub none_given : (v : ℕ) → (v ≡ 0) ⊎ (v ≡ END) → cell_given (Load v) ≡ None
 none_given v (inl e) = rw e refl
 none_given v (inr e) = rw e refl
 
--- k + 1 gives cell k
+-- a load of k + 1, which is no end mark, leads to cell k
 pub one_given : (k : ℕ) → k + 1 ≢ END → cell_given (Load (k + 1)) ≡ Some k
 one_given k ne = rw (ne_eqb (k + 1) 0 (λ e. omega (arith, e)), ne_eqb (k + 1) END ne) (ap Some (omega arith))
 
--- a load of 0 or of the end mark is no gift
+-- a load of 0 or of the end mark gives no cell
 not_gift : (w : Word) (k v : ℕ) → (v ≡ 0) ⊎ (v ≡ END) → IsGift k w (Load v) → ⊥
 not_gift Counter k v says g = g
 not_gift (Head p) k v (inl e) g = absurd (omega (arith, g.0))
@@ -31,7 +31,7 @@ not_gift (Link p) k v (inl e) g = absurd (omega (arith, g.0))
 not_gift (Link p) k v (inr e) g = g.1 e
 not_gift (Item p) k v says g = g
 
--- a load of k + 1 is a gift of no other cell than k
+-- a load of k + 1 gives no other cell than k
 gift_is : (w : Word) (j k : ℕ) → IsGift j w (Load (k + 1)) → k ≡ j
 gift_is Counter j k g = absurd g
 gift_is (Head p) j k g = omega (arith, g.0)
@@ -39,7 +39,7 @@ gift_is (Link p) j k g = omega (arith, g.0)
 gift_is (Item p) j k g = absurd g
 
 -- ---- which cells one more load meets
--- a load of the link past those met before meets the cell that it gives
+-- if an access is to the link past the cells met before, the cell to which it leads is met next, if there is one
 pub met_there : (p : ℕ) (ks : List ℕ) (a : PoolAccess) (older : History) → cells_met p older ≡ ks
     → a.word ≡ place_past p ks
     → cells_met p (a ∷ older) ≡ push_if (cell_given a.act) ks
@@ -48,19 +48,19 @@ met_there p ks a older is at =
     ∙ ap (λ b. cond b (push_if (cell_given a.act) ks) ks)
     (subst (λ w. is_same_word w (place_past p ks) ≡ true) (sym at) (is_same_word-refl (place_past p ks)))
 
--- a load of another word meets none
+-- an access to another word meets no cell
 pub met_elsewhere : (p : ℕ) (a : PoolAccess) (older : History)
     → is_same_word a.word (place_past p (cells_met p older)) ≡ false
     → cells_met p (a ∷ older) ≡ cells_met p older
 met_elsewhere p a older other =
     ap (λ b. cond b (push_if (cell_given a.act) (cells_met p older)) (cells_met p older)) other
 
--- an item is no link past cells
+-- the word of an item is not the link past cells, nor the head
 item_elsewhere : (p k : ℕ) (ks : List ℕ) → is_same_word (Item k) (place_past p ks) ≡ false
 item_elsewhere p k [] = refl
 item_elsewhere p k (j ∷ ks) = refl
 
--- each load of a link is of the one past the cells met before it on lane p
+-- each load of a head or link is of the link past the cells met before it on lane p, or of the head if none was met
 abbrev pub FollowsLane : ℕ → History → Type 0
 FollowsLane p [] = Unit {0}
 FollowsLane p (a ∷ older) = (IsLinkWord a.word → a.word ≡ place_past p (cells_met p older)) × FollowsLane p older
@@ -102,7 +102,7 @@ module _ (cs : Claims) (c : ℕ) where
       met_elsewhere p (load c (Item k) v) (pool_accesses older) (item_elsewhere p k (cells_met p (pool_accesses older)))
       ∙ path_cells s
 
-  -- the path's loads of links follow the cells met
+  -- each load of a link on the path is of the link past the cells met before it
   pub path_follows : {p : ℕ} {done : WorldHistory} {ks : List ℕ} {ns : List Note} {held : Option (List ObjectTurn)}
       → ConsumerPath cs c p done ks ns held → FollowsLane p (pool_accesses done)
   path_follows begins = tt
@@ -112,7 +112,7 @@ module _ (cs : Claims) (c : ℕ) where
   path_follows (ends z q note s) = path_follows s
   path_follows (takes q s) = ((λ link. absurd link), path_follows s)
 
-  -- each cell met was given
+  -- the path's loads gave each cell to which it leads
   pub path_given : {p : ℕ} {done : WorldHistory} {ks : List ℕ} {ns : List Note} {held : Option (List ObjectTurn)}
       (k : ℕ)
       → ConsumerPath cs c p done ks ns held → Has ks k → Gave k (pool_accesses done)
@@ -125,7 +125,7 @@ module _ (cs : Claims) (c : ℕ) where
   path_given k (ends z q note s) has = path_given k s has
   path_given k (takes q s) has = inr (path_given k s has)
 
-  -- each cell that was given is one of those met
+  -- each cell that the path's loads gave is one to which it leads
   pub path_gave : {p : ℕ} {done : WorldHistory} {ks : List ℕ} {ns : List Note} {held : Option (List ObjectTurn)} (j : ℕ)
       → ConsumerPath cs c p done ks ns held → Gave j (pool_accesses done) → Has ks j
   path_gave j begins g = absurd g

@@ -1,4 +1,4 @@
--- Positions in lists of which the last element came first: they count from the right, as the reversed list has them.
+-- Positions in lists that have the newest element first. They count from the right: the oldest is at position 0.
 use Rattle.std.proofs.Common.{◌≡◌, ◌⊎◌, ℕ, zero, suc, ◌<◌, List, [], ◌∷◌, ◌++◌, length, Some, refl, sym, ◌∙◌, ap, subst, inl, inr, arith}
 use Rattle.std.proofs.lemmas.Bool.{cases_lt}
 use Rattle.std.proofs.lemmas.List.{length-map, length-reverse}
@@ -14,12 +14,12 @@ get-front [] ys j x e = absurd (cc)
 get-front (a ∷ xs) ys zero x e = e
 get-front (a ∷ xs) ys (suc j) x e = get-front xs ys j x e
 
--- the element at the end stands at the position after the list
+-- an element put at the end of a list is at the position that is the list's length
 pub get-last : {A : Type 0} (xs : List A) (y : A) → slice_get (xs ++ y ∷ []) (length xs) ≡ Some y
 get-last [] y = refl
 get-last (a ∷ xs) y = get-last xs y
 
--- an element of a list with one more at its end is one of the list, or the one at the end
+-- an element of a list with one more at its end is at the same position of the list, or is the one at the end
 pub get-snoc : {A : Type 0} (xs : List A) (y : A) (j : ℕ) (x : A) → slice_get (xs ++ y ∷ []) j ≡ Some x
     → (slice_get xs j ≡ Some x) ⊎ ((j ≡ length xs) × (y ≡ x))
 get-snoc [] y zero x e = inr (refl, cc)
@@ -28,12 +28,12 @@ get-snoc (a ∷ xs) y zero x e = inl e
 get-snoc (a ∷ xs) y (suc j) x e = elim (get-snoc xs y j x e) [ inl h ↦ inl h | inr h ↦ inr (ap suc h.0, h.1) ]
 
 -- ---- positions counted from the right
--- k stands at position j of the list, counted from the right
+-- k is at position j of the list, counted from the right
 abbrev pub HasPosition : List ℕ → ℕ → ℕ → Type 0
 HasPosition [] j k = ⊥
 HasPosition (x ∷ xs) j k = ((j ≡ length xs) × (x ≡ k)) ⊎ HasPosition xs j k
 
--- what the reversed list has at a position, counted from the left, stands at this position
+-- if the reversed list has k at position j from the left, the list has it at position j from the right
 pub at_reverse : (xs : List ℕ) (j k : ℕ) → slice_get (reverse xs) j ≡ Some k → HasPosition xs j k
 at_reverse [] j k e = absurd (cc)
 at_reverse (x ∷ xs) j k e =
@@ -42,7 +42,7 @@ at_reverse (x ∷ xs) j k e =
       | inr h ↦ inl (h.0 ∙ length-reverse xs, h.1)
     ]
 
--- what stands at a position, the reversed list has there, counted from the left
+-- if the list has k at position j from the right, the reversed list has it at position j from the left
 pub reverse_at : (xs : List ℕ) (j k : ℕ) → HasPosition xs j k → slice_get (reverse xs) j ≡ Some k
 reverse_at [] j k h = absurd h
 reverse_at (x ∷ xs) j k (inl h) =
@@ -79,7 +79,7 @@ at_some (x ∷ xs) j h = elim (cases_lt j (length xs)) [
   | inr past ↦ (x, inl (omega arith, refl))
 ]
 
--- one element stands at a position
+-- two elements at one position are equal
 pub at_one : (xs : List ℕ) (j k m : ℕ) → HasPosition xs j k → HasPosition xs j m → k ≡ m
 at_one [] j k m h g = absurd h
 at_one (x ∷ xs) j k m (inl h) (inl g) = sym h.1 ∙ g.1
@@ -87,7 +87,7 @@ at_one (x ∷ xs) j k m (inl h) (inr g) = absurd (omega (arith, h.0, at_within x
 at_one (x ∷ xs) j k m (inr h) (inl g) = absurd (omega (arith, g.0, at_within xs j k h))
 at_one (x ∷ xs) j k m (inr h) (inr g) = at_one xs j k m h g
 
--- an element that stands once in the list has one position
+-- if a list has each element once, each element has one position
 pub at_once : (xs : List ℕ) (i j k : ℕ) → IsOnceEach xs → HasPosition xs i k → HasPosition xs j k → i ≡ j
 at_once [] i j k once h g = absurd h
 at_once (x ∷ xs) i j k once (inl h) (inl g) = h.0 ∙ sym g.0
@@ -100,7 +100,7 @@ pub at_start : (later ks : List ℕ) (j k : ℕ) → HasPosition ks j k → HasP
 at_start [] ks j k h = h
 at_start (x ∷ later) ks j k h = inr (at_start later ks j k h)
 
--- what a function makes of the elements stands at their positions
+-- if a list has k at position j from the right, the list mapped by f has f of k there
 pub mapped_at : {A : Type 0} (f : ℕ → A) (xs : List ℕ) (j k : ℕ) → HasPosition xs j k
     → slice_get (reverse (map f xs)) j ≡ Some (f k)
 mapped_at f [] j k h = absurd h

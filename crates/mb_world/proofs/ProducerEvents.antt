@@ -16,16 +16,16 @@ use Rattle.mb_world.specs.Worlds.{IsWorldLawful}
 use Rattle.mb_world.specs.Replay.{IsAccessOf, IsLaneOf, IsPushed, IsRefused}
 use Rattle.mb_world.specs.EventKnown.{EventKnown}
 
--- a store of a value in a word, as a push has it
+-- the store of v in word w, in the form in which a producer's place names the store that a push makes
 abbrev stored : Word → ℕ → Option (Word × ℕ)
 stored w v = Some (w, v)
 
--- the word to which a store goes, if there is one
+-- the word to which a store goes, or `Counter` if there is no store
 abbrev stored_word : Option (Word × ℕ) → Word
 stored_word None = Counter
 stored_word (Some s) = s.0
 
--- the value that a store leaves, if there is one
+-- the value that a store leaves, or 0 if there is no store
 abbrev stored_value : Option (Word × ℕ) → ℕ
 stored_value None = 0
 stored_value (Some s) = s.1
@@ -39,7 +39,7 @@ second_same : (w u : Word) (v x : ℕ) → stored w v ≡ stored u x → v ≡ x
 second_same w u v x e = ap stored_value e
 
 module _ (plan : Plan) (h : WorldHistory) (known : EventKnown plan h) (p : ℕ) where
-  -- if an access of the producer comes next in a lawful world, it goes on with the producer's lane path
+  -- if the history stays lawful with an access of the producer, its part with that access is a prefix of a lane path
   own_front : (a : PoolAccess) → a.process ≡ Producer p → IsWorldLawful plan (ToCells a ∷ h)
       → IsLanePrefix plan.claims.cells p (a ∷ part (Producer p) (pool_accesses h))
   own_front a own lawful =
@@ -115,7 +115,7 @@ module _ (plan : Plan) (h : WorldHistory) (known : EventKnown plan h) (p : ℕ) 
       no_mark_of (next_link p lane) w at.phase at.at.fits
       (subst (λ z. stage_push_store (next_link p lane) z ≡ stored w END) at.stage e) is_link
 
-  -- an end mark is not pushed
+  -- a store of the end mark in the lane's next link is none that a push makes
   not_pushed : (lane : Lane) (w : Word) (v : ℕ) → w ≡ next_link p lane → v ≡ END → IsPushed w v → ⊥
   not_pushed lane w v e f pushed = by lane.last (subst (λ u. IsPushed u END) e (subst (IsPushed w) f pushed))
     where

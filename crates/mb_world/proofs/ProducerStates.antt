@@ -23,11 +23,11 @@ module _ (s : WorldState) (h : WorldHistory) (is : IsWorldAfter h s) (p : ℕ) (
     (goes : (a : PoolAccess) → a.process ≡ Producer p
     → IsPoolLawful (size_of (plan s h is)) (a ∷ pool_accesses h) → ProducerAdds (plan s h is) a h)
     (pool : PoolState) (same : SameSize s.pool pool) where
-  -- the pool has the plan's lanes
+  -- the new pool has as many lanes as the plan says
   lanes_now : lane_count pool ≡ (plan s h is).lanes
   lanes_now = same.0 ∙ is.lanes
 
-  -- the pool has the plan's cells
+  -- the new pool has as many cells as the plan says
   cells_now : cell_count pool ≡ (plan s h is).claims.cells
   cells_now = same.1 ∙ is.cells
 
@@ -48,7 +48,7 @@ module _ (s : WorldState) (h : WorldHistory) (is : IsWorldAfter h s) (p : ℕ) (
 
   -- what holds if the call made this access of the producer
   module _ (a : PoolAccess) (maker : a.process ≡ Producer p) (after : IsAfter (a ∷ pool_accesses h) pool) where
-    -- what the access adds to the history
+    -- the history with the access is lawful, and the parts of all consumers stay
     pub adds : ProducerAdds (plan s h is) a h
     adds =
         goes a maker (subst₂ (λ l m. IsPoolLawful (pool_size l m) (a ∷ pool_accesses h)) lanes_now
@@ -60,7 +60,7 @@ module _ (s : WorldState) (h : WorldHistory) (is : IsWorldAfter h s) (p : ℕ) (
         ap (λ (who : Process). cond (is_same_process (Reader d) who) (a ∷ part (Reader d) (pool_accesses h))
         (part (Reader d) (pool_accesses h))) maker
 
-    -- the ends of all claims stay
+    -- after the access each claim has ended exactly if it had before, and in the same way
     ends_stay : (d j : ℕ) (n : Note) → Ends (plan s h is).claims h d j n
         ↔ Ends (plan s h is).claims (ToCells a ∷ h) d j n
     ends_stay d j (Took v) = (
@@ -119,7 +119,7 @@ module _ (s : WorldState) (h : WorldHistory) (is : IsWorldAfter h s) (p : ℕ) (
   abbrev taken : ℕ → PoolAccess
   taken x = fetch p (record { cell = n; value = x })
 
-  -- what an offer makes of the world
+  -- if the pool's offer returns z and leaves this pool, the event has that answer and leaves the state with the pool
   pub offered : (x : ℕ) (z : Offer) → OfferMeets s.pool p x z pool
       → EventAdds (event.Offer p x) (answer.Offered z) (with_pool pool s) h
   offered x z meets =
@@ -146,7 +146,7 @@ module _ (s : WorldState) (h : WorldHistory) (is : IsWorldAfter h s) (p : ℕ) (
       }
 
   -- ---- what pushes make of the world
-  -- the link to a cell that is stored and not linked is no end mark
+  -- if an item is stored in a cell that is not linked yet, the link to that cell is no end mark
   link_is_no_mark : (cell : ℕ) (done : Phase) → PhaseFits (plan s h is).claims.cells done
       → lane.Stored cell ≡ stage_of done → cell + 1 ≢ END
   link_is_no_mark cell phase.Open fits e = absurd (cc)
@@ -176,13 +176,13 @@ module _ (s : WorldState) (h : WorldHistory) (is : IsWorldAfter h s) (p : ℕ) (
       by None = record { pushed = other; named = told }
       by (Some k) = record { pushed = other; named = told }
 
-  -- what a push makes of the world
+  -- if the pool's push returns z and leaves this pool, the event has that answer and leaves the state with the pool
   pub pushed : (z : Push) → PushMeets s.pool p z pool
       → EventAdds (event.Push p) (answer.Pushed z) (with_pool pool s) h
   pushed z meets =
       let m = meets (pool_accesses h) lane_here is.pool at in by lane_here.stage refl m.0 m.1
     where
-      -- if the push made a store, the history with that store leaves the state
+      -- if the push made a store, the history with that store leaves the state with the new pool
       stores : (w : Word) (v : ℕ) → IsPush w v z → IsAfter (store p w v ∷ pool_accesses h) pool
           → EventAdds (event.Push p) (answer.Pushed z) (with_pool pool s) h
       stores w v is_push later = record {
@@ -191,7 +191,7 @@ module _ (s : WorldState) (h : WorldHistory) (is : IsWorldAfter h s) (p : ℕ) (
         left = after_access (store p w v) refl later;
       }
 
-      -- if the push made no store, the same history leaves the state
+      -- if the push made no store, the same history leaves the state with the new pool
       rests : push_store p lane_here ≡ None → z ≡ push.Idle → IsAfter (pool_accesses h) pool
           → EventAdds (event.Push p) (answer.Pushed z) (with_pool pool s) h
       rests idle t later = record {
@@ -234,11 +234,11 @@ module _ (s : WorldState) (h : WorldHistory) (is : IsWorldAfter h s) (p : ℕ) (
       by None = record { link = tt; named = told }
       by (Some k) = record { link = tt; named = told }
 
-  -- the store of the end mark
+  -- the store of the end mark in the lane's next link
   abbrev marked : PoolAccess
   marked = store p (next_link p lane_here) END
 
-  -- what a finish makes of the world
+  -- if the pool's finish returns z and leaves this pool, the event has that answer and leaves the state with the pool
   pub finished : (z : Finish) → FinishMeets s.pool p z pool
       → EventAdds (event.Finish p) (answer.Finished z) (with_pool pool s) h
   finished z meets =

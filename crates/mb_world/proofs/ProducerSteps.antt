@@ -13,7 +13,7 @@ use Rattle.mb_world.specs.Worlds.{IsOnLane, IsWorldLawful}
 use Rattle.mb_world.proofs.Cells.{cell-of_true, has_cell-true}
 use Rattle.mb_world.proofs.LaneParts.{filter_same}
 
--- an access of producer p leaves the lane of any other producer
+-- an access of producer p leaves the list of linked cells of any other producer's lane as it is
 linked_other : (p q : ℕ) (a : PoolAccess) (h : History) → a.process ≡ Producer p → (q ≡ p → ⊥)
     → linked_cells q (a ∷ h) ≡ linked_cells q h
 linked_other p q a h own other =
@@ -51,7 +51,7 @@ module _ (plan : Plan) (h : WorldHistory) (lawful : IsWorldLawful plan h)
   new_cell : (k : ℕ) → link_of a.word a.act ≡ Some k → (q : ℕ) → Has (linked_cells q (pool_accesses h)) k → ⊥
   new_cell k is q has = by (cases_eq q p)
     where
-      -- lane p has the new cell first
+      -- the list of linked cells of lane p then begins with the new cell
       own : linked_cells p (a ∷ pool_accesses h) ≡ k ∷ linked_cells p (pool_accesses h)
       own = linked_own p a (pool_accesses h) maker
           ∙ ap (λ (o : Option ℕ). push_if o (linked_cells p (pool_accesses h))) is
@@ -105,7 +105,7 @@ module _ (plan : Plan) (h : WorldHistory) (lawful : IsWorldLawful plan h)
               (subst (λ (v : Word). is_of_lane l (linked_cells l (pool_accesses h)) v ≡ true) w here)))
       by (inr e) = rw e refl
 
-  -- the parts of all consumers stay
+  -- the parts of all consumers on all lanes stay
   pub parts_stay : (d q : ℕ) → lane_part d q (ToCells a ∷ h) ≡ lane_part d q h
   parts_stay d q =
       ap (λ (b : Bool). cond b (ToCells a ∷ filter (is_on d q (linked_cells q (a ∷ pool_accesses h))) h)
@@ -113,7 +113,7 @@ module _ (plan : Plan) (h : WorldHistory) (lawful : IsWorldLawful plan h)
       (is_on_none d q p (linked_cells q (a ∷ pool_accesses h)) a maker)
       ∙ by (cases_eq q p)
     where
-      -- the parts of all consumers stay, by whether the access links a cell
+      -- these parts stay, whether the access links a cell or not
       by_link : (o : Option ℕ) → link_of a.word a.act ≡ o
           → filter (is_on d q (push_if o (linked_cells q (pool_accesses h)))) h ≡ lane_part d q h
       by_link None is = refl
@@ -148,7 +148,7 @@ module _ (plan : Plan) (h : WorldHistory) (lawful : IsWorldLawful plan h)
     no_others = λ d x has by_d. on_some_lane d x has by_d;
   }
     where
-      -- an access on a lane is on it with more cells linked, too
+      -- an access that is on a lane is still on it after more cells were linked there
       lane_more : (q : ℕ) (ls ms : List ℕ) → ((k : ℕ) → Has ls k → Has ms k) → (d : ℕ) (x : WorldAccess)
           → is_on d q ls x ≡ true → is_on d q ms x ≡ true
       lane_more q ls ms more d (ToClaims x) on =
@@ -158,14 +158,14 @@ module _ (plan : Plan) (h : WorldHistory) (lawful : IsWorldLawful plan h)
           let y = and_parts (is_same_process (Reader d) x.process) (is_of_lane q ls x.word) on in
           rw (y.0, word_more x.word y.1) refl
         where
-          -- a word of the lane is one with more cells linked, too
+          -- a word of the lane is still one after more cells were linked there
           word_more : (w : Word) → is_of_lane q ls w ≡ true → is_of_lane q ms w ≡ true
           word_more Counter e = e
           word_more (Head i) e = e
           word_more (Link k) e = has_cell-true ms k (more k (cell-of_true ls k e))
           word_more (Item k) e = has_cell-true ms k (more k (cell-of_true ls k e))
 
-      -- each access of a consumer is on some lane still
+      -- each access of a consumer is still on some lane
       on_some_lane : (d : ℕ) (x : WorldAccess) → Has (ToCells a ∷ h) x → IsBy d x → IsOnLane plan d x (ToCells a ∷ h)
       on_some_lane d x (inl e) by_d =
           let f : a.process ≡ Reader d = subst (IsBy d) (sym e) by_d in

@@ -61,7 +61,7 @@ module _ (plan : Plan) (hs : Histories) (known : Known plan hs) where
 
   -- ---- the whole report
   module _ (r : ReportView) (is : IsReportOf plan hs r) where
-    -- a competitor by its diary is one by the report
+    -- a consumer that competed by its diary has competed by the report
     pub competed_in : (c p j : ℕ) (cs : c < consumers_of plan) (ps : p < plan.lanes) →
         let d = (is.diary c p cs ps).0 in
         (j < length d.notes) ⊎ ((length d.notes ≡ j) × (d.begun ≡ true)) → HasCompeted c p j r
@@ -69,7 +69,7 @@ module _ (plan : Plan) (hs : Histories) (known : Known plan hs) where
     competed_in c p j cs ps (inr next) = inr
         (rw (notes_is plan hs r is c p cs ps) next.0, rw (begun_is plan hs r is c p cs ps) next.1)
 
-    -- a note of an item taken has its value
+    -- a note that an item was taken has the value that was put
     value : (c p j x : ℕ) → note c p j r ≡ Some (Took x) → slice_get (items_put p r) j ≡ Some x
     value c p j x e =
         let i = note_in plan hs r is c p j (Took x) e in
@@ -80,7 +80,7 @@ module _ (plan : Plan) (hs : Histories) (known : Known plan hs) where
     notes_within : (c p : ℕ) → length (notes c p r) ≤ length (items_put p r)
     notes_within c p = by_cases (cases_lt p plan.lanes) (cases_lt c (consumers_of plan))
       where
-        -- there are no more notes than items, by whether the mailbox has the consumer and the lane
+        -- so it is whether or not the mailbox has the consumer and the lane
         by_cases : (p < plan.lanes) ⊎ (plan.lanes ≤ p) → (c < consumers_of plan) ⊎ (consumers_of plan ≤ c)
             → length (notes c p r) ≤ length (items_put p r)
         by_cases (inl ps) (inl cs) =
@@ -89,7 +89,7 @@ module _ (plan : Plan) (hs : Histories) (known : Known plan hs) where
         by_cases (inr past) o = rw (diary_none plan hs r is c p (inl past)) (omega arith)
         by_cases (inl ps) (inr past) = rw (diary_none plan hs r is c p (inr past)) (omega arith)
 
-    -- a claim that is begun is on an item
+    -- a begun claim is on an item that was put
     claims_within : (c p : ℕ) → is_begun c p r ≡ true → length (notes c p r) < length (items_put p r)
     claims_within c p b =
         let d = is.diary c p there.0 there.1 in
@@ -107,7 +107,7 @@ module _ (plan : Plan) (hs : Histories) (known : Known plan hs) where
             × (slice_get (is.diary c p cs ps).0.notes j ≡ Some (Lost w))
         i = note_in plan hs r is c p j (Lost w) e
 
-        -- a loss names another consumer, which competed, by whether the mailbox has the one that is named
+        -- so it is whether or not the mailbox has the consumer that is named
         by_winner : (w < consumers_of plan) ⊎ (consumers_of plan ≤ w) → (w ≢ c) × HasCompeted w p j r
         by_winner (inl ws) =
             let d = is.diary c p i.0 i.1 in
@@ -134,7 +134,7 @@ module _ (plan : Plan) (hs : Histories) (known : Known plan hs) where
     left_all : (p : ℕ) → items_left p r ≡ items_where (λ j. not (is_taken (consumers_of plan) p j r)) (items_put p r)
     left_all p = by_lane (cases_lt p plan.lanes)
       where
-        -- the items left are those without a note that they were taken, by whether the mailbox has the lane
+        -- so it is whether or not the mailbox has the lane
         by_lane : (p < plan.lanes) ⊎ (plan.lanes ≤ p)
             → items_left p r ≡ items_where (λ j. not (is_taken (consumers_of plan) p j r)) (items_put p r)
         by_lane (inl ps) = rw (put_is plan hs r is p ps) (left_is plan hs r is p ps)
@@ -152,7 +152,7 @@ module _ (plan : Plan) (hs : Histories) (known : Known plan hs) where
       below = λ c p j n e. (note_in plan hs r is c p j n e).0;
     }
 
-    -- past an end mark there are all notes
+    -- a consumer that loaded the lane's end mark has a note on each item put there
     pub noted : (c p j : ℕ) → IsSome (diary c p r) → HasMetEnd (hs.reader_of c) p hs.pool
         → j < length (items_put p r) → IsSome (note c p j r)
     noted c p j some end before =

@@ -1,4 +1,4 @@
--- A producer's event is refused for what its lane's place refuses.
+-- A producer's event is refused exactly if the place of the lane's producer refuses it.
 use Rattle.std.proofs.Common.{◌≡◌, ◌<◌, ◌↔◌, ℕ, Some, None, refl, sym, ◌∙◌, ap, inl, inr, arith}
 use Rattle.mb_cells.specs.declared.answer.Finish.{Finish}
 use Rattle.mb_cells.specs.declared.answer.Offer.{Offer}
@@ -15,7 +15,7 @@ use Rattle.mb_world.specs.Replay.{IsLaneOf, IsRefused}
 module _ (plan : Plan) (h : WorldHistory) (p : ℕ) (ps : p < plan.lanes)
     (place : (lane : Lane) × IsLaneOf plan p lane h) where
   -- ---- when offers are refused
-  -- an offer is refused with this answer exactly if its producer's place says so
+  -- if X says when the producer's place refuses an offer with `why`, an offer has this refusal exactly if X holds
   pub offer_refused : (x : ℕ) (why : Offer) (X : Type 0)
       → ((lane : Lane) → IsLaneOf plan p lane h → (offer_refusal lane ≡ Some why) ↔ X)
       → IsRefused plan (event.Offer p x) (answer.Offered why) h ↔ X
@@ -29,7 +29,7 @@ module _ (plan : Plan) (h : WorldHistory) (p : ℕ) (ps : p < plan.lanes)
       from : X → IsRefused plan (event.Offer p x) (answer.Offered why) h
       from is = inr (ps, (place.0, why, place.1, (says place.0 place.1).1 is, refl))
 
-  -- an offer that its producer's place does not refuse is not refused
+  -- if the producer's place refuses no offer, no offer is refused
   pub offer_free : (x : ℕ) (r : Answer) → ((lane : Lane) → IsLaneOf plan p lane h → offer_refusal lane ≡ None)
       → IsRefused plan (event.Offer p x) r h → ⊥
   offer_free x r free (inl (past, e)) = omega (arith, past, ps)
@@ -37,7 +37,7 @@ module _ (plan : Plan) (h : WorldHistory) (p : ℕ) (ps : p < plan.lanes)
       let f : None ≡ Some why = sym (free lane at) ∙ refuses in cc
 
   -- ---- when pushes are refused
-  -- a push is refused exactly if its producer's place has nothing to store
+  -- if X says when the producer's place has nothing to store, a push is refused, as `Idle`, exactly if X holds
   pub push_refused : (r : Answer) (X : Type 0)
       → ((lane : Lane) → IsLaneOf plan p lane h → (push_store p lane ≡ None) ↔ X)
       → IsRefused plan (event.Push p) r h ↔ ((r ≡ answer.Pushed push.Idle) × X)
@@ -51,7 +51,7 @@ module _ (plan : Plan) (h : WorldHistory) (p : ℕ) (ps : p < plan.lanes)
       from (e, is) = inr (ps, (place.0, place.1, (says place.0 place.1).1 is, e))
 
   -- ---- when finishes are refused
-  -- a finish is refused with this answer exactly if its producer's place says so
+  -- if X says when the producer's place refuses a finish with `why`, a finish has this refusal exactly if X holds
   pub finish_refused : (why : Finish) (X : Type 0)
       → ((lane : Lane) → IsLaneOf plan p lane h → (finish_refusal lane ≡ Some why) ↔ X)
       → IsRefused plan (event.Finish p) (answer.Finished why) h ↔ X
@@ -65,7 +65,7 @@ module _ (plan : Plan) (h : WorldHistory) (p : ℕ) (ps : p < plan.lanes)
       from : X → IsRefused plan (event.Finish p) (answer.Finished why) h
       from is = inr (ps, (place.0, why, place.1, (says place.0 place.1).1 is, refl))
 
-  -- a finish that its producer's place does not refuse is not refused
+  -- if the producer's place refuses no finish, no finish is refused
   pub finish_free : (r : Answer) → ((lane : Lane) → IsLaneOf plan p lane h → finish_refusal lane ≡ None)
       → IsRefused plan (event.Finish p) r h → ⊥
   finish_free r free (inl (past, e)) = omega (arith, past, ps)

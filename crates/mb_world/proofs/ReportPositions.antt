@@ -1,4 +1,4 @@
--- What stands at a position of a report: its diaries, notes and lanes, and nothing outside of them.
+-- What a report has at a position: lanes, diaries and notes of the mailbox, and nothing outside of it.
 use Rattle.std.proofs.Common.{◌≡◌, ◌⊎◌, ℕ, ◌+◌, ◌*◌, ◌<◌, ◌≤◌, Bool, true, false, cond, List, [], length}
 use Rattle.std.proofs.Common.{Option, Some, None, refl, ap, subst, inl, inr, arith}
 use Rattle.std.specs.Prelude.{slice_get, nat_lt}
@@ -18,11 +18,11 @@ abbrev pub IsInside : Plan → ℕ → ℕ → Type 0
 IsInside plan c p = (c < consumers_of plan) × (p < plan.lanes)
 
 module _ (plan : Plan) (hs : Histories) (r : ReportView) (is : IsReportOf plan hs r) where
-  -- there is no lane but those of the mailbox
+  -- the report has no lane that the mailbox lacks
   pub no_lane : (p : ℕ) → plan.lanes ≤ p → slice_get r.lanes p ≡ None
   no_lane p past = slice_get_past r.lanes p (omega (arith, is.lanes_count))
 
-  -- there is no diary outside of the mailbox
+  -- the report has no diary of a lane or a consumer that the mailbox lacks
   pub diary_none : (c p : ℕ) → (plan.lanes ≤ p) ⊎ (consumers_of plan ≤ c) → diary c p r ≡ None
   diary_none c p (inl past) = rw (le-ltb p (length r.lanes) (omega (arith, is.lanes_count))) refl
   diary_none c p (inr past) = by_lane (nat_lt p (length r.lanes))
@@ -33,22 +33,22 @@ module _ (plan : Plan) (hs : Histories) (r : ReportView) (is : IsReportOf plan h
       beyond : length r.diaries ≤ c * length r.lanes + p
       beyond = rw (is.lanes_count, is.diaries_count) (omega (arith, size))
 
-      -- past the end of the diaries there is none, whatever the test of the lane says
+      -- whether or not the report has lane p, it has nothing at a position past its diaries
       by_lane : (b : Bool) → cond b (slice_get r.diaries (c * length r.lanes + p)) None ≡ None
       by_lane true = slice_get_past r.diaries (c * length r.lanes + p) beyond
       by_lane false = refl
 
-  -- the diary at a position is that of the consumer on the lane
+  -- the diary that the report has of consumer c on lane p is the one that `IsReportOf` names
   pub diary_is : (c p : ℕ) (cs : c < consumers_of plan) (ps : p < plan.lanes) → diary c p r
       ≡ Some (is.diary c p cs ps).0
   diary_is c p cs ps = rw (is.lanes_count, lt-ltb p plan.lanes ps) (is.diary c p cs ps).1
 
-  -- the notes of that diary are those of the report there
+  -- the notes that the report has of c on p are those of that diary
   pub notes_is : (c p : ℕ) (cs : c < consumers_of plan) (ps : p < plan.lanes)
       → notes c p r ≡ (is.diary c p cs ps).0.notes
   notes_is c p cs ps = ap (λ (o : Option DiaryView). option_map_or (λ d. d.notes) o []) (diary_is c p cs ps)
 
-  -- a claim is begun by that diary exactly if the report says so
+  -- the report says that a claim of c on p is begun exactly if that diary does
   pub begun_is : (c p : ℕ) (cs : c < consumers_of plan) (ps : p < plan.lanes)
       → is_begun c p r ≡ (is.diary c p cs ps).0.begun
   begun_is c p cs ps = ap (λ (o : Option DiaryView). option_map_or (λ d. d.begun) o false) (diary_is c p cs ps)
@@ -57,7 +57,7 @@ module _ (plan : Plan) (hs : Histories) (r : ReportView) (is : IsReportOf plan h
   pub put_is : (p : ℕ) → p < plan.lanes → items_put p r ≡ values_put p hs.pool
   put_is p ps = rw (is.lane p ps) refl
 
-  -- the items left are those of the lane's view
+  -- the items left on a lane are those that the histories and the notes leave
   pub left_is : (p : ℕ) → p < plan.lanes → items_left p r ≡ (lane_view plan p hs r).left
   left_is p ps = rw (is.lane p ps) refl
 
@@ -72,7 +72,7 @@ module _ (plan : Plan) (hs : Histories) (r : ReportView) (is : IsReportOf plan h
       by_cases (inr past) o = absurd (some (diary_none c p (inr past)))
       by_cases (inl cs) (inr past) = absurd (some (diary_none c p (inl past)))
 
-  -- a note of the report is in a diary of the mailbox
+  -- a note of the report is in the diary of consumer c on lane p, and the mailbox has both
   pub note_in : (c p j : ℕ) (n : Note) → note c p j r ≡ Some n
       → (cs : c < consumers_of plan) × (ps : p < plan.lanes) × (slice_get (is.diary c p cs ps).0.notes j ≡ Some n)
   note_in c p j n e = (
@@ -85,7 +85,7 @@ module _ (plan : Plan) (hs : Histories) (r : ReportView) (is : IsReportOf plan h
       there : IsInside plan c p
       there = inside c p (λ none. let q : slice_get {X = Note} [] j ≡ Some n = rw none at e in cc)
 
-  -- an undecided note is on a claim that ended undecided
+  -- if a note of the report is undecided, the claim there ended undecided
   pub undecided_in : (c p j : ℕ) → note c p j r ≡ Some Undecided
       → (c < consumers_of plan) × ((k : ℕ) × EndsAs plan.claims c k Undecided (parts_of c hs))
   undecided_in c p j e =

@@ -20,12 +20,12 @@ lanes_told zero ps = refl
 lanes_told (suc zero) ps = refl
 lanes_told (suc (suc p)) ps = absurd (omega (arith, ps))
 
--- the diary of consumer c on lane p stands at its position
+-- the report has at its position the diary of consumer c on lane p
 abbrev IsTold : ℕ → ℕ → Type 0
 IsTold c p =
     (d : DiaryView) × (slice_get all_reported.diaries (c * 2 + p) ≡ Some d) × IsDiaryOf two_by_two c p all_histories d
 
--- the diary of consumer 1 on lane 1: a claim is begun
+-- the diary of consumer 1 on lane 1, in which a claim is begun
 abbrev begun_there : DiaryView
 begun_there = record { consumer = 1; lane = 1; notes = []; begun = true }
 
@@ -33,7 +33,7 @@ module _ (took : IsDiaryOf two_by_two 0 0 all_histories (diary_with 0 0 (Took 5 
     (away : IsDiaryOf two_by_two 0 1 all_histories (diary_with 0 1 []))
     (lost : IsDiaryOf two_by_two 1 0 all_histories (diary_with 1 0 (Lost 0 ∷ [])))
     (begun : IsDiaryOf two_by_two 1 1 all_histories begun_there) where
-  -- each diary of the report stands at its position, if each of the four is that of its consumer on its lane
+  -- each diary of the report is at its position, if each of the four is that of its consumer on its lane
   told : (c p : ℕ) → c < 2 → p < 2 → IsTold c p
   told zero zero cs ps = (diary_with 0 0 (Took 5 ∷ []), refl, took)
   told zero (suc zero) cs ps = (diary_with 0 1 [], refl, away)
@@ -68,15 +68,15 @@ no_item k v (a, inr (inr (inl e)), w, _) =
     let f : Head 0 ≡ Item k = subst (λ (b : PoolAccess). b.word ≡ Item k) (sym e) w in cc
 no_item k v (a, inr (inr (inr none)), w, _) = none
 
--- a diary in which consumer 1 has taken an item is not its diary
+-- a diary that says that consumer 1 took an item is no diary of consumer 1
 not_taken : (p x : ℕ) → IsNoDiary 1 p (diary_with 1 p (Took x ∷ []))
 not_taken p x d = let n = d.notes 0 (Took x) refl in no_item n.0 x n.2.1
 
--- a diary in which consumer 1 took the item 5 is not its diary
+-- a diary that says that consumer 1 took the item 5 is no diary of consumer 1
 pub no_loss_taken : IsNoDiary 1 0 loss_taken
 no_loss_taken = not_taken 0 5
 
--- a diary in which consumer 1 took the item 6 is not its diary
+-- a diary that says that consumer 1 took the item 6 is no diary of consumer 1
 pub no_unwon_taken : IsNoDiary 1 1 unwon_taken
 no_unwon_taken = not_taken 1 6
 

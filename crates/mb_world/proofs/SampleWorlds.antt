@@ -25,7 +25,7 @@ undecided_steps = claim_part 1 0 both_undecided
 abbrev undecided_last : ObjectTurn
 undecided_last = record { object = 1; turn = record { act = act.Load (Quorum 0) 1; word = 0 } }
 
--- each step of a claim on cell k is true to memory, one after another
+-- consumer c makes these steps (the newest first) on cell k after the history, and each is true to memory
 abbrev pub AreTrueTo : ℕ → ℕ → List ObjectTurn → WorldHistory → Type 0
 AreTrueTo c k [] h = Unit {0}
 AreTrueTo c k (x ∷ xs) h = IsTrueTo (claim_step c k x) (map (claim_step c k) xs ++ h) × AreTrueTo c k xs h
@@ -48,14 +48,14 @@ pub record Laws : Type 0 where
   pub undecided : IsClaimPrefix two_cells 1 undecided_steps stage.Undecided
 
 module _ (laws : Laws) where
-  -- the steps of a claim on cell k, the newest first, lead on from a history: with them it is lawful, and the path
-  -- holds them
+  -- consumer c makes these steps (the newest first) of its claim on cell k after the history: it stays lawful,
+  -- and the path of c on lane p has met cell k last, and holds a claim with these steps
   pub record Claiming (c p k : ℕ) (ks : List ℕ) (ns : List Note) (xs : List ObjectTurn)
       (h : WorldHistory) : Type 0 where
     pub lawful : IsWorldLawful two_by_two (map (claim_step c k) xs ++ h)
     pub path : ConsumerPath two_cells c p (lane_part c p (map (claim_step c k) xs ++ h)) (k ∷ ks) ns (Some xs)
 
-  -- steps lead on if they are true to memory and a prefix of a claim path that has no note
+  -- if c holds a new claim on cell k, steps may follow that are true to memory and by which the claim goes on or is won
   pub claims_on : (c p k : ℕ) → c < 2 → p < 2 → (ks : List ℕ) (ns : List Note) (h : WorldHistory)
       → IsWorldLawful two_by_two h → ConsumerPath two_cells c p (lane_part c p h) (k ∷ ks) ns (Some [])
       → (xs : List ObjectTurn) (s : Stage) → IsClaimPrefix two_cells c xs s → note_of s ≡ None → AreTrueTo c k xs h
@@ -72,7 +72,7 @@ module _ (laws : Laws) where
             subst (λ (l : WorldHistory). ConsumerPath two_cells c p l (k ∷ ks) ns (Some (x ∷ xs))) (sym adds.own) next;
       }
 
-  -- a claim of a consumer goes on before its first step
+  -- if some steps are a prefix of a claim path of consumer c, its claim goes on before the first of them
   none_yet : (c : ℕ) (xs : List ObjectTurn) (s : Stage) → IsClaimPrefix two_cells c xs s → (xs ≡ [] → s ≡ stage.Going)
       → IsClaimPrefix two_cells c [] stage.Going
   none_yet c [] s q is = subst (λ r. IsClaimPrefix two_cells c [] r) (is refl) q
@@ -99,8 +99,8 @@ module _ (laws : Laws) where
       (laws.going 1 undecided_last (drop 1 undecided_steps) stage.Undecided laws.undecided)
 
   -- ---- both items are put
-  -- with a cell for the item 5 the history is lawful. In this section each history adds one access
-  -- to the one before
+  -- after the fetch-add for the item 5 the history is lawful. In this section each history adds one access
+  -- to the one before it
   pub taken_lawful : IsWorldLawful two_by_two (ToCells (fetch 0 five) ∷ [])
   taken_lawful =
       let at : LaneIsAt 2 0 [] (Offered five) (fetch 0 five ∷ []) = record {
@@ -111,7 +111,7 @@ module _ (laws : Laws) where
       laws.producer [] 0 (fetch 0 five) laws.empty refl (omega arith) (omega arith, omega arith) refl
       (laws.prefix 0 [] (Offered five) (fetch 0 five ∷ []) at)
 
-  -- consumer 0 waits at the head of lane 0
+  -- consumer 0 has loaded a 0 from the head of lane 0: its path there has met no cell, and holds no claim
   waited_path : ConsumerPath two_cells 0 0 (link_load 0 0 [] 0 ∷ []) [] [] None
   waited_path = waits (inl refl) begins
 
@@ -129,7 +129,7 @@ module _ (laws : Laws) where
       laws.producer offered 0 (store 0 (Item 0) 5) offered_lawful refl (omega arith) (omega arith) tt
       (laws.prefix 0 [] (Stored five) (store 0 (Item 0) 5 ∷ fetch 0 five ∷ []) at)
 
-  -- what producer 0 did until its item was put
+  -- the three accesses by which producer 0 put its item, the newest first
   abbrev first_group : History
   first_group = store 0 (Head 0) 1 ∷ store 0 (Item 0) 5 ∷ fetch 0 five ∷ []
 
@@ -140,7 +140,7 @@ module _ (laws : Laws) where
       laws.producer (stores 0 (Item 0) 5 ∷ offered) 0 (store 0 (Head 0) 1) stored_lawful refl (omega arith)
       (omega arith) tt (laws.prefix 0 (five ∷ []) Open first_group at)
 
-  -- with a cell for the item 6 the history is lawful
+  -- after the fetch-add for the item 6 the history is lawful
   taken_too : IsWorldLawful two_by_two (ToCells (fetch 1 six) ∷ one_put)
   taken_too =
       let at : LaneIsAt 2 1 [] (Offered six) (fetch 1 six ∷ []) = record {
@@ -151,7 +151,7 @@ module _ (laws : Laws) where
       laws.producer one_put 1 (fetch 1 six) one_put_lawful refl (omega arith) (omega arith, omega arith) refl
       (laws.prefix 1 [] (Offered six) (fetch 1 six ∷ []) at)
 
-  -- with the item 6 stored the history is lawful
+  -- after the store of the item 6 the history is lawful
   stored_too : IsWorldLawful two_by_two (stores 1 (Item 1) 6 ∷ ToCells (fetch 1 six) ∷ one_put)
   stored_too =
       let at : LaneIsAt 2 1 [] (Stored six) (store 1 (Item 1) 6 ∷ fetch 1 six ∷ []) =
@@ -160,7 +160,7 @@ module _ (laws : Laws) where
       (omega arith) (omega arith) tt
       (laws.prefix 1 [] (Stored six) (store 1 (Item 1) 6 ∷ fetch 1 six ∷ []) at)
 
-  -- what producer 1 did until its item was put
+  -- the three accesses by which producer 1 put its item, the newest first
   abbrev second_group : History
   second_group = store 1 (Head 1) 2 ∷ store 1 (Item 1) 6 ∷ fetch 1 six ∷ []
 
@@ -172,7 +172,7 @@ module _ (laws : Laws) where
       (omega arith) (omega arith) tt (laws.prefix 1 (six ∷ []) Open second_group at)
 
   -- ---- consumer 0 wins and takes the item 5
-  -- the path of consumer 0 has found cell 0
+  -- the path of consumer 0 on lane 0 has met cell 0, and holds a new claim there
   found_path : ConsumerPath two_cells 0 0 (lane_part 0 0 first_found) (0 ∷ []) [] (Some [])
   found_path = finds (λ e. cc) first_fresh waited_path
 
@@ -201,7 +201,7 @@ module _ (laws : Laws) where
         ),
       )
 
-  -- these steps lead on from the history in which cell 0 was found
+  -- consumer 0 makes these steps after it found cell 0: the history stays lawful, and its path holds a claim with them
   winning : Claiming 0 0 0 [] [] won_steps first_found
   winning = claims_on 0 0 0 (omega arith) (omega arith) [] [] first_found first_found_lawful found_path won_steps
       stage.Won laws.won refl won_true
@@ -210,7 +210,7 @@ module _ (laws : Laws) where
   pub first_won_lawful : IsWorldLawful two_by_two first_won
   first_won_lawful = winning.lawful
 
-  -- the path of consumer 0 has taken the item 5
+  -- the path of consumer 0 on lane 0 has the note that it took the item 5, and holds no claim
   pub first_path : ConsumerPath two_cells 0 0 (lane_part 0 0 first_taken) (0 ∷ []) (Took 5 ∷ []) None
   first_path = takes laws.won winning.path
 
@@ -221,15 +221,15 @@ module _ (laws : Laws) where
       first_won_lawful (omega arith) (omega arith) (omega arith, refl) first_path).lawful
 
   -- ---- consumer 1 loses the item 5
-  -- consumer 1 has met the item 5, which consumer 0 has taken
+  -- then consumer 1 has met cell 0, whose item consumer 0 has taken
   abbrev first_met : WorldHistory
   first_met = link_load 1 0 [] 1 ∷ first_taken
 
-  -- the path of consumer 1 has found cell 0
+  -- the path of consumer 1 on lane 0 has met cell 0, and holds a new claim there
   first_met_path : ConsumerPath two_cells 1 0 (lane_part 1 0 first_met) (0 ∷ []) [] (Some [])
   first_met_path = finds (λ e. cc) second_fresh begins
 
-  -- with that load of consumer 1 the history is lawful
+  -- the history in which consumer 1 met cell 0 is lawful
   first_met_lawful : IsWorldLawful two_by_two first_met
   first_met_lawful =
       (laws.consumer first_taken 1 0 (link_load 1 0 [] 1) (0 ∷ []) [] (Some []) first_taken_lawful (omega arith)
@@ -246,13 +246,13 @@ module _ (laws : Laws) where
       let stores : (Unit {0} × (1 < 2 ^ 64)) × (0 < 2 ^ 64) = ((tt, omega arith), omega arith) in
       ((loads, refl), ((stores, tt), ((loads, refl), tt)))
 
-  -- these steps lead on from the history in which consumer 1 met the item 5
+  -- consumer 1 makes these steps after it met cell 0: the history stays lawful, and its path holds a claim with them
   almost_lost : Claiming 1 0 0 [] [] almost first_met
   almost_lost =
       claims_on 1 0 0 (omega arith) (omega arith) [] [] first_met first_met_lawful first_met_path almost stage.Going
       (laws.going 1 won_last almost (stage.Lost 0) laws.lost) refl almost_true
 
-  -- the path of consumer 1 has a note of its loss, and holds no claim
+  -- the path of consumer 1 on lane 0 has the note of its loss, and holds no claim
   lost_path : ConsumerPath two_cells 1 0 (lane_part 1 0 first_lost) (0 ∷ []) (Lost 0 ∷ []) None
   lost_path = ends (stage.Lost 0) laws.lost refl almost_lost.path
 
@@ -263,7 +263,7 @@ module _ (laws : Laws) where
       None almost_lost.lawful (omega arith) (omega arith) (((omega arith, tt), omega arith), refl) lost_path).lawful
 
   -- ---- consumer 1 begins a claim on the item 6
-  -- the path of consumer 1 on lane 1 has found cell 1
+  -- the path of consumer 1 on lane 1 has met cell 1, and holds a new claim there
   met_path : ConsumerPath two_cells 1 1 (lane_part 1 1 second_met) (1 ∷ []) [] (Some [])
   met_path = finds (λ e. cc) second_fresh begins
 
@@ -273,7 +273,7 @@ module _ (laws : Laws) where
       (laws.consumer first_lost 1 1 (link_load 1 1 [] 2) (1 ∷ []) [] (Some []) first_lost_lawful (omega arith)
       (omega arith) (omega arith, refl) met_path).lawful
 
-  -- the path of consumer 1 on lane 1 holds a claim with its first step
+  -- the path of consumer 1 on lane 1 holds a claim with one step
   pub begun_path : ConsumerPath two_cells 1 1 (lane_part 1 1 second_begun) (1 ∷ []) [] (Some (first_step ∷ []))
   begun_path = goes stage.Going second_goes refl met_path
 
@@ -285,11 +285,11 @@ module _ (laws : Laws) where
       (omega arith) (((omega arith, tt), omega arith), refl) begun_path).lawful
 
   -- ---- lane 0 ends
-  -- producer 0 has stored the end mark
+  -- then producer 0 has stored the end mark
   abbrev finished : WorldHistory
   finished = stores 0 (Link 0) END ∷ second_begun
 
-  -- with the end mark the history is lawful
+  -- the history in which producer 0 stored the end mark is lawful
   ended_lawful : IsWorldLawful two_by_two finished
   ended_lawful =
       let at : LaneIsAt 2 0 (five ∷ []) (Ended None) (store 0 (Link 0) END ∷ first_group) =
@@ -297,11 +297,11 @@ module _ (laws : Laws) where
       laws.producer second_begun 0 (store 0 (Link 0) END) second_begun_lawful refl (omega arith) (omega arith) tt
       (laws.prefix 0 (five ∷ []) (Ended None) (store 0 (Link 0) END ∷ first_group) at)
 
-  -- the path of consumer 1 on lane 0 waits past the end mark
+  -- after its load of the end mark, the path of consumer 1 on lane 0 has the same note, and holds no claim
   pub ended_path : ConsumerPath two_cells 1 0 (lane_part 1 0 all_done) (0 ∷ []) (Lost 0 ∷ []) None
   ended_path = waits (inr refl) lost_path
 
-  -- what was done in all is lawful
+  -- the history of all that was done is lawful
   pub all_done_lawful : IsWorldLawful two_by_two all_done
   all_done_lawful =
       (laws.consumer finished 1 0 (link_load 1 0 (0 ∷ []) END) (0 ∷ []) (Lost 0 ∷ []) None ended_lawful (omega arith)

@@ -9,12 +9,12 @@ use Rattle.mb_world.specs.Agreement.{AgreesWith}
 abbrev IsContested : ℕ → ℕ → ReportView → Type 0
 IsContested p j r = (d : ℕ) × HasCompeted d p j r × (HasTakenOrLost d p j r → ⊥)
 
--- who has no note on an item neither took nor lost it
+-- a consumer without a note on an item neither took nor lost it
 neither_without_note : (c p j : ℕ) (r : ReportView) → note c p j r ≡ None → HasTakenOrLost c p j r → ⊥
 neither_without_note c p j r e (inl h) = let k = h.1 in cc
 neither_without_note c p j r e (inr h) = let k = h.1 in cc
 
--- whose note on an item is undecided neither took nor lost it
+-- a consumer whose note on an item is undecided neither took nor lost it
 neither_if_undecided : (c p j : ℕ) (r : ReportView) → note c p j r ≡ Some Undecided → HasTakenOrLost c p j r → ⊥
 neither_if_undecided c p j r e (inl h) = let k = h.1 in cc
 neither_if_undecided c p j r e (inr h) = let k = h.1 in cc
@@ -35,7 +35,7 @@ module _ (t : Assignment) (r : ReportView) (a : AgreesWith t r) where
       let loss = a.given.losses c w p j e in (w, loss.competed, winner_did_neither c w p j loss none)
   at_note c p j competed none (Some Undecided) e = (c, competed, neither_if_undecided c p j r e)
 
-  -- the report is settled
+  -- the report is settled: point 5 of the main theorem holds of it
   pub settled : IsSettled r
   settled c p j inside competed none = at_note c p j competed none (note c p j r) refl
 
@@ -43,7 +43,7 @@ module _ (t : Assignment) (r : ReportView) (a : AgreesWith t r) where
   given_alike : (u : Assignment) → AgreesWith u r → (p j c : ℕ) → t p j ≡ Some c → u p j ≡ Some c
   given_alike u b p j c e = (b.given.taken c p j).0 ((a.given.taken c p j).1 e)
 
--- two assignments with which a report agrees are one
+-- two assignments with which a report agrees are equal
 pub unique : (t u : Assignment) (r : ReportView) → AgreesWith t r → AgreesWith u r → (p j : ℕ) → t p j ≡ u p j
 unique t u r a b p j = by (t p j) (u p j) refl refl
   where

@@ -1,4 +1,4 @@
--- What one more access of a consumer makes of the ends of claims.
+-- One more access of a consumer: which claims have ended after it, and as which notes say.
 use Rattle.std.proofs.Common.{◌≡◌, ◌↔◌, ◌⊎◌, ℕ, ◌∷◌, refl, sym, ◌∙◌, ap, subst, inl, inr}
 use Rattle.std.proofs.lemmas.Bool.{cases_eq, ne_eqb}
 use Rattle.mb_claim.specs.declared.access.Stage.TheVariants as stage
@@ -39,7 +39,7 @@ module _ (cs : Claims) where
       pub item_loads : (d j u : ℕ) → HasItem loaded d j u → HasItem h d j u ⊎ ((d ≡ c) × (w ≡ Item j) × (v ≡ u))
       item_loads d j u read = by (cases_eq d c)
         where
-          -- the load found the item's value, or an older one did
+          -- if one of these loads found u in the item of cell j, an older one did, or it is this load
           newest : (a : PoolAccess) → Has (load c w v ∷ part (Reader c) (pool_accesses h)) a → a.word ≡ Item j
               → a.act ≡ Load u → HasItem h c j u ⊎ ((w ≡ Item j) × (v ≡ u))
           newest a (inl e) is_word is_act =
@@ -69,12 +69,12 @@ module _ (cs : Claims) where
               (subst (λ (l : History). HasRead (Item j) u l) (sym own_loads) (mine.0, inr mine.1, mine.2, mine.3))
           by (inr other) = subst (λ (l : History). HasRead (Item j) u l) (sym (other_loads d other)) read
 
-      -- the load is one of the item, if it is of that word
+      -- if word w is the item of cell j, this is a load of that item
       pub this_load : (j : ℕ) → w ≡ Item j → HasItem loaded c j v
       this_load j is =
           subst (λ (l : History). HasRead (Item j) v l) (sym own_loads) (load c w v, inl refl, is, refl)
 
-      -- a load leaves the end of each claim, but of one whose item it loads
+      -- a load leaves the end of each claim as it was, except that of the consumer's claim whose item it loads
       pub load_keeps : (d j : ℕ) (n : Note) → (d ≡ c → w ≡ Item j → ⊥) → Ends h d j n ↔ Ends loaded d j n
       load_keeps d j (Took u) other = (
         λ e. (e.0, more_loads d j u e.1),
@@ -89,7 +89,7 @@ module _ (cs : Claims) where
       abbrev stepped : WorldHistory
       stepped = claim_step c k x ∷ h
 
-      -- the claims of other consumers and on other cells stay
+      -- the steps of other consumers and on other cells stay
       other_part : (d j : ℕ) → (d ≡ c → j ≡ k → ⊥)
           → claim_part d j (claim_accesses stepped) ≡ claim_part d j (claim_accesses h)
       other_part d j other = by (cases_eq c d)
@@ -99,7 +99,7 @@ module _ (cs : Claims) where
           by (inl own) = part-elsewhere d j (claim_access c k x) (claim_accesses h) (λ e. other (sym own) (sym e))
           by (inr ne) = part-another d j (claim_access c k x) (claim_accesses h) ne
 
-      -- a step leaves the ends of other claims
+      -- a step leaves the ends of other claims as they were
       pub step_keeps : (d j : ℕ) (n : Note) → (d ≡ c → j ≡ k → ⊥) → Ends h d j n ↔ Ends stepped d j n
       step_keeps d j (Took u) other =
           let same = other_part d j other in (
@@ -121,20 +121,20 @@ module _ (cs : Claims) where
   module _ (d j : ℕ) (h : WorldHistory)
       (one : (s r : Stage) → IsClaimPrefix cs d (claim_part d j (claim_accesses h)) s
       → IsClaimPrefix cs d (claim_part d j (claim_accesses h)) r → s ≡ r) where
-    -- a claim that goes on has no end
+    -- a claim that goes on has not ended
     pub going_open : (n : Note) → IsClaimPrefix cs d (claim_part d j (claim_accesses h)) stage.Going → Ends h d j n → ⊥
     going_open (Took v) going e = let f = one stage.Going stage.Won going e.0 in cc
     going_open (Lost w) going e = let f = one stage.Going (stage.Lost w) going e in cc
     going_open Undecided going e = let f = one stage.Going stage.Undecided going e in cc
 
-    -- a claim that is won has no end before its item is loaded
+    -- a claim that is won has not ended before its item is loaded
     pub won_open : (n : Note) → IsClaimPrefix cs d (claim_part d j (claim_accesses h)) stage.Won
         → ((v : ℕ) → HasItem h d j v → ⊥) → Ends h d j n → ⊥
     won_open (Took v) won unread e = unread v e.1
     won_open (Lost w) won unread e = let f = one stage.Won (stage.Lost w) won e in cc
     won_open Undecided won unread e = let f = one stage.Won stage.Undecided won e in cc
 
-    -- the end of a lost claim is its loss
+    -- if a claim that is lost to w has ended as a note says, the note is `Lost w`
     pub lost_end : (w : ℕ) (n : Note) → IsClaimPrefix cs d (claim_part d j (claim_accesses h)) (stage.Lost w)
         → Ends h d j n → Lost w ≡ n
     lost_end w (Took v) lost e = absurd (let f = one (stage.Lost w) stage.Won lost e.0 in cc)
@@ -143,14 +143,14 @@ module _ (cs : Claims) where
         let same : w ≡ u = cc in ap Lost same
     lost_end w Undecided lost e = absurd (let f = one (stage.Lost w) stage.Undecided lost e in cc)
 
-    -- the end of an undecided claim is Undecided
+    -- if an undecided claim has ended as a note says, the note is `Undecided`
     pub undecided_end : (n : Note) → IsClaimPrefix cs d (claim_part d j (claim_accesses h)) stage.Undecided
         → Ends h d j n → Undecided ≡ n
     undecided_end (Took v) still e = absurd (let f = one stage.Undecided stage.Won still e.0 in cc)
     undecided_end (Lost u) still e = absurd (let f = one stage.Undecided (stage.Lost u) still e in cc)
     undecided_end Undecided still e = refl
 
-    -- the end of a won claim has the only value loaded from its item
+    -- if a claim is won, only v was loaded from its item, and it has ended as a note says, the note is `Took v`
     pub won_end : (v : ℕ) (n : Note) → IsClaimPrefix cs d (claim_part d j (claim_accesses h)) stage.Won
         → ((u : ℕ) → HasItem h d j u → v ≡ u) → Ends h d j n → Took v ≡ n
     won_end v (Took u) won only e = ap Took (only u e.1)

@@ -13,11 +13,11 @@ use Rattle.mb_world.specs.StateReport.{AreDiariesTold, AreLanesTold, IsDiaryTold
 use Rattle.mb_world.specs.WorldState.{WorldState}
 use Rattle.mb_world.proofs.Positions.{get-last, get-front}
 
--- an element put at the end of a list stands at the position past the list
+-- an element put at the end of a list is at the position that is the list's length
 get_end : {A : Type 0} (xs : List A) (y : A) (i : ℕ) → i ≡ length xs → slice_get (xs ++ y ∷ []) i ≡ Some y
 get_end {A} xs y i e = subst (λ j. slice_get (xs ++ y ∷ []) j ≡ Some y) (sym e) (get-last xs y)
 
--- if the state tells the reports of n lanes, and one of lane n, it tells n + 1 of them
+-- if the state tells the reports of the first n lanes and that of lane n, it tells those of the first n + 1
 pub lanes_more : (s : WorldState) (n : ℕ) (l : LaneView) (ls : List LaneView) → AreLanesTold s n ls → IsLaneTold s n l
     → AreLanesTold s (n + 1) (ls ++ l ∷ [])
 lanes_more s n l ls told here = record {
@@ -58,7 +58,7 @@ diaries_more s c p d ds ps told here = record {
   each = grid_more (IsDiaryTold s) (plan_in s.setup).lanes c p ds d ps told.count told.each here;
 }
 
--- if these places are before the heads of their lanes, and one more is, they all are
+-- if these places are before the heads of their lanes, so are they with one more, before the head of lane p
 pub heads_more : (lanes c p : ℕ) (places : List Place) → p < lanes → AreAtHeads lanes (c * lanes + p) places
     → AreAtHeads lanes (c * lanes + (p + 1)) (places ++ Before (Head p) ∷ [])
 heads_more lanes c p places ps heads = record {

@@ -15,7 +15,7 @@ use Rattle.mb_world.specs.Reporting.{any_below, is_took}
 use Rattle.mb_world.proofs.Tracks.{AreEnds}
 use mathlib.Core.List.{reverse-cons}
 
--- if a number below n passes the test, one is found
+-- if a number c below n passes the test, `any_below` says so
 pub any_below-some : (n c : ℕ) (test : ℕ → Bool) → c < n → test c ≡ true → any_below n test ≡ true
 any_below-some zero c test less e = absurd (omega arith)
 any_below-some (suc n) c test less e = elim (cases_eq c n) [
@@ -23,17 +23,17 @@ any_below-some (suc n) c test less e = elim (cases_eq c n) [
   | inr other ↦ or_right (test n) (any_below n test) (any_below-some n c test (omega (arith, less, other)) e)
 ]
 
--- tests that agree below a bound find alike whether a number there passes
+-- if two tests agree below n, `any_below` says the same of both
 pub any_below-same : (n : ℕ) (f g : ℕ → Bool) → ((c : ℕ) → c < n → f c ≡ g c) → any_below n f ≡ any_below n g
 any_below-same zero f g same = refl
 any_below-same (suc n) f g same =
     rw (same n (omega arith), any_below-same n f g (λ c less. same c (omega (arith, less)))) refl
 
--- the notes along one cell that has a note are that note
+-- if a cell has a note, the list of notes of this cell alone is that note
 one_noted : (f : ℕ → Option Note) (q : ℕ) (n : Note) → f q ≡ Some n → filter_map f (q ∷ []) ≡ n ∷ []
 one_noted f q n e = rw e refl
 
--- notes of cells, the last first, give their list, the first first
+-- if ns are the notes of the cells qs, both the last first, the notes along the cells from the first on are ns reversed
 pub noted : (f : ℕ → Option Note) (qs : List ℕ) (ns : List Note) → AreEnds (λ k n. f k ≡ Some n) qs ns
     → filter_map f (reverse qs) ≡ reverse ns
 noted f [] [] h = refl
@@ -50,12 +50,12 @@ pub none_noted : (f : ℕ → Option Note) (xs : List ℕ) → ((k : ℕ) → Ha
 none_noted f [] none = refl
 none_noted f (x ∷ xs) none = rw (none x (inl refl)) (none_noted f xs (λ k has. none k (inr has)))
 
--- the note that stands at a position
+-- the note of a cell, or none if there is no cell
 abbrev pub note_by : (ℕ → Option Note) → Option ℕ → Option Note
 note_by f None = None
 note_by f (Some k) = f k
 
--- at no position of a list of cells without notes there is a note
+-- if no cell of a list has a note, there is none at any position of the list
 none_by : (f : ℕ → Option Note) (xs : List ℕ) (j : ℕ) → ((k : ℕ) → Has xs k → f k ≡ None)
     → note_by f (slice_get xs j) ≡ None
 none_by f [] zero none = refl
@@ -77,7 +77,7 @@ note_placed f (x ∷ xs) ys (suc j) some none =
     let q = some x (inl refl) in
     rw (q.1) (note_placed f xs ys j (λ k has. some k (inr has)) none)
 
--- an item is chosen by its position exactly if its cell passes the test
+-- if t passes a position exactly if `test` passes the cell there, both choose the same items
 pub items_chosen : (item : ℕ → ℕ) (t : ℕ → Bool) (test : ℕ → Bool) (ks : List ℕ)
     → ((j k : ℕ) → slice_get ks j ≡ Some k → t j ≡ test k)
     → map item (filter test ks) ≡ items_where t (map item ks)
@@ -91,13 +91,13 @@ items_chosen item t test (k ∷ ks) same =
     by rest true = ap (λ zs. item k ∷ zs) rest
     by rest false = rest
 
--- the cells of entries, with one more at the end
+-- the cells of these entries and of one more are those of the entries, and then that of the one more
 cells_snoc : (es : List Entry) (e : Entry)
     → map (λ (e : Entry). e.cell) (es ++ e ∷ []) ≡ map (λ (e : Entry). e.cell) es ++ e.cell ∷ []
 cells_snoc [] e = refl
 cells_snoc (d ∷ es) e = ap (λ zs. d.cell ∷ zs) (cells_snoc es e)
 
--- the cells of the entries that are made of cells are these cells
+-- entries made of these cells (the last first), in reversed order, have these cells in reversed order
 entry_cells : (pool : History) (ks : List ℕ)
     → map (λ (e : Entry). e.cell) (reverse (map (λ k. entry_at k pool) ks)) ≡ reverse ks
 entry_cells pool [] = refl
@@ -106,15 +106,15 @@ entry_cells pool (k ∷ ks) =
     ∙ (cells_snoc (reverse (map (λ k. entry_at k pool) ks)) (entry_at k pool)
     ∙ (ap (λ zs. zs ++ k ∷ []) (entry_cells pool ks) ∙ sym (reverse-cons k ks)))
 
--- the cells of the put list are those linked
+-- the cells of the put list are those linked, the first linked first
 pub put_cells : (p : ℕ) (pool : History) → map (λ (e : Entry). e.cell) (put_list p pool) ≡ reverse (linked_cells p pool)
 put_cells p pool = entry_cells pool (linked_cells p pool)
 
--- a note that the item was taken passes the test for it
+-- a note that the item was taken passes the test `is_took`
 pub took_some : (o : Option Note) (n : Note) (v : ℕ) → o ≡ Some n → n ≡ Took v → is_took o ≡ true
 took_some o n v e same = rw (e, same) refl
 
--- the notes along one more cell are those before, and the note of that cell if it has one
+-- the notes along the first i + 1 cells are those along the first i, and then the next cell's note if it has one
 take_more : (f : ℕ → Option Note) (xs : List ℕ) (i d : ℕ) → i < length xs
     → filter_map f (take (suc i) xs) ≡ filter_map f (take i xs) ++ filter_map f (get_or xs i d ∷ [])
 take_more f [] i d less = absurd (omega arith)
@@ -127,7 +127,7 @@ take_more f (x ∷ xs) (suc i) d less = by (f x) refl (take_more f xs i d (omega
     by None e rest = rw e rest
     by (Some n) e rest = rw e (ap (λ zs. n ∷ zs) rest)
 
--- if the next cell has a note, the note comes after those of the cells before
+-- if the next cell has the note n, the notes along the cells with it are those before, and then n
 pub note_read : (f : ℕ → Option Note) (xs : List ℕ) (i d : ℕ) (ns : List Note) (n : Note) → i < length xs
     → ns ≡ filter_map f (take i xs) → f (get_or xs i d) ≡ Some n → ns ++ n ∷ [] ≡ filter_map f (take (i + 1) xs)
 note_read f xs i d ns n less old here =
@@ -136,7 +136,7 @@ note_read f xs i d ns n less old here =
     ∙ (ap (λ ms. filter_map f (take i xs) ++ ms) (one_noted f (get_or xs i d) n here)
     ∙ ap (λ ms. ms ++ n ∷ []) (sym old))))
 
--- if the next cell has no note, none comes after those of the cells before
+-- if the next cell has no note, the notes along the cells with it are those before
 pub note_missed : (f : ℕ → Option Note) (xs : List ℕ) (i d : ℕ) (ns : List Note) → i < length xs
     → ns ≡ filter_map f (take i xs) → ((n : Note) → f (get_or xs i d) ≡ Some n → ⊥)
     → ns ≡ filter_map f (take (i + 1) xs)

@@ -1,4 +1,4 @@
--- What the state of a world tells is the report of each history that leaves the world.
+-- The report that the state of a world tells is the report of each history that leaves this state.
 use Rattle.std.proofs.Common.{◌≡◌, ◌≢◌, ℕ, ◌*◌, ◌<◌, ◌++◌, Bool, false, not, List, [], length, Option, Some, None, refl, sym, ◌∙◌, ap, subst, arith, reverse, slice_get, filter_map}
 use Rattle.std.specs.Option.{option_map_or}
 use Rattle.std.proofs.lemmas.Bool.{lt-ltb}
@@ -35,7 +35,7 @@ module _ (s : WorldState) (h : WorldHistory) (is : IsWorldAfter h s) (known : Wo
     abbrev linked : ℕ → List ℕ
     linked p = linked_cells p (pool_accesses h)
 
-    -- the cells of a walk along lane p are those linked there, the first first
+    -- if by the pool's state lane p has these cells, they are those linked there, the first linked first
     walk_is : (p : ℕ) (ks : List ℕ) (over : Bool) → IsWalked s.pool p ks over → ks ≡ reverse (linked p)
     walk_is p ks over w = sym (w (pool_accesses h) is.pool).cells ∙ put_cells p (pool_accesses h)
 
@@ -54,7 +54,7 @@ module _ (s : WorldState) (h : WorldHistory) (is : IsWorldAfter h s) (known : Wo
     end_some : (c k : ℕ) (n : Note) → c < consumers_of plan → Ends c k n → claim_part c k (claim_accesses h) ≢ []
     end_some c k n cs e none = by n e
       where
-        -- the claim would go on, as it has no access
+        -- the claim has no access, so its one stage would be `Going`
         same : (z : _) → IsClaimPrefix plan.claims c (claim_part c k (claim_accesses h)) z → stage.Going ≡ z
         same z w =
             known.stage c [] stage.Going z (fresh c cs) (subst (λ xs. IsClaimPrefix plan.claims c xs z) none w)
@@ -66,19 +66,19 @@ module _ (s : WorldState) (h : WorldHistory) (is : IsWorldAfter h s) (known : Wo
 
     -- ---- the diary of one consumer on one lane
     module _ (c p : ℕ) (cs : c < consumers_of plan) (ps : p < plan.lanes) where
-      -- what the state's place of consumer c on lane p says
+      -- the state's place of consumer c on lane p is its place after the history
       abbrev at : IsPlaceAfter s.setup c p h (is.place c p cs ps).0
       at = (is.place c p cs ps).2
 
-      -- what consumer c did on lane p is on a path
+      -- what consumer c did on lane p is a prefix of a consumer path
       abbrev here : IsOnPath plan c p h
       here = record { cells = at.cells; notes = at.notes; held = at.held; path = at.path }
 
-      -- the cells that the consumer met whose claims have ended
+      -- the cells that the consumer met and whose claims have ended
       abbrev with_notes : List ℕ
       with_notes = closed at.cells at.held
 
-      -- the diary that follows from the path is that of the consumer on the lane
+      -- the diary with the notes and the claim of the path is the diary of consumer c on lane p
       own : IsDiaryOf plan c p (histories_of h)
           (record { consumer = c; lane = p; notes = reverse at.notes; begun = has_begun at.held })
       own = diary_is plan h is.lawful known c p at.cells at.notes at.held at.path
@@ -132,7 +132,7 @@ module _ (s : WorldState) (h : WorldHistory) (is : IsWorldAfter h s) (known : Wo
       lane_order : reverse (linked p) ≡ reverse with_notes ++ reverse late.0
       lane_order = ap reverse (sym late.1) ∙ reverse-append late.0 with_notes
 
-      -- the notes along the lane are those of the path, the first first
+      -- the state's notes on the lane's cells, in the order of linking, are those of the path, the first first
       notes_along : filter_map (note_on s c) (reverse (linked p)) ≡ reverse at.notes
       notes_along =
           ap (filter_map (note_on s c)) lane_order
@@ -143,11 +143,11 @@ module _ (s : WorldState) (h : WorldHistory) (is : IsWorldAfter h s) (known : Wo
           (none_noted (note_on s c) (reverse late.0) (λ k has. none_late k (has_of_reverse late.0 k has)))
           ∙ append-nil (reverse at.notes))))
 
-      -- each note has the position of its cell
-      note_along : (j : ℕ)
+      -- the note at position j along the lane is that on the cell at position j
+      note_at_position : (j : ℕ)
           → slice_get (filter_map (note_on s c) (reverse (linked p))) j
           ≡ note_by (note_on s c) (slice_get (reverse (linked p)) j)
-      note_along j =
+      note_at_position j =
           subst (λ (ls : List ℕ). slice_get (filter_map (note_on s c) ls) j ≡ note_by (note_on s c) (slice_get ls j))
           (sym lane_order)
           (note_placed (note_on s c) (reverse with_notes) (reverse late.0) j
@@ -161,11 +161,11 @@ module _ (s : WorldState) (h : WorldHistory) (is : IsWorldAfter h s) (known : Wo
           ap (λ (o : Option Place). option_map_or has_begun_at o false) (is.place c p cs ps).1
           ∙ place_begun s.setup.layout c p at.cells at.held (is.place c p cs ps).0 at.is
 
-      -- the notes of a diary that the state tells are those along the lane
+      -- a diary that the state tells has the state's notes on the lane's cells, in the order of linking
       told_notes : (d : DiaryView) → IsDiaryTold s c p d → d.notes ≡ filter_map (note_on s c) (reverse (linked p))
       told_notes d t = t.notes ∙ ap (filter_map (note_on s c)) (walk_is p t.cells t.ended t.walked)
 
-      -- a diary that the state tells is that of the consumer on the lane
+      -- a diary that the state tells is the diary of consumer c on lane p
       diary_told : (d : DiaryView) → IsDiaryTold s c p d → IsDiaryOf plan c p (histories_of h) d
       diary_told d t =
           let same : d.notes ≡ reverse at.notes = told_notes d t ∙ notes_along in
@@ -193,7 +193,7 @@ module _ (s : WorldState) (h : WorldHistory) (is : IsWorldAfter h s) (known : Wo
           let same : notes c p r ≡ t.0.notes =
           ap (λ (o : Option DiaryView). option_map_or (λ d. d.notes) o []) there in
           ap (λ (ns : List Note). slice_get ns j) (same ∙ told_notes c p cs ps t.0 t.2)
-          ∙ (note_along c p cs ps j ∙ ap (note_by (note_on s c)) e)
+          ∙ (note_at_position c p cs ps j ∙ ap (note_by (note_on s c)) e)
 
       -- the report says that an item was taken exactly if the state does
       taken_is : (p j k : ℕ) → p < plan.lanes → slice_get (reverse (linked p)) j ≡ Some k
@@ -202,7 +202,7 @@ module _ (s : WorldState) (h : WorldHistory) (is : IsWorldAfter h s) (known : Wo
           ap not (any_below-same (consumers_of plan) (λ c. is_took (note c p j r)) (λ c. is_took (note_on s c k))
           (λ c cs. ap is_took (note_is c p j k cs ps e)))
 
-      -- the view of a lane that the state tells is that of the report
+      -- what the state tells of lane p is what the report of the history must say of it
       lane_told : (p : ℕ) (l : LaneView) → p < plan.lanes → IsLaneTold s p l → l ≡ lane_view plan p (histories_of h) r
       lane_told p l ps t =
           let w = t.walked (pool_accesses h) is.pool in
@@ -214,7 +214,7 @@ module _ (s : WorldState) (h : WorldHistory) (is : IsWorldAfter h s) (known : Wo
           (λ j k e. taken_is p j k ps (subst (λ (ls : List ℕ). slice_get ls j ≡ Some k) order e))
           ∙ ap (items_where (λ j. not (is_taken (consumers_of plan) p j r))) (sym w.values)))
 
-      -- the report that the state tells is that of the history
+      -- the report that the state tells is the report of the history
       pub report_is : IsReportOf plan (histories_of h) r
       report_is = record {
         lanes_count = lanes.count;

@@ -10,11 +10,11 @@ use Rattle.mb_world.specs.Vocabulary.{ConsumerPath, ConsumerAdds, IsNoteAfter, I
 use Rattle.mb_world.proofs.StateEnds.{Ends}
 use Rattle.mb_world.proofs.Grids.{HasAll, all_kept, all_set}
 
--- one thing stands at a position
+-- two elements found at one position are equal
 one_there : {X : Type 0} (o : Option X) (x y : X) → o ≡ Some x → o ≡ Some y → x ≡ y
 one_there o x y e f = let both : Some x ≡ Some y = sym e ∙ f in cc
 
--- after an event some history leaves the state
+-- after an event, some lawful history leaves the state
 pub still_sound : (e : Event) (r : Answer) (now : WorldState) (h : WorldHistory)
     → EventAdds e r now h → WorldIsSound now
 still_sound e r now h adds = (with_access adds.access h, adds.left)
@@ -32,15 +32,15 @@ module _ (s : WorldState) (h : WorldHistory) (is : IsWorldAfter h s) where
   abbrev pub note_position : ℕ → ℕ → ℕ
   note_position c k = c * plan.claims.cells + k
 
-  -- the places are those of the consumers after the history
+  -- the list has the place of each consumer on each lane after the history
   abbrev pub ArePlaces : WorldHistory → List Place → Type 0
   ArePlaces g ds = HasAll (consumers_of plan) plan.lanes (λ c p d. IsPlaceAfter s.setup c p g d) ds
 
-  -- the notes are those of the consumers after the history
+  -- the list has the note of each consumer on each cell after the history, or `None` for none
   abbrev pub AreNotes : WorldHistory → List (Option Note) → Type 0
   AreNotes g os = HasAll (consumers_of plan) plan.claims.cells (λ c k o. IsNoteAfter s.setup c k g o) os
 
-  -- the place at the position of consumer c and lane p
+  -- the state's place at the position of c and p is that of consumer c on lane p after the history
   pub place_here : (c p : ℕ) (d : Place) → c < consumers_of plan → p < plan.lanes
       → slice_get s.places (place_position c p) ≡ Some d → IsPlaceAfter s.setup c p h d
   place_here c p d cs ps at =
@@ -48,7 +48,7 @@ module _ (s : WorldState) (h : WorldHistory) (is : IsWorldAfter h s) where
       subst (λ (e : Place). IsPlaceAfter s.setup c p h e)
       (one_there (slice_get s.places (place_position c p)) old.0 d old.1 at) old.2
 
-  -- the note at the position of consumer c and cell k
+  -- at the position of c and k the state has the note of consumer c on cell k after the history, or `None`
   pub note_here : (c k : ℕ) → c < consumers_of plan → k < plan.claims.cells
       → (o : Option Note) × (slice_get s.notes (note_position c k) ≡ Some o) × IsNoteAfter s.setup c k h o
   note_here c k cs ks = is.note c k cs ks
@@ -56,7 +56,7 @@ module _ (s : WorldState) (h : WorldHistory) (is : IsWorldAfter h s) where
   module _ (c p : ℕ) (cs : c < consumers_of plan) (ps : p < plan.lanes) (a : WorldAccess)
       (adds : ConsumerAdds plan c p a h) where
     -- ---- the places after the access
-    -- the place of another consumer or on another lane stays
+    -- the place of another consumer or on another lane is still right after the access
     other_place : (e q : ℕ) (x : Place) → (e ≡ c → q ≡ p → ⊥) → IsPlaceAfter s.setup e q h x
         → IsPlaceAfter s.setup e q (a ∷ h) x
     other_place e q x other y = record {
@@ -80,7 +80,7 @@ module _ (s : WorldState) (h : WorldHistory) (is : IsWorldAfter h s) where
       is = at;
     }
 
-    -- the places stay as they are, if that of consumer c on lane p is right after the access
+    -- if the old place of consumer c on lane p is right after the access, all old places are
     pub places_kept : (d : Place) → slice_get s.places (place_position c p) ≡ Some d
         → IsPlaceAfter s.setup c p (a ∷ h) d
         → ArePlaces (a ∷ h) s.places
@@ -88,7 +88,7 @@ module _ (s : WorldState) (h : WorldHistory) (is : IsWorldAfter h s) where
         all_kept (consumers_of plan) plan.lanes (λ e q x. IsPlaceAfter s.setup e q h x)
         (λ e q x. IsPlaceAfter s.setup e q (a ∷ h) x) s.places is.place keeps
       where
-        -- each place is right after the access: that of consumer c on lane p, and the others, which stay
+        -- each old place is right after the access: that of consumer c on lane p, and the others, which stay
         keeps : (e q : ℕ) (x : Place) → e < consumers_of plan → q < plan.lanes
             → slice_get s.places (place_position e q) ≡ Some x → IsPlaceAfter s.setup e q h x
             → IsPlaceAfter s.setup e q (a ∷ h) x
@@ -107,7 +107,7 @@ module _ (s : WorldState) (h : WorldHistory) (is : IsWorldAfter h s) where
             by (inr n) g = other_place e q x (λ f _. n f) old
             by (inl f) (inr n) = other_place e q x (λ _ g. n g) old
 
-    -- if the place of consumer c on lane p is written, all places are right after the access
+    -- if a place of consumer c on lane p is written that is right after the access, all places are right then
     pub places_set : (d : Place) → IsPlaceAfter s.setup c p (a ∷ h) d
         → ArePlaces (a ∷ h) (slice_set s.places (place_position c p) d)
     places_set d now =
@@ -115,17 +115,17 @@ module _ (s : WorldState) (h : WorldHistory) (is : IsWorldAfter h s) where
         (λ e q x. IsPlaceAfter s.setup e q (a ∷ h) x) s.places is.place c p cs ps is.places_count d now
         (λ e q x _ _ other old. other_place e q x other old)
 
-    -- with one place changed there are as many places
+    -- if one place is written, the number of places stays
     pub places_count : (d : Place) → length (slice_set s.places (place_position c p) d) ≡ consumers_of plan * plan.lanes
     places_count d = length-set s.places (place_position c p) d ∙ is.places_count
 
     -- ---- the notes after the access
-    -- a note stays, if the ends of its claim stay
+    -- a note is still right after the access, if its claim has ended exactly if it had before, and in the same way
     note_kept : (e j : ℕ) (o : Option Note) → ((n : Note) → Ends plan.claims h e j n ↔ Ends plan.claims (a ∷ h) e j n)
         → IsNoteAfter s.setup e j h o → IsNoteAfter s.setup e j (a ∷ h) o
     note_kept e j o same old n = ((λ f. (same n).0 ((old n).0 f)), (λ f. (old n).1 ((same n).1 f)))
 
-    -- if the ends of all claims stay, all notes do
+    -- if this holds of all claims, all notes are still right after the access
     pub notes_kept : ((e j : ℕ) (n : Note) → Ends plan.claims h e j n ↔ Ends plan.claims (a ∷ h) e j n)
         → AreNotes (a ∷ h) s.notes
     notes_kept same =
@@ -151,13 +151,13 @@ module _ (s : WorldState) (h : WorldHistory) (is : IsWorldAfter h s) where
             λ e. let one = only m e in cc,
           )
 
-      -- with one note added there are as many positions for notes
+      -- if one note is written, the number of positions for notes stays
       pub notes_count : length (slice_set s.notes (note_position c k) (Some n))
           ≡ consumers_of plan * plan.claims.cells
       notes_count = length-set s.notes (note_position c k) (Some n) ∙ is.notes_count
 
     -- ---- the state after the access
-    -- the state with these words, places and notes is what the longer history leaves
+    -- if its words, places and notes are right after the access, this state is what the longer history leaves
     pub state_after : (words : List ℕ) (places : List Place) (notes : List (Option Note))
         → IsAfter (pool_accesses (a ∷ h)) s.pool → IsMemoryOf plan.claims words (claim_accesses (a ∷ h))
         → length places ≡ consumers_of plan * plan.lanes → ArePlaces (a ∷ h) places

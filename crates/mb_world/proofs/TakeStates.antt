@@ -22,7 +22,7 @@ module _ (s : WorldState) (h : WorldHistory) (is : IsWorldAfter h s) (c p : ℕ)
     (ps : p < (plan s h is).lanes) (known : StepKnown s h c p) (k : ℕ) (claim : Claim)
     (here : slice_get s.places (c * (plan s h is).lanes + p) ≡ Some (At k claim))
     (won : claim_stage claim ≡ stage.Won) where
-  -- what the place of a consumer that holds this claim says
+  -- the consumer's path has met cell k last and holds this claim, as its place says
   abbrev at : AtCell s h is c p cs ps known k claim here
   at = at_cell s h is c p cs ps known k claim here
 
@@ -30,7 +30,7 @@ module _ (s : WorldState) (h : WorldHistory) (is : IsWorldAfter h s) (c p : ℕ)
   may : MayRead (plan s h is).lanes (Item k) (part (Reader c) (pool_accesses h))
   may = given s h is c p cs ps known (k ∷ at.cells) at.notes (Some at.steps) at.path k (inl refl)
 
-  -- what the item's word holds
+  -- the value that the item's word holds
   abbrev v : ℕ
   v = value_in (Item k) (pool_accesses h)
 
@@ -38,29 +38,29 @@ module _ (s : WorldState) (h : WorldHistory) (is : IsWorldAfter h s) (c p : ℕ)
   abbrev a : WorldAccess
   a = loaded s h is c p cs ps known (Item k) may
 
-  -- with that load the consumer's path goes on past the cell
+  -- with that load the consumer's path has the note that it took the item, and holds no claim
   next : ConsumerPath (plan s h is).claims c p (a ∷ lane_part c p h) (k ∷ at.cells) (Took v ∷ at.notes) None
   next = takes (prefix s h is c p cs ps known k claim here stage.Won won) at.path
 
-  -- what the load adds to the history
+  -- the history with the load is lawful, and only the part of consumer c on lane p changes: it has the load more
   abbrev more : ConsumerAdds (plan s h is) c p a h
   more = adds s h is c p cs ps known (Item k) may (k ∷ at.cells) (Took v ∷ at.notes) None next
 
-  -- the consumer's claim is won, by its part
+  -- the consumer's part on the cell says that its claim is won
   is_won : IsClaimPrefix (plan s h is).claims c (claim_part c k (claim_accesses h)) stage.Won
   is_won =
       subst (λ xs. IsClaimPrefix (plan s h is).claims c xs stage.Won)
       (sym (part_is s h is c p cs ps known k claim here))
       (prefix s h is c p cs ps known k claim here stage.Won won)
 
-  -- no other value was loaded from the item
+  -- the consumer loaded no other value from the item
   only : (u : ℕ) → HasItem (plan s h is).claims (a ∷ h) c k u → v ≡ u
   only u read = elim (item_loads (plan s h is).claims c h (Item k) v c k u read) [
     | inl older ↦ absurd (unread s h is c p cs ps known k claim here u older)
     | inr new ↦ new.2
   ]
 
-  -- the notes with the one that the item was taken are right
+  -- if the note that the item was taken is written, all notes are right after the load
   noted : AreNotes s h is (a ∷ h) (slice_set s.notes (c * (plan s h is).claims.cells + k) (Some (Took v)))
   noted =
       notes_set s h is c p cs ps a more k (below s h is c p cs ps known k claim here) (Took v)
@@ -70,7 +70,7 @@ module _ (s : WorldState) (h : WorldHistory) (is : IsWorldAfter h s) (c p : ℕ)
       (λ e j n other. load_keeps (plan s h is).claims c h (Item k) v e j n
       (λ own same. let f : k ≡ j = cc in other own (sym f)))
 
-  -- the state after the load
+  -- the load leaves the state with that note, and with the consumer's place past the cell
   pub took : (word : ℕ) → EventAdds (event.Step c p word) (answer.Took k v)
       (with_note c k (Took v) (with_place c p (Before (Past k)) s)) h
   took word =

@@ -1,4 +1,4 @@
--- What a consumer's place on one lane tells of all that the consumer did there.
+-- What the cells, notes and claim to which a consumer's path on a lane leads tell of all that it did there.
 use Rattle.std.proofs.Common.{◌≡◌, ◌≢◌, ◌⊎◌, ℕ, ◌+◌, List, [], ◌∷◌, Option, Some, None, refl, sym, ◌∙◌, ap, subst, inl, inr}
 use Rattle.std.proofs.lemmas.Bool.{cases_eq}
 use Rattle.mb_claim.specs.declared.access.Stage.TheVariants as stage
@@ -11,7 +11,7 @@ use Rattle.mb_world.specs.ConsumerPath.{ConsumerPath, begins, ends, finds, goes,
 use Rattle.mb_world.proofs.Claimed.{part-elsewhere, part-own}
 use Rattle.mb_world.proofs.Loads.{gift_past}
 
--- the parts of consumer c in what it did on one lane
+-- what consumer c did on one lane (`done`), as its two parts: its loads of cells, and its steps of claims
 abbrev pub local : ℕ → WorldHistory → Parts
 local c done = record { reads = pool_accesses done; claimed = λ k. claim_part c k (claim_accesses done) }
 
@@ -25,25 +25,25 @@ closed ks None = ks
 closed [] (Some xs) = []
 closed (k ∷ ks) (Some xs) = ks
 
--- the steps of a claim that is held are those made on the last cell met
+-- if a claim is held, its steps are all that consumer c made on the last cell met
 abbrev pub IsHeld : ℕ → WorldHistory → List ℕ → Option (List ObjectTurn) → Type 0
 IsHeld c done ks None = Unit {0}
 IsHeld c done [] (Some xs) = ⊥
 IsHeld c done (k ∷ ks) (Some xs) = claim_part c k (claim_accesses done) ≡ xs
 
--- a claim that is held has not come to its end
+-- if a claim is held, it goes on or is won, so it has no note yet
 abbrev pub IsOpenHeld : Claims → ℕ → Option (List ObjectTurn) → Type 0
 IsOpenHeld cs c None = Unit {0}
 IsOpenHeld cs c (Some xs) = (s : Stage) × IsClaimPrefix cs c xs s × (note_of s ≡ None)
 
--- each cell has its note, and the note is an end in the sense of E
+-- there is one note for each cell, in the same order, and E holds of each cell with its note
 abbrev pub AreEnds : (ℕ → Note → Type 0) → List ℕ → List Note → Type 0
 AreEnds E [] [] = Unit {0}
 AreEnds E [] (n ∷ ns) = ⊥
 AreEnds E (k ∷ ks) [] = ⊥
 AreEnds E (k ∷ ks) (n ∷ ns) = E k n × AreEnds E ks ns
 
--- if each end in the sense of E is one in the sense of F, cells keep their notes
+-- if E implies F for each of these cells and any note, then `AreEnds` for E implies `AreEnds` for F
 pub ends_more : (E F : ℕ → Note → Type 0) (ks : List ℕ) (ns : List Note)
     → ((k : ℕ) (n : Note) → Has ks k → E k n → F k n) → AreEnds E ks ns → AreEnds F ks ns
 ends_more E F [] [] more h = tt
@@ -52,7 +52,7 @@ ends_more E F (k ∷ ks) [] more h = absurd h
 ends_more E F (k ∷ ks) (n ∷ ns) more h =
     (more k n (inl refl) h.0, ends_more E F ks ns (λ i m has. more i m (inr has)) h.1)
 
--- each cell has an end in the sense of E
+-- each of these cells has a note, and E holds of the two
 pub ends_some : (E : ℕ → Note → Type 0) (ks : List ℕ) (ns : List Note) (k : ℕ) → AreEnds E ks ns → Has ks k
     → (n : Note) × E k n
 ends_some E [] ns k h has = absurd has
@@ -60,11 +60,11 @@ ends_some E (j ∷ ks) [] k h has = absurd h
 ends_some E (j ∷ ks) (n ∷ ns) k h (inl e) = (n, subst (λ i. E i n) e h.0)
 ends_some E (j ∷ ks) (n ∷ ns) k h (inr has) = ends_some E ks ns k h.1 has
 
--- a value that older accesses loaded from a word is loaded from it after one more access, too
+-- if the older accesses loaded a value from a word, the accesses with one more did, too
 pub read-more : (a : PoolAccess) (d : History) (w : Word) (v : ℕ) → HasRead w v d → HasRead w v (a ∷ d)
 read-more a d w v h = (h.0, inr h.1, h.2, h.3)
 
--- a load is the newest or an older one
+-- if v was loaded from word w, the newest access is to w, or an older one loaded v from w
 pub read-cases : (a : PoolAccess) (d : History) (w : Word) (v : ℕ) → HasRead w v (a ∷ d) → (a.word ≡ w) ⊎ HasRead w v d
 read-cases a d w v h = by h.1
   where
@@ -72,20 +72,20 @@ read-cases a d w v h = by h.1
     by (inl e) = inl (ap (λ (x : PoolAccess). x.word) e ∙ h.2)
     by (inr m) = inr (h.0, m, h.2, h.3)
 
--- the link past cells is no item
+-- the link past these cells, or the lane's head if there are none, is not the word of an item
 pub past_item : (p k : ℕ) (ks : List ℕ) → place_past p ks ≡ Item k → ⊥
 past_item p k [] e = cc
 past_item p k (j ∷ ks) e = cc
 
--- if the link past cells is the link of a cell, that cell is one of these
+-- if the link past these cells is the link of cell k, then k is one of them
 pub past_link : (p k : ℕ) (ks : List ℕ) → place_past p ks ≡ Link k → Has ks k
 past_link p k [] e = absurd (cc)
 past_link p k (j ∷ ks) e = let same : j ≡ k = cc in inl same
 
--- what a consumer's place on a lane tells of all that it did there
+-- what the cells, notes and held claim to which a path leads tell of all that the consumer did on the lane
 pub record Tracks (cs : Claims) (c : ℕ) (done : WorldHistory) (ks : List ℕ) (ns : List Note)
     (held : Option (List ObjectTurn)) : Type 0 where
-  -- each cell met was given
+  -- the consumer's loads gave it each cell met
   pub given : (k : ℕ) → Has ks k → Gave k (pool_accesses done)
   -- no step was made on a cell that was not met
   pub none : (k : ℕ) → (Has ks k → ⊥) → claim_part c k (claim_accesses done) ≡ []
@@ -94,7 +94,7 @@ pub record Tracks (cs : Claims) (c : ℕ) (done : WorldHistory) (ks : List ℕ) 
   -- the steps on each cell are a prefix of a claim path
   pub prefix : (k : ℕ) → claim_part c k (claim_accesses done) ≢ []
       → (s : Stage) × IsClaimPrefix cs c (claim_part c k (claim_accesses done)) s
-  -- each cell whose claim has ended has its note
+  -- each cell met has a note as its claim ended, except the last one if a claim is held there
   pub ended : AreEnds (EndsIn cs c done) (closed ks held) ns
   -- an item was loaded only if the claim there is won
   pub won : (k v : ℕ) → HasRead (Item k) v (pool_accesses done)
@@ -104,14 +104,14 @@ pub record Tracks (cs : Claims) (c : ℕ) (done : WorldHistory) (ks : List ℕ) 
   pub links : (k v : ℕ) → HasRead (Link k) v (pool_accesses done) → Has (closed ks held) k
 
 module _ (cs : Claims) (c : ℕ) where
-  -- one more load keeps the ends of claims
+  -- if a claim has ended as a note says, it has still ended so after one more load
   loaded : (a : PoolAccess) (done : WorldHistory) (k : ℕ) (n : Note) → EndsAs cs c k n (local c done)
       → EndsAs cs c k n (local c (ToCells a ∷ done))
   loaded a done k (Took v) e = (e.0, read-more a (pool_accesses done) (Item k) v e.1)
   loaded a done k (Lost w) e = e
   loaded a done k Undecided e = e
 
-  -- a step of a claim on another cell keeps the ends of claims
+  -- if a claim has ended as a note says, it has still ended so after a step on another cell
   stepped : (k : ℕ) (x : ObjectTurn) (done : WorldHistory) (j : ℕ) (n : Note) → (k ≡ j → ⊥)
       → EndsAs cs c j n (local c done) → EndsAs cs c j n (local c (claim_step c k x ∷ done))
   stepped k x done j (Took v) ne e = (
@@ -126,7 +126,7 @@ module _ (cs : Claims) (c : ℕ) where
       subst (λ xs. IsClaimPrefix cs c xs stage.Undecided)
       (sym (part-elsewhere c j (claim_access c k x) (claim_accesses done) ne)) e
 
-  -- a claim that has a note at its last step has ended as the note says
+  -- if a claim has a stage with a note (it is lost or undecided), it has ended as the note says
   noted_end : (k : ℕ) (done : WorldHistory) (s : Stage) (n : Note)
       → IsClaimPrefix cs c (claim_part c k (claim_accesses done)) s → note_of s ≡ Some n
       → EndsAs cs c k n (local c done)
@@ -141,20 +141,20 @@ module _ (cs : Claims) (c : ℕ) where
   module _ (k : ℕ) (ks : List ℕ) (ns : List Note) (xs : List ObjectTurn) (x : ObjectTurn) (older : WorldHistory)
       (once : IsOnceEach (k ∷ ks)) (z : Stage)
       (q : IsClaimPrefix cs c (x ∷ xs) z) (y : Tracks cs c older (k ∷ ks) ns (Some xs)) where
-    -- the consumer's history with the step
+    -- what the consumer did on the lane, with the step
     abbrev Now : WorldHistory
     Now = claim_step c k x ∷ older
 
-    -- the claim that is held has this step more
+    -- on cell k the consumer has made the older steps of the held claim, and this one
     step_own : claim_part c k (claim_accesses Now) ≡ x ∷ xs
     step_own = part-own c k (claim_access c k x) (claim_accesses older) refl refl ∙ ap (λ zs. x ∷ zs) y.is_held
 
-    -- there is no claim on other cells than those met
+    -- on a cell that was not met no step was made
     step_none : (j : ℕ) → (Has (k ∷ ks) j → ⊥) → claim_part c j (claim_accesses Now) ≡ []
     step_none j not_met = part-elsewhere c j (claim_access c k x) (claim_accesses older) (λ e. not_met (inl e))
         ∙ y.none j not_met
 
-    -- each claim is a prefix of a claim path still
+    -- the steps on each cell are still a prefix of a claim path
     step_prefix : (j : ℕ) → claim_part c j (claim_accesses Now) ≢ []
         → (s : Stage) × IsClaimPrefix cs c (claim_part c j (claim_accesses Now)) s
     step_prefix j some = by (cases_eq k j)
@@ -170,24 +170,24 @@ module _ (cs : Claims) (c : ℕ) where
             let r = y.prefix j (λ e. some (same ∙ e)) in
             (r.0, subst (λ zs. IsClaimPrefix cs c zs r.0) (sym same) r.1)
 
-    -- a cell met before is another than the last one
+    -- a cell met before the last one differs from it
     another : (j : ℕ) → Has ks j → k ≡ j → ⊥
     another j has e = once.0 (subst (Has ks) (sym e) has)
 
-    -- the claims of items that were loaded are won still
+    -- if the item of a cell was loaded, the claim there is still won
     step_won : (j v : ℕ) → HasRead (Item j) v (pool_accesses older)
         → IsClaimPrefix cs c (claim_part c j (claim_accesses Now)) stage.Won
     step_won j v h =
         subst (λ zs. IsClaimPrefix cs c zs stage.Won)
         (sym (part-elsewhere c j (claim_access c k x) (claim_accesses older) (another j (y.items j v h)))) (y.won j v h)
 
-    -- the claims on the cells met before have their notes still
+    -- the claims on the cells met before have still ended as their notes say
     step_ended : AreEnds (EndsIn cs c Now) ks ns
     step_ended =
         ends_more (EndsIn cs c older) (EndsIn cs c Now) ks ns
         (λ j n has. stepped k x older j n (another j has)) y.ended
 
-  -- the place to which a path leads tells this of what was done
+  -- if a path leads to these cells, each met once, and to these notes and this claim, all of `Tracks` holds
   pub track : {p : ℕ} {done : WorldHistory} {ks : List ℕ} {ns : List Note} {held : Option (List ObjectTurn)}
       → IsOnceEach ks → ConsumerPath cs c p done ks ns held → Tracks cs c done ks ns held
   track once begins = record {

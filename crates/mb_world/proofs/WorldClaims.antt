@@ -27,7 +27,7 @@ module _ (plan : Plan) (h : WorldHistory) (lawful : IsWorldLawful plan h) (known
       (λ a has. (of_part c (pool_accesses h) a (Has-of_filter (of_lane plan h lawful p) (loads plan h lawful c) a
       (subst (λ (d : History). Has d a) (loads_on plan h lawful c p) has))).0) (path_met plan.claims c y.path)
 
-  -- the cells met stand on the lane
+  -- the cells met are linked on the lane
   pub on_lane : (c p k : ℕ) (y : IsOnPath plan c p h) → Has y.cells k → Has (linked_cells p (pool_accesses h)) k
   on_lane c p k y has =
       let s = known.start c p y.cells (met_all c p y) in
@@ -40,7 +40,7 @@ module _ (plan : Plan) (h : WorldHistory) (lawful : IsWorldLawful plan h) (known
       let s = known.start c p y.cells (met_all c p y) in
       once_start s.0 y.cells (subst IsOnceEach (sym s.1) (known.once p))
 
-  -- what a consumer's place on a lane tells of its part there
+  -- what the cells, notes and claim of a path tell of the consumer's part on the lane
   pub tracks : (c p : ℕ) (y : IsOnPath plan c p h) → Tracks plan.claims c (lane_part c p h) y.cells y.notes y.held
   tracks c p y = track plan.claims c (met_once c p y) y.path
 
@@ -85,7 +85,7 @@ module _ (plan : Plan) (h : WorldHistory) (lawful : IsWorldLawful plan h) (known
         );
   }
 
-  -- the end of a claim by the consumer's part on a lane is its end by all that the consumer did
+  -- if a claim has ended by the consumer's part on the cell's lane, it has ended so by all that the consumer did
   pub end_here : (c p k : ℕ) (n : Note) → has_cell (linked_cells p (pool_accesses h)) k ≡ true
       → EndsIn plan.claims c (lane_part c p h) k n → EndsAs plan.claims c k n (parts_of c (histories_of h))
   end_here c p k (Took v) here e = (

@@ -42,7 +42,7 @@ module _ (plan : Plan) (h : WorldHistory) (lawful : IsWorldLawful plan h) (known
 
   module _ (c p : ℕ) (ks : List ℕ) (ns : List Note) (held : Option (List ObjectTurn))
       (path : ConsumerPath plan.claims c p (lane_part c p h) ks ns held) where
-    -- the consumer's part on the lane, as one on a path
+    -- the consumer's part on the lane is a prefix of a consumer path
     abbrev here : IsOnPath plan c p h
     here = record { cells = ks; notes = ns; held = held; path = path }
 
@@ -54,7 +54,7 @@ module _ (plan : Plan) (h : WorldHistory) (lawful : IsWorldLawful plan h) (known
     abbrev EndsHere : ℕ → Note → Type 0
     EndsHere k n = EndsIn plan.claims c (lane_part c p h) k n
 
-    -- what the consumer's place tells of that part
+    -- the cells, notes and claim of the path tell this of that part
     tracks_here : Tracks plan.claims c (lane_part c p h) ks ns held
     tracks_here = tracks plan h lawful known c p here
 
@@ -71,11 +71,11 @@ module _ (plan : Plan) (h : WorldHistory) (lawful : IsWorldLawful plan h) (known
         → claim_part c k (claim_accesses (lane_part c p h)) ≡ claim_part c k (claim_accesses h)
     same_steps k has = steps_there plan h lawful known c p k (cell_here k has)
 
-    -- the end of a claim by the part on the lane is its end by all that the consumer did
+    -- if a claim on a cell met has ended by the part on the lane, it has ended so by all that the consumer did
     ends_globally : (k : ℕ) (n : Note) → Has ks k → EndsHere k n → Ends k n
     ends_globally k n has e = end_here plan h lawful known c p k n (cell_here k has) e
 
-    -- the end of a claim on a cell met is its end by the part on the lane, too
+    -- if a claim on a cell met has ended by all that the consumer did, it has ended so by the part on the lane
     ends_locally : (k : ℕ) (n : Note) → Has ks k → Ends k n → EndsHere k n
     ends_locally k (Took v) has e = (
       subst (λ xs. IsClaimPrefix plan.claims c xs stage.Won) (sym (same_steps k has)) e.0,
@@ -96,7 +96,7 @@ module _ (plan : Plan) (h : WorldHistory) (lawful : IsWorldLawful plan h) (known
         let at = closed_in ks held j q.0 q.1 in
         (q.0, reverse_at ks j q.0 at, ends_globally q.0 n (at_has ks j q.0 at) q.2)
 
-    -- a claim that has ended has its note
+    -- a claim on a cell met that has ended has its note
     pub ended_within : (j k : ℕ) (n : Note) → slice_get (reverse ks) j ≡ Some k → Ends k n → j < length (reverse ns)
     ended_within j k n at e =
         let position = at_reverse ks j k at in
@@ -105,7 +105,7 @@ module _ (plan : Plan) (h : WorldHistory) (lawful : IsWorldLawful plan h) (known
         (ends_locally k n (at_has ks j k position) e) in
         omega (arith, less, length-reverse ns)
 
-    -- a claim is begun exactly if one of the consumer's claims on these cells has an access and no end
+    -- the path's claim is begun exactly if one of the consumer's claims on these cells has an access and has not ended
     begun_tells : (has_begun held ≡ true)
         ↔ ((k : ℕ) × Has ks k × (claim_part c k (claim_accesses h) ≢ []) × ((n : Note) → Ends k n → ⊥))
     begun_tells = (
@@ -115,7 +115,7 @@ module _ (plan : Plan) (h : WorldHistory) (lawful : IsWorldLawful plan h) (known
           (z.1, (λ e. z.2 (sym (same_steps z.0 z.1) ∙ e)), (λ n e. z.3 n (ends_globally z.0 n z.1 e))),
     )
 
-    -- the diary that the place tells is that of the consumer on the lane
+    -- the diary to which the path leads is the diary of consumer c on lane p
     pub diary_is : IsDiaryOf plan c p (histories_of h) (diary_at c p ns held)
     diary_is = record {
       consumer = refl;

@@ -70,7 +70,7 @@ module _ (plan : Plan) (h : WorldHistory) (lawful : IsWorldLawful plan h) (known
         (closed l.path.cells l.path.held) l.path.notes k y.ended has in
         (e.0, end_here plan h lawful known c l.lane k e.0 l.here e.1)
 
-    -- a cell with a step of a claim was given
+    -- the consumer's loads gave it each cell on which it made a step
     met : (k : ℕ) → claim_part c k (claim_accesses h) ≢ [] → Gave k (loads plan h lawful c)
     met k some =
         let on = claim_lane plan h lawful known c k some in
@@ -82,7 +82,7 @@ module _ (plan : Plan) (h : WorldHistory) (lawful : IsWorldLawful plan h) (known
           | inr n ↦ absurd (some (sym same ∙ y.none k n))
         ])
       where
-        -- a cell that was given by the part on a lane was given by all loads
+        -- a cell that the loads in the part on a lane gave was given by all loads of the consumer
         gave : (p : ℕ) → Gave k (pool_accesses (lane_part c p h)) → Gave k (loads plan h lawful c)
         gave p g =
             gave-filter (of_lane plan h lawful p) (loads plan h lawful c) k

@@ -19,7 +19,7 @@ pub past_lane : (p : ℕ) (ks ls : List ℕ) → ((k : ℕ) → Has ks k → Has
 past_lane p [] ls on = eq-eqb p p refl
 past_lane p (k ∷ ks) ls on = has_cell-true ls k (on k (inl refl))
 
--- a cell that the older loads met is met with one more load, too
+-- a cell that the older loads met is still met with one more load
 pub met_stay : (p : ℕ) (a : PoolAccess) (older : History) (k : ℕ) → Has (cells_met p older) k
     → Has (cells_met p (a ∷ older)) k
 met_stay p a older k has =
@@ -46,7 +46,7 @@ module _ (p : ℕ) (ls : List ℕ) where
       all k (cond_both (test a) (a ∷ filter test older) (filter test older) (λ (d : History). Has (cells_met p d) k)
       (λ _. met_stay p a (filter test older) k has) (λ _. has))
 
-  -- loads of other lanes' words meet no cell of the lane
+  -- if the loads of the lane's words meet only cells linked there, all loads meet the same cells of the lane
   met_filter : (d : History) → AreLinked d → cells_met p (filter test d) ≡ cells_met p d
   met_filter [] all = refl
   met_filter (a ∷ older) all = by (cases_Bool (test a)) (met_filter older (older_linked a older all))
@@ -92,7 +92,7 @@ module _ (plan : Plan) (h : WorldHistory) (lawful : IsWorldLawful plan h) (known
     linked = older_linked p (cells_of p) a older y.linked;
   }
 
-  -- if loads of a consumer follow the links of each lane, they follow links
+  -- if some loads of a consumer follow the links of each lane, `FollowsLinks` holds of them
   follows_all : (c : ℕ) (d : History) → ((a : PoolAccess) → Has d a → Has (loads plan h lawful c) a)
       → ((p : ℕ) → p < plan.lanes → IsOnLinks p d) → FollowsLinks d
   follows_all c [] among lanes = tt

@@ -45,7 +45,7 @@ module _ (plan : Plan) (h : WorldHistory) (lawful : IsWorldLawful plan h) where
     r.3,
   )
 
-  -- a load in a consumer's part on a lane is among all of its loads
+  -- a load in a consumer's part on a lane is one of all its loads
   pub read_here : (c p : ℕ) (w : Word) (v : ℕ) → HasRead w v (pool_accesses (lane_part c p h)) → HasRead w v (loads c)
   read_here c p w v r =
       (r.0, Has-of_filter (of_lane p) (loads c) r.0 (subst (λ (d : History). Has d r.0) (loads_on c p) r.1), r.2, r.3)
@@ -81,7 +81,7 @@ module _ (plan : Plan) (h : WorldHistory) (lawful : IsWorldLawful plan h) where
           subst (λ (d : History). IsReaderPath plan.lanes d)
           (sym (filter_none (in_lane p) (loads c) (λ a. ap (λ b. b && of_lane p a) (le-ltb p plan.lanes past)))) tt
 
-  -- what holds if accesses are a reader path as soon as their parts on all lanes are
+  -- this premise (a law of mb_cells): accesses are a reader path if their parts on all lanes are
   module _ (whole : (test : ℕ → PoolAccess → Bool) (done : History)
       → ((a : PoolAccess) → Has done a → (p : ℕ) × (test p a ≡ true))
       → ((p : ℕ) → IsReaderPath plan.lanes (filter (test p) done)) → IsReaderPath plan.lanes done) where

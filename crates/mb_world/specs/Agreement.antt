@@ -2,7 +2,7 @@
 use Rattle.std.specs.Prelude.{ℕ, ◌≡◌, ◌<◌, true, length}
 use Rattle.mb_world.specs.Theorem.{AreGiven, AreLeft, Assignment, HasCompeted, HasTaken, ReportView, is_begun, items_put, notes}
 
--- the report agrees with the assignment
+-- points 1 to 3 of the main theorem hold of the report with this assignment
 pub record AgreesWith (t : Assignment) (r : ReportView) : Type 0 where
   pub given : AreGiven t r
   pub left : AreLeft t r

@@ -16,12 +16,12 @@ with_load a x = record { reads = a ∷ x.reads; claimed = x.claimed }
 abbrev pub with_step : ℕ → ObjectTurn → Parts → Parts
 with_step k t x = record { reads = x.reads; claimed = λ j. if nat_eq j k then t ∷ x.claimed j else x.claimed j }
 
--- the claim of consumer c on cell k has ended, and if that claim is won, c loaded the item. So c may look past the cell
+-- the claim of consumer c on cell k has ended, and if it is won, c loaded the item. So c may load the cell's link
 pub record IsDoneWith (cs : Claims) (c k : ℕ) (x : Parts) : Type 0 where
   pub ended : (s : Stage) × HasStageIn cs c k s x × (s ≢ stage.Going)
   pub taken : HasStageIn cs c k stage.Won x → (v : ℕ) × HasRead (Item k) v x.reads
 
--- consumer c may look past these cells of a lane (the last first): c is done with the last of them, if there is one
+-- consumer c may load the link past these cells of a lane (the last first): c is done with the last, if there is one
 abbrev pub MayLookPast : Claims → ℕ → List ℕ → Parts → Type 0
 MayLookPast cs c [] x = Unit {0}
 MayLookPast cs c (k ∷ ks) x = IsDoneWith cs c k x

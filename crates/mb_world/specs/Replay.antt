@@ -25,7 +25,7 @@ IsPushed (Head p) v = v ≢ END
 IsPushed (Link k) v = v ≢ END
 IsPushed (Item k) v = Unit {0}
 
--- an access to a claim is made with this random word. The other accesses have none
+-- if the access is to a claim, it is made with this random word. Other accesses have none
 abbrev pub HasRandom : ℕ → WorldAccess → Type 0
 HasRandom word (ToCells a) = Unit {0}
 HasRandom word (ToClaims a) = a.step.turn.word ≡ word
@@ -100,7 +100,7 @@ IsRefused plan (event.Step c p word) r h =
     HasNoLane plan p r ⊎ ((p < plan.lanes) × (consumers_of plan ≤ c) × (r ≡ answer.NoConsumer))
 
 -- ---- the replay of a list of events
--- after a history, the event has this answer with this access, which keeps the history lawful, or with none
+-- after a history, the event has this answer and this access, which keeps the history lawful, or it is refused
 abbrev pub HasAnswer : Plan → Event → Answer → Option WorldAccess → WorldHistory → Type 0
 HasAnswer plan e r None h = IsRefused plan e r h
 HasAnswer plan e r (Some a) h = IsAccessOf e a h × AnswerNames plan r a h × IsWorldLawful plan (a ∷ h)

@@ -42,16 +42,16 @@ two_lanes ds = record {
   diaries = ds;
 }
 
--- consumer 0 has taken both items, and consumer 1 has lost that of lane 0. The diaries stand consumer by consumer, lane
--- by lane
+-- consumer 0 has taken both items, and consumer 1 has lost the item of lane 0. The diaries stand consumer by consumer,
+-- and of each consumer lane by lane
 abbrev pub taken_on_both : ReportView
 taken_on_both = two_lanes
     (diary_on 0 0 (Took 5 ∷ []) ∷ diary_on 0 1 (Took 6 ∷ []) ∷ diary_on 1 0 (Lost 0 ∷ []) ∷ diary_on 1 1 [] ∷ [])
 
 -- ---- reports with which no assignment agrees
--- the report of the two lanes, if its diaries stood lane by lane
-abbrev pub turned_diaries : ReportView
-turned_diaries = two_lanes
+-- `taken_on_both`, but its diaries stand lane by lane
+abbrev pub diaries_by_lane : ReportView
+diaries_by_lane = two_lanes
     (diary_on 0 0 (Took 5 ∷ []) ∷ diary_on 1 0 (Lost 0 ∷ []) ∷ diary_on 0 1 (Took 6 ∷ []) ∷ diary_on 1 1 [] ∷ [])
 
 -- the item that was lost to consumer 2 was taken by consumer 0

@@ -23,7 +23,7 @@ pub record IsWalk (s : PoolState) (p : ℕ) (ks : List ℕ) (over : Bool) (pool 
 abbrev pub IsWalked : PoolState → ℕ → List ℕ → Bool → Type 0
 IsWalked s p ks ended = (pool : History) → IsAfter pool s → IsWalk s p ks ended pool
 
--- the note in what was found at a position of a list, if the position is there and has a note
+-- the note found at a position of a list, if the list has that position and there is a note
 abbrev pub note_there : Option (Option Note) → Option Note
 note_there None = None
 note_there (Some o) = o
@@ -47,7 +47,7 @@ pub record IsLaneTold (s : WorldState) (p : ℕ) (l : LaneView) : Type 0 where
   pub put : l.put ≡ map (λ k. item_in k s.pool) cells
   pub left : l.left ≡ map (λ k. item_in k s.pool) (filter (λ k. not (is_taken_on s k)) cells)
 
--- the state tells this diary of consumer c on lane p
+-- the state tells this diary of consumer c on lane p: its notes on the lane's cells, and whether a claim is begun
 pub record IsDiaryTold (s : WorldState) (c p : ℕ) (d : DiaryView) : Type 0 where
   pub consumer : d.consumer ≡ c
   pub lane : d.lane ≡ p

@@ -1,5 +1,5 @@
 //! What the laws of claims and of cells say of two histories, or of a world's history, gathered in one record each. The
-//! functions compute nothing: the laws of this crate stand on their contracts.
+//! functions compute nothing: the laws of this crate use their contracts.
 ghost use Rattle.mb_world.specs.Imports.{IsPoolLawful, IsQuorumTable};
 ghost use Rattle.mb_world.specs.Known.{Known};
 ghost use Rattle.mb_world.specs.Plan.{Histories, Plan, size_of};

@@ -26,9 +26,8 @@ use mb_claim::laws::{last_objects_decide_claims, prefixes_have_one_stage};
 use mb_claim::steps::claims_have_one_next_op;
 use mb_deciding::laws::objects_keep_their_promises;
 
-/// One assignment of items to competitors agrees with the whole report, and nothing follows an end mark. This holds
-/// whatever the order of the accesses to the claims, whatever that of the accesses to the cells, and whatever the
-/// random words.
+/// One assignment of items to competitors agrees with the whole report, and nothing follows an end mark. This holds for
+/// every order of the accesses to the claims, for every order of the accesses to the cells, and for all random words.
 pub fn reports_have_one_assignment()
     ensures { (plan : Plan) (hs : Histories) (r : ReportView) → AreSound plan hs
         → IsReportOf plan hs r → MainTheorem hs.pool hs.reader_of r }
@@ -87,7 +86,7 @@ pub fn reports_agree_with_one_assignment()
 {}
 
 /// By the report a consumer competed for an item exactly if it made an access to its claim there. Each cell needs an
-/// object: a claim on none would end without an access.
+/// object: without objects a claim would end without an access.
 pub fn competitors_have_accesses()
     ensures { (plan : Plan) (hs : Histories) (r : ReportView) (c p j k : ℕ) → AreSound plan hs
         → IsReportOf plan hs r → plan.claims.kinds ≢ [] → c < consumers_of plan → p < plan.lanes
@@ -143,7 +142,7 @@ pub fn places_tell_diaries()
         → ConsumerPath plan.claims c p (lane_part c p h) ks ns held
         → IsDiaryOf plan c p (histories_of h) (diary_at c p ns held) }
 
-    // The steps of the claim that it holds are all that the consumer has made on that cell.
+    // The steps of the claim that the consumer holds are all that it has made on that cell.
     ensures held { (plan : Plan) (h : WorldHistory) (c p k : ℕ) (ks : List ℕ) (ns : List Note)
         (xs : List ObjectTurn) → IsQuorumTable plan.claims.table → IsWorldLawful plan h
         → ConsumerPath plan.claims c p (lane_part c p h) (k ∷ ks) ns (Some xs)
@@ -202,8 +201,8 @@ pub fn replays_do_not_differ()
 
 /// What a producer has done decides whether its event is refused, and with which answer.
 pub fn events_are_refused_for_what_was_done()
-    // An offer is closed after the end mark, busy while an item has a cell that is not linked, and full after a
-    // fetch-add that found no cell. Else it is not refused.
+    // An offer is refused as `Closed` after the end mark, as `Busy` while an item is pending, and as `Full` after a
+    // fetch-add that found no cell, if the lane has not ended. In no other case is it refused.
     ensures closed { (plan : Plan) (h : WorldHistory) (p x : ℕ) → IsQuorumTable plan.claims.table
         → IsWorldLawful plan h → p < plan.lanes
         → IsRefused plan (event.Offer p x) (answer.Offered offer.Closed) h
@@ -224,14 +223,14 @@ pub fn events_are_refused_for_what_was_done()
         → (HasFoundNone plan.claims.cells p (pool_accesses h) → ⊥)
         → IsRefused plan (event.Offer p x) r h → ⊥ }
 
-    // A push is idle exactly if no item has a cell that is not linked. No other answer refuses it.
+    // A push is refused exactly if no item is pending, and only as `Idle`.
     ensures idle { (plan : Plan) (h : WorldHistory) (p : ℕ) (r : Answer)
         → IsQuorumTable plan.claims.table → IsWorldLawful plan h → p < plan.lanes
         → IsRefused plan (event.Push p) r h
         ↔ ((r ≡ answer.Pushed push.Idle)
         × (HasPending plan.claims.cells p (pool_accesses h) → ⊥)) }
 
-    // A finish is refused as an offer is, but is never full.
+    // A finish is refused as `Closed` and as `Busy` just as an offer is, but never as `Full`.
     ensures over { (plan : Plan) (h : WorldHistory) (p : ℕ) → IsQuorumTable plan.claims.table
         → IsWorldLawful plan h → p < plan.lanes
         → IsRefused plan (event.Finish p) (answer.Finished finish.Closed) h
@@ -254,7 +253,7 @@ pub fn events_are_refused_for_what_was_done()
 /// A producer's event that is not refused has an access that keeps the history lawful. So it is refused exactly if it
 /// has none. For steps, `World::apply` says so.
 pub fn events_of_producers_are_refused_or_made()
-    // The counter stays in its word, as cells and lanes together are below 2^64.
+    // The counter stays below 2^64, as the number of cells and lanes is.
     ensures offer { (plan : Plan) (h : WorldHistory) (p x : ℕ) → IsQuorumTable plan.claims.table
         → IsWorldLawful plan h → p < plan.lanes → x < 2 ^ 64
         → plan.claims.cells + plan.lanes < 2 ^ 64 → IsRefusedOrMade plan (event.Offer p x) h }

@@ -7,7 +7,7 @@ use std::marker::Model;
 pub enum Note {
     /// The consumer took the item: it won it, and loaded this value.
     Took(u64),
-    /// The consumer lost the item. No other than this consumer can take it, and perhaps not even that one does: its
+    /// The consumer lost the item. Only the consumer of this number can still take it, and perhaps it never does: its
     /// claim may stop midway, or end undecided.
     Lost(u32),
     /// The consumer's claim ended undecided, so it neither took nor lost the item. Another may have won it, or nobody.

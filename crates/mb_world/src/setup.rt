@@ -112,7 +112,7 @@ impl Setup {
         ensures pairs { IfOk result (λ setup. pairs_in setup ≡ 0) }
         ensures shape { IfOk result (λ setup. shape_in setup ≡ with_last) }
 
-        // So a poll with a budget of 3 is never spent, and none is undecided.
+        // So a poll never needs more than a budget of 3, and none ends undecided.
         ensures bound { IfOk result (λ setup. most_accesses (layout_of setup) ≡ 1) }
     {
         if !(1..=MAX_PRODUCERS).contains(&producers) {
@@ -131,7 +131,7 @@ impl Setup {
         })
     }
 
-    /// The setup of these numbers, if `cells` is at most `most`.
+    /// The setup of these numbers with at most `most` cells, or the first fault.
     fn up_to(
         most: u32,
         producers: u64,

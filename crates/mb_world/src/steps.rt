@@ -1,5 +1,5 @@
-//! The laws of one more access, which a world and a mailbox for threads stand on. A world keeps one history
-//! ([`history_extends`]). A consumer among threads keeps its own two parts, which fit ([`parts_fit_on`]), and its loads
+//! The laws of one more access, which a world and a mailbox for threads use. A world has one history
+//! ([`history_extends`]). A consumer among threads has two parts of its own, which fit ([`parts_fit_on`]). Its loads
 //! tell which cells it met ([`loads_meet_cells`]). The functions compute nothing: their contracts are the laws. Their
 //! proofs are in `proofs/steps/`, one folder for each. They use the lemmas of `proofs/`.
 ghost use Rattle.std.specs.Prelude.{ℕ, ◌≡◌, ◌≢◌, ◌+◌, ◌<◌, ◌⊎◌, List, [], ◌∷◌, Option};
@@ -51,12 +51,12 @@ pub fn parts_fit_on()
     // The parts of a consumer that has done nothing fit.
     ensures empty { (cs : Claims) (c : ℕ) → Fits cs c no_parts }
 
-    // A consumer may look for the next cell of a lane if it is done with the last one that it met there.
+    // A consumer may load the link past the cells that it met on a lane, if it is done with the last of them.
     ensures looks { (cs : Claims) (c q p v : ℕ) (x : Parts) → Fits cs c x
         → MayLookPast cs c (cells_met p x.reads) x
         → Fits cs c (with_load (load q (place_past p (cells_met p x.reads)) v) x) }
 
-    // A consumer may make a step of its claim on a cell that it met and has not left.
+    // A consumer may make a step of its claim on a cell that it met, if it loaded neither the cell's item nor its link.
     ensures claims { (cs : Claims) (c k : ℕ) (t : ObjectTurn) (x : Parts) → Fits cs c x
         → Gave k x.reads → HasNotPassed k x → Fits cs c (with_step k t x) }
 
@@ -64,7 +64,7 @@ pub fn parts_fit_on()
     ensures takes { (cs : Claims) (c q k v : ℕ) (x : Parts) → Fits cs c x
         → HasStageIn cs c k stage.Won x → Fits cs c (with_load (load q (Item k) v) x) }
 
-    // A consumer has not left a cell on which its claim goes on.
+    // A consumer whose claim on a cell goes on has loaded neither the cell's item nor its link.
     ensures going { (cs : Claims) (c k : ℕ) (x : Parts) → IsQuorumTable cs.table → Fits cs c x
         → HasStageIn cs c k stage.Going x → HasNotPassed k x }
 {

@@ -1,7 +1,7 @@
-//! Sample reports: with which an assignment agrees, and which are settled.
+//! Sample reports: with which of them an assignment agrees, and which of them are settled.
 ghost use Rattle.std.specs.Prelude.{◌≡◌, [], ◌∷◌};
-ghost use Rattle.mb_world.specs.ReportSamples.{begun_beyond, first_to, left_and_taken, left_omitted, left_out_of_order, lost_to_a_third, lost_to_each_other, lost_to_itself};
-ghost use Rattle.mb_world.specs.ReportSamples.{noted_beyond, other_value, taken_and_lost, taken_on_both, to_nobody, turned_diaries, two_takers, winner_stayed_away, won_not_loaded};
+ghost use Rattle.mb_world.specs.ReportSamples.{begun_beyond, diaries_by_lane, first_to, left_and_taken, left_omitted, left_out_of_order, lost_to_a_third, lost_to_each_other, lost_to_itself};
+ghost use Rattle.mb_world.specs.ReportSamples.{noted_beyond, other_value, taken_and_lost, taken_on_both, to_nobody, two_takers, winner_stayed_away, won_not_loaded};
 ghost use Rattle.mb_world.specs.Vocabulary.{AgreesWith, Assignment, IsSettled, Lost, Took, notes};
 
 use crate::laws::agreeing_reports_are_settled;
@@ -45,7 +45,7 @@ pub fn reports_disagree()
     ensures away { (t : Assignment) → AgreesWith t winner_stayed_away → ⊥ }
     ensures each { (t : Assignment) → AgreesWith t lost_to_each_other → ⊥ }
     ensures third { (t : Assignment) → AgreesWith t lost_to_a_third → ⊥ }
-    ensures turned { (t : Assignment) → AgreesWith t turned_diaries → ⊥ }
+    ensures by_lane { (t : Assignment) → AgreesWith t diaries_by_lane → ⊥ }
     ensures begun { (t : Assignment) → AgreesWith t begun_beyond → ⊥ }
     ensures beyond { (t : Assignment) → AgreesWith t noted_beyond → ⊥ }
 {}

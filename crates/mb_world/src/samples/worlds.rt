@@ -40,7 +40,7 @@ pub fn worlds_go_on()
     worlds_are_sound();
 }
 
-/// The report of that world.
+/// The report of the small world.
 pub fn worlds_are_reported()
     ensures report { IsReportOf two_by_two all_histories all_reported }
 
@@ -54,9 +54,9 @@ pub fn worlds_are_reported()
     worlds_go_on();
 }
 
-/// Reports and diaries that are not of that world.
+/// Reports and diaries that are not of the small world.
 pub fn worlds_are_not_misreported()
-    // An item that nobody took is left out, or a note is, or all is.
+    // A report lacks an item that nobody took, or a note, or has nothing in it.
     ensures left { IsNoReport item_missing }
     ensures skipped { IsNoReport (report_with (6 ∷ []) loss_unnoted) }
     ensures nothing { IsNoReport nothing_told }
@@ -64,7 +64,7 @@ pub fn worlds_are_not_misreported()
     // A diary has no note on an item that its consumer has lost.
     ensures silent { IsNoDiary 1 0 loss_unnoted }
 
-    // A diary says that an item was taken that its consumer has not won.
+    // A diary says that its consumer took an item that it has not won.
     ensures lost { IsNoDiary 1 0 loss_taken }
     ensures unwon { IsNoDiary 1 1 unwon_taken }
 

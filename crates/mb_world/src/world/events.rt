@@ -22,13 +22,13 @@ impl<A: Allocator + Drop> World<A> {
     /// Makes the one access that the event asks for, or none if the event is refused. Returns what was done.
     ///
     /// It is refused by `NoLane` if there is no such lane, and else by `NoConsumer` if there is no such consumer. Else
-    /// a producer's event is refused as the call of [`mb_cells::Pool`]. A refused event makes no access and changes
-    /// nothing. But the first `Full` of a lane makes its fetch-add.
+    /// a producer's event is refused as the same call of [`mb_cells::Pool`] is. A refused event makes no access and
+    /// changes nothing. A lane's first offer that returns `Full` is not refused: it makes its fetch-add.
     ///
     /// The call takes no memory. Its time depends neither on the setup nor on what was done before.
     #[inline]
     pub fn apply(&mut self, event: Event) -> Answer
-        // For every lawful history that leaves the world: the answer is that of the replay. The new world is left by
+        // For every lawful history that leaves the world, the event has the answer returned. The new world is left by
         // this history with the event's access, or by the same history if the event has none.
         ensures adds { (h : WorldHistory) → IsWorldAfter h self.old
             → EventAdds event result self.new h }

@@ -73,14 +73,14 @@ pub(super) fn claims_leave_states()
         → IsWorldAfter h s → HasPlace c p (At k claim) s → claim_stage claim ≢ stage.Won
         → claim_stage claim ≡ stage.Going }
 
-    // The words and the claim belong to one history of the claims.
+    // The history leaves the words, and in it the consumer has made the steps of this claim on cell k.
     ensures on { (s : WorldState) (h : WorldHistory) (c p k : ℕ) (claim : Claim)
         → IsWorldAfter h s → HasPlace c p (At k claim) s
         → IsClaimOn (layout_of s.setup) (plan_in s.setup).claims.cells k claim s.words
         (claim_accesses h) }
 
-    // If the step leads to these words and this claim, the event leads to the state with them, and with the note of a
-    // claim that has ended.
+    // If the step leaves these words and this claim, the event leaves the state with them, with the place that the
+    // claim's stage gives, and with the note of that stage if it has one.
     ensures competed { (s : WorldState) (h : WorldHistory) (c p word k : ℕ) (claim now : Claim)
         (words : List ℕ) (x : ObjectTurn)
         → IsWorldAfter h s → HasPlace c p (At k claim) s → claim_stage claim ≡ stage.Going

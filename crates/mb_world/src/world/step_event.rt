@@ -109,7 +109,7 @@ impl<A: Allocator + Drop> World<A> {
     }
 }
 
-/// The note of a claim that came to this stage with its last access, if it ended without the item.
+/// The note of a claim whose last access led to this stage: lost or undecided, and else none.
 #[inline(always)]
 fn end_note(stage: Stage) -> Option<Note>
     ensures { result ≡ note_of stage }

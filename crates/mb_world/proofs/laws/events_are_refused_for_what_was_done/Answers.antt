@@ -9,7 +9,7 @@ use Rattle.mb_world.specs.World.{pool_accesses}
 use Rattle.mb_world.proofs.RefusedEvents.{finish_free, finish_refused, offer_free, offer_refused, push_refused}
 use Rattle.mb_world.proofs.laws.events_are_refused_for_what_was_done.Goals as goal
 
--- each clause takes its lemma, with the producer's place after the history, and the law of cells on that place
+-- each clause is a lemma of `RefusedEvents`, applied to the producer's place and to the law of cells on that place
 pub returns-clause-closed : goal.returns-clause-closed
 returns-clause-closed c plan h p x table lawful ps =
     offer_refused plan h p ps (c.lanes_lead_on.ensures.lane plan.claims.cells p

@@ -13,7 +13,7 @@ use Rattle.mb_world.proofs.ProducerEvents.{no_mark}
 use Rattle.mb_world.proofs.ProducerSteps.{producer_goes_on}
 use Rattle.mb_world.proofs.laws.events_of_producers_are_refused_or_made.Goals as goal
 
--- each clause names the producer's place, and `goes`: with which accesses of the producer the history stays lawful
+-- each clause takes the producer's place, and `goes`: with which accesses of the producer the history stays lawful
 pub returns-clause-offer : goal.returns-clause-offer
 returns-clause-offer c plan h p x table lawful ps xs few =
     let size = size_of plan in

@@ -8,7 +8,7 @@ use Rattle.mb_claim.specs.Layouts.{fast_row, last_row, pairs_of, quorums_of, row
 use Rattle.mb_claim.specs.declared.shape.Shape.{Shape}
 use Rattle.mb_world.proofs.laws.shaped_setups_have_last_objects.Goals as goal
 
--- a row with a last object ends with it
+-- if a shape has a last object, a cell's row of objects ends with one
 ends_with : (shape : Shape) (s n : ℕ) → shape.last ≡ true
     → (front : List Kind) × (row_of shape s n ≡ front ++ LastObject ∷ [])
 ends_with shape s n has = (

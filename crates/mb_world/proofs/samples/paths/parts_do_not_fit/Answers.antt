@@ -20,11 +20,11 @@ fresh going all = none_yet won_steps stage.Won all (λ e. cc)
     none_yet [] s q is = subst (λ r. IsClaimPrefix two_cells 0 [] r) (is refl) q
     none_yet (x ∷ xs) s q is = none_yet xs stage.Going (going x xs s q) (λ e. refl)
 
--- a cell with a claim would be given, but there is no load
+-- if the parts fit, a load gave the cell of the claim. But there is no load
 pub returns-clause-unmet : goal.returns-clause-unmet
 returns-clause-unmet c fit = fit.met 0 (λ e. cc)
 
--- the claim would be won, but it goes on, as it has no step
+-- if the parts fit, the claim is won. But it goes on, as it has no step
 pub returns-clause-unclaimed : goal.returns-clause-unclaimed
 returns-clause-unclaimed c fit =
     let table = c.named_tables_are_lawful.ensures.lawful Unary 2 (omega arith) in
@@ -35,7 +35,7 @@ returns-clause-unclaimed c fit =
     let e = c.prefixes_have_one_stage.ensures two_consumers 0 [] stage.Going stage.Won table goes won in
     cc
 
--- the claim would have ended, but it goes on, as it has no step
+-- if the parts fit, the claim has ended. But it goes on, as it has no step
 pub returns-clause-passed : goal.returns-clause-passed
 returns-clause-passed c fit =
     let table = c.named_tables_are_lawful.ensures.lawful Unary 2 (omega arith) in
@@ -45,16 +45,16 @@ returns-clause-passed c fit =
     let end = fit.ended 0 0 (load 0 (Link 0) 0, inl refl, refl, refl) in
     end.2 (c.prefixes_have_one_stage.ensures two_consumers 0 [] end.0 stage.Going table end.1 goes)
 
--- the lane of a head word
+-- the lane of a head, and 0 for other words
 abbrev head_number : Word → ℕ
 head_number (Head p) = p
 head_number _ = 0
 
--- no number is 0 and above 0
+-- 0 is not one more than a number
 not_zero : (p : ℕ) → 0 ≡ suc p → ⊥
 not_zero p e = omega (arith, e)
 
--- the head of lane 0 is past the cells met on no lane: on lane 0 cell 0 was met, and any other lane has another head
+-- Head 0 is not the word past the cells met on lane p: on lane 0 cell 0 was met, and other lanes have other heads
 not_again : (p : ℕ) → Head 0 ≡ place_past p (cells_met p (load 0 (Head 0) 1 ∷ [])) → ⊥
 not_again zero e = cc
 not_again (suc p) e =

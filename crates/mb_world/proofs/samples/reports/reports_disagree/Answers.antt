@@ -12,11 +12,11 @@ abbrev chosen : Option ℕ → Option ℕ → List ℕ
 chosen a b = if is_none a then 10 ∷ (if is_none b then 11 ∷ [] else []) else (if is_none b then 11 ∷ [] else [])
 
 -- the items left, in the wrong order
-abbrev turned : List ℕ
-turned = 11 ∷ 10 ∷ []
+abbrev wrong_order : List ℕ
+wrong_order = 11 ∷ 10 ∷ []
 
 -- whatever the assignment has for the items, those that go to nobody are not in this order
-no_order : (a b : Option ℕ) → turned ≡ chosen a b → ⊥
+no_order : (a b : Option ℕ) → wrong_order ≡ chosen a b → ⊥
 no_order None None e = cc
 no_order None (Some d) e = cc
 no_order (Some c) None e = cc
@@ -40,15 +40,15 @@ away : HasCompeted 1 0 0 winner_stayed_away → ⊥
 away (inl h) = omega (arith, h)
 away (inr h) = let e = h.1 in cc
 
--- the item 10, if it goes to nobody
+-- the list with the item 10 if the item goes to nobody, and else the empty list
 abbrev ten : Option ℕ → List ℕ
 ten a = if is_none a then 10 ∷ [] else []
 
--- the items left, of which the item is left out
+-- the items left that `left_omitted` reports: none
 abbrev nothing : List ℕ
 nothing = []
 
--- the item goes to nobody, and would be left, or to a consumer that did not compete for it
+-- if the item goes to nobody, it is left. If it goes to a consumer, this consumer did not compete for it
 pub returns-clause-omitted : goal.returns-clause-omitted
 returns-clause-omitted c t agrees = by (t 0 0) refl (agrees.left 0)
   where
@@ -57,7 +57,7 @@ returns-clause-omitted c t agrees = by (t 0 0) refl (agrees.left 0)
     by (Some zero) e f = idle (agrees.given.competitors 0 0 0 e).1
     by (Some (suc d)) e f = nobody d (agrees.given.competitors (suc d) 0 0 e).1
 
--- the item goes to consumer 0, so it would not be left
+-- the item goes to consumer 0, so it is not left. But it is reported as left
 pub returns-clause-both : goal.returns-clause-both
 returns-clause-both c t agrees = by (t 0 0) ((agrees.given.taken 0 0 0).0 (10, refl)) (agrees.left 0)
   where
@@ -65,22 +65,22 @@ returns-clause-both c t agrees = by (t 0 0) ((agrees.given.taken 0 0 0).0 (10, r
     by None e f = cc
     by (Some d) e f = cc
 
--- the item goes to both takers
+-- the item would go to two consumers, as both took it
 pub returns-clause-twice : goal.returns-clause-twice
 returns-clause-twice c t agrees =
     let e = (agrees.given.taken 0 0 0).0 (5, refl) in
     let f = (agrees.given.taken 1 0 0).0 (5, refl) in
     cc
 
--- the item 5, if it goes to consumer 0
+-- the share of consumer 0: the item 5 if b says that it goes there, and else nothing
 abbrev five : Bool → List ℕ
 five b = if b then 5 ∷ [] else []
 
--- the ledger with another value
+-- the ledger of consumer 0, with a value that was not put
 abbrev six : List ℕ
 six = 6 ∷ []
 
--- whether the item goes to consumer 0 or not, the ledger does not have the value 6
+-- whether the item goes to consumer 0 or not, its share does not have the value 6
 no_value : (b : Bool) → six ≡ five b → ⊥
 no_value true e = cc
 no_value false e = cc
@@ -100,7 +100,7 @@ returns-clause-away c t agrees = away (agrees.given.losses 0 1 0 0 refl).compete
 pub returns-clause-each : goal.returns-clause-each
 returns-clause-each c t agrees = let e = (agrees.given.losses 0 1 0 0 refl).only 1 0 refl in cc
 
--- the begun claim is on no item
+-- the begun claim is past the last item
 pub returns-clause-begun : goal.returns-clause-begun
 returns-clause-begun c t agrees = let e = agrees.given.begun_within 0 0 refl in omega (arith, e)
 
@@ -118,6 +118,6 @@ returns-clause-third c t agrees =
     by (Some d) e (inl f) = let g : Some 0 ≡ Some 2 = sym e ∙ f in cc
     by (Some d) e (inr f) = cc
 
--- by the position of its diary, consumer 0 has lost the item of lane 1 to itself
-pub returns-clause-turned : goal.returns-clause-turned
-returns-clause-turned c t agrees = (agrees.given.losses 0 0 1 0 refl).another refl
+-- the diary at the position of consumer 0 on lane 1 says that the item was lost to consumer 0, so to itself
+pub returns-clause-by_lane : goal.returns-clause-by_lane
+returns-clause-by_lane c t agrees = (agrees.given.losses 0 0 1 0 refl).another refl

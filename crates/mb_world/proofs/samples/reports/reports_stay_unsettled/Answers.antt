@@ -7,7 +7,7 @@ use Rattle.mb_world.specs.ReportSamples.{diary_of, lost_to_each_other}
 use Rattle.mb_world.proofs.ReportLists.{no_diary, not_competing, not_noted}
 use Rattle.mb_world.proofs.samples.reports.reports_stay_unsettled.Goals as goal
 
--- there are two consumers, and so two diaries
+-- no consumer but the first two has a diary
 no_other : (d : ℕ) → diary (suc (suc d)) 0 lost_to_each_other ≡ None
 no_other d =
     no_diary (suc (suc d)) (5 ∷ []) (5 ∷ []) (diary_of 0 (Lost 1 ∷ []) false ∷ diary_of 1 (Lost 0 ∷ []) false ∷ [])

@@ -9,7 +9,7 @@ use Rattle.mb_world.specs.WorldSamples.{two_by_two}
 use Rattle.mb_world.proofs.SampleWorlds.{all_done_lawful, begun_path, ended_path, first_path, second_goes}
 use Rattle.mb_world.proofs.samples.worlds.worlds_go_on.Goals as goal
 
--- each clause takes its lemma, with the record `Laws` that the lemmas of `SampleWorlds` ask for
+-- each clause is a lemma of `SampleWorlds`, applied to the record `Laws` of what the laws give
 pub returns-clause-all : goal.returns-clause-all
 returns-clause-all c =
     all_done_lawful (record {

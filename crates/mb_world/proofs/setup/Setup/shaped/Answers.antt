@@ -22,7 +22,7 @@ same_plan t u ks js a b p q table kinds cells lanes =
     ap (λ x. plan_with x ks a p) table
     ∙ (ap (λ x. plan_with u x a p) kinds ∙ (ap (λ x. plan_with u js x p) cells ∙ ap (λ x. plan_with u js b x) lanes))
 
--- equal shapes, consumers and pairs make equal rows
+-- equal shapes, numbers of consumers and numbers of pairs make equal rows of objects
 same_row : (s r : Shape) (v w n k : ℕ) → s ≡ r → v ≡ w → n ≡ k → row_of s (spread v) n ≡ row_of r (spread w) k
 same_row s r v w n k shape values pairs =
     ap (λ x. row_of x (spread v) n) shape

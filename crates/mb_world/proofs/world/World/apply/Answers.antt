@@ -13,7 +13,7 @@ returns-then-lane-producers-3-clause-kept g c h is refused =
     c.finish.ensures.kept h is
     (subst (λ (e : Event). IsRefused (plan_in c.args.self.now.setup) e c.finish.result h) c.in-Finish.is refused)
 
--- a step finds nothing exactly if there is nothing
+-- a step finds nothing exactly if there is nothing for its consumer on its lane
 pub returns-else-consumer-consumers-clause-nothing : goal.returns-else-consumer-consumers-clause-nothing
 returns-else-consumer-consumers-clause-nothing g c h d p word is same =
     let setup = c.args.self.now.setup in

@@ -49,22 +49,22 @@ module _ (g : Over) (c : After-as_layout g) where
       c.claims_leave_states.ensures.going s h c.args.c c.args.p c.args.k c.in-At.claim is has
       (rw (read.1) c.requires.2)
 
-  -- the words and the claim belong to one history of the claims
+  -- the history leaves the words, and in it the consumer has made the steps of this claim on cell k
   on : (h : WorldHistory) → IsWorldAfter h s → IsClaimOn c.as_layout.result.now (plan_in s.setup).claims.cells
       c.args.k c.in-At.claim s.words (claim_accesses h)
   on h is =
       rw (c.as_layout.ensures) (c.claims_leave_states.ensures.on s h c.args.c c.args.p c.args.k c.in-At.claim is has)
 
--- the claim's next access is asked for while the claim goes on
+-- the claim goes on, so it has a next access
 pub step-made-requires-clause-going : goal.step-made-requires-clause-going
 step-made-requires-clause-going g c = going g c c.self.invariant.0 c.self.invariant.1
 
--- the cell is one for which a layout has words
+-- the number of the cell is below the most cells that a layout may have
 pub step-made-requires-clause-cell : goal.step-made-requires-clause-cell
 step-made-requires-clause-cell g c =
     omega (arith, (on g c c.self.invariant.0 c.self.invariant.1).cell, c.self.inside.setup.small)
 
--- the words and the claim belong to one history of the claims
+-- some history of the claims leaves the words, and in it the consumer has made the steps of this claim on cell k
 pub step-made-requires-clause-held : goal.step-made-requires-clause-held
 step-made-requires-clause-held g c = (_, _, on g c c.self.invariant.0 c.self.invariant.1)
 
@@ -78,7 +78,7 @@ index_mut-requires-in-Some-2 g c =
     (on g at c.self.invariant.0 is).cell in
     rw (c.cells.ensures) (omega (arith, inside, is.notes_count, c.self.inside.notes.ok.0))
 
--- the world is sound if the claim ended, with the note
+-- if the claim has a note after the step, the world with that note is sound
 pub invariant_of-self : goal.invariant_of-self
 invariant_of-self g c =
     let at = (goal.at.invariant_of-self g c).After-as_layout in
@@ -91,7 +91,7 @@ invariant_of-self g c =
     still_sound _ _ _ h
     (noted (s g at) _ _ made.stage adds _ c.producers.ensures c.cells.ensures c.end_note.ensures c.in-Some.is)
 
--- the world is sound if the claim has no note
+-- if the claim has no note after the step, the world is sound
 pub invariant_of-self-in_default-end_note : goal.invariant_of-self-in_default-end_note
 invariant_of-self-in_default-end_note g c =
     let at = (goal.at.invariant_of-self-in_default-end_note g c).After-as_layout in
@@ -104,7 +104,7 @@ invariant_of-self-in_default-end_note g c =
     still_sound _ _ _ h (unnoted (s g at) _ _ made.stage adds (read g at).0 c.producers.ensures _
     c.end_note.ensures c.in_default-end_note.not-Some)
 
--- the event leaves the state with the claim, or with the place past the cell and the note
+-- the event leaves the state with the claim at its place, or with the place past the cell and the note
 pub returns-clause-adds : goal.returns-clause-adds
 returns-clause-adds g c h was =
     let at = (goal.at.returns-clause-adds g c).After-as_layout in

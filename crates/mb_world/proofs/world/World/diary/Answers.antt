@@ -25,7 +25,7 @@ returns g c =
       begun = c.begun.ensures;
     }
 
--- the next cell's note, if there is one, comes after the notes before
+-- if the next cell has a note, it is put after the notes of the cells before
 pub loop-k-preserved : goal.loop-k-preserved
 loop-k-preserved g c =
     let f = note_on c.args.self.now c.args.c in

@@ -14,6 +14,6 @@ invariant-links g l = record {
   walks : WalksOn l.self.pool l.p l.cells.items l.cursor;
 }
 
--- as many cells can still be met as the pool has more than were met
+-- the number of cells of the pool that were not met yet
 abbrev pub decreases-links : goal.decreases-links
 decreases-links g l = (plan_in l.self.setup).claims.cells - length l.cells.items

@@ -11,7 +11,7 @@ use Rattle.mb_world.proofs.FreshClaims.{fresh_goes, some_row}
 use Rattle.mb_world.proofs.StateReports.{report_is}
 use Rattle.mb_world.proofs.world.World.report.Goals as goal
 
--- what the state tells is the report of each history that leaves the world
+-- the report that the state tells is the report of each history that leaves the world
 pub returns-clause-exact : goal.returns-clause-exact
 returns-clause-exact g c h is =
     let s = c.args.self.now in
@@ -27,7 +27,7 @@ returns-clause-exact g c h is =
     (record { lanes = c.in_ok-lanes.field-0.items; diaries = c.in_ok-diaries.field-0.items })
     c.in_ok-lanes.ensures c.in_ok-diaries.ensures
 
--- one assignment agrees with the report
+-- one assignment agrees with the report, and nothing follows an end mark
 pub returns-clause-main_theorem : goal.returns-clause-main_theorem
 returns-clause-main_theorem g c h is =
     let s = c.args.self.now in
@@ -35,7 +35,7 @@ returns-clause-main_theorem g c h is =
     (record { lanes = c.in_ok-lanes.field-0.items; diaries = c.in_ok-diaries.field-0.items })
     (c.layouts_are_sound.ensures.table s.setup.layout) is.lawful (returns-clause-exact g c h is)
 
--- if each cell has a last object, so has each cell of the plan, and the law of last objects holds of the report
+-- if the setup's shape has a last object, so has each cell of its plan, and the law of last objects holds of the report
 pub returns-clause-settled : goal.returns-clause-settled
 returns-clause-settled g c last =
     let s = c.args.self.now in

@@ -5,7 +5,7 @@ use Rattle.mb_world.proofs.CompeteStates.{competed}
 use Rattle.mb_world.proofs.HeldStates.{claim_on, goes_unless_won}
 use Rattle.mb_world.proofs.world.states.claims_leave_states.Goals as goal
 
--- each clause takes its lemma, with what the laws give for a step of this consumer on this lane
+-- each clause is a lemma, applied to what the laws give for a step of this consumer on this lane (`StepKnown`)
 pub returns-clause-going : goal.returns-clause-going
 returns-clause-going c s h d p k claim is has not_won =
     let known = c.steps_are_known.ensures s h d p is has.consumer has.lane in

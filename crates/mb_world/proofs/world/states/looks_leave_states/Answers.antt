@@ -2,7 +2,7 @@
 use Rattle.mb_world.proofs.LookStates.{looked_in_vain, looked_on, within}
 use Rattle.mb_world.proofs.world.states.looks_leave_states.Goals as goal
 
--- each clause takes its lemma, with what the laws give for a step of this consumer on this lane
+-- each clause is a lemma, applied to what the laws give for a step of this consumer on this lane (`StepKnown`)
 pub returns-clause-within : goal.returns-clause-within
 returns-clause-within c s h d p at is has =
     let known = c.steps_are_known.ensures s h d p is has.consumer has.lane in
