@@ -39,7 +39,7 @@ taken_loser (suc (suc d)) v e =
     absurd (not_noted (suc (suc d)) 0 0 taken_and_lost (Lost v)
     (no_diary (suc (suc d)) (5 ∷ []) [] taken_diaries (omega arith)) e)
 
--- each loss says of the winner what `IsLossTo` asks
+-- `IsLossTo` holds of each loss
 taken_losses : (c w j : ℕ) → c < 2 → HasLostTo c w 0 j taken_and_lost → IsLossTo (first_to 0) c w 0 j taken_and_lost
 taken_losses zero w zero less e = absurd (cc)
 taken_losses zero w (suc j) less e = absurd (cc)
@@ -105,7 +105,7 @@ won_loser (suc (suc d)) v e =
     absurd (not_noted (suc (suc d)) 0 0 won_not_loaded (Lost v)
     (no_diary (suc (suc d)) (5 ∷ []) (5 ∷ []) won_diaries (omega arith)) e)
 
--- each loss says of the winner what `IsLossTo` asks, although the item is given to nobody
+-- `IsLossTo` holds of each loss, although the item is given to nobody
 won_losses : (c w j : ℕ) → c < 2 → HasLostTo c w 0 j won_not_loaded → IsLossTo to_nobody c w 0 j won_not_loaded
 won_losses zero w j less e = absurd (cc)
 won_losses (suc zero) zero zero less e = record {

@@ -17,7 +17,7 @@ winner_named c (Took x) = Some c
 winner_named c (Lost w) = Some w
 winner_named c Undecided = None
 
--- what the notes of a report of n consumers must keep so that an assignment agrees with it
+-- what must hold of the notes of a report of n consumers so that an assignment agrees with it
 pub record AreNotesRight (n : ℕ) (r : ReportView) : Type 0 where
   -- a note of an item taken has the value that was put
   pub value : (c p j x : ℕ) → note c p j r ≡ Some (Took x) → slice_get (items_put p r) j ≡ Some x
@@ -82,7 +82,7 @@ module _ (n : ℕ) (r : ReportView) (right : AreNotesRight n r) where
               let t : is_took (note c p j r) ≡ true = rw q.1 refl in
               cc
 
-  -- each loss says of the winner what `IsLossTo` asks
+  -- `IsLossTo` holds of each loss
   loss : (c w p j : ℕ) → HasLostTo c w p j r → IsLossTo taker c w p j r
   loss c w p j lost = record {
     another = (right.lost c w p j lost).0;

@@ -64,7 +64,7 @@ module _ {h : WorldHistory} {c p word k object : ℕ} {act : Act} {z : Stage}
       subst (λ (y : Stage). EventAdds (event.Step c p word) (answer.Claimed k object act y)
       (with_note_if c k (note_of y) (with_place c p (place_after k now y) (with_words words s))) h) (sym stage_is) adds
 
-  -- the event leaves that state, too, if note o and place d stand for those of stage z
+  -- the event leaves the state with place d and note o, if these are the place and the note of stage z
   by_note : (o : Option Note) (d : Place) → note_of z ≡ o → place_after k now z ≡ d
       → EventAdds (event.Step c p word) (answer.Claimed k object act z)
       (with_note_if c k o (with_place c p d (with_words words s))) h

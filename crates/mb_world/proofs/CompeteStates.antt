@@ -1,4 +1,4 @@
--- What a step of a consumer's claim makes of the state of a world.
+-- How a step of a consumer's claim changes the state of a world.
 use Rattle.std.proofs.Common.{◌≡◌, ◌↔◌, ◌⊎◌, ℕ, ◌+◌, ◌*◌, ◌<◌, List, ◌∷◌, length, Option, Some, None, refl, sym, ◌∙◌, ap, subst, inl, inr, slice_get, slice_set}
 use Rattle.std.proofs.lemmas.Bool.{cases_eq}
 use Rattle.mb_claim.specs.declared.access.Stage.TheVariants as stage

@@ -103,11 +103,11 @@ module _ (plan : Plan) (h : WorldHistory) (lawful : IsWorldLawful plan h)
     (c p : ℕ) (cs : c < consumers_of plan) (ps : p < plan.lanes) (a : WorldAccess) (may : IsTrueTo a h)
     (ks : List ℕ) (ns : List Note) (held : Option (List ObjectTurn))
     (next : ConsumerPath plan.claims c p (a ∷ lane_part c p h) ks ns held) where
-  -- the access is the consumer's
+  -- the access is one of consumer c
   pub own : IsBy c a
   own = next_by plan.claims c p a (lane_part c p h) ks ns held next
 
-  -- the access is on the lane
+  -- the access is on lane p
   pub on : is_on c p (linked_cells p (pool_accesses h)) a ≡ true
   on = next_on plan.claims c p a (lane_part c p h) ks ns held (linked_cells p (pool_accesses h)) (start c p) next
 

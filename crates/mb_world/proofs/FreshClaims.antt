@@ -11,7 +11,7 @@ use Rattle.mb_claim.specs.declared.shape.Shape.{Shape}
 use Rattle.mb_claim.specs.Paths.{IsClaimPrefixFrom}
 use Rattle.mb_world.specs.Imports.{Claims, IsClaimPrefix, Kind}
 
--- a claim on a row with an object goes on before its first access, if a use of each kind of object does
+-- a claim on a row of at least one object goes on before its first access, if a use of each kind of object does
 goes_from : (t : QuorumTable) (kinds : List Kind) (c : ℕ) → kinds ≢ [] → ((kind : Kind) → IsOpen t kind c [])
     → IsClaimPrefixFrom t c kinds 0 c [] stage.Going
 goes_from t [] c some opens = absurd (some refl)
@@ -24,7 +24,7 @@ pub fresh_goes : (cs : Claims) → IsQuorumTable cs.table → ((o : Object) → 
 fresh_goes cs table promises some c known =
     goes_from cs.table cs.kinds c some (λ kind. (promises (object_of cs.table kind (λ i. i)) table).opens c known)
 
--- a row that is not empty stays so with a fast path before it, or without
+-- a row of objects that is not empty stays so with a fast path before it, or without
 some_with : (fast : Bool) (rest : List Kind) → rest ≢ [] → fast_row fast ++ rest ≢ []
 some_with true rest some e = cc
 some_with false rest some e = some e

@@ -129,7 +129,7 @@ unfolding IsDistinct
 distinct [] once = tt
 distinct (x ∷ xs) once = (apart x xs once.0, distinct xs once.1)
 
--- a number that a test finds in a list is in the list
+-- a number that `list_any` finds in a list is in the list
 listed : (xs : List ℕ) (q : ℕ) → list_any (eqb q) xs ≡ true → Has xs q
 listed [] q is = absurd (false≢true is)
 listed (x ∷ xs) q is = elim (cases_Bool (eqb q x)) [

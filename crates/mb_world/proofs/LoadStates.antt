@@ -1,4 +1,4 @@
--- What one more load of a consumer makes of the state of a world.
+-- How one more load of a consumer changes the state of a world.
 use Rattle.std.proofs.Common.{◌≡◌, ℕ, ◌<◌, List, ◌∷◌, length, Option, Some, refl, sym, ◌∙◌, subst}
 use Rattle.mb_cells.specs.Memory.{value_in}
 use Rattle.mb_cells.specs.State.{IsAfter}

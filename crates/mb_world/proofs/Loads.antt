@@ -81,7 +81,7 @@ pub read_or_not : (d : History) (w : Word) → IsTold w d
 read_or_not [] w = inr (λ v h. h.1)
 read_or_not (b ∷ d) w = by_word (cases_Bool (is_same_word b.word w)) (read_or_not d w)
   where
-    -- so it is whether or not the newest access is to the word
+    -- the word was loaded or was not, whether or not the newest access is to it
     by_word : (is_same_word b.word w ≡ true) ⊎ (is_same_word b.word w ≡ false) → IsTold w d → IsTold w (b ∷ d)
     by_word (inl same) rest = by_act d b w b.act (is_same_word-eq b.word w same) refl rest
     by_word (inr other) rest = other_access b d w (λ u e _. differs e) rest

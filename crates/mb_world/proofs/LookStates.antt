@@ -1,4 +1,4 @@
--- A consumer that holds no claim loads the link at its cursor (it *looks*): what this makes of the state of a world.
+-- A consumer that holds no claim loads the link at its cursor (it *looks*): how this changes the state of a world.
 use Rattle.std.proofs.Common.{◌≡◌, ◌≢◌, ◌⊎◌, ℕ, ◌+◌, ◌*◌, ◌-◌, ◌<◌, Bool, true, false, cond, List, [], ◌∷◌, Option, Some, None, refl, sym, ◌∙◌, ap, subst, inl, inr, arith, nat_eq, slice_get}
 use Rattle.std.proofs.Common.{slice_set}
 use Rattle.std.proofs.lemmas.{Bool.eqb-true, Bool.eqb-false, List.length-set}

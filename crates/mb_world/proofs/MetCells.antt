@@ -69,7 +69,7 @@ met_cells q p (a ∷ older) own =
     by (inr other) older_met =
         subst (λ ks. HasMet q p ks (a ∷ older)) (sym (met_elsewhere p a older other)) older_met
 
--- each cell that was given was met on some lane
+-- if loads follow the links, they met on some lane each cell that they gave
 gave_met : (d : History) (k : ℕ) → FollowsLinks d → Gave k d → (p : ℕ) × Has (cells_met p d) k
 gave_met [] k f g = absurd g
 gave_met (a ∷ older) k f (inl g) =

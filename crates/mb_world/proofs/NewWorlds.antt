@@ -11,7 +11,7 @@ use Rattle.mb_world.specs.Vocabulary.{Note, Place, Setup, IsClaimPrefix, Stage, 
 use Rattle.mb_world.specs.Vocabulary.{IsPlaceAt, IsWorldAfter}
 use Rattle.mb_world.specs.declared.report.Note.TheVariants.{Took, Lost, Undecided}
 
--- in a list of equal elements this element stands at each position
+-- in a list of equal elements this element is at each position
 get-replicate : {X : Type 0} (n i : ℕ) (x : X) → i < n → slice_get (replicate n x) i ≡ Some x
 get-replicate zero i x less = absurd (omega (arith, less))
 get-replicate (suc n) zero x less = refl

@@ -53,7 +53,7 @@ module _ (plan : Plan) (h : WorldHistory) (lawful : IsWorldLawful plan h) (known
       ap (λ (ls : List ℕ). filter (is_on c p ls) (x ∷ h)) (linked_same c p x h own)
       ∙ ap (λ (b : Bool). cond b (x ∷ lane_part c p h) (lane_part c p h)) on
 
-  -- an access of the consumer on the lane comes from a place and leads to one
+  -- before an access of the consumer on the lane its path led to a place, from which the access leads on (`CameFrom`)
   last : (x : WorldAccess) → IsBy c x → is_on c p (linked_cells p (pool_accesses h)) x ≡ true
       → (longer : IsWorldLawful plan (x ∷ h)) → c < consumers_of plan → p < plan.lanes
       → (now : PathEnd) × CameFrom plan.claims c p x (lane_part c p h) now
@@ -80,7 +80,7 @@ module _ (plan : Plan) (h : WorldHistory) (lawful : IsWorldLawful plan h) (known
       cc
 
   -- ---- if nothing is found, all cells were met and the lane has not ended
-  -- if the link past these cells holds 0, they are all of the lane, which has not ended
+  -- if the link past these cells holds 0, these are all cells of the lane, which has not ended
   all_met : (ks : List ℕ) → IsStart ks (linked_cells p (pool_accesses h))
       → value_in (place_past p ks) (pool_accesses h) ≡ 0
       → (ks ≡ linked_cells p (pool_accesses h)) × (has_ended p (pool_accesses h) ≡ false)

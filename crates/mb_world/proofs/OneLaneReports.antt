@@ -1,4 +1,4 @@
--- What a small report of one lane must keep so that it agrees with an assignment.
+-- What must hold of a small report of one lane so that it agrees with an assignment.
 use Rattle.std.proofs.Common.{◌≡◌, ◌⊎◌, ◌↔◌, ℕ, zero, suc, ◌<◌, ◌≤◌, true, false, List, [], length, Option, Some, None, refl, sym, ◌∙◌, ap, inl, inr, arith}
 use Rattle.std.specs.Option.{option_map_or}
 use Rattle.std.specs.List.{filter_map}
@@ -82,7 +82,7 @@ module _ (t : Assignment) (xs ys : List ℕ) (ds : List DiaryView) where
         by (suc q) (inl here) f = absurd (let e = here.0 in cc)
         by q (inr out) f = absurd (out.1 j f)
 
-    -- each loss says of the winner what `IsLossTo` asks
+    -- `IsLossTo` holds of each loss
     losses : (c w p j : ℕ) → HasLostTo c w p j r → IsLossTo t c w p j r
     losses c w p j h = by p (inside_or_not c p) h
       where

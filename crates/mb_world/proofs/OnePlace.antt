@@ -1,4 +1,4 @@
--- What a consumer has done on a lane leads to one place, and goes on with one access.
+-- What a consumer did on a lane leads to at most one place. Of accesses that are alike, at most one may follow it.
 use Rattle.std.proofs.Common.{◌≡◌, ◌≢◌, ◌⊎◌, ◌+◌, ℕ, List, [], ◌∷◌, Option, Some, None, refl, sym, ◌∙◌, ap, subst, inl, inr, arith}
 use Rattle.mb_claim.specs.declared.access.Stage.TheVariants as stage
 use Rattle.mb_world.specs.declared.report.Note.{Note}

@@ -1,4 +1,4 @@
--- What a call of the pool for a producer makes of the state of a world.
+-- How a call of the pool for a producer changes the state of a world.
 use Rattle.std.proofs.Common.{◌≡◌, ◌≢◌, ◌↔◌, ℕ, ◌+◌, ◌-◌, ◌<◌, cond, ◌∷◌, Option, Some, None, refl, sym, ◌∙◌, ap, subst, subst₂, inr, arith, is_some, unwrap_or, slice_index_or}
 use Rattle.std.specs.Option.{option_map_or}
 use Rattle.std.proofs.lemmas.Bool.{ne_eqb}
@@ -110,7 +110,7 @@ module _ (s : WorldState) (h : WorldHistory) (is : IsWorldAfter h s) (p : ℕ) (
   lane_of =
       subst (λ (n : ℕ). IsLaneAfter n p lane_here (part (Producer p) (pool_accesses h))) is.cells at
 
-  -- ---- what offers make of the world
+  -- ---- how offers change the world
   -- the number that the counter holds
   abbrev n : ℕ
   n = value_in Counter (pool_accesses h)
@@ -145,7 +145,7 @@ module _ (s : WorldState) (h : WorldHistory) (is : IsWorldAfter h s) (p : ℕ) (
         left = after_none later;
       }
 
-  -- ---- what pushes make of the world
+  -- ---- how pushes change the world
   -- if an item is stored in a cell that is not linked yet, the link to that cell is no end mark
   link_is_no_mark : (cell : ℕ) (done : Phase) → PhaseFits (plan s h is).claims.cells done
       → lane.Stored cell ≡ stage_of done → cell + 1 ≢ END
@@ -216,7 +216,7 @@ module _ (s : WorldState) (h : WorldHistory) (is : IsWorldAfter h s) (p : ℕ) (
       by lane.Full e t later = rests (ap (stage_push_store (next_link p lane_here)) e) t later
       by lane.Open e t later = rests (ap (stage_push_store (next_link p lane_here)) e) t later
 
-  -- ---- what finishes make of the world
+  -- ---- how finishes change the world
   -- word w is a head or a link, and the answer to a store of the end mark there says that the lane is ended
   record IsMark (w : Word) : Type 0 where
     pub link : IsLinkWord w

@@ -113,7 +113,7 @@ module _ (plan : Plan) (h : WorldHistory) (lawful : IsWorldLawful plan h)
       (is_on_none d q p (linked_cells q (a ∷ pool_accesses h)) a maker)
       ∙ by (cases_eq q p)
     where
-      -- these parts stay, whether the access links a cell or not
+      -- the parts of all consumers stay, whether the access links a cell or not
       by_link : (o : Option ℕ) → link_of a.word a.act ≡ o
           → filter (is_on d q (push_if o (linked_cells q (pool_accesses h)))) h ≡ lane_part d q h
       by_link None is = refl

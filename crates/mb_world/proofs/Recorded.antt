@@ -80,7 +80,7 @@ module _ (plan : Plan) (hs : Histories) (known : Known plan hs) where
     notes_within : (c p : ℕ) → length (notes c p r) ≤ length (items_put p r)
     notes_within c p = by_cases (cases_lt p plan.lanes) (cases_lt c (consumers_of plan))
       where
-        -- so it is whether or not the mailbox has the consumer and the lane
+        -- there are no more notes than items, whether or not the mailbox has the consumer and the lane
         by_cases : (p < plan.lanes) ⊎ (plan.lanes ≤ p) → (c < consumers_of plan) ⊎ (consumers_of plan ≤ c)
             → length (notes c p r) ≤ length (items_put p r)
         by_cases (inl ps) (inl cs) =
@@ -107,7 +107,7 @@ module _ (plan : Plan) (hs : Histories) (known : Known plan hs) where
             × (slice_get (is.diary c p cs ps).0.notes j ≡ Some (Lost w))
         i = note_in plan hs r is c p j (Lost w) e
 
-        -- so it is whether or not the mailbox has the consumer that is named
+        -- a loss names another consumer, which competed, whether or not the mailbox has the consumer named
         by_winner : (w < consumers_of plan) ⊎ (consumers_of plan ≤ w) → (w ≢ c) × HasCompeted w p j r
         by_winner (inl ws) =
             let d = is.diary c p i.0 i.1 in
@@ -134,7 +134,7 @@ module _ (plan : Plan) (hs : Histories) (known : Known plan hs) where
     left_all : (p : ℕ) → items_left p r ≡ items_where (λ j. not (is_taken (consumers_of plan) p j r)) (items_put p r)
     left_all p = by_lane (cases_lt p plan.lanes)
       where
-        -- so it is whether or not the mailbox has the lane
+        -- the items left are those of which no note says that they were taken, whether or not the mailbox has the lane
         by_lane : (p < plan.lanes) ⊎ (plan.lanes ≤ p)
             → items_left p r ≡ items_where (λ j. not (is_taken (consumers_of plan) p j r)) (items_put p r)
         by_lane (inl ps) = rw (put_is plan hs r is p ps) (left_is plan hs r is p ps)

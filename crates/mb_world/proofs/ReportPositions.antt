@@ -85,7 +85,7 @@ module _ (plan : Plan) (hs : Histories) (r : ReportView) (is : IsReportOf plan h
       there : IsInside plan c p
       there = inside c p (λ none. let q : slice_get {X = Note} [] j ≡ Some n = rw none at e in cc)
 
-  -- if a note of the report is undecided, the claim there ended undecided
+  -- if a note of consumer c is undecided, the mailbox has c, and some claim of c ended undecided
   pub undecided_in : (c p j : ℕ) → note c p j r ≡ Some Undecided
       → (c < consumers_of plan) × ((k : ℕ) × EndsAs plan.claims c k Undecided (parts_of c hs))
   undecided_in c p j e =

@@ -84,14 +84,14 @@ no_unwon_taken = not_taken 1 6
 pub no_other : IsNoDiary 1 0 (diary_with 0 0 (Lost 0 ∷ []))
 no_other d = let e : 0 ≡ 1 = d.consumer in omega (arith, e)
 
--- the claim of consumer 1 on cell 0 is lost, so its diary on lane 0 has a note
+-- the claim of consumer 1 on cell 0 is lost, so its diary on lane 0 must have a note
 pub no_silence : IsClaimPrefix two_cells 1 lost_steps (stage.Lost 0) → IsNoDiary 1 0 loss_unnoted
 no_silence lost d =
     let at = has_at d.cells 0 (d.met.all 0 given_first (inl refl)) in
     let within : at.0 < 0 = d.all at.0 0 (Lost 0) (reverse_at d.cells at.0 0 at.1) lost in
     omega (arith, within)
 
--- the claim of consumer 1 on cell 1 goes on, so it has no end: the same steps have one stage
+-- the claim of consumer 1 on cell 1 goes on, so it has not ended: the same steps have one stage
 no_end : (one_stage : (xs : List ObjectTurn) (s r : Stage) → IsClaimPrefix two_cells 1 xs s
     → IsClaimPrefix two_cells 1 xs r → s ≡ r)
     → IsClaimPrefix two_cells 1 (first_step ∷ []) stage.Going → (n : Note)
@@ -100,7 +100,7 @@ no_end one_stage goes (Took x) end = let e = one_stage (first_step ∷ []) stage
 no_end one_stage goes (Lost w) end = let e = one_stage (first_step ∷ []) stage.Going (stage.Lost w) goes end in cc
 no_end one_stage goes Undecided end = let e = one_stage (first_step ∷ []) stage.Going stage.Undecided goes end in cc
 
--- the claim of consumer 1 on cell 1 has an access and no end, so the diary on lane 1 says that it is begun
+-- the claim of consumer 1 on cell 1 has an access and has not ended, so the diary on lane 1 must say that it is begun
 pub no_rest : (one_stage : (xs : List ObjectTurn) (s r : Stage) → IsClaimPrefix two_cells 1 xs s
     → IsClaimPrefix two_cells 1 xs r → s ≡ r)
     → IsClaimPrefix two_cells 1 (first_step ∷ []) stage.Going → IsNoDiary 1 1 claim_missing
@@ -110,7 +110,7 @@ no_rest one_stage goes d =
     cc
 
 -- ---- reports that are not of the small world
--- the items left on a lane, if there is such a lane
+-- the items left on a lane, or none if there is no lane
 abbrev left_of : Option LaneView → List ℕ
 left_of None = []
 left_of (Some l) = l.left

@@ -21,7 +21,7 @@ module _ (cs : Claims) where
   HasItem h d j v = HasRead (Item j) v (part (Reader d) (pool_accesses h))
 
   module _ (c : ℕ) (h : WorldHistory) where
-    -- ---- what a load makes of the ends
+    -- ---- how a load changes the ends of claims
     module _ (w : Word) (v : ℕ) where
       -- the history with a load
       abbrev loaded : WorldHistory
@@ -83,7 +83,7 @@ module _ (cs : Claims) where
       load_keeps d j (Lost u) other = ((λ e. e), (λ e. e))
       load_keeps d j Undecided other = ((λ e. e), (λ e. e))
 
-    -- ---- what a step of a claim on cell k makes of the ends
+    -- ---- how a step of a claim on cell k changes the ends of claims
     module _ (k : ℕ) (x : ObjectTurn) where
       -- the history with a step
       abbrev stepped : WorldHistory

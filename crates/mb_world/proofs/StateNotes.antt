@@ -91,13 +91,13 @@ items_chosen item t test (k ∷ ks) same =
     by rest true = ap (λ zs. item k ∷ zs) rest
     by rest false = rest
 
--- the cells of these entries and of one more are those of the entries, and then that of the one more
+-- the cells of a list of entries with e at its end are the cells of the list, and then that of e
 cells_snoc : (es : List Entry) (e : Entry)
     → map (λ (e : Entry). e.cell) (es ++ e ∷ []) ≡ map (λ (e : Entry). e.cell) es ++ e.cell ∷ []
 cells_snoc [] e = refl
 cells_snoc (d ∷ es) e = ap (λ zs. d.cell ∷ zs) (cells_snoc es e)
 
--- entries made of these cells (the last first), in reversed order, have these cells in reversed order
+-- if entries are made of these cells, the cells of the entries reversed are these cells reversed
 entry_cells : (pool : History) (ks : List ℕ)
     → map (λ (e : Entry). e.cell) (reverse (map (λ k. entry_at k pool) ks)) ≡ reverse ks
 entry_cells pool [] = refl

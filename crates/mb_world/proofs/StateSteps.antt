@@ -125,7 +125,7 @@ module _ (s : WorldState) (h : WorldHistory) (is : IsWorldAfter h s) where
         → IsNoteAfter s.setup e j h o → IsNoteAfter s.setup e j (a ∷ h) o
     note_kept e j o same old n = ((λ f. (same n).0 ((old n).0 f)), (λ f. (old n).1 ((same n).1 f)))
 
-    -- if this holds of all claims, all notes are still right after the access
+    -- if each claim has ended exactly if it had before, and in the same way, all notes are still right after the access
     pub notes_kept : ((e j : ℕ) (n : Note) → Ends plan.claims h e j n ↔ Ends plan.claims (a ∷ h) e j n)
         → AreNotes (a ∷ h) s.notes
     notes_kept same =

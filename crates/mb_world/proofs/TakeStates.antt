@@ -1,4 +1,4 @@
--- What the load of an item by a consumer whose claim is won makes of the state of a world.
+-- How the load of an item, by a consumer whose claim is won, changes the state of a world.
 use Rattle.std.proofs.Common.{◌≡◌, ℕ, ◌+◌, ◌*◌, ◌<◌, ◌∷◌, Some, None, refl, sym, subst, inl, inr}
 use Rattle.std.specs.Prelude.{slice_get, slice_set}
 use Rattle.std.proofs.lemmas.List.{length-set}

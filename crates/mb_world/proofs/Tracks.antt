@@ -52,7 +52,7 @@ ends_more E F (k ∷ ks) [] more h = absurd h
 ends_more E F (k ∷ ks) (n ∷ ns) more h =
     (more k n (inl refl) h.0, ends_more E F ks ns (λ i m has. more i m (inr has)) h.1)
 
--- each of these cells has a note, and E holds of the two
+-- each of these cells has a note, and E holds of the cell with this note
 pub ends_some : (E : ℕ → Note → Type 0) (ks : List ℕ) (ns : List Note) (k : ℕ) → AreEnds E ks ns → Has ks k
     → (n : Note) × E k n
 ends_some E [] ns k h has = absurd has
@@ -94,7 +94,7 @@ pub record Tracks (cs : Claims) (c : ℕ) (done : WorldHistory) (ks : List ℕ) 
   -- the steps on each cell are a prefix of a claim path
   pub prefix : (k : ℕ) → claim_part c k (claim_accesses done) ≢ []
       → (s : Stage) × IsClaimPrefix cs c (claim_part c k (claim_accesses done)) s
-  -- each cell met has a note as its claim ended, except the last one if a claim is held there
+  -- each cell met has a note that says how its claim ended, except the last one if a claim is held there
   pub ended : AreEnds (EndsIn cs c done) (closed ks held) ns
   -- an item was loaded only if the claim there is won
   pub won : (k v : ℕ) → HasRead (Item k) v (pool_accesses done)
@@ -104,14 +104,14 @@ pub record Tracks (cs : Claims) (c : ℕ) (done : WorldHistory) (ks : List ℕ) 
   pub links : (k v : ℕ) → HasRead (Link k) v (pool_accesses done) → Has (closed ks held) k
 
 module _ (cs : Claims) (c : ℕ) where
-  -- if a claim has ended as a note says, it has still ended so after one more load
+  -- if a claim had ended as note n says, this is still so after one more load
   loaded : (a : PoolAccess) (done : WorldHistory) (k : ℕ) (n : Note) → EndsAs cs c k n (local c done)
       → EndsAs cs c k n (local c (ToCells a ∷ done))
   loaded a done k (Took v) e = (e.0, read-more a (pool_accesses done) (Item k) v e.1)
   loaded a done k (Lost w) e = e
   loaded a done k Undecided e = e
 
-  -- if a claim has ended as a note says, it has still ended so after a step on another cell
+  -- if a claim had ended as note n says, this is still so after a step on another cell
   stepped : (k : ℕ) (x : ObjectTurn) (done : WorldHistory) (j : ℕ) (n : Note) → (k ≡ j → ⊥)
       → EndsAs cs c j n (local c done) → EndsAs cs c j n (local c (claim_step c k x ∷ done))
   stepped k x done j (Took v) ne e = (
@@ -181,7 +181,7 @@ module _ (cs : Claims) (c : ℕ) where
         subst (λ zs. IsClaimPrefix cs c zs stage.Won)
         (sym (part-elsewhere c j (claim_access c k x) (claim_accesses older) (another j (y.items j v h)))) (y.won j v h)
 
-    -- the claims on the cells met before have still ended as their notes say
+    -- the claims on the cells met before have ended as their notes say, also after the step
     step_ended : AreEnds (EndsIn cs c Now) ks ns
     step_ended =
         ends_more (EndsIn cs c older) (EndsIn cs c Now) ks ns

@@ -1,4 +1,4 @@
--- The diary of a consumer in a lawful history of a world, as its place on a lane tells it.
+-- The diary of a consumer in a lawful history of a world, as its path on a lane tells it.
 use Rattle.std.proofs.Common.{◌≡◌, ◌≢◌, ◌↔◌, ℕ, ◌<◌, true, List, [], ◌∷◌, length, Option, Some, None, refl, sym, ◌∙◌, subst, inl, inr, arith}
 use Rattle.std.specs.Prelude.{filter, reverse, slice_get}
 use Rattle.std.proofs.lemmas.List.{length-reverse}
@@ -54,7 +54,7 @@ module _ (plan : Plan) (h : WorldHistory) (lawful : IsWorldLawful plan h) (known
     abbrev EndsHere : ℕ → Note → Type 0
     EndsHere k n = EndsIn plan.claims c (lane_part c p h) k n
 
-    -- the cells, notes and claim of the path tell this of that part
+    -- `Tracks` holds of the consumer's part on the lane, with the path's cells, notes and claim
     tracks_here : Tracks plan.claims c (lane_part c p h) ks ns held
     tracks_here = tracks plan h lawful known c p here
 

@@ -81,7 +81,7 @@ module _ (plan : Plan) (h : WorldHistory) (lawful : IsWorldLawful plan h) where
           subst (λ (d : History). IsReaderPath plan.lanes d)
           (sym (filter_none (in_lane p) (loads c) (λ a. ap (λ b. b && of_lane p a) (le-ltb p plan.lanes past)))) tt
 
-  -- this premise (a law of mb_cells): accesses are a reader path if their parts on all lanes are
+  -- `whole` is a law of mb_cells: accesses are a reader path if their parts on all lanes are
   module _ (whole : (test : ℕ → PoolAccess → Bool) (done : History)
       → ((a : PoolAccess) → Has done a → (p : ℕ) × (test p a ≡ true))
       → ((p : ℕ) → IsReaderPath plan.lanes (filter (test p) done)) → IsReaderPath plan.lanes done) where

@@ -1,4 +1,4 @@
--- What an event makes of the state of a world, and states in which one thing is changed.
+-- How an event changes the state of a world, and states in which one thing is changed.
 use Rattle.std.specs.Prelude.{ℕ, ◌≡◌, ◌+◌, ◌*◌, ◌<◌, Option, Some, None, List, slice_get, slice_set}
 use Rattle.mb_cells.specs.State.{PoolState}
 use Rattle.mb_world.specs.declared.event.Answer.{Answer}

@@ -87,7 +87,7 @@ share t c p r = items_where (λ j. is_consumer c (t p j)) (items_put p r)
 abbrev pub rest : Assignment → ℕ → ReportView → List ℕ  -- the items of lane p that t gives to nobody
 rest t p r = items_where (λ j. is_none (t p j)) (items_put p r)
 
-pub record IsLossTo (t : Assignment) (c w p j : ℕ) (r : ReportView) : Type 0 where  -- holds of c's loss of item j to w
+pub record IsLossTo (t : Assignment) (c w p j : ℕ) (r : ReportView) : Type 0 where  -- what holds if c lost item j to w
   pub another : w ≢ c
   pub competed : HasCompeted w p j r
   pub only : (d v : ℕ) → HasLostTo d v p j r → v ≡ w  -- each loss of the item names w

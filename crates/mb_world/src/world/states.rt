@@ -31,7 +31,7 @@ fn steps_are_known()
     history_extends();
 }
 
-/// What a look of a consumer that holds no claim makes of the state.
+/// How a look of a consumer that holds no claim changes the state. It *looks* as it loads the link at its cursor.
 pub(super) fn looks_leave_states()
     // The consumer stands before a link of the pool.
     ensures within { (s : WorldState) (h : WorldHistory) (c p : ℕ) (at : Cursor)
@@ -54,8 +54,8 @@ pub(super) fn looks_leave_states()
     steps_are_known();
 }
 
-/// What the item's load by a consumer whose claim is won makes of the state: the consumer has its note, and stands past
-/// the cell.
+/// How the item's load by a consumer whose claim is won changes the state: the consumer has its note, and is past the
+/// cell.
 pub(super) fn takes_leave_states()
     ensures { (s : WorldState) (h : WorldHistory) (c p word k : ℕ) (claim : Claim)
         → IsWorldAfter h s → HasPlace c p (At k claim) s → claim_stage claim ≡ stage.Won
@@ -66,7 +66,7 @@ pub(super) fn takes_leave_states()
     steps_are_known();
 }
 
-/// What a step of a consumer's claim makes of the state.
+/// How a step of a consumer's claim changes the state.
 pub(super) fn claims_leave_states()
     // A claim that is held and not won goes on.
     ensures going { (s : WorldState) (h : WorldHistory) (c p k : ℕ) (claim : Claim)
@@ -95,7 +95,7 @@ pub(super) fn claims_leave_states()
     steps_are_known();
 }
 
-/// What a call of the pool for a producer makes of the state.
+/// How a call of the pool for a producer changes the state.
 pub(super) fn calls_leave_states()
     ensures offered { (s : WorldState) (h : WorldHistory) (p x : ℕ) (z : Offer) (pool : PoolState)
         → IsWorldAfter h s → p < (plan_in s.setup).lanes → OfferMeets s.pool p x z pool

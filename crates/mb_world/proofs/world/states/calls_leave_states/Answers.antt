@@ -1,4 +1,4 @@
--- Proof of `states::calls_leave_states`: what a call of the pool for a producer makes of the state.
+-- Proof of `states::calls_leave_states`: how a call of the pool for a producer changes the state.
 use Rattle.std.proofs.Common.{ℕ, refl, sym, subst, inl, inr, arith}
 use Rattle.std.specs.Prelude.{IsSome, Option}
 use Rattle.mb_cells.specs.declared.answer.Finish.{Finish}

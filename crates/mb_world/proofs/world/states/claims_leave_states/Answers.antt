@@ -1,4 +1,4 @@
--- Proof of `states::claims_leave_states`: what a step of a consumer's claim makes of the state.
+-- Proof of `states::claims_leave_states`: how a step of a consumer's claim changes the state.
 use Rattle.std.proofs.Common.{refl}
 use Rattle.mb_claim.specs.OneClaim.{claim_stage}
 use Rattle.mb_world.proofs.CompeteStates.{competed}

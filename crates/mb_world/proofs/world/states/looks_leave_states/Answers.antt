@@ -1,4 +1,4 @@
--- Proof of `states::looks_leave_states`: what a look of a consumer that holds no claim makes of the state.
+-- Proof of `states::looks_leave_states`: how a look of a consumer that holds no claim changes the state.
 use Rattle.mb_world.proofs.LookStates.{looked_in_vain, looked_on, within}
 use Rattle.mb_world.proofs.world.states.looks_leave_states.Goals as goal
 

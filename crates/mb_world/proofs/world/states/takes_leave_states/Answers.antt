@@ -1,4 +1,4 @@
--- Proof of `states::takes_leave_states`: what the item's load by a consumer whose claim is won makes of the state.
+-- Proof of `states::takes_leave_states`: how the item's load by a consumer whose claim is won changes the state.
 use Rattle.mb_world.proofs.TakeStates.{took}
 use Rattle.mb_world.proofs.world.states.takes_leave_states.Goals as goal
 
