@@ -94,7 +94,7 @@ module _ (cs : Claims) (c : ℕ) (x : Parts) (f : Fits cs c x) where
     abbrev now : Parts
     now = with_step k t x
 
-    -- the steps on other cells stay
+    -- the steps on other cells stay as they are
     other_cell : (j : ℕ) → (j ≡ k → ⊥) → now.claimed j ≡ x.claimed j
     other_cell j ne = ap (λ b. cond b (t ∷ x.claimed j) (x.claimed j)) (ne_eqb j k ne)
 
@@ -106,11 +106,11 @@ module _ (cs : Claims) (c : ℕ) (x : Parts) (f : Fits cs c x) where
     not_taken : (j u : ℕ) → HasRead (Item j) u x.reads → j ≡ k → ⊥
     not_taken j u r e = here.0 u (subst (λ i. HasRead (Item i) u x.reads) e r)
 
-    -- the stages of claims on other cells stay
+    -- a claim on another cell has the same stage as before
     there : (j : ℕ) (r : Stage) → (j ≡ k → ⊥) → HasStageIn cs c j r x → HasStageIn cs c j r now
     there j r ne q = subst (λ xs. IsClaimPrefix cs c xs r) (sym (other_cell j ne)) q
 
-    -- the claims on other cells have no other stages than before
+    -- a claim on another cell has no other stage than before
     back : (j : ℕ) (r : Stage) → (j ≡ k → ⊥) → HasStageIn cs c j r now → HasStageIn cs c j r x
     back j r ne q = subst (λ xs. IsClaimPrefix cs c xs r) (other_cell j ne) q
 

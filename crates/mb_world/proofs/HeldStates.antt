@@ -27,7 +27,7 @@ module _ (s : WorldState) (h : WorldHistory) (is : IsWorldAfter h s) (c p : ℕ)
     pub own : consumer_of claim ≡ c
     pub is_in : IsClaimIn (layout_of s.setup) claim steps
 
-  -- if a path leads to this place, `AtCell` holds of it
+  -- if a path leads to this place, `AtCell` holds of that path
   cell_at : (ks : List ℕ) (ns : List Note) (held : Option (List ObjectTurn))
       → ConsumerPath (plan s h is).claims c p (lane_part c p h) ks ns held
       → IsPlaceAt (layout_of s.setup) c p ks held (At k claim) → AtCell

@@ -1,4 +1,4 @@
--- A walk along the links of a lane: looks at the head, and then at one link after another.
+-- A walk along a lane: looks at its head, then at one link after another. A look finds a cell, nothing, or the end.
 use Rattle.std.proofs.Common.{◌≡◌, ℕ, ◌<◌, ◌≤◌, ◌++◌, Bool, true, false, List, [], ◌∷◌, length, map, refl, sym, ◌∙◌, ap, subst, inl, inr, arith}
 use Rattle.std.specs.Prelude.{if◌then◌else◌}
 use Rattle.mb_cells.specs.declared.answer.Look.TheVariants as look

@@ -66,7 +66,7 @@ module _ (s : WorldState) (h : WorldHistory) (is : IsWorldAfter h s) (c p : ℕ)
     pub path : ConsumerPath (plan s h is).claims c p (lane_part c p h) cells notes None
     pub word : word_of at ≡ place_past p cells
 
-  -- if a path leads to this place, `AtLink` holds of it
+  -- if a path leads to this place, `AtLink` holds of that path
   link_at : (ks : List ℕ) (ns : List Note) (held : Option (List ObjectTurn))
       → ConsumerPath (plan s h is).claims c p (lane_part c p h) ks ns held
       → IsPlaceAt (layout_of s.setup) c p ks held (Before at) → AtLink

@@ -16,7 +16,7 @@ module _ (t : Assignment) (xs ys : List ℕ) (ds : List DiaryView) where
   abbrev r : ReportView
   r = report_of xs ys ds
 
-  -- the report agrees with the assignment, as far as its one lane and its consumers go
+  -- what must hold of the one lane, and of the consumers with a diary, so that the report agrees with t
   pub record AgreesOnLane : Type 0 where
     pub elsewhere : (p j : ℕ) → t (suc p) j ≡ None
     pub known : (c j : ℕ) → t 0 j ≡ Some c → c < length ds

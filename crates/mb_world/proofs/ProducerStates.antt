@@ -48,7 +48,7 @@ module _ (s : WorldState) (h : WorldHistory) (is : IsWorldAfter h s) (p : ℕ) (
 
   -- what holds if the call made this access of the producer
   module _ (a : PoolAccess) (maker : a.process ≡ Producer p) (after : IsAfter (a ∷ pool_accesses h) pool) where
-    -- the history with the access is lawful, and the parts of all consumers stay
+    -- the history with the access is lawful, and the parts of all consumers stay as they are
     pub adds : ProducerAdds (plan s h is) a h
     adds =
         goes a maker (subst₂ (λ l m. IsPoolLawful (pool_size l m) (a ∷ pool_accesses h)) lanes_now

@@ -105,7 +105,7 @@ module _ (plan : Plan) (h : WorldHistory) (lawful : IsWorldLawful plan h)
               (subst (λ (v : Word). is_of_lane l (linked_cells l (pool_accesses h)) v ≡ true) w here)))
       by (inr e) = rw e refl
 
-  -- the parts of all consumers on all lanes stay
+  -- the parts of all consumers on all lanes stay as they are
   pub parts_stay : (d q : ℕ) → lane_part d q (ToCells a ∷ h) ≡ lane_part d q h
   parts_stay d q =
       ap (λ (b : Bool). cond b (ToCells a ∷ filter (is_on d q (linked_cells q (a ∷ pool_accesses h))) h)
@@ -113,7 +113,7 @@ module _ (plan : Plan) (h : WorldHistory) (lawful : IsWorldLawful plan h)
       (is_on_none d q p (linked_cells q (a ∷ pool_accesses h)) a maker)
       ∙ by (cases_eq q p)
     where
-      -- the parts of all consumers stay, whether the access links a cell or not
+      -- the parts of all consumers stay as they are, whether the access links a cell or not
       by_link : (o : Option ℕ) → link_of a.word a.act ≡ o
           → filter (is_on d q (push_if o (linked_cells q (pool_accesses h)))) h ≡ lane_part d q h
       by_link None is = refl

@@ -15,7 +15,7 @@ use Rattle.mb_world.specs.Replay.{IsLaneOf, IsRefused}
 module _ (plan : Plan) (h : WorldHistory) (p : ℕ) (ps : p < plan.lanes)
     (place : (lane : Lane) × IsLaneOf plan p lane h) where
   -- ---- when offers are refused
-  -- if X says when the producer's place refuses an offer with `why`, an offer has this refusal exactly if X holds
+  -- let the producer's place refuse offers with `why` exactly if X. Then an offer is refused with `why` exactly if X
   pub offer_refused : (x : ℕ) (why : Offer) (X : Type 0)
       → ((lane : Lane) → IsLaneOf plan p lane h → (offer_refusal lane ≡ Some why) ↔ X)
       → IsRefused plan (event.Offer p x) (answer.Offered why) h ↔ X
@@ -37,7 +37,7 @@ module _ (plan : Plan) (h : WorldHistory) (p : ℕ) (ps : p < plan.lanes)
       let f : None ≡ Some why = sym (free lane at) ∙ refuses in cc
 
   -- ---- when pushes are refused
-  -- if X says when the producer's place has nothing to store, a push is refused, as `Idle`, exactly if X holds
+  -- let the producer's place have nothing to store exactly if X. Then a push is refused, as `Idle`, exactly if X
   pub push_refused : (r : Answer) (X : Type 0)
       → ((lane : Lane) → IsLaneOf plan p lane h → (push_store p lane ≡ None) ↔ X)
       → IsRefused plan (event.Push p) r h ↔ ((r ≡ answer.Pushed push.Idle) × X)
@@ -51,7 +51,7 @@ module _ (plan : Plan) (h : WorldHistory) (p : ℕ) (ps : p < plan.lanes)
       from (e, is) = inr (ps, (place.0, place.1, (says place.0 place.1).1 is, e))
 
   -- ---- when finishes are refused
-  -- if X says when the producer's place refuses a finish with `why`, a finish has this refusal exactly if X holds
+  -- let the producer's place refuse finishes with `why` exactly if X. Then a finish is refused with `why` exactly if X
   pub finish_refused : (why : Finish) (X : Type 0)
       → ((lane : Lane) → IsLaneOf plan p lane h → (finish_refusal lane ≡ Some why) ↔ X)
       → IsRefused plan (event.Finish p) (answer.Finished why) h ↔ X

@@ -57,7 +57,7 @@ module _ (plan : Plan) (hs : Histories) (r : ReportView) (is : IsReportOf plan h
   pub put_is : (p : ℕ) → p < plan.lanes → items_put p r ≡ values_put p hs.pool
   put_is p ps = rw (is.lane p ps) refl
 
-  -- the items left on a lane are those that the histories and the notes leave
+  -- the items left on a lane are those put there that no diary says were taken
   pub left_is : (p : ℕ) → p < plan.lanes → items_left p r ≡ (lane_view plan p hs r).left
   left_is p ps = rw (is.lane p ps) refl
 

@@ -21,7 +21,7 @@ use Rattle.mb_world.specs.WorldSamples.{all_done, both_put, first_found, first_l
 abbrev pub undecided_steps : List ObjectTurn
 undecided_steps = claim_part 1 0 both_undecided
 
--- the last of these steps
+-- the last of the steps in `undecided_steps`
 abbrev undecided_last : ObjectTurn
 undecided_last = record { object = 1; turn = record { act = act.Load (Quorum 0) 1; word = 0 } }
 

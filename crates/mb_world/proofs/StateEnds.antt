@@ -31,7 +31,7 @@ module _ (cs : Claims) where
       own_loads : part (Reader c) (pool_accesses loaded) ≡ load c w v ∷ part (Reader c) (pool_accesses h)
       own_loads = rw (is_same_process-refl (Reader c)) refl
 
-      -- the loads of other consumers stay
+      -- the loads of other consumers stay as they are
       other_loads : (d : ℕ) → (d ≡ c → ⊥) → part (Reader d) (pool_accesses loaded) ≡ part (Reader d) (pool_accesses h)
       other_loads d other = rw (ne_eqb d c other) refl
 
@@ -89,7 +89,7 @@ module _ (cs : Claims) where
       abbrev stepped : WorldHistory
       stepped = claim_step c k x ∷ h
 
-      -- the steps of other consumers and on other cells stay
+      -- the steps of other consumers and on other cells stay as they are
       other_part : (d j : ℕ) → (d ≡ c → j ≡ k → ⊥)
           → claim_part d j (claim_accesses stepped) ≡ claim_part d j (claim_accesses h)
       other_part d j other = by (cases_eq c d)

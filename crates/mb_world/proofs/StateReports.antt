@@ -83,7 +83,7 @@ module _ (s : WorldState) (h : WorldHistory) (is : IsWorldAfter h s) (known : Wo
           (record { consumer = c; lane = p; notes = reverse at.notes; begun = has_begun at.held })
       own = diary_is plan h is.lawful known c p at.cells at.notes at.held at.path
 
-      -- the state has the path's notes on these cells
+      -- on the cells in `with_notes` the state has the notes of the path
       noted_here : AreEnds (λ k n. note_on s c k ≡ Some n) with_notes at.notes
       noted_here =
           ends_more (EndsIn plan.claims c (lane_part c p h)) (λ k n. note_on s c k ≡ Some n) with_notes at.notes
@@ -93,13 +93,13 @@ module _ (s : WorldState) (h : WorldHistory) (is : IsWorldAfter h s) (known : Wo
           (end_here plan h is.lawful known c p k n (has_cell-true (linked p) k stands) e))
           (tracks plan h is.lawful known c p here).ended
 
-      -- these cells are the first of the lane, and later cells follow
+      -- the cells in `with_notes` are the first of the lane, and later cells follow
       late : (ks : List ℕ) × (ks ++ with_notes ≡ linked p)
       late =
           let start = known.start c p at.cells (met_all plan h is.lawful known c p here) in
           closed_cut at.cells at.held start.0 (linked p) start.1
 
-      -- a cell of the lane on which the consumer's claim has ended is one of these cells
+      -- a cell of the lane on which the consumer's claim has ended is in `with_notes`
       ended_here : (k : ℕ) (n : Note) → Has (linked p) k → Ends c k n → Has with_notes k
       ended_here k n has e =
           let gave = (sound.fit c cs).met k (end_some c k n cs e) in
@@ -128,7 +128,7 @@ module _ (s : WorldState) (h : WorldHistory) (is : IsWorldAfter h s) (known : Wo
               absurd (once_apart late.0 with_notes k (subst IsOnceEach (sym late.1) (known.once p)) has
               (ended_here k n stands (end_of_note c k n cs (known.within p k stands) e)))
 
-      -- the lane in the order of linking: first these cells, then the later ones
+      -- the lane's cells in the order of linking: first those in `with_notes`, then the later ones
       lane_order : reverse (linked p) ≡ reverse with_notes ++ reverse late.0
       lane_order = ap reverse (sym late.1) ∙ reverse-append late.0 with_notes
 

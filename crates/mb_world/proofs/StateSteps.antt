@@ -144,7 +144,7 @@ module _ (s : WorldState) (h : WorldHistory) (is : IsWorldAfter h s) where
           (λ e j o. IsNoteAfter s.setup e j (a ∷ h) o) s.notes is.note c k cs ks is.notes_count (Some n) written
           (λ e j o _ _ other old. note_kept e j o (λ m. same e j m other) old)
         where
-          -- the note that is written is the end of the claim
+          -- after the access the claim of consumer c on cell k has ended as the written note says, and as no other
           written : IsNoteAfter s.setup c k (a ∷ h) (Some n)
           written m = (
             λ e. let one : n ≡ m = cc in subst (λ (x : Note). Ends plan.claims (a ∷ h) c k x) one now,

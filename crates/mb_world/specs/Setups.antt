@@ -23,7 +23,7 @@ shaped_plan shape producers consumers cells pairs name = record {
   lanes = producers;
 }
 
--- the plan of these numbers over the quorum table of this name, if each cell has pairs alone
+-- the plan of these numbers of producers, consumers, cells and pairs over this table, if each cell has pairs alone
 abbrev pub plan_of : ℕ → ℕ → ℕ → ℕ → TableName → Plan
 plan_of = shaped_plan plain
 
@@ -31,7 +31,7 @@ plan_of = shaped_plan plain
 abbrev pub layout_of : Setup → Layout
 layout_of setup = setup.layout
 
--- what a setup is made of
+-- the plan of a setup: the claims on its cells, and a lane for each producer
 abbrev pub plan_in : Setup → Plan
 plan_in setup = record { claims = claims_in setup.layout setup.cells; lanes = setup.producers }
 

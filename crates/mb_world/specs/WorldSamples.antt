@@ -107,7 +107,7 @@ report_with left d = record {
 abbrev pub all_reported : ReportView
 all_reported = report_with (6 ∷ []) (diary_with 1 0 (Lost 0 ∷ []))
 
--- ---- what is no report and no diary of this world
+-- ---- reports and diaries that are not of this world
 -- this is no report of what was done in all
 abbrev pub IsNoReport : ReportView → Type 0
 IsNoReport r = IsReportOf two_by_two all_histories r → ⊥

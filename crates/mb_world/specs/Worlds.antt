@@ -57,12 +57,12 @@ pub record ConsumerAdds (plan : Plan) (c p : ℕ) (a : WorldAccess) (h : WorldHi
   pub lawful : IsWorldLawful plan (a ∷ h)
   -- the part of c on lane p has one access more
   pub own : lane_part c p (a ∷ h) ≡ a ∷ lane_part c p h
-  -- all other parts of consumers on lanes stay
+  -- all other parts of consumers on lanes stay as they are
   pub others : (d q : ℕ) → (d ≡ c → q ≡ p → ⊥) → lane_part d q (a ∷ h) ≡ lane_part d q h
 
 -- what one more access, of a producer, adds to a lawful history
 pub record ProducerAdds (plan : Plan) (a : PoolAccess) (h : WorldHistory) : Type 0 where
   -- the longer history is lawful
   pub lawful : IsWorldLawful plan (ToCells a ∷ h)
-  -- the parts of all consumers on all lanes stay
+  -- the parts of all consumers on all lanes stay as they are
   pub others : (d q : ℕ) → lane_part d q (ToCells a ∷ h) ≡ lane_part d q h

@@ -81,7 +81,7 @@ pub fn loads_meet_cells()
     ensures none { (q p v : ℕ) (reads : History) → (v ≡ 0) ⊎ (v ≡ END)
         → cells_met p (load q (place_past p (cells_met p reads)) v ∷ reads) ≡ cells_met p reads }
 
-    // A load of another word meets none.
+    // An access to another word meets no cell.
     ensures elsewhere { (p : ℕ) (a : PoolAccess) (reads : History)
         → a.word ≢ place_past p (cells_met p reads) → cells_met p (a ∷ reads) ≡ cells_met p reads }
 

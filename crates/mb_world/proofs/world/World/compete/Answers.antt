@@ -29,17 +29,17 @@ module _ (g : Over) (c : After-as_layout g) where
     notes = c.self.inside.notes.items;
   }
 
-  -- the place holds a claim on cell k
+  -- the place of the consumer on the lane holds a claim on cell k
   first : HasPlace c.args.c c.args.p (At c.args.k c.requires.0) s
   first = subst (HasPlace c.args.c c.args.p (At c.args.k c.requires.0)) (sym c.self.view_is) c.requires.1
 
-  -- the cell and the claim that are read are those of the place
+  -- the cell and the claim that the code reads are those of that place
   read : (c.in-At.cell ≡ c.args.k) × (c.in-At.claim ≡ c.requires.0)
   read =
       place_read s c.args.c c.args.p c.args.k c.in-At.cell c.producers.result c.requires.0 c.in-At.claim
       c.index_mut.result.now first c.producers.ensures c.index_mut.ensures.value c.in-At.is
 
-  -- the place holds the claim that is read
+  -- that place holds the claim that the code reads
   has : HasPlace c.args.c c.args.p (At c.args.k c.in-At.claim) s
   has = rw (read.1) first
 
