@@ -22,7 +22,7 @@ ones_single =
       | inr some ↦ omega (arith, ones_le_self 1)
     ]
 
--- a list with an act more, if the register's bit is 1, is longer by the number of ones of that bit
+-- a list that gets one act more if a bit is 1 is longer by as many as the bit has ones
 cond_size :
     (act : Act) (made : List Act) (bit n : ℕ) → bit < 2 → length made ≡ n → (is : Bool) → (bit == 1) ≡ is
     → length (cond is (act ∷ made) made) ≡ count_ones bit + n
