@@ -12,7 +12,7 @@ use Rattle.mb_shared_claims.proofs.Sites.{seat_known}
 use Rattle.mb_shared_claims.proofs.table.SharedClaims.straight.{Given.Over, Goals.After-begin}
 use Rattle.mb_shared_claims.proofs.table.SharedClaims.straight.Goals as goal
 
--- before the accesses
+-- what holds before the accesses
 module _ (g : Over) (c : After-begin g) where
   -- the seat's consumer is one of the layout's
   known : c.args.seat.now.consumer < consumer_count c.args.self.now.layout
@@ -27,7 +27,7 @@ module _ (g : Over) (c : After-begin g) where
       (first_path c.places_show_prefixes.ensures.prefix c.args.self.now.layout c.args.seat.now.consumer start known
       first)
 
--- Each clause needs two facts, which stand after `start` in this order. A draw changes only the random word and its
+-- Each clause needs two facts, which come after `start` in this order. A draw changes only the random word and its
 -- source. An access changes only the seat: its part is longer by that access. The facts `seat` and `rng` say that the
 -- caller gets back the seat and the source as the accesses left them in its memory
 pub straight-requires-clause-may : goal.straight-requires-clause-may
