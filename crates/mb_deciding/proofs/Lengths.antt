@@ -243,8 +243,7 @@ record Checked (t : QuorumTable) (v u : ℕ) (made : List Act) : Type 0 where
   pub whole : made ≡ loads ++ begin
   pub few : length loads ≤ count_ones (t.read u)
 
--- in each whole path a process gets its preference, and then makes at most as many loads as that read quorum has
--- registers
+-- by each whole path a process gets its preference, and then loads at most its read quorum's registers
 path_checked :
     (t : QuorumTable) (v : ℕ) (made : List Act) (d : Bool) (u : ℕ) → IsRatifierPath t v made d u → Checked t v u made
 path_checked t v made true u h =

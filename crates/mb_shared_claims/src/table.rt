@@ -124,8 +124,7 @@ impl<A: Allocator + Drop> SharedClaims<A> {
         })
     }
 
-    /// Takes a seat back. Its part goes to the hub, to the place of its number. It makes one load, which no history
-    /// has.
+    /// Takes a seat back. Its part goes to the hub, to the place of its number. It makes one load, in no history.
     pub fn take_in(&self, hub: &mut ClaimHub, seat: ClaimSeat)
         requires hub { hub.old.table ≡ name_of self.now }
         requires seat { seat.table ≡ name_of self.now }
