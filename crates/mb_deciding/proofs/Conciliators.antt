@@ -37,7 +37,7 @@ act_stored v u (Store (Quorum r) w) n stored b f e = absurd b
 act_stored v u (Store Last w) n stored b f e = absurd b
 act_stored v u (Exchange reg w m) n stored b f e = absurd b
 
--- what is in a list is in it also after perhaps one number more came first
+-- a number in a list is still in it after one more number is added in front, or none
 among_longer : (o : Option ℕ) (n : ℕ) (stored : List ℕ) → IsAmong stored n → IsAmong (cons_option o stored) n
 among_longer None n stored h = h
 among_longer (Some w) n stored h = inr h
@@ -119,7 +119,7 @@ module _ (t : QuorumTable) (s : ℕ) (inputs : ℕ → ℕ) where
       act_stored (inputs a.process) u a.turn.act (value_in Value h) (stores_in h) (newest_stores a h l)
       (value_stored h (lawful_older (conciliator_of t s inputs) a h l) u) e
 
-  -- a load that is the newest access has the value that the older ones left
+  -- if the newest access is a load of a value, the older accesses left that value in the word
   newest_load :
       (a : Access) (h : List Access) → L (a ∷ h) → (last : Turn) (u : ℕ) → last.act ≡ Load Value (u + 1)
       → a.turn ≡ last → value_in Value h ≡ u + 1

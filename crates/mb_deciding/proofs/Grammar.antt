@@ -1,5 +1,5 @@
--- What came before each act of a ratifier's path, and what a path loaded and chose. A list of acts is *in order* if
--- each act has before it what `Behind` says that it needs (`AllBehind`).
+-- What came before each act of a ratifier's path, and what it loaded and chose. Acts are *in order* if each has before
+-- it what `Behind` asks for. A read is *clear* below a bound if all its loads below it found 0 (`ReadsClear`).
 use Rattle.std.proofs.Common.{◌≡◌, ◌≢◌, ℕ, zero, suc, ◌+◌, ◌<◌, ◌==◌, cond, Bool, true, false, List, [], ◌∷◌, ◌++◌, ◌⊎◌}
 use Rattle.std.proofs.Common.{inl, inr, sym, refl, ap, subst, arith}
 use Rattle.std.specs.Int.{bit_at}

@@ -60,7 +60,7 @@ own_turns a h =
 pub own_some : (a : Access) (h : List Access) → part a.process (a ∷ h) ≢ []
 own_some a h e = not_empty a.turn (part a.process h) (sym (own_turns a h) ∙ e)
 
--- with one more turn of process p, the part of each process q is a prefix of a path: q is p, or it is not
+-- with one more turn of process p, the part of each process q is a prefix of a path, if q is p and if it is not
 longer_by :
     (o : Object) (h : List Access) (p q : ℕ) (turn : Turn)
     → IsObjectLawful o h → o.inputs p < o.table.values → IsPrefix o.table o.kind (o.inputs p) (turn ∷ part p h)
@@ -72,7 +72,7 @@ longer_by o h p q turn l within prefix true e some =
     (within, prefix)
 longer_by o h p q turn l within prefix false e some = l.parts q some
 
--- a history stays lawful with one more turn of a process, if that process's part with it is a prefix of a path
+-- a history stays lawful with one more turn that is true to memory and gives its process a prefix of a path
 pub longer :
     (o : Object) (h : List Access) (p : ℕ) (turn : Turn)
     → IsObjectLawful o h → o.inputs p < o.table.values → IsInWords turn → ReadsLast turn.act h

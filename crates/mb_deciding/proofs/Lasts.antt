@@ -46,7 +46,7 @@ opens_last t v =
     let x : Turn = record { act = Exchange Last (v + 1) 0; word = 0 } in
     (x ∷ [], not_empty x [], (answer true v, (refl, inl (refl, refl))))
 
--- a whole path has no later turns, and one output
+-- if a whole path and later turns are again a whole path, there are no later turns, and the outputs are equal
 pub unique_last :
     (t : QuorumTable) (v : ℕ) (turns later : List Turn) (a b : Out) → IsPath t LastObject v turns a
     → IsPath t LastObject v (later ++ turns) b → (later ≡ []) × (a ≡ b)

@@ -48,7 +48,7 @@ extra_acts : ℕ → ℕ
 extra_acts zero = 2
 extra_acts (suc x) = 1
 
--- the acts load the proposal once. They are the announcement, the acts on the proposal, and n loads of registers
+-- the acts load the proposal once, and are n more than those of the announcement and those on the proposal
 record Measured (t : QuorumTable) (v n : ℕ) (made : List Act) : Type 0 where
   pub first : ℕ
   pub loads : proposal_loads made ≡ first ∷ proposal_loads (announcement t v)
@@ -157,7 +157,7 @@ ends_within t u n m false a b =
 same_first : (x y : ℕ) (loads others rest : List ℕ) → loads ≡ x ∷ rest → others ≡ y ∷ rest → loads ≡ others → x ≡ y
 same_first x y loads others rest a b e = let f : x ∷ rest ≡ y ∷ rest = sym a ∙ (e ∙ b) in cc
 
--- if acts are a clear read of u below n and one of w below m, both read quorums have equally many registers there
+-- if the same acts check u with loads of 0 below n, and w with loads of 0 below m, both checks have equally many loads
 pub clear_same :
     (t : QuorumTable) (v u w n m : ℕ) (made : List Act) → ReadsClear t v u n made → ReadsClear t v w m made
     → length (zeros_below n (t.read u)) ≡ length (zeros_below m (t.read w))
@@ -169,7 +169,7 @@ clear_same t v u w n m made h k =
     (proposal_loads (announcement t v)) a.loads b.loads refl) in
     omega (arith, a.long, b.long)
 
--- if the newest act loads an empty proposal, the acts are no clear read: the process has no preference yet
+-- right after the load of an empty proposal a process has no preference, so these acts are no check of one
 pub empty_unclear :
     (t : QuorumTable) (v u n : ℕ) → ReadsClear t v u n (Load Proposal 0 ∷ announcement t v) → ⊥
 unfolding extra_acts

@@ -59,7 +59,7 @@ prefers_no_load t v u r x begin (inr p) h = loads (subst (λ xs. Has xs (Load (Q
         let other = stores_only t.registers (t.write v) (Load (Quorum r) x) k in
         let e : Load (Quorum r) x ≡ Store (Quorum other.0) 1 = other.1 in cc
 
--- if a read is clear below a bound, each load of a register is below the bound, and found 0
+-- if all loads of a check below a bound found 0, each load of a register is of one below the bound, and found 0
 pub clear_only :
     (t : QuorumTable) (v u n r x : ℕ) (made : List Act) → ReadsClear t v u n made → Has made (Load (Quorum r) x)
     → (r < n) × (x ≡ 0)
@@ -115,7 +115,7 @@ from_unique v u w loads rest (inr h) (inl k) =
 from_unique v u w loads rest (inr h) (inr k) =
     let e : u + 1 ≡ w + 1 = (let f : (u + 1) ∷ rest ≡ (w + 1) ∷ rest = sym h ∙ k in cc) in omega arith
 
--- if a read of the preference u is clear below a bound, the newest load of the proposal shows u
+-- if all loads of a check of u below a bound found 0, the newest load of the proposal shows the preference u
 pub clear_from :
     (t : QuorumTable) (v u n : ℕ) (made : List Act) → ReadsClear t v u n made
     → IsFrom v u (proposal_loads made) (proposal_loads (announcement t v))

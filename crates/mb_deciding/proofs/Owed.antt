@@ -17,7 +17,7 @@ use Rattle.mb_deciding.proofs.Sizes.{largest_bound}
 use Rattle.mb_deciding.proofs.ConciliatorPaths.{path_ends as conciliator_ends, path_length as conciliator_length}
 use Rattle.mb_deciding.proofs.Conciliators.{valid as conciliator_valid, fits as conciliator_fits}
 
--- two outputs are one, if both are decided or neither is, and their values are one
+-- two outputs are equal if both are decided or neither is, and their values are equal
 same_answer : (a b : Out) → (a.decided ≡ b.decided) × (a.value ≡ b.value) → a ≡ b
 same_answer a b e = ap₂ answer e.0 e.1
 
@@ -52,7 +52,7 @@ opens_ratifier t v =
       ),
     )
 
--- a whole path through a ratifier has no later turns, and one output
+-- if a whole path through a ratifier and later turns are again one, there are no later turns, and the outputs are equal
 unique_ratifier :
     (t : QuorumTable) (v : ℕ) (turns later : List Turn) (a b : Out) → IsPath t Ratifier v turns a
     → IsPath t Ratifier v (later ++ turns) b → (later ≡ []) × (a ≡ b)
@@ -73,7 +73,7 @@ opens_conciliator t s v =
     let x : Turn = record { act = Load Value (v + 1); word = 0 } in
     (x ∷ [], not_empty x [], (answer false v, (refl, (refl, (0, omega arith, inl tt)))))
 
--- a whole path through a conciliator has no later turns, and one output
+-- if a whole path through a conciliator and later turns are again one, there are none, and the outputs are equal
 unique_conciliator :
     (t : QuorumTable) (s v : ℕ) (turns later : List Turn) (a b : Out) → IsPath t (Conciliator s) v turns a
     → IsPath t (Conciliator s) v (later ++ turns) b → (later ≡ []) × (a ≡ b)
@@ -82,7 +82,7 @@ unique_conciliator t s v turns later a b h k =
     (e.0, same_answer a b (h.0 ∙ sym k.0, e.1))
 
 -- ---- objects of each kind
--- a whole path through an object of any kind has no later turns, and one output
+-- if a whole path through an object and later turns are again one, there are none, and the outputs are equal
 pub one_end :
     (t : QuorumTable) (kind : Kind) (v : ℕ) (turns later : List Turn) (a b : Out) → IsPath t kind v turns a
     → IsPath t kind v (later ++ turns) b → (later ≡ []) × (a ≡ b)

@@ -15,7 +15,7 @@ refusal_in-of m v inputs processes others least most same own =
     (refusal_in m inputs processes) most refl
     ∙ cond_above m 1 (Some BadValues) _ _ least refl))
 
--- x is a bad input and y an unknown process: if the first reason to refuse is none, there is neither
+-- if neither a bad input at x nor an unknown process at y is a reason to refuse, there is neither x nor y
 none_of :
     (x y : Option ℕ)
     → option_map_or (λ i. Some (BadInput i)) x (option_map_or (λ i. Some (NoSuchProcess i)) y None) ≡ None

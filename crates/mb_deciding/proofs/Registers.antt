@@ -19,7 +19,7 @@ pub record IsLeastFrom (mask bound r : ℕ) : Type 0 where
   pub member : IsMember mask r
   pub least : (k : ℕ) → bound ≤ k → k < r → IsMember mask k → ⊥
 
--- ---- masks of what is left
+-- ---- masks of the registers that are left
 -- a mask below 2 ^ n has registers below n only
 pub member_below : (n mask r : ℕ) → mask < 2 ^ n → IsMember mask r → r < n
 member_below n mask r h m =
@@ -37,7 +37,7 @@ none_empty left k e m =
 pub rest_whole : (mask : ℕ) → IsRest mask 0 mask
 rest_whole mask k = ((λ m. (omega arith, m)), (λ both. both.1))
 
--- the least register of what is left is the least of the quorum at or above the bound
+-- the least register that is left is the least of the quorum at or above the bound
 pub rest_least : (mask bound left r : ℕ) → IsRest mask bound left → IsLeast left r → IsLeastFrom mask bound r
 rest_least mask bound left r rest least =
     let own = (rest r).0 least.member in

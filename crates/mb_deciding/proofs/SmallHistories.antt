@@ -25,7 +25,7 @@ no_turns p (x ∷ turns) other =
     ap (λ b. cons_option (cond b (Some x) None) (part p (history_of_one turns))) (ne_eqb 0 p (λ e. other (sym e)))
     ∙ no_turns p turns other
 
--- if the turns are a prefix of a path and true to memory, the history of process 0 alone is lawful
+-- if the turns are in words, true to memory and a prefix of a path, the history of process 0 alone is lawful
 lawful_alone :
     (t : QuorumTable) (kind : Kind) (turns : List Turn) → IsMemoryTrue (history_of_one turns) → AreInWords
     (history_of_one turns)

@@ -12,7 +12,7 @@ use Rattle.mb_deciding.proofs.Grammar.{HasPreference, clear_loads, one_chosen, p
 use Rattle.mb_deciding.proofs.RatifierWords.{IsFounded, has_cases, own_behind, newest_load, stored_one}
 use Rattle.mb_deciding.proofs.RatifierWords.{preference_filled, loaded_stored, chosen_founded, founded_within}
 
--- ---- a clear read and an announcement exclude each other
+-- ---- what a load of 0 from a register rules out
 -- a process that loaded an empty proposal has stored 1 in each register of its input's write quorum
 empty_announced :
     (t : QuorumTable) (inputs : ℕ → ℕ) (h : List Access) → IsQuorumTable t → IsObjectLawful (ratifier_of t inputs) h
@@ -58,7 +58,7 @@ clear_register t inputs (a ∷ h) q l p b r k f m =
       ])
     ]
 
--- in a lawful history of a ratifier a process's clear read rules out what `ChecksKeepOut` says
+-- so `ChecksKeepOut` holds of every lawful history of a ratifier
 keeps_out :
     (t : QuorumTable) (inputs : ℕ → ℕ) (h : List Access) → IsQuorumTable t → IsObjectLawful (ratifier_of t inputs) h
     → ChecksKeepOut (ratifier_of t inputs) h
@@ -171,7 +171,7 @@ ratifies o q is =
     subst (λ kind. IsRatifying (object_of o.table kind o.inputs)) (sym is)
     (record { acceptance = accepted o.table q o.inputs; contested = contested o.table q o.inputs })
 
--- if an object is a ratifier, a clear read in a lawful history of it rules out what `ChecksKeepOut` says
+-- if an object is a ratifier, `ChecksKeepOut` holds of each of its lawful histories
 pub ratifier_keeps_out :
     (o : Object) (h : List Access) → ObjectIsSound o → o.kind ≡ Ratifier → IsObjectLawful o h → ChecksKeepOut o h
 ratifier_keeps_out o h q is =

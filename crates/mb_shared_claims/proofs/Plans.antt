@@ -21,7 +21,7 @@ OwnPart = (a : ClaimAccess) (h : List ClaimAccess) → part a.consumer (a ∷ h)
 abbrev pub OtherParts : Type 0
 OtherParts = (c : ℕ) (a : ClaimAccess) (h : List ClaimAccess) → a.consumer ≢ c → part c (a ∷ h) ≡ part c h
 
--- if a view that is not the hub's fits the table, it does so with any other plan and count of numbers drawn
+-- if a view that is not the hub's fits the table, it also fits with any other plan and any other count of numbers drawn
 fits_apart :
     (k : TableSize) (plan other : Plan) (drawn more seat : ℕ) → seat ≢ plan.hub → (v : View)
     → FitsTable k plan drawn seat v → FitsTable k other more seat v

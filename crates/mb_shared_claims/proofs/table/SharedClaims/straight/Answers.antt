@@ -20,7 +20,7 @@ module _ (g : Over) (c : After-begin g) where
       (seat_known c.seat.inside.seat.me c.seat.inside.consumer c.seat.inside.seat.table_id c.args.self.now
       c.seat.invariant (ap (λ (v : SeatView). v.table) c.seat.view_is ∙ c.requires.table))
 
-  -- a claim before its first access has made all that the consumer did on the cell
+  -- a claim before its first access has made all that the consumer did on the cell, which is nothing
   begun : (start : Claim) → IsStanding c.args.self.now.layout c.args.seat.now.consumer 0 c.args.seat.now.consumer start
       → IsClaimIn c.args.self.now.layout start (part_on c.args.seat.now.consumer c.args.cell c.args.seat.now.part)
   begun start first = subst (IsClaimIn c.args.self.now.layout start) (sym c.requires.fresh)
