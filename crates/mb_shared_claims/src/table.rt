@@ -41,7 +41,7 @@ impl<A: Allocator + Clone + Drop> SharedClaims<A> {
     ghost use Rattle.std.specs.Prelude.{◌≡◌, ◌≤◌, [], IfOk};
     ghost use Rattle.mb_shared_claims.specs.{MAX_LARGE_CELLS, name_of};
 
-    /// A table of this layout with `cells` cells, at most 2^24, all words 0, and its hub, which has issued no number. It
+    /// A table of this layout with `cells` cells, at most 2^24, all words 0, and its hub, with no number issued. It
     /// allocates all that the table will ever need. The error is [`NoMemory`] if the allocator refuses a part of that.
     pub fn new(
         alloc: A,
