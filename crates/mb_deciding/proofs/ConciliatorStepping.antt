@@ -1,4 +1,4 @@
--- A process at its place in a conciliator: with its next turn it has a prefix of a path, and what that may find.
+-- A process at its place in a conciliator: with its next turn it has a prefix of a path. Also what this turn may find.
 use Rattle.std.proofs.Common.{ℕ, ◌+◌, ◌-◌, ◌*◌, ◌%◌, false, List, [], ◌∷◌, inl, inr}
 use Rattle.std.proofs.Common.{sym, refl, subst, arith}
 use Rattle.std.proofs.lemmas.Bool.{cases_eq, cases_lt}

@@ -121,7 +121,7 @@ path_measured t v made true u h =
     (length (zeros_below t.registers (t.read u)), refl, clear_measured t v u t.registers made h)
 path_measured t v made false u h = one_measured t v u made h
 
--- the preference of a whole path shows in the values that the proposal gave
+-- on a whole path the newest load of the proposal shows the preference u: it found 0 and u is the input v, or u + 1
 path_from :
     (t : QuorumTable) (v : ℕ) (made : List Act) (d : Bool) (u : ℕ) → IsRatifierPath t v made d u
     → IsFrom v u (proposal_loads made) (proposal_loads (announcement t v))
@@ -153,7 +153,7 @@ ends_within t u n m false a b =
     let q : m ≡ suc (length (zeros_below b.0 (t.read u))) = b.3 in
     omega (arith, each_more (λ r. Load (Quorum r) 0) t.registers (t.read u) b.0 b.1 b.2)
 
--- if two lists are equal, their first numbers are
+-- if `loads` begins with x and `others` with y, and both lists are equal, so are x and y
 same_first : (x y : ℕ) (loads others rest : List ℕ) → loads ≡ x ∷ rest → others ≡ y ∷ rest → loads ≡ others → x ≡ y
 same_first x y loads others rest a b e = let f : x ∷ rest ≡ y ∷ rest = sym a ∙ (e ∙ b) in cc
 
@@ -169,7 +169,7 @@ clear_same t v u w n m made h k =
     (proposal_loads (announcement t v)) a.loads b.loads refl) in
     omega (arith, a.long, b.long)
 
--- right after the load of an empty proposal a process has no preference, so these acts are no check of one
+-- right after the load of an empty proposal a process has no preference, so its acts are not those of a check
 pub empty_unclear :
     (t : QuorumTable) (v u n : ℕ) → ReadsClear t v u n (Load Proposal 0 ∷ announcement t v) → ⊥
 unfolding extra_acts

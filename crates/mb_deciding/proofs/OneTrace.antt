@@ -69,7 +69,7 @@ one_out o h p (Some a) None x y = absurd (y (a.decided, a.value, x))
 one_out o h p (Some a) (Some b) x y =
     ap Some (one_end o.table o.kind (o.inputs p) (part p h) [] a b x y).1
 
--- two entries with an access of process p that may both come after one history are equal
+-- after one history, two entries with an access of process p, with the same random word, are equal
 one_access :
     (o : Object) (word p : ℕ) (h : List Access) (a b : Act) (x y : Option Out)
     → IsObjectLawful o (access p word a ∷ h)
@@ -80,7 +80,7 @@ one_access o word p h a b x y l m out other =
     let found = subst (λ act. IsOutputOf o p y (access p word act ∷ h)) (sym same) other in
     ap₂ (λ act o. entry.Access p act o) same (one_out o (access p word a ∷ h) p x y out found)
 
--- two entries of one process that may both come after one history are equal
+-- after one history, two entries of one process for the same random word are equal
 one_entry :
     (o : Object) (word : ℕ) (h : List Access) (e f : Entry)
     → IsObjectLawful o (with_entry word e h) → IsObjectLawful o (with_entry word f h)

@@ -1,5 +1,5 @@
 -- A process at its place in a ratifier: its acts are an open prefix of a path, and with the next act still a prefix of
--- one. Also what its next load may find, and in which word.
+-- one. Also what a load may find, and to which words the next op may go.
 use Rattle.std.proofs.Common.{◌≡◌, ap, ◌∙◌, ℕ, zero, suc, ◌+◌, ◌<◌, false, List, ◌∷◌, inl, inr}
 use Rattle.std.proofs.Common.{sym, subst, arith}
 use Rattle.std.proofs.Math.Numerals.{add-one}
