@@ -13,7 +13,7 @@ pub length-acts : (xs : List Turn) → length (acts xs) ≡ length xs
 length-acts [] = refl
 length-acts (x ∷ xs) = ap suc (length-acts xs)
 
--- if a list of turns has no acts, it is empty
+-- a list of turns without acts is empty
 pub no_acts : (xs : List Turn) → acts xs ≡ [] → xs ≡ []
 no_acts [] e = refl
 no_acts (x ∷ xs) e = absurd (not_empty x.act (acts xs) e)
@@ -22,7 +22,7 @@ no_acts (x ∷ xs) e = absurd (not_empty x.act (acts xs) e)
 pub turns_for : List Act → List Turn
 turns_for xs = map (λ x. record { act = x; word = 0 }) xs
 
--- turns made for acts have these acts
+-- the acts of the turns made for these acts are the acts themselves
 pub acts-turns_for : (xs : List Act) → acts (turns_for xs) ≡ xs
 unfolding turns_for
 acts-turns_for [] = refl
@@ -33,11 +33,11 @@ pub has_some : (xs : List Act) (c : Act) → Has xs c → xs ≢ []
 has_some [] c k e = k
 has_some (x ∷ xs) c k e = not_empty x xs e
 
--- who made an act has a turn
+-- a list of turns that has an act is not empty
 pub has_turns : (turns : List Turn) (c : Act) → Has (acts turns) c → turns ≢ []
 has_turns turns c k e = has_some (acts turns) c k (ap acts e)
 
--- an act in a list is in the list with later acts before it
+-- an act of a list is still in the list with later acts before it
 pub has_later : (xs ys : List Act) (c : Act) → Has ys c → Has (xs ++ ys) c
 has_later [] ys c h = h
 has_later (x ∷ xs) ys c h = inr (has_later xs ys c h)

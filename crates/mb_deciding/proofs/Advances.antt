@@ -15,7 +15,7 @@ abbrev pub IsTaken : ℕ → ℕ → ℕ → Type 0
 IsTaken left r after = (k : ℕ) → IsMember after k ↔ (IsMember left k × (k ≢ r))
 
 -- ---- the op of each place, and what it may find
--- a process that announces stores in the least register that is left, or loads the proposal
+-- a process that announces stores 1 in the least register that is left, or loads the proposal if none is left
 pub announce_op :
     (t : QuorumTable) (input left : ℕ) (op : Op) → IsRatifierOp t (Announce input left) op
     → ((r : ℕ) × (op ≡ to.Store (Quorum r) 1) × IsLeast left r) ⊎ ((op ≡ to.Load Proposal) × (left ≡ 0))
@@ -29,7 +29,7 @@ announce_op t input left (to.Store Value w) is = absurd is
 announce_op t input left (to.Store Proposal w) is = absurd is
 announce_op t input left (to.Store (Quorum r) w) is = inl (r, ap (λ n. to.Store (Quorum r) n) is.0, is.1)
 
--- before its first access a process makes the op of one that has its whole write quorum left to announce
+-- before its first access a process has the same next op as one with its whole write quorum left to announce
 pub begin_op :
     (t : QuorumTable) (input : ℕ) (op : Op)
     → IsRatifierOp t (Begin input) op ↔ IsRatifierOp t (Announce input (t.write input)) op
@@ -54,7 +54,7 @@ find_anywhere t a b (to.Store reg w) seen can = tt
 find_anywhere t a b (to.Load Last) seen can = tt
 find_anywhere t a b (to.Exchange reg w) seen can = tt
 
--- a process that proposes stores its input
+-- the next op of a process that proposes is the store of its input in the proposal
 pub propose_op :
     (t : QuorumTable) (input : ℕ) (op : Op) → IsRatifierOp t (Propose input) op → op ≡ to.Store Proposal (input + 1)
 propose_op t input (to.Load Value) is = absurd is
@@ -67,7 +67,7 @@ propose_op t input (to.Store Value w) is = absurd is
 propose_op t input (to.Store Proposal w) is = ap (λ n. to.Store Proposal n) is
 propose_op t input (to.Store (Quorum r) w) is = absurd is
 
--- a process that checks loads the least register that is left
+-- the next op of a process that checks is the load of the least register that is left
 pub check_op :
     (t : QuorumTable) (u left : ℕ) (op : Op) → IsRatifierOp t (Check u left) op
     → (r : ℕ) × (op ≡ to.Load (Quorum r)) × IsLeast left r
@@ -81,7 +81,7 @@ check_op t u left (to.Store Value w) is = absurd is
 check_op t u left (to.Store Proposal w) is = absurd is
 check_op t u left (to.Store (Quorum r) w) is = absurd is
 
--- a mask has one least register
+-- two least registers of one mask are equal
 pub one_least : (mask r s : ℕ) → IsLeast mask r → IsLeast mask s → r ≡ s
 one_least mask r s l m =
     elim (cases_order r s) [
@@ -93,13 +93,13 @@ one_least mask r s l m =
     ]
 
 -- ---- a process that announces its input
--- before its first access a process has all of its write quorum left
+-- before its first access a process has its whole write quorum left to announce
 pub begin_announces :
     (t : QuorumTable) (v input : ℕ) (made : List Act) → IsInRatifier t v (Begin input) made
     → IsInRatifier t v (Announce input (t.write input)) made
 begin_announces t v input made at = (at.0, (0, omega arith, rw (at.0) (rest_whole (t.write v)), at.1))
 
--- a store in the least register that is left goes on with the announcement
+-- with a store of 1 in the least register r that is left, the acts are the announcement's stores below r + 1
 pub announced_next :
     (t : QuorumTable) → IsQuorumTable t → (v input left r : ℕ) (made : List Act) → v < t.values
     → IsInRatifier t v (Announce input left) made → IsLeast left r
@@ -113,7 +113,7 @@ announced_next t q v input left r made within at least =
           (each_next (λ k. Store (Quorum k) 1) (t.write v) bound r from),
     )
 
--- after the store of an announcement the process announces what is left without that register
+-- after a store of its announcement a process has the same registers left to announce, without the one stored
 pub announced_more :
     (t : QuorumTable) → IsQuorumTable t → (v input left r after : ℕ) (made : List Act) (op : Op) (seen : ℕ)
     → v < t.values → IsInRatifier t v (Announce input left) made → IsRatifierOp t (Announce input left) op → left ≢ 0
@@ -124,7 +124,7 @@ announced_more t q v input left r after made op seen within at is some least tak
       | inr x ↦ absurd (some x.1)
     ]
   where
-    -- the longer acts lead to the place with `after` left, if x is the register stored
+    -- if x is the register r, the acts with a store of 1 in x lead to the place with `after` left
     more : {x : ℕ} → x ≡ r → IsInRatifier t v (Announce input after) (Store (Quorum x) 1 ∷ made)
     more {x} same =
         let next = announced_next t q v input left r made within at least in
@@ -144,7 +144,7 @@ announced_whole t v input left made op seen at is none can =
       | inr x ↦ (let found = rw (x.0) at can in (rw (x.0) whole, found))
     ]
   where
-    -- the acts made are the whole announcement
+    -- the acts before the load of the proposal are the whole announcement
     whole : Load Proposal seen ∷ made ≡ Load Proposal seen ∷ announcement t v
     whole =
         let bound = at.1.0 in
@@ -172,7 +172,7 @@ prefers_found t v u seen e =
     (Load Proposal seen ∷ announcement t v, inr (ap (λ n. Load Proposal n ∷ announcement t v) e), refl)
 
 -- ---- a process that checks its preference
--- a load of 0 from the least register that is left goes on with the check
+-- with a load of 0 from the least register r left, the acts read u's read quorum below r + 1 and found 0 in all
 pub checked_next :
     (t : QuorumTable) → IsQuorumTable t → (v u left r : ℕ) (made : List Act) → u < t.values
     → IsInRatifier t v (Check u left) made → IsLeast left r
@@ -184,7 +184,7 @@ checked_next t q v u left r made within at least =
     let before : made ≡ zeros_below at.0 (t.read u) ++ at.3.0 = at.3.2 in
     (omega arith, (at.3.0, at.3.1, rw next (cc)))
 
--- after a load of 0 the process checks what is left without that register
+-- after a load of 0 a process has the same registers left to check, without the one loaded
 pub checked_zero :
     (t : QuorumTable) → IsQuorumTable t → (v u left r after : ℕ) (made : List Act) (op : Op) (seen : ℕ) → u < t.values
     → IsInRatifier t v (Check u left) made → IsRatifierOp t (Check u left) op → seen ≡ 0 → IsLeast left r
@@ -202,7 +202,7 @@ checked_zero t q v u left r after made op seen within at is zero_seen least take
           (sym act) next.1,
     )
 
--- a load of 1 ends the path undecided
+-- if the load of a register finds 1, the path ends undecided
 pub checked_one :
     (t : QuorumTable) → IsQuorumTable t → (v u left : ℕ) (made : List Act) (op : Op) (seen : ℕ) → u < t.values
     → IsInRatifier t v (Check u left) made → IsRatifierOp t (Check u left) op
@@ -221,7 +221,7 @@ checked_one t q v u left made op seen within at is can some =
       (at.3.0, at.3.1, at.3.2 ∙ ap (λ xs. xs ++ at.3.0) (sym same)),
     )
 
--- if no register is left to check, the whole read quorum was read clear
+-- if no register is left to check, all registers of the read quorum were loaded and held 0
 pub checked_whole :
     (t : QuorumTable) (v u bound left : ℕ) (made : List Act) → bound ≤ t.registers → IsRest (t.read u) bound left
     → left ≡ 0 → ReadsClear t v u bound made → ReadsClear t v u t.registers made

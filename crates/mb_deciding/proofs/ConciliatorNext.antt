@@ -1,4 +1,4 @@
--- The next act of a conciliator's path: what was made names its word, and what it stores.
+-- The next act of a path through a conciliator: the turns before it name its word, and what it stores.
 use Rattle.std.proofs.Common.{◌≡◌, ℕ, zero, suc, ◌+◌, ◌⊎◌, List, [], ◌∷◌, ◌++◌, inl, inr, sym, refl, ◌∙◌, subst}
 use Rattle.mb_deciding.specs.{IsSameOp, Value, Proposal, Quorum, Last, Act, Load, Store, Exchange, Turn, StoresOn, IsMissing, IsDrawn}
 use Rattle.mb_deciding.specs.{IsPut, IsConciliatorPath}
@@ -29,7 +29,7 @@ missing_follow s v (suc k) [] h = absurd h
 missing_follow s v (suc k) (x ∷ older) h =
     (subst (λ act. Follows s v act older) (sym h.0) (k, inl h.2), missing_follow s v k older h.2)
 
--- each turn of attempts, with the one whose random word stores, follows the turns before it
+-- each turn of attempts, the last of which has a random word that stores, follows the turns before it
 drawn_follow : (s v k : ℕ) (turns : List Turn) → IsDrawn s k turns → AllFollow s v turns
 drawn_follow s v k [] h = absurd h
 drawn_follow s v k (x ∷ older) h =
@@ -55,14 +55,14 @@ suffix_follow : (s v : ℕ) (later turns : List Turn) → AllFollow s v (later +
 suffix_follow s v [] turns h = h
 suffix_follow s v (x ∷ later) turns h = suffix_follow s v later turns h.1
 
--- a turn of a path follows all that was done before
+-- each turn of a path follows the turns before it
 pub turn_follows :
     (s v : ℕ) (later turns : List Turn) (x : Turn) (u : ℕ) → IsConciliatorPath s v (later ++ x ∷ turns) u
     → Follows s v x.act turns
 turn_follows s v later turns x u h = (suffix_follow s v later (x ∷ turns) (path_follow s v (later ++ x ∷ turns) u h)).0
 
--- ---- what was done before names one op
--- the same turns do not end both with attempts that did not store and with one whose random word stores
+-- ---- only one op may follow the same turns
+-- no turns are both attempts of which none stores, and attempts whose last random word stores
 missing_undrawn : (s j k : ℕ) (turns : List Turn) → IsMissing s j turns → IsDrawn s k turns → ⊥
 missing_undrawn s zero k [] h d = d
 missing_undrawn s zero k (x ∷ older) h d = h
@@ -71,18 +71,18 @@ missing_undrawn s (suc j) k (x ∷ older) h d =
     let same : k ≡ j = sym (missing_before s 0 k older d.2).1 ∙ (missing_before s 0 j older h.2).1 in
     h.1 (subst (λ n. StoresOn s n x.word) same d.1)
 
--- the same turns do not end both with a store and with a load whose random word stores
+-- no turns end both with a store, and with a load whose random word stores
 put_undrawn : (s v j k : ℕ) (turns : List Turn) → IsPut s v j turns → IsDrawn s k turns → ⊥
 put_undrawn s v j k [] h d = d
 put_undrawn s v j k (x ∷ older) h d = let other : Store Value (v + 1) ≡ Load Value 0 = sym h.0 ∙ d.0 in cc
 
--- if a load comes next, no store does
+-- if a load may follow the turns, no store may
 load_or_store :
     (s v k : ℕ) (turns : List Turn) → ((j : ℕ) × (IsMissing s j turns ⊎ IsPut s v j turns)) → IsDrawn s k turns → ⊥
 load_or_store s v k turns (j, inl h) d = missing_undrawn s j k turns h d
 load_or_store s v k turns (j, inr h) d = put_undrawn s v j k turns h d
 
--- after the same turns there is one op
+-- two acts that may follow the same turns are of one op
 pub one_op :
     (s v : ℕ) (turns : List Turn) (a b : Act) → Follows s v a turns → Follows s v b turns → IsSameOp a b
 one_op s v turns (Load Value x) (Load Value y) h k = refl

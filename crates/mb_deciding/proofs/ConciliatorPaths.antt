@@ -1,4 +1,4 @@
--- What a process does on its path through a conciliator: how long the path is, that it ends once, and what it stores.
+-- How long a path through a conciliator is, that it has no later turns once it is whole, and what it stores.
 use Rattle.std.proofs.Common.{◌≡◌, ℕ, zero, suc, ◌+◌, ◌≤◌, List, [], ◌∷◌, ◌++◌, length, inl, inr, sym, refl, ap, ◌∙◌}
 use Rattle.std.proofs.Common.{subst, arith}
 use Rattle.mb_deciding.specs.{Value, Proposal, Quorum, Last, Act, Load, Store, Exchange, Turn, IsMissing, IsDrawn, IsPut}
@@ -19,7 +19,7 @@ abbrev AreBefore : ℕ → List Turn → Type 0
 AreBefore v [] = Unit {0}
 AreBefore v (x ∷ older) = IsBefore v x.act × AreBefore v older
 
--- the turns of the attempts below k that did not store are k, all before the end
+-- the attempts below k, none of which stores, are k turns, and each is one before the end of a path
 pub missing_before : (s v k : ℕ) (turns : List Turn) → IsMissing s k turns → AreBefore v turns × (length turns ≡ k)
 missing_before s v zero [] h = (tt, refl)
 missing_before s v zero (x ∷ older) h = absurd h
@@ -28,21 +28,21 @@ missing_before s v (suc k) (x ∷ older) h =
     let deeper = missing_before s v k older h.2 in
     ((subst (λ act. IsBefore v act) (sym h.0) refl, deeper.0), ap suc deeper.1)
 
--- the turns of attempts up to k, with the one whose random word stores, are k + 1, all before the end
+-- the attempts up to k, whose random word stores, are k + 1 turns, and each is one before the end of a path
 found_before : (s v k : ℕ) (turns : List Turn) → IsDrawn s k turns → AreBefore v turns × (length turns ≡ suc k)
 found_before s v k [] h = absurd h
 found_before s v k (x ∷ older) h =
     let deeper = missing_before s v k older h.2 in
     ((subst (λ act. IsBefore v act) (sym h.0) refl, deeper.0), ap suc deeper.1)
 
--- the turns of attempts up to k and of the store are k + 2, all before the end
+-- these attempts and the store after them are k + 2 turns, and each is one before the end of a path
 put_before : (s v k : ℕ) (turns : List Turn) → IsPut s v k turns → AreBefore v turns × (length turns ≡ suc (suc k))
 put_before s v k [] h = absurd h
 put_before s v k (x ∷ older) h =
     let deeper = found_before s v k older h.1 in
     ((subst (λ act. IsBefore v act) (sym h.0) refl, deeper.0), ap suc deeper.1)
 
--- the turns of a path older than its last load are at most s + 2, all before the end
+-- the turns of a path before its last load are at most s + 2, and each is one before the end of a path
 behind_last :
     (s v : ℕ) (x : Turn) (older : List Turn) (u : ℕ) → IsConciliatorPath s v (x ∷ older) u
     → AreBefore v older × (length older ≤ s + 2)
@@ -63,11 +63,11 @@ suffix_before : (v : ℕ) (later turns : List Turn) → AreBefore v (later ++ tu
 suffix_before v [] turns h = h
 suffix_before v (x ∷ later) turns h = suffix_before v later turns h.1
 
--- equal loads are of equal values
+-- if the loads of u + 1 and of w + 1 are equal, so are u and w
 same_load : (u w : ℕ) → Load Value (u + 1) ≡ Load Value (w + 1) → u ≡ w
 same_load u w e = let n : u + 1 ≡ w + 1 = cc in omega arith
 
--- no path goes on after its end, and a path has one value
+-- if a path with later turns is again a path, there are no later turns, and the values of both are equal
 pub path_ends :
     (s v : ℕ) (turns later : List Turn) (u w : ℕ) → IsConciliatorPath s v turns u
     → IsConciliatorPath s v (later ++ turns) w → (later ≡ []) × (u ≡ w)
@@ -95,7 +95,7 @@ StoresInput v (Store (Quorum r) w) = ⊥
 StoresInput v (Store Last w) = ⊥
 StoresInput v (Exchange reg w f) = ⊥
 
--- each act before the end stores nothing but the input
+-- an act before the end of a path stores nothing but the input
 before_stores : (v : ℕ) (act : Act) → IsBefore v act → StoresInput v act
 before_stores v (Load reg x) h = tt
 before_stores v (Store Value w) h = h

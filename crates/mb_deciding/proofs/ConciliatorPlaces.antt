@@ -1,4 +1,4 @@
--- The places of a conciliator: where each next turn leads.
+-- The places of a process in a conciliator: what its next turn leads to, and that each place has a next turn.
 use Rattle.std.proofs.Common.{◌≡◌, ℕ, suc, ◌+◌, ◌-◌, ◌*◌, ◌<◌, ◌≤◌, ◌%◌, ◌^◌, false, List, [], ◌∷◌, inl, inr, refl, ap}
 use Rattle.std.proofs.Common.{subst, arith, bit_and}
 use Rattle.std.proofs.Math.Numerals.{one-add}
@@ -12,7 +12,7 @@ use Rattle.mb_deciding.specs.{IsConciliatorPath, answer, IsOpen, HasLimits, IsIn
 use Rattle.mb_deciding.proofs.Histories.{not_empty}
 
 -- ---- the next turn
--- no number is below a bound and at or above it
+-- no number is both below a bound and at or above it
 never : (a b : ℕ) → a < b → b ≤ a → ⊥
 never a b l m = omega arith
 
@@ -25,7 +25,7 @@ attempts_remain k s n a b =
 pub low_bits : (s k limit modulus word : ℕ) → HasLimits s k limit modulus → bit_and word (modulus - 1) ≡ word % modulus
 low_bits s k limit modulus word limits = rw (limits.2) (and_mask word s)
 
--- a random word that is not below the limit does not store on attempt k
+-- if a random word modulo 2 ^ s is not below the limit, it does not store on attempt k
 above_limit : (s k limit modulus word : ℕ) → HasLimits s k limit modulus → limit ≤ word % modulus → 2 ^ k ≤ word % 2 ^ s
 above_limit s k limit modulus word limits none =
     subst (λ n. 2 ^ k ≤ word % n) limits.2 (subst (λ n. n ≤ word % modulus) limits.1 none)
@@ -76,7 +76,7 @@ draw_found s v input limit modulus word turns at stores = (
   ),
 )
 
--- if the word is not empty, the load of it ends the path
+-- if the word is not empty, the load of it ends the path with the value that it finds
 pub draw_ends :
     (s v input limit modulus seen word : ℕ) (turns : List Turn) → IsInConciliator s v (Draw input limit modulus) turns
     → 0 < seen
@@ -90,15 +90,15 @@ pub put_looks :
     → IsInConciliator s v (Look input) (record { act = Store Value (input + 1); word = word } ∷ turns)
 put_looks s v input word turns at = (at.0, (at.1.0, at.1.1, (ap (λ n. Store Value (n + 1)) at.0, at.1.2)))
 
--- the load after the store ends the path
+-- the load after the store ends the path with the value that it finds
 pub look_ends :
     (s v input seen word : ℕ) (turns : List Turn) → IsInConciliator s v (Look input) turns → 0 < seen
     → IsConciliatorPath s v (record { act = Load Value seen; word = word } ∷ turns) (seen - 1)
 look_ends s v input seen word turns at some =
     (let e : seen ≡ seen - 1 + 1 = omega arith in ap (λ n. Load Value n) e, (at.1.0, at.1.1, inr at.1.2))
 
--- ---- each place goes on
--- the turn that loads the value v
+-- ---- from each place some later turns complete a path
+-- the turn that loads v + 1 from the conciliator's word
 last_turn : ℕ → Turn
 last_turn v = record { act = Load Value (v + 1); word = 0 }
 

@@ -1,4 +1,4 @@
--- A process at its place in a conciliator: its next turn goes on along its path, and what it may find.
+-- A process at its place in a conciliator: with its next turn it has a prefix of a path. Also what this turn may find.
 use Rattle.std.proofs.Common.{ℕ, ◌+◌, ◌-◌, ◌*◌, ◌%◌, false, List, [], ◌∷◌, inl, inr}
 use Rattle.std.proofs.Common.{sym, refl, subst, arith}
 use Rattle.std.proofs.lemmas.Bool.{cases_eq, cases_lt}
@@ -12,7 +12,7 @@ use Rattle.mb_quorum.specs.Quorum.{QuorumTable}
 use Rattle.mb_deciding.proofs.Conciliators.{put_filled, value_small}
 use Rattle.mb_deciding.proofs.ConciliatorPlaces.{draw_missed, draw_found, draw_ends, put_looks, look_ends, drawing_open}
 
--- after a load of 0 on an attempt the turns are an open prefix of a path
+-- if the load of an attempt finds 0, the turns with it are an open prefix of a path: later turns complete it
 pub missed_open :
     (t : QuorumTable) (s v input limit modulus word : ℕ) (turns : List Turn)
     → IsInConciliator s v (Draw input limit modulus) turns
@@ -25,12 +25,12 @@ missed_open t s v input limit modulus word turns at =
           (draw_missed s v input limit modulus word turns at none)
     ]
 
--- an open prefix of a path is a prefix
+-- an open prefix of a path is a prefix of it
 pub open_turns :
     (t : QuorumTable) (kind : Kind) (v : ℕ) (turns : List Turn) → IsOpen t kind v turns → IsPrefix t kind v turns
 open_turns t kind v turns p = (p.0, p.2.0, p.2.1)
 
--- the next turn of a process at a place, with what the history leaves in the word, goes on along a path
+-- if its next turn finds what the history leaves in the word, the part of a process with it is a prefix of a path
 pub drawing_next :
     (t : QuorumTable) (s : ℕ) (inputs : ℕ → ℕ) (h : List Access) (p : ℕ) (place : ConciliatorPlace) (op : Op) (word : ℕ)
     → IsObjectLawful (conciliator_of t s inputs) h → IsInConciliator s (inputs p) place (part p h)
@@ -65,7 +65,7 @@ drawing_next t s inputs h p (Look input) op word l at is =
       ),
     )
 
--- a load finds a value that the word can hold, and not 0 if the process has stored
+-- the next access of a process finds a value that the word can hold, and not 0 if the process itself has stored
 pub drawing_found :
     (t : QuorumTable) (s : ℕ) (inputs : ℕ → ℕ) (h : List Access) (p : ℕ) (place : ConciliatorPlace) (op : Op)
     → IsObjectLawful (conciliator_of t s inputs) h → IsInConciliator s (inputs p) place (part p h)
@@ -80,7 +80,7 @@ drawing_found t s inputs h p (Look input) op l at is =
     subst (λ o. CanFind t (InConciliator (Look input)) o (seen_by o h)) (sym is)
     (put_filled t s inputs h l p at.1.0 (part p h) refl at.1.2, value_small t s inputs h l)
 
--- the next op is on the word of a conciliator
+-- the op that comes next at a place in a conciliator goes to the conciliator's word
 pub drawing_word : (r s : ℕ) (place : ConciliatorPlace) (op : Op) → IsConciliatorOp place op → HasReg r (Conciliator s)
     (reg_of op)
 drawing_word r s (Draw input limit modulus) op is = subst (λ o. HasReg r (Conciliator s) (reg_of o)) (sym is) tt

@@ -16,7 +16,7 @@ IsAmong [] n = ⊥
 IsAmong (x ∷ xs) n = (n ≡ x) ⊎ IsAmong xs n
 
 -- ---- what one act stores and leaves
--- after one act a value in the word was there before, or is the input of the process
+-- after one act of a process with input v, a value in the word was there before, or it is v
 act_value :
     (v u : ℕ) (act : Act) (n : ℕ) → StoresInput v act → value_after Value act n ≡ u + 1 → (n ≡ u + 1) ⊎ (v ≡ u)
 act_value v u (Load at x) n b e = inl e
@@ -26,7 +26,7 @@ act_value v u (Store (Quorum r) w) n b e = inl e
 act_value v u (Store Last w) n b e = absurd b
 act_value v u (Exchange reg w f) n b e = absurd b
 
--- after one act a value in the word is among the values stored, if it was so before
+-- after one act a value in the word is among the values stored, if it was among them before
 act_stored :
     (v u : ℕ) (act : Act) (n : ℕ) (stored : List ℕ) → StoresInput v act → (n ≡ u + 1 → IsAmong stored (u + 1))
     → value_after Value act n ≡ u + 1 → IsAmong (cons_option (stored_by act) stored) (u + 1)
@@ -37,7 +37,7 @@ act_stored v u (Store (Quorum r) w) n stored b f e = absurd b
 act_stored v u (Store Last w) n stored b f e = absurd b
 act_stored v u (Exchange reg w m) n stored b f e = absurd b
 
--- what is in a list is in the list with perhaps one element more
+-- a number in a list is still in it after one more number is added in front, or none
 among_longer : (o : Option ℕ) (n : ℕ) (stored : List ℕ) → IsAmong stored n → IsAmong (cons_option o stored) n
 among_longer None n stored h = h
 among_longer (Some w) n stored h = inr h
@@ -73,7 +73,7 @@ register_kept v r (Store (Quorum i) w) n b e = absurd b
 register_kept v r (Store Last w) n b e = absurd b
 register_kept v r (Exchange reg w f) n b e = absurd b
 
--- an act on a conciliator leaves an empty word of a last object empty
+-- an act on a conciliator leaves the word of a last object empty if it was
 last_kept : (v : ℕ) (act : Act) (n : ℕ) → StoresInput v act → n ≡ 0 → value_after Last act n ≡ 0
 last_kept v (Load at x) n b e = e
 last_kept v (Store Value w) n b e = e
@@ -99,7 +99,7 @@ module _ (t : QuorumTable) (s : ℕ) (inputs : ℕ → ℕ) where
   abbrev IsFrom : List Access → ℕ → Type 0
   IsFrom h u = (b : ℕ) × (part b h ≢ []) × (inputs b ≡ u)
 
-  -- if u is the input of a process with a turn, it is so in a longer history
+  -- if u is the input of a process with a turn, it is still so after one access more
   from_kept : (a : Access) (h : List Access) (u : ℕ) → IsFrom h u → IsFrom (a ∷ h) u
   from_kept a h u f = (f.0, some_kept f.0 a h f.1, f.2)
 
@@ -119,7 +119,7 @@ module _ (t : QuorumTable) (s : ℕ) (inputs : ℕ → ℕ) where
       act_stored (inputs a.process) u a.turn.act (value_in Value h) (stores_in h) (newest_stores a h l)
       (value_stored h (lawful_older (conciliator_of t s inputs) a h l) u) e
 
-  -- a load that is the newest access has the value that the older ones left
+  -- if the newest access is a load of a value, the older accesses left that value in the word
   newest_load :
       (a : Access) (h : List Access) → L (a ∷ h) → (last : Turn) (u : ℕ) → last.act ≡ Load Value (u + 1)
       → a.turn ≡ last → value_in Value h ≡ u + 1
@@ -135,7 +135,7 @@ module _ (t : QuorumTable) (s : ℕ) (inputs : ℕ → ℕ) where
       (λ a g k f. from_kept a g u f)
       h l p end.1 end.3
 
-  -- if a process loaded a value last, it is among the values stored
+  -- if the last turn of a process loaded a value, that value is among those stored
   output_stored :
       (h : List Access) → L h → (p u : ℕ) (last : Turn) (rest : List Turn) → last.act ≡ Load Value (u + 1)
       → part p h ≡ last ∷ rest → IsAmong (stores_in h) (u + 1)
@@ -177,28 +177,28 @@ module _ (t : QuorumTable) (s : ℕ) (inputs : ℕ → ℕ) where
             omega arith)
       ]
 
-  -- the proposal of a conciliator is empty
+  -- a history of a conciliator leaves 0 in the proposal
   no_proposal : (h : List Access) → L h → value_in Proposal h ≡ 0
   no_proposal [] l = refl
   no_proposal (a ∷ h) l =
       proposal_kept (inputs a.process) a.turn.act (value_in Proposal h) (newest_stores a h l)
       (no_proposal h (lawful_older (conciliator_of t s inputs) a h l))
 
-  -- the quorum registers of a conciliator are empty
+  -- a history of a conciliator leaves 0 in the quorum registers
   no_register : (r : ℕ) (h : List Access) → L h → value_in (Quorum r) h ≡ 0
   no_register r [] l = refl
   no_register r (a ∷ h) l =
       register_kept (inputs a.process) r a.turn.act (value_in (Quorum r) h) (newest_stores a h l)
       (no_register r h (lawful_older (conciliator_of t s inputs) a h l))
 
-  -- the word of a last object is empty in a conciliator
+  -- a history of a conciliator leaves 0 in the word of a last object
   no_last : (h : List Access) → L h → value_in Last h ≡ 0
   no_last [] l = refl
   no_last (a ∷ h) l =
       last_kept (inputs a.process) a.turn.act (value_in Last h) (newest_stores a h l)
       (no_last h (lawful_older (conciliator_of t s inputs) a h l))
 
-  -- each word holds only values that a word of this name can hold
+  -- each word holds only a number that a word of this name can hold: 0, or one more than a value, in a register 0 or 1
   pub fits : (h : List Access) (reg : Reg) → L h → CanHold t reg (value_in reg h)
   fits h Value l = value_small h l
   fits h Proposal l = omega (arith, no_proposal h l)

@@ -1,5 +1,5 @@
--- Which tables an object can have: a ratifier has one, and a conciliator looks at none. Over each of them, what a
--- process at a place does next.
+-- Which tables an object can have: a ratifier and a last object a lawful one, a conciliator any. Over each of them,
+-- what a process at its place does next.
 use Rattle.std.proofs.Common.{◌≡◌, ℕ, ◌≤◌, List, ◌∷◌, refl, ap, subst, sym, arith}
 use Rattle.mb_quorum.specs.Quorum.{QuorumTable}
 use Rattle.mb_deciding.specs.{Turn, Access, Op, Reg, Value, Proposal, Quorum, Last, Kind, Conciliator, Ratifier, LastObject, Out, Pc}
@@ -11,13 +11,13 @@ use Rattle.mb_deciding.proofs.ConciliatorPlaces.{drawing_open}
 use Rattle.mb_deciding.proofs.ConciliatorStepping.{drawing_next, drawing_found, drawing_word}
 use Rattle.mb_deciding.proofs.Stepping.{next_part, next_found, at_open, at_word}
 
--- for each kind a table is the same as itself
+-- an object of each kind does the same over a table and over that table itself
 pub same_self : (kind : Kind) (t : QuorumTable) → IsSameFor kind t t
 same_self (Conciliator s) t = refl
 same_self Ratifier t = refl
 same_self LastObject t = refl
 
--- tables that are the same for a kind have as many values
+-- if an object does the same over two tables, these have as many values
 pub same_values : (kind : Kind) (t u : QuorumTable) → IsSameFor kind t u → t.values ≡ u.values
 same_values (Conciliator s) t u same = same
 same_values Ratifier t u same = ap (λ (x : QuorumTable). x.values) same
@@ -30,14 +30,14 @@ same_table Ratifier t u same q = subst (λ x. IsTableFor Ratifier x) (sym same) 
 same_table LastObject t u same q = subst (λ x. IsTableFor LastObject x) (sym same) q
 
 -- ---- a process at a place
--- a place in a ratifier to which turns led fits the table
+-- if turns led a process to a place in a ratifier, the place fits the table
 pub ratifier_place :
     (t : QuorumTable) (v : ℕ) (pc : Pc) (turns : List Turn) → PcIsAt t Ratifier v pc turns → IsPlace t pc
 ratifier_place t v (InRatifier place) turns at = at.0
 ratifier_place t v (InConciliator place) turns at = absurd at
 ratifier_place t v (InLast place) turns at = absurd at
 
--- the next turn of a process at a place goes on along its path
+-- with the next turn of a process at its place, its part is a prefix of a path
 pub place_leads :
     (t : QuorumTable) (kind : Kind) (inputs : ℕ → ℕ) (h : List Access) (p : ℕ) (pc : Pc) (op : Op) (word : ℕ)
     → IsTableFor kind t → IsObjectLawful (object_of t kind inputs) h → PcIsAt t kind (inputs p) pc (part p h)
@@ -50,7 +50,7 @@ place_leads t (Conciliator s) inputs h p (InRatifier place) op word q l at is = 
 place_leads t (Conciliator s) inputs h p (InLast place) op word q l at is = absurd at
 place_leads t LastObject inputs h p pc op word q l at is = next_part t LastObject inputs h p pc op word q l at is
 
--- the next op of a place finds a value with which the place can go on
+-- after a lawful history the op that comes next at a place finds a value that it may find there
 pub place_finds :
     (t : QuorumTable) (kind : Kind) (inputs : ℕ → ℕ) (h : List Access) (p : ℕ) (pc : Pc) (op : Op) → IsTableFor kind t
     → IsObjectLawful (object_of t kind inputs) h → PcIsAt t kind (inputs p) pc (part p h) → IsOpAt t pc op
@@ -62,7 +62,7 @@ place_finds t (Conciliator s) inputs h p (InRatifier place) op q l at is = absur
 place_finds t (Conciliator s) inputs h p (InLast place) op q l at is = absurd at
 place_finds t LastObject inputs h p pc op q l at is = next_found t LastObject inputs h p pc op q l at is
 
--- the turns that led to a place are an open prefix of a path
+-- the turns that led to a place are an open prefix of a path: at least one later turn completes it
 place_open :
     (t : QuorumTable) (kind : Kind) (v : ℕ) (pc : Pc) (turns : List Turn) → IsTableFor kind t → PcIsAt t kind v pc turns
     → IsOpen t kind v turns
@@ -72,7 +72,7 @@ place_open t (Conciliator s) v (InRatifier place) turns q at = absurd at
 place_open t (Conciliator s) v (InLast place) turns q at = absurd at
 place_open t LastObject v pc turns q at = at_open t LastObject v pc turns q at
 
--- the turns that led to a place are no whole path
+-- the turns that led to a place are not a whole path
 pub place_unfinished :
     (t : QuorumTable) (kind : Kind) (v : ℕ) (pc : Pc) (turns : List Turn) (out : Out) → IsTableFor kind t
     → PcIsAt t kind v pc turns → IsPath t kind v turns out → ⊥
@@ -80,7 +80,7 @@ place_unfinished t kind v pc turns out q at path =
     let further = place_open t kind v pc turns q at in
     further.1 (one_end t kind v turns further.0 out further.2.0 path further.2.1).0
 
--- a word of an object is one that a run keeps
+-- the memory of a run has each word that an object of this kind has
 has_reg : (r : ℕ) (kind : Kind) (reg : Reg) → r ≤ 64 → HasReg r kind reg → IsReg reg
 has_reg r kind Value few has = tt
 has_reg r kind Proposal few has = tt
@@ -89,7 +89,7 @@ has_reg r (Conciliator s) (Quorum i) few has = absurd has
 has_reg r LastObject (Quorum i) few has = absurd has
 has_reg r kind Last few has = tt
 
--- a run keeps the word of a place's next op
+-- the memory of a run has the word to which the next op of a place goes
 pub place_word :
     (t : QuorumTable) (kind : Kind) (v : ℕ) (pc : Pc) (turns : List Turn) (op : Op) → IsTableFor kind t
     → PcIsAt t kind v pc turns → IsOpAt t pc op → IsReg (reg_of op)

@@ -1,4 +1,4 @@
--- One more turn of a run over an object of any kind, and the trace of a run.
+-- A schedule runs on an object of any kind: what one more turn does, and the trace after all turns.
 use Rattle.std.proofs.Common.{◌≡◌, ◌≢◌, ℕ, ◌<◌, cond, List, [], ◌∷◌, ◌++◌, Option, Some, None, inl, inr, sym, refl}
 use Rattle.std.proofs.Common.{ap, ◌∙◌, subst, length, map, get_or, set, length-set, get_or-set_same, get_or-set_other}
 use Rattle.std.specs.List.{All, cons_option}
@@ -16,7 +16,7 @@ use Rattle.mb_deciding.proofs.Histories.{own_turns}
 use Rattle.mb_deciding.proofs.CourseTables.{place_unfinished}
 
 -- ---- the entries of a longer schedule
--- one more turn and its entry add the entry's access
+-- one more turn and its entry add the entry's access, if it has one, to the history
 pub history_from-push :
     (o : Object) (h : List Access) (schedule : List (ℕ × ℕ))
     (entries : List Entry) (turn : ℕ × ℕ) (e : Entry)
@@ -29,7 +29,7 @@ history_from-push o h (x ∷ schedule) [] turn e all = absurd all
 history_from-push o h (x ∷ schedule) (y ∷ entries) turn e all =
     history_from-push o (with_entry x.1 y h) schedule entries turn e all.2
 
--- the entries with one more fit the schedule with one turn more, if the new entry fits after the others' accesses
+-- if one more entry may come after the others' accesses, all are entries of the schedule with that entry's turn
 pub entries_push :
     (o : Object) (h : List Access) (schedule : List (ℕ × ℕ))
     (entries : List Entry) (turn : ℕ × ℕ) (e : Entry)
@@ -69,19 +69,19 @@ path_ended :
     → HasEnded o p h
 path_ended o h p out path = (out.decided, out.value, path)
 
--- what a process has come to says whether it has its output
+-- what a process has reached, a place or an output, says whether it has its output
 pub reached_output :
     (o : Object) → IsTableFor o.kind o.table → (h : List Access) (p : ℕ) (next : Next)
     → IsReached o.table o.kind (o.inputs p) next (part p h) → IsOutputOf o p (out_of next) h
 reached_output o q h p (leads.Go pc) r = not_ended o q h p pc r
 reached_output o q h p (leads.Out out) r = r
 
--- from a place a process comes to the output, if there is one, or else to that place
+-- `come_to` from a place is `next_from` that place: the output, if there is one, or else the place
 pub comes_from : (out : Option Out) (pc : Pc) → come_to out (leads.Go pc) ≡ next_from out pc
 comes_from None pc = refl
 comes_from (Some x) pc = refl
 
--- the output of what follows an access is the one of the access, if there is one
+-- what follows an access has the output of that access, or none if the access has none
 pub out_from : (out : Option Out) (pc : Pc) → out_of (next_from out pc) ≡ out
 out_from None pc = refl
 out_from (Some x) pc = refl
@@ -92,7 +92,7 @@ module _ (u : ObjectSetup) (schedule : List (ℕ × ℕ)) (state : CourseState) 
   abbrev past : List Access
   past = history_of schedule state.entries
 
-  -- with a turn of a process that has its output, which adds the entry `Done`, the run is that of the longer schedule
+  -- a turn of a process that has its output adds the entry `Done`. The run is then one after the longer schedule
   pub course_done :
       (p word : ℕ) → HasEnded (object_in u) p past
       → IsCourse u (schedule ++ (p, word) ∷ [])
@@ -109,14 +109,14 @@ module _ (u : ObjectSetup) (schedule : List (ℕ × ℕ)) (state : CourseState) 
         reached = rw same run.reached;
       }
 
-  -- if the run keeps a place for a process, its part has led to that place
+  -- if the run has a place for process p, the part of p has led to that place
   pub place_at :
       (p : ℕ) (x : Next) (pc : Pc) → p < length state.places → x ≡ get_or state.places p x → x ≡ leads.Go pc
       → PcIsAt u.table u.kind (get_or u.inputs p 0) pc (part p past)
   place_at p x pc below is go =
       subst (λ n. IsReached u.table u.kind (get_or u.inputs p 0) n (part p past)) (sym is ∙ go) (run.reached p x below)
 
-  -- if the run keeps an output for a process, it has ended
+  -- if the run has an output for process p, then p has ended
   pub ended_at :
       (p : ℕ) (x : Next) (out : Out) → p < length state.places → x ≡ get_or state.places p x → x ≡ leads.Out out
       → HasEnded (object_in u) p past
@@ -125,7 +125,7 @@ module _ (u : ObjectSetup) (schedule : List (ℕ × ℕ)) (state : CourseState) 
       (subst (λ n. IsReached u.table u.kind (get_or u.inputs p 0) n (part p past)) (sym is ∙ go)
       (run.reached p x below))
 
-  -- with an access of a process that has not ended, the run is that of the longer schedule
+  -- a turn of a process that has not ended adds its access. The run is then one after the longer schedule
   pub course_accessed :
       IsTableFor u.kind u.table
       → (words : ObjectMemory) (p word : ℕ) (next : Next) (act : Act) → p < length state.places
@@ -165,7 +165,7 @@ module _ (u : ObjectSetup) (schedule : List (ℕ × ℕ)) (state : CourseState) 
             ]);
       }
 
-  -- the outputs of a run are those of its history
+  -- if the run has an output for a process, its history gives that output, and else the process has not ended
   course_outputs :
       IsTableFor u.kind u.table → (p : ℕ) (d : Option Out) → p < length (map out_of state.places)
       → IsOutputOf (object_in u) p (get_or (map out_of state.places) p d) past

@@ -1,5 +1,5 @@
--- What came before each act of a ratifier's path, and what a path loaded and chose. A list of acts is *in order* if
--- before each act stands what has to come before it (`AllBehind`).
+-- What came before each act of a ratifier's path, and what it loaded and chose. Acts are *in order* if each has before
+-- it what `Behind` asks for. A read is *clear* below a bound if all its loads below it found 0 (`ReadsClear`).
 use Rattle.std.proofs.Common.{◌≡◌, ◌≢◌, ℕ, zero, suc, ◌+◌, ◌<◌, ◌==◌, cond, Bool, true, false, List, [], ◌∷◌, ◌++◌, ◌⊎◌}
 use Rattle.std.proofs.Common.{inl, inr, sym, refl, ap, subst, arith}
 use Rattle.std.specs.Int.{bit_at}
@@ -14,7 +14,7 @@ use Rattle.mb_deciding.proofs.Acts.{acts-append, has_later}
 abbrev pub HasPreference : ℕ → List Act → Type 0
 HasPreference v made = Has made (Store Proposal (v + 1)) ⊎ ((u : ℕ) × Has made (Load Proposal (u + 1)))
 
--- the older acts have what has to come before this act of a process with input v
+-- a process with input v may make this act, and the older acts have what has to come before it
 abbrev pub Behind : QuorumTable → ℕ → Act → List Act → Type 0
 Behind t v (Store Value w) older = ⊥
 Behind t v (Store Proposal w) older = (w ≡ v + 1) × Has older (Load Proposal 0)
@@ -26,25 +26,25 @@ Behind t v (Store Last w) older = ⊥
 Behind t v (Load Last x) older = ⊥
 Behind t v (Exchange reg w f) older = ⊥
 
--- the list is in order: before each act stands what has to come before it
+-- the list is in order: each act has before it what has to come before it
 abbrev pub AllBehind : QuorumTable → ℕ → List Act → Type 0
 AllBehind t v [] = Unit {0}
 AllBehind t v (a ∷ older) = Behind t v a older × AllBehind t v older
 
 -- ---- lists with an act for each register
--- a list with one act more has what the list has
+-- an act of a list is still in it after one more act is added, or none
 has_cond : (b : Bool) (x : Act) (xs : List Act) (c : Act) → Has xs c → Has (cond b (x ∷ xs) xs) c
 has_cond true x xs c h = inr h
 has_cond false x xs c h = h
 
--- if a list with perhaps one act more has an act, it is the new one or one of the list
+-- if one act more is added to a list, or none, an act of the result is the new one or one of the list
 pub has_cond_cases :
     (b : Bool) (x : Act) (xs : List Act) (c : Act) → Has (cond b (x ∷ xs) xs) c → ((b ≡ true) × (c ≡ x)) ⊎ Has xs c
 has_cond_cases true x xs c (inl e) = inl (refl, e)
 has_cond_cases true x xs c (inr h) = inr h
 has_cond_cases false x xs c h = inr h
 
--- each register of the mask below the bound has its act
+-- the list has an act for each register of the mask below the bound
 has_each : (act : ℕ → Act) (n mask r : ℕ) → r < n → IsMember mask r → Has (acts_below act n mask) (act r)
 has_each act zero mask r h m = absurd (omega arith)
 has_each act (suc n) mask r h m =
@@ -57,14 +57,14 @@ has_each act (suc n) mask r h m =
     elim (cases_eq r n) [ inl e ↦ here e | inr e ↦ below e ]
 
 -- ---- what came before each act of a path
--- a list in order, with one more act if a test adds it, is in order if that act has before it what it needs
+-- a list in order is still in order after b adds x in front, if x then has before it what has to come before it
 behind_cond :
     (t : QuorumTable) (v : ℕ) (b : Bool) (x : Act) (xs : List Act) → (b ≡ true → Behind t v x xs) → AllBehind t v xs
     → AllBehind t v (cond b (x ∷ xs) xs)
 behind_cond t v true x xs f h = (f refl, h)
 behind_cond t v false x xs f h = h
 
--- an announcement up to a bound is in order
+-- the announcement's stores below a bound are in order
 stores_behind : (t : QuorumTable) (v n : ℕ) → AllBehind t v (stores_below n (t.write v))
 stores_behind t v zero = tt
 stores_behind t v (suc n) =
@@ -72,19 +72,19 @@ stores_behind t v (suc n) =
     (λ b. (refl, eqb-true (bit_at (t.write v) n) 1 b))
     (stores_behind t v n)
 
--- a process with a preference has one after more acts
+-- a process with a preference still has one after more acts
 preference_later : (v : ℕ) (xs ys : List Act) → HasPreference v ys → HasPreference v (xs ++ ys)
 preference_later v xs ys (inl h) = inl (has_later xs ys (Store Proposal (v + 1)) h)
 preference_later v xs ys (inr h) = inr (h.0, has_later xs ys (Load Proposal (h.0 + 1)) h.1)
 
--- acts in order, with one more among them if a test adds it, are in order if that act has before it what it needs
+-- acts in order are still in order after b adds x in front, if x has before it what has to come before it
 behind_cond_append :
     (t : QuorumTable) (v : ℕ) (b : Bool) (x : Act) (xs ys : List Act) → Behind t v x (xs ++ ys)
     → AllBehind t v (xs ++ ys) → AllBehind t v (cond b (x ∷ xs) xs ++ ys)
 behind_cond_append t v true x xs ys f h = (f, h)
 behind_cond_append t v false x xs ys f h = h
 
--- the loads of a check, after acts in order with a preference, are in order
+-- if acts are in order and have a preference, they are in order with the loads of a check after them
 zeros_behind :
     (t : QuorumTable) (v n mask : ℕ) (begin : List Act) → HasPreference v begin → AllBehind t v begin
     → AllBehind t v (zeros_below n mask ++ begin)
@@ -94,12 +94,12 @@ zeros_behind t v (suc n) mask begin p h =
     (preference_later v (zeros_below n mask) begin p)
     (zeros_behind t v n mask begin p h)
 
--- a value that is announced is stored in all of its write quorum
+-- an announcement of v has a store of 1 in each register of v's write quorum
 all_stored :
     (t : QuorumTable) (v r : ℕ) → r < t.registers → IsMember (t.write v) r → Has (announcement t v) (Store (Quorum r) 1)
 all_stored t v r h m = has_each (λ k. Store (Quorum k) 1) t.registers (t.write v) r h m
 
--- a path up to its preference is in order, and the process then has a preference
+-- acts up to a preference are in order, and by them the process has a preference
 prefers_behind :
     (t : QuorumTable) (v u : ℕ) (begin : List Act) → Prefers t v u begin → HasPreference v begin × AllBehind t v begin
 prefers_behind t v u begin (inl h) =
@@ -109,7 +109,7 @@ prefers_behind t v u begin (inr h) =
     subst (λ made. HasPreference v made × AllBehind t v made) (sym h)
     (inr (u, inl refl), (all_stored t v, stores_behind t v t.registers))
 
--- a path whose loads were clear so far is in order, and the process has a preference
+-- if the loads of a check below a bound all found 0, the acts up to them are in order, and have a preference
 clear_behind :
     (t : QuorumTable) (v u n : ℕ) (made : List Act) → ReadsClear t v u n made
     → HasPreference v made × AllBehind t v made
@@ -131,7 +131,7 @@ path_behind :
 path_behind t v made true u h = (clear_behind t v u t.registers made h).1
 path_behind t v made false u h = one_behind t v u made h
 
--- the older acts of a list in order are in order
+-- a list in order without its newest acts is in order
 suffix_behind : (t : QuorumTable) (v : ℕ) (later made : List Act) → AllBehind t v (later ++ made) → AllBehind t v made
 suffix_behind t v [] made h = h
 suffix_behind t v (x ∷ later) made h = suffix_behind t v later made h.1
@@ -143,7 +143,7 @@ part_behind t v turns p =
     suffix_behind t v (acts p.0) (acts turns)
     (subst (AllBehind t v) (acts-append p.0 turns) (path_behind t v (acts (p.0 ++ turns)) p.1.decided p.1.value p.2))
 
--- before each act of a list in order there are older acts, which have what has to come before it
+-- before each act of a list in order there are older acts of the list with what has to come before it
 pub behind_at :
     (t : QuorumTable) (v : ℕ) (made : List Act) (a : Act) → AllBehind t v made → Has made a
     → (older : List Act) × Behind t v a older × ((c : Act) → Has older c → Has made c)
@@ -154,13 +154,13 @@ behind_at t v (x ∷ made) a all (inr h) =
     (deeper.0, deeper.1, λ c k. inr (deeper.2 c k))
 
 -- ---- what a path loaded and chose
--- an act in a list is in the list with older acts after it
+-- an act of a list is still in the list with older acts after it
 has_sooner : (xs ys : List Act) (c : Act) → Has xs c → Has (xs ++ ys) c
 has_sooner [] ys c k = absurd k
 has_sooner (x ∷ xs) ys c (inl e) = inl e
 has_sooner (x ∷ xs) ys c (inr k) = inr (has_sooner xs ys c k)
 
--- clear loads below a bound were loads of 0 from each register of the read quorum below it
+-- if a read is clear below a bound, the process loaded 0 from each register of the read quorum below it
 pub clear_loads :
     (t : QuorumTable) (v u n : ℕ) (made : List Act) → ReadsClear t v u n made → (r : ℕ) → r < n
     → IsMember (t.read u) r → Has made (Load (Quorum r) 0)
@@ -173,23 +173,23 @@ clear_loads t v u n made h r l m =
 abbrev pub IsChosen : ℕ → ℕ → List Act → Type 0
 IsChosen v u made = ((u ≡ v) × Has made (Load Proposal 0)) ⊎ Has made (Load Proposal (u + 1))
 
--- a preference that was just made was chosen
+-- if by these acts a process just got the preference u, then u was chosen
 pub prefers_chosen : (t : QuorumTable) (v u : ℕ) (begin : List Act) → Prefers t v u begin → IsChosen v u begin
 prefers_chosen t v u begin (inl h) = inl (h.0, subst (λ xs. Has xs (Load Proposal 0)) (sym h.1) (inr (inl refl)))
 prefers_chosen t v u begin (inr h) = inr (subst (λ xs. Has xs (Load Proposal (u + 1))) (sym h) (inl refl))
 
--- a value that was chosen is so after more acts
+-- a value that was chosen is still chosen after more acts
 pub chosen_later : (v u : ℕ) (xs ys : List Act) → IsChosen v u ys → IsChosen v u (xs ++ ys)
 chosen_later v u xs ys (inl h) = inl (h.0, has_later xs ys (Load Proposal 0) h.1)
 chosen_later v u xs ys (inr h) = inr (has_later xs ys (Load Proposal (u + 1)) h)
 
--- after clear loads the preference was chosen
+-- if a read is clear below a bound, its preference was chosen
 clear_chosen : (t : QuorumTable) (v u n : ℕ) (made : List Act) → ReadsClear t v u n made → IsChosen v u made
 clear_chosen t v u n made h =
     subst (λ xs. IsChosen v u xs) (sym h.2) (chosen_later v u (zeros_below n (t.read u)) h.0
     (prefers_chosen t v u h.0 h.1))
 
--- on a path that ended with a load of 1 the preference was chosen, and that load is of its read quorum
+-- if a path ended with a load of 1, its preference was chosen, and the register loaded is one of its read quorum
 pub one_chosen :
     (t : QuorumTable) (v u : ℕ) (made : List Act) → ReadsOne t v u made
     → IsChosen v u made × ((r : ℕ) × IsMember (t.read u) r × Has made (Load (Quorum r) 1))

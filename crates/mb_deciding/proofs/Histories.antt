@@ -22,19 +22,19 @@ pub part_older :
 part_older t kind v x turns p =
     (p.0 ++ x ∷ [], p.1, subst (λ xs. IsPath t kind v xs p.1) (sym (append_assoc p.0 (x ∷ []) turns)) p.2)
 
--- a part stays a prefix without the newest turn, which may be of another process
+-- if a part is a prefix of a path, it is one without the newest turn, which may be of another process
 older_by :
     (t : QuorumTable) (kind : Kind) (v : ℕ) (own : Bool) (x : Turn) (turns : List Turn)
     → IsPrefix t kind v (cons_option (cond own (Some x) None) turns) → IsPrefix t kind v turns
 older_by t kind v true x turns p = part_older t kind v x turns p
 older_by t kind v false x turns p = p
 
--- one more access takes no turn away
+-- if one more turn comes first, or none, a list of turns that is not empty is still not empty
 some_by : (own : Bool) (x : Turn) (turns : List Turn) → turns ≢ [] → cons_option (cond own (Some x) None) turns ≢ []
 some_by true x turns some = not_empty x turns
 some_by false x turns some = some
 
--- a process with a turn in a history has one in a longer history
+-- a process with a turn in a history still has one after one more access
 pub some_kept : (p : ℕ) (a : Access) (h : List Access) → part p h ≢ [] → part p (a ∷ h) ≢ []
 some_kept p a h some = some_by (a.process == p) a.turn (part p h) some
 
@@ -60,7 +60,7 @@ own_turns a h =
 pub own_some : (a : Access) (h : List Access) → part a.process (a ∷ h) ≢ []
 own_some a h e = not_empty a.turn (part a.process h) (sym (own_turns a h) ∙ e)
 
--- after one more turn of process p the part of each process q is a prefix of a path, by whether q is p
+-- with one more turn of process p, the part of each process q is a prefix of a path, if q is p and if it is not
 longer_by :
     (o : Object) (h : List Access) (p q : ℕ) (turn : Turn)
     → IsObjectLawful o h → o.inputs p < o.table.values → IsPrefix o.table o.kind (o.inputs p) (turn ∷ part p h)
@@ -72,7 +72,7 @@ longer_by o h p q turn l within prefix true e some =
     (within, prefix)
 longer_by o h p q turn l within prefix false e some = l.parts q some
 
--- one more turn of a process whose path goes on keeps a history lawful
+-- a history stays lawful with one more turn that is true to memory and gives its process a prefix of a path
 pub longer :
     (o : Object) (h : List Access) (p : ℕ) (turn : Turn)
     → IsObjectLawful o h → o.inputs p < o.table.values → IsInWords turn → ReadsLast turn.act h
@@ -89,7 +89,7 @@ longer o h p turn l within words reads prefix =
 pub none_lawful : (o : Object) → IsObjectLawful o []
 none_lawful o = record { memory = tt; words = tt; parts = λ p some. absurd (some refl) }
 
--- P holds if the newest turn of some process is `last`: it holds once that turn is made, and later accesses keep it
+-- P holds if the newest turn of some process is `last`: it holds once that turn is made, and after each later access
 pub since_newest :
     (o : Object) (P : List Access → Type 0) (last : Turn)
     → ((a : Access) (h : List Access) → IsObjectLawful o (a ∷ h) → a.turn ≡ last → P (a ∷ h))
@@ -99,7 +99,7 @@ since_newest o P last made kept [] l p rest is = absurd (not_empty last rest (sy
 since_newest o P last made kept (a ∷ h) l p rest is =
     by (λ k. since_newest o P last made kept h (lawful_older o a h l) p rest k) (a.process == p) is
   where
-    -- P holds with the access a, by whether it is of process p
+    -- P holds after the access a, which is of process p or is not
     by :
         (part p h ≡ last ∷ rest → P h) → (own : Bool)
         → cons_option (cond own (Some a.turn) None) (part p h) ≡ last ∷ rest → P (a ∷ h)

@@ -21,13 +21,13 @@ last_only v [] (y ∷ older) x u h = absurd h
 last_only v (z ∷ []) older x u h = absurd h
 last_only v (z ∷ y ∷ later) older x u h = absurd h
 
--- the one turn of a path exchanges the word for the input
+-- the one turn of a path is an exchange for v + 1
 pub last_act :
     (v : ℕ) (x : Turn) (u : ℕ) → IsLastPath v (x ∷ []) u → (found : ℕ) × (x.act ≡ Exchange Last (v + 1) found)
 last_act v x u (inl h) = (0, h.1)
 last_act v x u (inr h) = (u + 1, h)
 
--- two values of a path with the same turn are one
+-- if one turn is a path with the value u and one with the value w, these values are equal
 pub same_value : (v : ℕ) (x : Turn) (u w : ℕ) → IsLastPath v (x ∷ []) u → IsLastPath v (x ∷ []) w → u ≡ w
 same_value v x u w (inl h) (inl k) = h.0 ∙ sym k.0
 same_value v x u w (inl h) (inr k) =
@@ -46,7 +46,7 @@ opens_last t v =
     let x : Turn = record { act = Exchange Last (v + 1) 0; word = 0 } in
     (x ∷ [], not_empty x [], (answer true v, (refl, inl (refl, refl))))
 
--- a path ends once, with one output
+-- if a whole path and later turns are again a whole path, there are no later turns, and the outputs are equal
 pub unique_last :
     (t : QuorumTable) (v : ℕ) (turns later : List Turn) (a b : Out) → IsPath t LastObject v turns a
     → IsPath t LastObject v (later ++ turns) b → (later ≡ []) × (a ≡ b)
@@ -65,7 +65,7 @@ last_turns t v (x ∷ turns) p =
     let none : length turns ≡ 0 = ap length (last_only v p.0 turns x p.1.value p.2.1).1 in
     omega (arith, none)
 
--- the newest turn of a prefix of a path is the only one, and exchanges the word for the input
+-- the newest turn of a prefix of a path is its only one: an exchange for v + 1
 pub last_alone :
     (t : QuorumTable) (v : ℕ) (turns : List Turn) (x : Turn) → IsPrefix t LastObject v (x ∷ turns)
     → (turns ≡ []) × ((found : ℕ) × (x.act ≡ Exchange Last (v + 1) found))
@@ -73,7 +73,7 @@ last_alone t v turns x p =
     let only = last_only v p.0 turns x p.1.value p.2.1 in
     (only.1, last_act v x p.1.value only.2)
 
--- after the same turns there is one op
+-- if two prefixes of paths differ in their newest turn alone, these two turns are of one op
 pub last_op :
     (t : QuorumTable) (v : ℕ) (turns : List Turn) (a b : Turn) → IsPrefix t LastObject v (a ∷ turns)
     → IsPrefix t LastObject v (b ∷ turns) → IsSameOp a.act b.act
@@ -83,7 +83,7 @@ last_op t v turns a b p q =
     subst (λ act. IsSameOp act b.act) (sym x.1)
     (subst (λ act. IsSameOp (Exchange Last (v + 1) x.0) act) (sym y.1) (refl, refl))
 
--- whatever an exchange for the input finds, it is a whole path
+-- an exchange for v + 1 is a whole path, whatever it finds
 pub last_path : (v found word : ℕ) → (u : ℕ)
     × IsLastPath v (record { act = Exchange Last (v + 1) found; word = word } ∷ []) u
 last_path v zero word = (v, inl (refl, refl))
@@ -91,7 +91,7 @@ last_path v (suc n) word =
     let e : suc n ≡ n + 1 = omega arith in
     (n, inr (ap (λ k. Exchange Last (v + 1) k) e))
 
--- the next access of a process at its place goes on along a path
+-- with its next access a process at its place has a prefix of a path
 pub last_prefix :
     (t : QuorumTable) (v : ℕ) (place : LastPlace) (turns : List Turn) (op : Op) (seen word : ℕ)
     → PcIsAt t LastObject v (InLast place) turns → IsLastOp place op
@@ -105,7 +105,7 @@ last_prefix t v place turns op seen word at is =
     ([], answer true path.0, (refl, path.1)))
 
 -- ---- what one exchange leaves in the words
--- a word holds the value that was stored in it if a test says so, and else what it held
+-- what a word holds after it held n: w if b says that w was stored there, and else n
 kept_by : (b : Bool) (w n : ℕ) → option_map_or (λ value. value) (cond b (Some w) None) n ≡ cond b w n
 kept_by true w n = refl
 kept_by false w n = refl
@@ -125,7 +125,7 @@ untouched : (o : Option ℕ) (n : ℕ) → option_map_or (λ value. n) o n ≡ n
 untouched None n = refl
 untouched (Some w) n = refl
 
--- ---- what stands in the word of a last object
+-- ---- what the word of a last object holds
 module _ (t : QuorumTable) (inputs : ℕ → ℕ) where
   -- the history is lawful for this last object
   abbrev L : List Access → Type 0
@@ -165,7 +165,7 @@ module _ (t : QuorumTable) (inputs : ℕ → ℕ) where
   abbrev IsFrom : List Access → ℕ → Type 0
   IsFrom h u = (b : ℕ) × (part b h ≢ []) × (inputs b ≡ u)
 
-  -- what stands in the word is the input of a process with an access
+  -- a value in the word is the input of a process with an access
   value_from : (h : List Access) → L h → (u : ℕ) → value_in Last h ≡ u + 1 → IsFrom h u
   value_from [] l u e = absurd (omega (arith, e))
   value_from (a ∷ h) l u e =
@@ -176,13 +176,13 @@ module _ (t : QuorumTable) (inputs : ℕ → ℕ) where
             (f.0, some_kept f.0 a h f.1, f.2))
       ]
 
-  -- right after the one turn of a path with the value u the word holds that value
+  -- right after the one turn of a path with the value u the word holds u + 1
   module _ (v u : ℕ) (x : Turn) (path : IsLastPath v (x ∷ []) u) where
-    -- an access whose turn is this one leaves the value u in the word
+    -- an access whose turn is this one leaves u + 1 in the word
     at_once : (a : Access) (h : List Access) → L (a ∷ h) → a.turn ≡ x → value_in Last (a ∷ h) ≡ u + 1
     at_once a h l same = by path
       where
-        -- the word holds u, by whether the exchange found 0
+        -- the word holds u + 1, in both cases: the exchange found 0, or it found u + 1
         by : IsLastPath v (x ∷ []) u → value_in Last (a ∷ h) ≡ u + 1
         by (inl k) =
             let e : Exchange Last (inputs a.process + 1) (value_in Last h) ≡ Exchange Last (v + 1) 0 =
@@ -196,7 +196,7 @@ module _ (t : QuorumTable) (inputs : ℕ → ℕ) where
             let holds : value_in Last h ≡ u + 1 = cc in
             value_stays a h l (λ none. omega (arith, none, holds)) ∙ holds
 
-  -- in each history in which a process has a whole path with the value u the word holds that value
+  -- in each history in which a process has a whole path with the value u the word holds u + 1
   output_holds : (h : List Access) → L h → (p u : ℕ) (turns : List Turn) → part p h ≡ turns
       → IsLastPath (inputs p) turns u
       → value_in Last h ≡ u + 1
@@ -232,28 +232,28 @@ module _ (t : QuorumTable) (inputs : ℕ → ℕ) where
             omega (arith, below, is))
       ]
 
-  -- the word of a conciliator is empty in a last object
+  -- a history of a last object leaves 0 in the word of a conciliator
   no_value : (h : List Access) → L h → value_in Value h ≡ 0
   no_value [] l = refl
   no_value (a ∷ h) l =
       ap (λ act. value_after Value act (value_in Value h)) (newest_exchange a h l)
       ∙ untouched _ (value_in Value h) ∙ no_value h (lawful_older (last_of t inputs) a h l)
 
-  -- the proposal is empty in a last object
+  -- a history of a last object leaves 0 in the proposal
   no_proposal : (h : List Access) → L h → value_in Proposal h ≡ 0
   no_proposal [] l = refl
   no_proposal (a ∷ h) l =
       ap (λ act. value_after Proposal act (value_in Proposal h)) (newest_exchange a h l)
       ∙ untouched _ (value_in Proposal h) ∙ no_proposal h (lawful_older (last_of t inputs) a h l)
 
-  -- the quorum registers are empty in a last object
+  -- a history of a last object leaves 0 in the quorum registers
   no_register : (r : ℕ) (h : List Access) → L h → value_in (Quorum r) h ≡ 0
   no_register r [] l = refl
   no_register r (a ∷ h) l =
       ap (λ act. value_after (Quorum r) act (value_in (Quorum r) h)) (newest_exchange a h l)
       ∙ untouched _ (value_in (Quorum r) h) ∙ no_register r h (lawful_older (last_of t inputs) a h l)
 
-  -- each word holds only values that a word of this name can hold
+  -- each word holds only a number that a word of this name can hold: 0, or one more than a value, in a register 0 or 1
   pub last_fits : (h : List Access) (reg : Reg) → L h → CanHold t reg (value_in reg h)
   last_fits h Value l = omega (arith, no_value h l)
   last_fits h Proposal l = omega (arith, no_proposal h l)

@@ -1,4 +1,4 @@
--- How long a ratifier's path is, that no path goes on after its end, and how long prefixes are at most.
+-- How many acts a ratifier's path has, that a whole path has no later acts, and how long its prefixes are at most.
 use Rattle.std.proofs.Common.{◌≡◌, ℕ, zero, suc, ◌+◌, ◌<◌, ◌≤◌, ◌⊎◌, count_ones, ◌==◌, cond, Bool, true, false, List}
 use Rattle.std.proofs.Common.{[], ◌∷◌, ◌++◌, length, inl, inr, sym, refl, ap, ◌∙◌, subst, length-append, arith}
 use Rattle.std.specs.Int.{bit_at}
@@ -13,8 +13,8 @@ use Rattle.mb_deciding.proofs.Sizes.{each_size}
 use Rattle.mb_deciding.proofs.Outputs.{proposal_loads, IsFrom, zeros_loads, clear_from, one_from, clear_only}
 use Rattle.mb_deciding.proofs.Outputs.{from_unique}
 
--- ---- how many acts there are for registers
--- a list with one act more, if a test says so, is as long as before or longer by one
+-- ---- how many acts a list with an act for each register has
+-- a list that gets one act more if b is true is as long as before, or longer by one
 cond_length :
     (b : Bool) (x : Act) (xs : List Act)
     → (length xs ≤ length (cond b (x ∷ xs) xs)) × (length (cond b (x ∷ xs) xs) ≤ suc (length xs))
@@ -43,26 +43,26 @@ each_more act (suc n) mask r l m =
     ]
 
 -- ---- how long whole paths are, and that they end once
--- the acts on the proposal: one load if it gave a value, and a load and a store if it was empty
+-- how many acts a path makes on the proposal: a load and a store if it found 0 there, and else one load
 extra_acts : ℕ → ℕ
 extra_acts zero = 2
 extra_acts (suc x) = 1
 
--- the list has one load of the proposal after its announcement, and is as long as that says, with n registers read
+-- the acts load the proposal once, and are n more than those of the announcement and those on the proposal
 record Measured (t : QuorumTable) (v n : ℕ) (made : List Act) : Type 0 where
   pub first : ℕ
   pub loads : proposal_loads made ≡ first ∷ proposal_loads (announcement t v)
   pub long : length made ≡ n + (extra_acts first + length (announcement t v))
 
--- a number that is larger by two, as a sum
+-- if n is m and two more, it is this sum
 two_more : (n m : ℕ) → n ≡ suc (suc m) → n ≡ 0 + (2 + m)
 two_more n m e = omega arith
 
--- a number that is larger by one, as a sum
+-- if n is m and one more, it is this sum
 one_more : (n m : ℕ) → n ≡ suc m → n ≡ 0 + (1 + m)
 one_more n m e = omega arith
 
--- a path that just got its preference is as long as its announcement and the acts on the proposal
+-- acts up to the preference are as many as those of the announcement and those on the proposal
 prefers_measured : (t : QuorumTable) (v u : ℕ) (begin : List Act) → Prefers t v u begin → Measured t v 0 begin
 unfolding extra_acts
 prefers_measured t v u begin (inl p) =
@@ -79,7 +79,7 @@ prefers_measured t v u begin (inr p) =
       long = one_more (length begin) (length (announcement t v)) (ap length p);
     }
 
--- a path whose loads were clear so far is as long as its announcement, the acts on the proposal and its loads
+-- acts whose loads of registers all found 0 are as many as the announcement's, those on the proposal and these loads
 clear_measured :
     (t : QuorumTable) (v u n : ℕ) (made : List Act) → ReadsClear t v u n made
     → Measured t v (length (zeros_below n (t.read u))) made
@@ -91,12 +91,12 @@ clear_measured t v u n made h =
       long = omega (arith, ap length h.2, length-append (zeros_below n (t.read u)) h.0, begin.long);
     }
 
--- n registers were read: all of the read quorum, or those up to one that gave 1
+-- n is how many registers a path loads: all of the read quorum if it decides, else those up to one of them
 abbrev EndsAt : QuorumTable → ℕ → Bool → ℕ → Type 0
 EndsAt t u true n = n ≡ length (zeros_below t.registers (t.read u))
 EndsAt t u false n = (r : ℕ) × (r < t.registers) × IsMember (t.read u) r × (n ≡ suc (length (zeros_below r (t.read u))))
 
--- a path that ended with a load of 1 is as long as its announcement, the acts on the proposal and its loads
+-- a path that ended with a load of 1 has as many acts as its announcement, the acts on the proposal and its loads
 one_measured :
     (t : QuorumTable) (v u : ℕ) (made : List Act) → ReadsOne t v u made
     → (n : ℕ) × EndsAt t u false n × Measured t v n made
@@ -113,7 +113,7 @@ one_measured t v u (act ∷ older) h =
       },
     )
 
--- each whole path is as long as its announcement, the acts on the proposal and its loads
+-- each whole path has as many acts as its announcement, the acts on the proposal and its loads of registers
 path_measured :
     (t : QuorumTable) (v : ℕ) (made : List Act) (d : Bool) (u : ℕ) → IsRatifierPath t v made d u
     → (n : ℕ) × EndsAt t u d n × Measured t v n made
@@ -121,14 +121,14 @@ path_measured t v made true u h =
     (length (zeros_below t.registers (t.read u)), refl, clear_measured t v u t.registers made h)
 path_measured t v made false u h = one_measured t v u made h
 
--- the preference of a whole path shows in the values that the proposal gave
+-- on a whole path the newest load of the proposal shows the preference u: it found 0 and u is the input v, or u + 1
 path_from :
     (t : QuorumTable) (v : ℕ) (made : List Act) (d : Bool) (u : ℕ) → IsRatifierPath t v made d u
     → IsFrom v u (proposal_loads made) (proposal_loads (announcement t v))
 path_from t v made true u h = clear_from t v u t.registers made h
 path_from t v made false u h = one_from t v u made h
 
--- the values that the proposal gave in two lists joined are those of both, joined
+-- what two lists joined loaded from the proposal is what each loaded there, joined
 loads-append : (xs ys : List Act) → proposal_loads (xs ++ ys) ≡ proposal_loads xs ++ proposal_loads ys
 loads-append [] ys = refl
 loads-append (Load Proposal x ∷ xs) ys = ap (λ zs. x ∷ zs) (loads-append xs ys)
@@ -143,7 +143,7 @@ no_length : {A : Type 0} (xs : List A) → length xs ≡ 0 → xs ≡ []
 no_length [] e = refl
 no_length (x ∷ xs) e = absurd (omega arith)
 
--- no path with the preference u reads more registers than one that decided u
+-- no whole path with the preference u loads more registers than one that decided u
 ends_within : (t : QuorumTable) (u n m : ℕ) (e : Bool) → EndsAt t u true n → EndsAt t u e m → m ≤ n
 ends_within t u n m true a b =
     let p : n ≡ length (zeros_below t.registers (t.read u)) =
@@ -153,11 +153,11 @@ ends_within t u n m false a b =
     let q : m ≡ suc (length (zeros_below b.0 (t.read u))) = b.3 in
     omega (arith, each_more (λ r. Load (Quorum r) 0) t.registers (t.read u) b.0 b.1 b.2)
 
--- equal lists have one first value
+-- if `loads` begins with x and `others` with y, and both lists are equal, so are x and y
 same_first : (x y : ℕ) (loads others rest : List ℕ) → loads ≡ x ∷ rest → others ≡ y ∷ rest → loads ≡ others → x ≡ y
 same_first x y loads others rest a b e = let f : x ∷ rest ≡ y ∷ rest = sym a ∙ (e ∙ b) in cc
 
--- acts whose loads were clear have one number of registers read
+-- if the same acts check u with loads of 0 below n, and w with loads of 0 below m, both checks have equally many loads
 pub clear_same :
     (t : QuorumTable) (v u w n m : ℕ) (made : List Act) → ReadsClear t v u n made → ReadsClear t v w m made
     → length (zeros_below n (t.read u)) ≡ length (zeros_below m (t.read w))
@@ -169,7 +169,7 @@ clear_same t v u w n m made h k =
     (proposal_loads (announcement t v)) a.loads b.loads refl) in
     omega (arith, a.long, b.long)
 
--- acts that end with the load of an empty proposal are no clear check
+-- right after the load of an empty proposal a process has no preference, so its acts are not those of a check
 pub empty_unclear :
     (t : QuorumTable) (v u n : ℕ) → ReadsClear t v u n (Load Proposal 0 ∷ announcement t v) → ⊥
 unfolding extra_acts
@@ -180,7 +180,7 @@ empty_unclear t v u n h =
     let extras : extra_acts a.first ≡ 2 = ap extra_acts empty in
     omega (arith, a.long)
 
--- a path whose loads were all clear does not go on
+-- if all registers of the read quorum were loaded and held 0, a path has no later acts
 clear_ends :
     (t : QuorumTable) (v : ℕ) (made later : List Act) (e : Bool) (u w : ℕ) → ReadsClear t v u t.registers made
     → IsRatifierPath t v (later ++ made) e w → later ≡ []
@@ -208,7 +208,7 @@ clear_ends t v made later e u w h k =
     let extras : extra_acts whole.2.first ≡ extra_acts m.first = ap extra_acts first in
     no_length later (omega (arith, m.long, whole.2.long, length-append later made))
 
--- no path goes on after its end
+-- if a whole path and later acts are again a whole path, there are no later acts
 pub path_ends :
     (t : QuorumTable) (v : ℕ) (made later : List Act) (d e : Bool) (u w : ℕ) → IsRatifierPath t v made d u
     → IsRatifierPath t v (later ++ made) e w → later ≡ []
@@ -227,7 +227,7 @@ path_ends t v made (x ∷ later) false false u w h k =
     absurd (omega arith)
 
 -- ---- how long prefixes of paths are at most
--- a path up to its preference is at most two acts longer than its write quorum has registers
+-- acts up to the preference are at most two more than the write quorum has registers
 prefers_length :
     (t : QuorumTable) (v u : ℕ) (begin : List Act) → Prefers t v u begin → length begin ≤ count_ones (t.write v) + 2
 prefers_length t v u begin (inl p) =
@@ -235,7 +235,7 @@ prefers_length t v u begin (inl p) =
 prefers_length t v u begin (inr p) =
     omega (arith, ap length p, each_size (λ r. Store (Quorum r) 1) t.registers (t.write v))
 
--- the acts have the preference u, and after that at most one load for each register of u's read quorum
+-- a process got the preference u, and then made at most as many loads as u's read quorum has registers
 record Checked (t : QuorumTable) (v u : ℕ) (made : List Act) : Type 0 where
   pub begin : List Act
   pub loads : List Act
@@ -243,7 +243,7 @@ record Checked (t : QuorumTable) (v u : ℕ) (made : List Act) : Type 0 where
   pub whole : made ≡ loads ++ begin
   pub few : length loads ≤ count_ones (t.read u)
 
--- each whole path has its preference, and after it at most one load for each register
+-- by each whole path a process gets its preference, and then loads at most its read quorum's registers
 path_checked :
     (t : QuorumTable) (v : ℕ) (made : List Act) (d : Bool) (u : ℕ) → IsRatifierPath t v made d u → Checked t v u made
 path_checked t v made true u h =
@@ -270,7 +270,7 @@ path_checked t v (act ∷ older) false u h =
           );
     }
 
--- older acts of two lists joined are no more than those of the second, or are all of these and more
+-- if `xs ++ begin` is `later ++ made`, then `made` is no longer than `begin`, or it ends with all of `begin`
 suffix_cases :
     (xs begin later made : List Act) → xs ++ begin ≡ later ++ made
     → (length made ≤ length begin) ⊎ ((ys : List Act) × (made ≡ ys ++ begin))
@@ -279,8 +279,8 @@ suffix_cases [] begin (y ∷ later) made e = inl (omega (arith, ap length e, len
 suffix_cases (x ∷ xs) begin (y ∷ later) made e =
     suffix_cases xs begin later made (let same : xs ++ begin ≡ later ++ made = cc in same)
 
--- a prefix of a path has at most the acts of an announcement and a preference. Or it has chosen the path's preference,
--- and has at most the loads of that value's check more
+-- a prefix of a path has at most two acts more than its write quorum has registers. Or it has chosen the path's
+-- preference, and has at most as many acts more as that value's read quorum has registers
 pub part_length :
     (t : QuorumTable) (v : ℕ) (later made : List Act) (d : Bool) (u : ℕ) → IsRatifierPath t v (later ++ made) d u
     → (length made ≤ count_ones (t.write v) + 2) ⊎ (IsChosen v u made ×

@@ -1,4 +1,4 @@
--- In the order of reading: a file stands on files above it.
+-- In the order of reading: a file uses files above it.
 
 -- Registers, turns and histories
 pub mod Registers
@@ -18,7 +18,7 @@ pub mod ConciliatorPaths
 pub mod Conciliators
 pub mod ConciliatorPlaces
 pub mod Lasts
--- What each kind of object owes
+-- Objects of each kind keep their promises
 pub mod Owed
 -- One access, and many
 pub mod Advances

@@ -1,4 +1,4 @@
--- Rows of accesses: one access more, two rows as one, and one access of an announcement.
+-- Accesses made one after the other (`AreSteps`): one more, those that go on from others, and one of an announcement.
 use Rattle.std.proofs.Common.{◌≡◌, ◌≢◌, ◌<◌, ◌+◌, ℕ, zero, suc, refl, sym, subst, arith}
 use Rattle.mb_quorum.specs.Quorum.{IsQuorumTable, QuorumTable}
 use Rattle.mb_deciding.specs.{Quorum, Op, Pc, Next, InRatifier, Announce, IsLeast, IsStep, AreSteps, DrawsAndMakes, acts}
@@ -8,7 +8,7 @@ use Rattle.mb_deciding.proofs.Advances.{IsTaken, announced_more}
 use Rattle.mb_deciding.proofs.OneStep.{ratifier_step}
 
 module _ {M : Type 0} where
-  -- a row of accesses with one access more at its end is a row of one access more
+  -- if n accesses lead to a place, its next access, with a random word drawn for it, makes them n + 1
   pub one_more :
       (t : QuorumTable) (draws : M → ℕ → M → Type 0) (makes : M → ℕ → Op → ℕ → M → Type 0) (object : ℕ) (pc : Pc)
       (start : M) (n : ℕ) (at : Pc) (before mid now : M) (word : ℕ) (follows : Next)
@@ -29,7 +29,7 @@ module _ {M : Type 0} where
     },
   )
 
-  -- two rows of accesses are one, if the second begins at the place to which the first led
+  -- if n accesses begin at the place and memory to which m others led, they are n + m from the first place on
   pub joined :
       (t : QuorumTable) (makes : M → ℕ → Op → ℕ → M → Type 0) (pc : Pc) (start : M) (m : ℕ) (between : Pc) (mid : M)
       → AreSteps t makes pc start m (leads.Go between) mid
@@ -45,7 +45,7 @@ module _ {M : Type 0} where
       subst (λ k. AreSteps t makes pc start k follows now) e
       (at, before, word, joined t makes pc start m between mid first n (leads.Go at) before older, step)
 
--- the store of 1 in the least register that is left is a step of the announcement
+-- at a place of an announcement, a store of 1 in the least register left is a step to the place without that register
 pub announce_step :
     (t : QuorumTable) → IsQuorumTable t → (input left r after seen word : ℕ) (makes : Op → ℕ → Type 0)
     → input < t.values → left ≢ 0 → IsLeast left r → IsTaken left r after → makes (to.Store (Quorum r) 1) seen

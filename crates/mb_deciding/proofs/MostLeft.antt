@@ -1,4 +1,4 @@
--- No more accesses are left at a place than its object allows.
+-- The accesses left at a place are at most as many as a process makes on its whole object.
 use Rattle.std.proofs.Common.{◌≡◌, ℕ, zero, suc, ◌+◌, ◌*◌, ◌^◌, ◌<◌, ◌≤◌, ◌==◌, count_ones, cond, Bool, true, false, List}
 use Rattle.std.proofs.Common.{◌∷◌, length, sym, refl, ap, ◌∙◌, arith}
 use Rattle.std.specs.Int.{bit_at}
@@ -13,8 +13,8 @@ use Rattle.mb_deciding.specs.{most_turns, turns_left, largest_quorum}
 use Rattle.mb_deciding.proofs.Sizes.{each_exact, each_size, largest_bound}
 use Rattle.mb_deciding.proofs.TurnsLeft.{attempts_left}
 
--- ---- masks within others
--- a list that is no longer than another stays so if both get an act more, or the other alone
+-- ---- masks whose registers are all in another mask
+-- if xs is no longer than ys, it still is not if the same act comes before both, before ys alone, or before none
 cond_within :
     (x : Act) (xs ys : List Act) (p q : Bool) → (p ≡ true → q ≡ true) → length xs ≤ length ys
     → length (cond p (x ∷ xs) xs) ≤ length (cond q (x ∷ ys) ys)
@@ -23,7 +23,7 @@ cond_within x xs ys true false both less = let e = both refl in absurd (cc)
 cond_within x xs ys false true both less = omega (arith, less)
 cond_within x xs ys false false both less = less
 
--- below a bound a mask has no more registers than another that has all of its own
+-- if all registers of a are in b, a has below a bound no more registers than b
 below_within :
     (act : ℕ → Act) (n a b : ℕ) → ((k : ℕ) → IsMember a k → IsMember b k)
     → length (acts_below act n a) ≤ length (acts_below act n b)
@@ -32,7 +32,7 @@ below_within act (suc n) a b within =
     cond_within (act n) (acts_below act n a) (acts_below act n b) (bit_at a n == 1) (bit_at b n == 1)
     (λ e. eq-eqb (bit_at b n) 1 (within n (eqb-true (bit_at a n) 1 e))) (below_within act n a b within)
 
--- a mask all of whose registers are in another has no more registers than that
+-- if all registers of a are in b, a has no more registers than b
 ones_within : (a b : ℕ) → ((k : ℕ) → IsMember a k → IsMember b k) → count_ones a ≤ count_ones b
 ones_within a b within =
     let act = λ (k : ℕ). Load (Quorum k) 0 in
@@ -40,12 +40,12 @@ ones_within a b within =
     ap count_ones (sym (mod-eq_of_lt (self_below a))) ∙ sym (each_exact act a a) in
     omega (arith, all, below_within act a a b within, each_size act a b)
 
--- what is left of a mask has no more registers than the mask
+-- the registers of a mask that are left are no more than the mask has
 rest_within : (mask bound left : ℕ) → IsRest mask bound left → count_ones left ≤ count_ones mask
 rest_within mask bound left rest = ones_within left mask (λ k member. ((rest k).0 member).1)
 
 -- ---- the accesses left at a place
--- no more accesses are left at a place than an object of its kind allows
+-- the accesses left at a place are at most `most_turns`, the most that a process makes on an object of its kind
 pub most_left :
     (t : QuorumTable) (kind : Kind) (v : ℕ) (pc : Pc) (turns : List Turn) → v < t.values → PcIsAt t kind v pc turns
     → turns_left t pc ≤ most_turns t kind
@@ -73,14 +73,14 @@ most_left t Ratifier v (InLast place) turns value at = absurd at
 most_left t (Conciliator s) v (InLast place) turns value at = absurd at
 
 -- ---- whole paths
--- quorums below 2 ^ r have at most r registers
+-- if all quorums are below 2 ^ r, the largest has at most r registers
 largest_within : (quorum : ℕ → ℕ) (r n : ℕ) → ((v : ℕ) → v < n → quorum v < 2 ^ r) → largest_quorum quorum n ≤ r
 largest_within quorum r zero within = omega arith
 largest_within quorum r (suc n) within =
     max-le (ones-le r (quorum n) (within n (omega arith)))
     (largest_within quorum r n (λ v below. within v (omega arith)))
 
--- a ratifier takes at most as many accesses as it has registers, twice, and two more
+-- on a ratifier a process makes at most two accesses for each of the table's registers, and two more
 pub ratifier_short : (t : QuorumTable) → IsQuorumTable t → most_turns t Ratifier ≤ 2 * t.registers + 2
 ratifier_short t q =
     omega (

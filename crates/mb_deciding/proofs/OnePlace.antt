@@ -1,4 +1,4 @@
--- Two places with the same turns go on with one op.
+-- If the same turns led to two places, both have the same next op.
 use Rattle.std.proofs.Common.{◌≡◌, ℕ, ◌+◌, List, [], ◌∷◌, false, refl, sym, ap, ap₂, subst, arith}
 use Rattle.mb_quorum.specs.Quorum.{QuorumTable, IsQuorumTable}
 use Rattle.mb_deciding.specs.{Value, Proposal, Quorum, Last, Kind, Conciliator, Ratifier, LastObject, Pc, InRatifier}
@@ -14,7 +14,7 @@ use Rattle.mb_deciding.proofs.Prefixes.{part_by_turns}
 use Rattle.mb_deciding.proofs.RatifierStepping.{checking_next}
 use Rattle.mb_deciding.proofs.ConciliatorStepping.{missed_open, open_turns}
 
--- two ops are one, if their acts are of one op
+-- two ops are equal, if their acts are of one op
 same_ops : (op next : Op) (x y : ℕ) → IsSameOp (act_of op x) (act_of next y) → op ≡ next
 same_ops (to.Load reg) (to.Load other) x y e = ap to.Load e
 same_ops (to.Load reg) (to.Store other w) x y e = absurd e
@@ -35,7 +35,7 @@ zero_found t place (to.Load Last) = tt
 zero_found t place (to.Store reg w) = tt
 zero_found t place (to.Exchange reg w) = tt
 
--- for some value that the next op of a place finds, its turn goes on along a path
+-- there is a value with which the next op of a place makes a turn that, with the turns before, is a prefix of a path
 some_part :
     (t : QuorumTable) (kind : Kind) (v : ℕ) (turns : List Turn) (pc : Pc) (op : Op) → IsQuorumTable t
     → PcIsAt t kind v pc turns → IsOpAt t pc op → (x : ℕ) × IsPrefix t kind v
@@ -71,7 +71,7 @@ some_part t (Conciliator s) v turns (InConciliator (Look input)) op q at is = (
       ([], answer false 0, (refl, look_ends s v input 1 0 turns at.1 (omega arith))),
 )
 
--- two places with the same turns have one next op
+-- if the same turns led to two places, the next ops of both are equal
 pub one_next :
     (t : QuorumTable) (kind : Kind) (v : ℕ) (turns : List Turn) (pc other : Pc) (op next : Op) → IsQuorumTable t
     → PcIsAt t kind v pc turns → PcIsAt t kind v other turns → IsOpAt t pc op → IsOpAt t other next → op ≡ next

@@ -1,11 +1,11 @@
--- An access that was made at a place of one kind, and what it leads to, is one step.
+-- If the next access of a place was made, and a process reaches what follows it, that is one step (`IsStep`).
 use Rattle.std.proofs.Common.{ℕ, List, ◌∷◌}
 use Rattle.mb_quorum.specs.Quorum.{QuorumTable}
 use Rattle.mb_deciding.specs.{Op, Turn, Kind, Conciliator, Ratifier, LastObject, InConciliator, InRatifier, InLast, Next, ConciliatorPlace}
 use Rattle.mb_deciding.specs.{RatifierPlace, LastPlace, PcIsAt, IsConciliatorOp, IsRatifierOp, IsLastOp, IsReached, CanFind}
 use Rattle.mb_deciding.specs.{act_of, ConciliatorReaches, RatifierReaches, LastReaches, IsStep}
 
--- an access made at a place in a conciliator is one step to what it leads to
+-- the next access of a place in a conciliator was made, and leads to what follows: that is one step
 pub conciliator_step :
     (t : QuorumTable) (place : ConciliatorPlace) (makes : Op → ℕ → Type 0) (op : Op) (seen word : ℕ) (follows : Next)
     → IsConciliatorOp place op → makes op seen → ConciliatorReaches t place seen word follows
@@ -13,7 +13,7 @@ pub conciliator_step :
 conciliator_step t place makes op seen word follows is made reaches =
     record { op = op; seen = seen; is = is; made = made; reached = reached }
   where
-    -- what follows is reached, as only a conciliator has this place
+    -- a process of any kind of object reaches what follows: only a conciliator has this place
     reached :
         (kind : Kind) (v : ℕ) (turns : List Turn) → PcIsAt t kind v (InConciliator place) turns
         → CanFind t (InConciliator place) op seen
@@ -22,7 +22,7 @@ conciliator_step t place makes op seen word follows is made reaches =
     reached Ratifier v turns at can = absurd at
     reached LastObject v turns at can = absurd at
 
--- an access made at a place in a ratifier is one step to what it leads to
+-- the next access of a place in a ratifier was made, and leads to what follows: that is one step
 pub ratifier_step :
     (t : QuorumTable) (place : RatifierPlace) (makes : Op → ℕ → Type 0) (op : Op) (seen word : ℕ) (follows : Next)
     → IsRatifierOp t place op → makes op seen → RatifierReaches t place seen follows
@@ -30,7 +30,7 @@ pub ratifier_step :
 ratifier_step t place makes op seen word follows is made reaches =
     record { op = op; seen = seen; is = is; made = made; reached = reached }
   where
-    -- what follows is reached, as only a ratifier has this place
+    -- a process of any kind of object reaches what follows: only a ratifier has this place
     reached :
         (kind : Kind) (v : ℕ) (turns : List Turn) → PcIsAt t kind v (InRatifier place) turns
         → CanFind t (InRatifier place) op seen
@@ -39,7 +39,7 @@ ratifier_step t place makes op seen word follows is made reaches =
     reached LastObject v turns at can = absurd at
     reached Ratifier v turns at can = reaches v turns op word at is can
 
--- an access made at a place in a last object is one step to what it leads to
+-- the next access of a place in a last object was made, and leads to what follows: that is one step
 pub last_step :
     (t : QuorumTable) (place : LastPlace) (makes : Op → ℕ → Type 0) (op : Op) (seen word : ℕ) (follows : Next)
     → IsLastOp place op → makes op seen → LastReaches t place seen follows
@@ -47,7 +47,7 @@ pub last_step :
 last_step t place makes op seen word follows is made reaches =
     record { op = op; seen = seen; is = is; made = made; reached = reached }
   where
-    -- what follows is reached, as only a last object has this place
+    -- a process of any kind of object reaches what follows: only a last object has this place
     reached :
         (kind : Kind) (v : ℕ) (turns : List Turn) → PcIsAt t kind v (InLast place) turns
         → CanFind t (InLast place) op seen

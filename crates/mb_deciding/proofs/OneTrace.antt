@@ -1,4 +1,4 @@
--- A schedule has one trace.
+-- On one object a schedule has at most one trace.
 use Rattle.std.proofs.Common.{◌≡◌, ℕ, ◌<◌, Some, None, List, [], ◌∷◌, Option, length, sym, refl, ap, ap₂}
 use Rattle.std.proofs.Common.{◌∙◌, subst}
 use Rattle.std.specs.List.{slice_index_or}
@@ -17,7 +17,7 @@ use Rattle.mb_deciding.proofs.RatifierNext.{Follows, act_follows, one_op}
 use Rattle.mb_deciding.proofs.ConciliatorNext.{turn_follows, one_op as conciliator_op}
 
 -- ---- the next act
--- a turn of a ratifier's path follows all that was done before
+-- the newest act of a prefix of a ratifier's path is one that may follow all acts before it
 ratifier_follows :
     (t : QuorumTable) (v : ℕ) (turns : List Turn) (x : Turn) → IsPrefix t Ratifier v (x ∷ turns)
     → Follows t v x.act (acts turns)
@@ -25,7 +25,7 @@ ratifier_follows t v turns x p =
     act_follows t v (acts p.0) (acts turns) x.act p.1.decided p.1.value
     (subst (λ xs. IsRatifierPath t v xs p.1.decided p.1.value) (acts-append p.0 (x ∷ turns)) p.2)
 
--- after the same turns there is one op
+-- if two prefixes of paths differ in their newest turn alone, these two turns are of one op
 pub next_op :
     (t : QuorumTable) (kind : Kind) (v : ℕ) (turns : List Turn) (a b : Turn) → IsPrefix t kind v (a ∷ turns)
     → IsPrefix t kind v (b ∷ turns) → IsSameOp a.act b.act
@@ -40,14 +40,14 @@ next_op t LastObject v turns a b p q = last_op t v turns a b p q
 abbrev access : ℕ → ℕ → Act → Access
 access p word act = record { process = p; turn = record { act = act; word = word } }
 
--- the newest turn of a lawful history goes on along the path of its process
+-- after a lawful history the process of the newest access has a prefix of a path, with that access as its last turn
 newest_part :
     (o : Object) (a : Access) (h : List Access)
     → IsObjectLawful o (a ∷ h) → IsPrefix o.table o.kind (o.inputs a.process) (a.turn ∷ part a.process h)
 newest_part o a h l =
     subst (λ xs. IsPrefix o.table o.kind (o.inputs a.process) xs) (own_turns a h) (l.parts a.process (own_some a h)).1
 
--- after a history a process has one act
+-- if a history stays lawful with either of two acts of process p, these acts are equal
 one_act :
     (o : Object) (word p : ℕ) (h : List Access) (a b : Act)
     → IsObjectLawful o (access p word a ∷ h) → IsObjectLawful o (access p word b ∷ h) → a ≡ b
@@ -59,7 +59,7 @@ one_act o word p h a b l m =
     same_act a b h op l.memory.0 m.memory.0
 
 -- ---- one entry
--- a process has one output, or has none
+-- a process has at most one output
 one_out :
     (o : Object) (h : List Access) (p : ℕ) (a b : Option Out)
     → IsOutputOf o p a h → IsOutputOf o p b h → a ≡ b
@@ -69,7 +69,7 @@ one_out o h p (Some a) None x y = absurd (y (a.decided, a.value, x))
 one_out o h p (Some a) (Some b) x y =
     ap Some (one_end o.table o.kind (o.inputs p) (part p h) [] a b x y).1
 
--- after a history a process has one entry with an access
+-- after one history, two entries with an access of process p, with the same random word, are equal
 one_access :
     (o : Object) (word p : ℕ) (h : List Access) (a b : Act) (x y : Option Out)
     → IsObjectLawful o (access p word a ∷ h)
@@ -80,7 +80,7 @@ one_access o word p h a b x y l m out other =
     let found = subst (λ act. IsOutputOf o p y (access p word act ∷ h)) (sym same) other in
     ap₂ (λ act o. entry.Access p act o) same (one_out o (access p word a ∷ h) p x y out found)
 
--- after a history a turn has one entry
+-- after one history, two entries of one process for the same random word are equal
 one_entry :
     (o : Object) (word : ℕ) (h : List Access) (e f : Entry)
     → IsObjectLawful o (with_entry word e h) → IsObjectLawful o (with_entry word f h)
@@ -114,7 +114,7 @@ entries_older o (turn ∷ schedule) [] h l = l
 entries_older o (turn ∷ schedule) (e ∷ es) h l =
     entry_older o turn.1 e h (entries_older o schedule es (with_entry turn.1 e h) l)
 
--- after a history the turns of a schedule have one list of entries
+-- after a history the turns of a schedule have at most one list of entries
 one_list :
     (o : Object) (schedule : List (ℕ × ℕ)) (es fs : List Entry) (h : List Access)
     → IsObjectLawful o (history_from schedule es h)
@@ -137,7 +137,7 @@ one_list o (turn ∷ schedule) (e ∷ es) (f ∷ fs) h l m x y =
     (subst (λ d. AreEntriesOf o schedule fs (with_entry turn.1 d h)) (sym first) y.2) in
     ap₂ (λ d ds. d ∷ ds) first later
 
--- a schedule has one list of entries and one of outputs
+-- two traces of one schedule have equal entries and equal outputs
 pub one_trace :
     (u : ObjectSetup) (schedule : List (ℕ × ℕ)) (es fs : List Entry) (outs others : List (Option Out))
     → IsTrace u schedule es outs → IsTrace u schedule fs others → (es ≡ fs) × (outs ≡ others)
@@ -147,7 +147,7 @@ one_trace u schedule es fs outs others a b =
     let long : length outs ≡ length others = a.processes ∙ sym b.processes in
     (entries, ext_get_or None outs others long (λ p below. same entries p below (subst (λ n. p < n) long below)))
   where
-    -- each process has one output, if the entries are one list
+    -- if the entries are equal, the outputs of process p are equal in both traces
     same :
         es ≡ fs → (p : ℕ) → p < length outs → p < length others
         → slice_index_or outs p None ≡ slice_index_or others p None

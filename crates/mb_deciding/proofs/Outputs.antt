@@ -1,4 +1,4 @@
--- Which loads a ratifier's path has, how its preference shows in them, and that a whole path has one output.
+-- Which loads a ratifier's path has, how they show its preference, and that a whole path has one output.
 use Rattle.std.proofs.Common.{◌≡◌, ℕ, zero, suc, ◌+◌, ◌<◌, ◌==◌, cond, Bool, true, false, List, [], ◌∷◌, ◌++◌, ◌⊎◌, inl}
 use Rattle.std.proofs.Common.{inr, sym, refl, ap, ◌∙◌, subst, arith}
 use Rattle.std.specs.Int.{bit_at}
@@ -8,7 +8,7 @@ use Rattle.mb_deciding.specs.{announcement, Prefers, ReadsClear, ReadsOne, IsRat
 use Rattle.mb_deciding.proofs.Grammar.{has_cond_cases, one_chosen}
 
 -- ---- which loads a path has
--- the values that loads of the proposal gave, the newest first
+-- the values that these acts loaded from the proposal, the newest first
 abbrev pub proposal_loads : List Act → List ℕ
 proposal_loads [] = []
 proposal_loads (Load Proposal x ∷ older) = x ∷ proposal_loads older
@@ -28,22 +28,22 @@ has_each_cases act (suc n) mask c h =
       | inr w ↦ (let deeper = has_each_cases act n mask c w in (deeper.0, omega arith, deeper.2))
     ]
 
--- an act in two lists joined is in one of them
+-- an act of two lists joined is in one of them
 has_append_cases : (xs ys : List Act) (c : Act) → Has (xs ++ ys) c → Has xs c ⊎ Has ys c
 has_append_cases [] ys c h = inr h
 has_append_cases (x ∷ xs) ys c (inl e) = inl (inl e)
 has_append_cases (x ∷ xs) ys c (inr h) = elim (has_append_cases xs ys c h) [ inl k ↦ inl (inr k) | inr k ↦ inr k ]
 
--- an announcement has stores of 1 in registers alone
+-- each act of an announcement is a store of 1 in a register
 stores_only : (n mask : ℕ) (c : Act) → Has (stores_below n mask) c → (r : ℕ) × (c ≡ Store (Quorum r) 1)
 stores_only n mask c h = let e = has_each_cases (λ k. Store (Quorum k) 1) n mask c h in (e.0, e.2)
 
--- a path up to its preference has no load of a register
+-- the acts up to a preference have no load of a register
 prefers_no_load :
     (t : QuorumTable) (v u r x : ℕ) (begin : List Act) → Prefers t v u begin → Has begin (Load (Quorum r) x) → ⊥
 prefers_no_load t v u r x begin (inl p) h = stores (subst (λ xs. Has xs (Load (Quorum r) x)) p.1 h)
   where
-    -- the acts of a process that proposed its input have no load of a register
+    -- if the process stored its input in the proposal, these acts have no load of a register
     stores : Has (Store Proposal (v + 1) ∷ Load Proposal 0 ∷ announcement t v) (Load (Quorum r) x) → ⊥
     stores (inl e) = cc
     stores (inr (inl e)) = cc
@@ -52,14 +52,14 @@ prefers_no_load t v u r x begin (inl p) h = stores (subst (λ xs. Has xs (Load (
         let e : Load (Quorum r) x ≡ Store (Quorum other.0) 1 = other.1 in cc
 prefers_no_load t v u r x begin (inr p) h = loads (subst (λ xs. Has xs (Load (Quorum r) x)) p h)
   where
-    -- the acts of a process that found a proposal have no load of a register
+    -- if the process found a value in the proposal, these acts have no load of a register
     loads : Has (Load Proposal (u + 1) ∷ announcement t v) (Load (Quorum r) x) → ⊥
     loads (inl e) = cc
     loads (inr k) =
         let other = stores_only t.registers (t.write v) (Load (Quorum r) x) k in
         let e : Load (Quorum r) x ≡ Store (Quorum other.0) 1 = other.1 in cc
 
--- each load of a register in a clear check is below the bound, and is of 0
+-- if all loads of a check below a bound found 0, each load of a register is of one below the bound, and found 0
 pub clear_only :
     (t : QuorumTable) (v u n r x : ℕ) (made : List Act) → ReadsClear t v u n made → Has made (Load (Quorum r) x)
     → (r < n) × (x ≡ 0)
@@ -73,39 +73,39 @@ clear_only t v u n r x made clear h =
       | inr k ↦ absurd (prefers_no_load t v u r x clear.0 clear.1 k)
     ]
   where
-    -- equal loads are of one register
+    -- if two loads of registers are equal, so are the registers
     register : (s : ℕ) → Load (Quorum r) x ≡ Load (Quorum s) 0 → r ≡ s
     register s e = cc
 
-    -- equal loads are of one value
+    -- if two loads of registers are equal, so are the values found
     value : (s : ℕ) → Load (Quorum r) x ≡ Load (Quorum s) 0 → x ≡ 0
     value s e = cc
 
--- one more load of a register is none of the proposal
+-- with one more load of a register, or none, the loads of the proposal are the same
 cond_loads :
     (b : Bool) (r x : ℕ) (xs ys : List Act) → proposal_loads (xs ++ ys) ≡ proposal_loads ys
     → proposal_loads (cond b (Load (Quorum r) x ∷ xs) xs ++ ys) ≡ proposal_loads ys
 cond_loads true r x xs ys h = h
 cond_loads false r x xs ys h = h
 
--- loads of registers are none of the proposal
+-- with a check's loads of registers the loads of the proposal are the same
 pub zeros_loads : (n mask : ℕ) (ys : List Act) → proposal_loads (zeros_below n mask ++ ys) ≡ proposal_loads ys
 zeros_loads zero mask ys = refl
 zeros_loads (suc n) mask ys = cond_loads (bit_at mask n == 1) n 0 (zeros_below n mask) ys (zeros_loads n mask ys)
 
--- ---- the preference shows in what the proposal gave
--- the newest load of the proposal shows the preference u: it gave 0 and u is the input, or it gave u
+-- ---- how the loads of the proposal show the preference
+-- the newest load of the proposal shows the preference u: it found 0 and u is the input v, or it found u + 1
 abbrev pub IsFrom : ℕ → ℕ → List ℕ → List ℕ → Type 0
 IsFrom v u loads rest = ((u ≡ v) × (loads ≡ 0 ∷ rest)) ⊎ (loads ≡ (u + 1) ∷ rest)
 
--- a preference that was just made shows in what was loaded from the proposal
+-- if by these acts a process just got the preference u, its newest load of the proposal shows u
 prefers_from :
     (t : QuorumTable) (v u : ℕ) (begin : List Act) → Prefers t v u begin
     → IsFrom v u (proposal_loads begin) (proposal_loads (announcement t v))
 prefers_from t v u begin (inl p) = inl (p.0, ap proposal_loads p.1)
 prefers_from t v u begin (inr p) = inr (ap proposal_loads p)
 
--- what was loaded from the proposal shows one preference
+-- the same loads of the proposal show only one preference
 pub from_unique : (v u w : ℕ) (loads rest : List ℕ) → IsFrom v u loads rest → IsFrom v w loads rest → u ≡ w
 from_unique v u w loads rest (inl h) (inl k) = h.0 ∙ sym k.0
 from_unique v u w loads rest (inl h) (inr k) =
@@ -115,7 +115,7 @@ from_unique v u w loads rest (inr h) (inl k) =
 from_unique v u w loads rest (inr h) (inr k) =
     let e : u + 1 ≡ w + 1 = (let f : (u + 1) ∷ rest ≡ (w + 1) ∷ rest = sym h ∙ k in cc) in omega arith
 
--- after clear loads the preference shows in what was loaded from the proposal
+-- if all loads of a check of u below a bound found 0, the newest load of the proposal shows the preference u
 pub clear_from :
     (t : QuorumTable) (v u n : ℕ) (made : List Act) → ReadsClear t v u n made
     → IsFrom v u (proposal_loads made) (proposal_loads (announcement t v))
@@ -124,7 +124,7 @@ clear_from t v u n made clear =
     ap proposal_loads clear.2 ∙ zeros_loads n (t.read u) clear.0 in
     subst (λ xs. IsFrom v u xs (proposal_loads (announcement t v))) (sym e) (prefers_from t v u clear.0 clear.1)
 
--- after a load of 1 the preference shows in what was loaded from the proposal
+-- if a check of the preference u ended with a load of 1, the newest load of the proposal shows u
 pub one_from :
     (t : QuorumTable) (v u : ℕ) (made : List Act) → ReadsOne t v u made
     → IsFrom v u (proposal_loads made) (proposal_loads (announcement t v))

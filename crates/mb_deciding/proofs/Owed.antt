@@ -1,4 +1,4 @@
--- What ratifiers and conciliators owe, and that objects of each kind keep their promises.
+-- An object of each kind keeps its promises: each input has a path, which ends once, and a process has few turns.
 use Rattle.std.proofs.Common.{◌≡◌, ◌≢◌, ℕ, ◌+◌, ◌<◌, ◌≤◌, Bool, true, false, List, [], ◌∷◌, ◌++◌, length, inl, inr, sym}
 use Rattle.std.proofs.Common.{refl, ap, ap₂, ◌∙◌, subst, append-nil, length-append, true≢false, arith}
 use Rattle.mb_deciding.specs.{Value, Proposal, Act, Load, Store, Turn, Access, Out, Kind, Conciliator, Ratifier, LastObject, Object}
@@ -17,7 +17,7 @@ use Rattle.mb_deciding.proofs.Sizes.{largest_bound}
 use Rattle.mb_deciding.proofs.ConciliatorPaths.{path_ends as conciliator_ends, path_length as conciliator_length}
 use Rattle.mb_deciding.proofs.Conciliators.{valid as conciliator_valid, fits as conciliator_fits}
 
--- two outputs are one, if both are decided or neither is, and their values are one
+-- two outputs are equal if both are decided or neither is, and their values are equal
 same_answer : (a b : Out) → (a.decided ≡ b.decided) × (a.value ≡ b.value) → a ≡ b
 same_answer a b e = ap₂ answer e.0 e.1
 
@@ -30,11 +30,11 @@ some_path t v made d u h =
       | inr k ↦ has_some made (Load Proposal (u + 1)) k
     ]
 
--- the acts of a process that runs alone
+-- the acts of a process with input v that uses a ratifier alone
 lone_path : QuorumTable → ℕ → List Act
 lone_path t v = zeros_below t.registers (t.read v) ++ (Store Proposal (v + 1) ∷ Load Proposal 0 ∷ announcement t v)
 
--- a process that runs alone decides its input
+-- a process that uses a ratifier alone decides its input
 lone_path_decides : (t : QuorumTable) (v : ℕ) → IsRatifierPath t v (lone_path t v) true v
 unfolding lone_path
 lone_path_decides t v = (Store Proposal (v + 1) ∷ Load Proposal 0 ∷ announcement t v, inl (refl, refl), refl)
@@ -52,7 +52,7 @@ opens_ratifier t v =
       ),
     )
 
--- a path through a ratifier ends once, with one output
+-- if a whole path through a ratifier and later turns are again one, there are no later turns, and the outputs are equal
 unique_ratifier :
     (t : QuorumTable) (v : ℕ) (turns later : List Turn) (a b : Out) → IsPath t Ratifier v turns a
     → IsPath t Ratifier v (later ++ turns) b → (later ≡ []) × (a ≡ b)
@@ -73,7 +73,7 @@ opens_conciliator t s v =
     let x : Turn = record { act = Load Value (v + 1); word = 0 } in
     (x ∷ [], not_empty x [], (answer false v, (refl, (refl, (0, omega arith, inl tt)))))
 
--- a path through a conciliator ends once, with one output
+-- if a whole path through a conciliator and later turns are again one, there are none, and the outputs are equal
 unique_conciliator :
     (t : QuorumTable) (s v : ℕ) (turns later : List Turn) (a b : Out) → IsPath t (Conciliator s) v turns a
     → IsPath t (Conciliator s) v (later ++ turns) b → (later ≡ []) × (a ≡ b)
@@ -82,7 +82,7 @@ unique_conciliator t s v turns later a b h k =
     (e.0, same_answer a b (h.0 ∙ sym k.0, e.1))
 
 -- ---- objects of each kind
--- a path through an object of any kind ends once, with one output
+-- if a whole path through an object and later turns are again one, there are none, and the outputs are equal
 pub one_end :
     (t : QuorumTable) (kind : Kind) (v : ℕ) (turns later : List Turn) (a b : Out) → IsPath t kind v turns a
     → IsPath t kind v (later ++ turns) b → (later ≡ []) × (a ≡ b)
@@ -124,7 +124,7 @@ bounded o h p l =
       | inr some ↦ (let own = l.parts p some in by_kind o.kind l own.0 own.1)
     ]
   where
-    -- the bound holds of a process with a turn, by the kind of the object
+    -- by the kind of the object: a process with a turn has at most `most_turns` turns
     by_kind :
         (k : Kind) → IsObjectLawful (object_of o.table k o.inputs) h → o.inputs p < o.table.values → IsPrefix o.table k
         (o.inputs p) (part p h)

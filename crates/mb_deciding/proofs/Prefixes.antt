@@ -1,4 +1,4 @@
--- Prefixes of a ratifier's path, in acts, and the same in turns.
+-- Prefixes of a ratifier's path as lists of acts, and the same as lists of turns.
 use Rattle.std.proofs.Common.{◌≢◌, ℕ, ◌+◌, ◌≤◌, Bool, true, List, [], ◌∷◌, ◌++◌, inl, sym, refl, ap, ◌∙◌, subst}
 use Rattle.std.proofs.Common.{append_assoc, arith}
 use Rattle.mb_quorum.specs.Quorum.{QuorumTable}
@@ -22,7 +22,7 @@ IsRatifierOpen t v made =
 pub open_part : (t : QuorumTable) (v : ℕ) (made : List Act) → IsRatifierOpen t v made → IsRatifierPart t v made
 open_part t v made h = (h.0, h.2.0, h.2.1, h.2.2)
 
--- a list with an element after it is not empty
+-- a list with one more element at its end is not empty
 some_snoc : (xs : List Act) (x : Act) → xs ++ x ∷ [] ≢ []
 some_snoc [] x = not_empty x []
 some_snoc (y ∷ xs) x = not_empty y (xs ++ x ∷ [])
@@ -41,7 +41,7 @@ part_older t v x made h = (
   ),
 )
 
--- the older acts of an open prefix are an open prefix
+-- an open prefix without its newest acts is an open prefix
 open_suffix :
     (t : QuorumTable) (v : ℕ) (later made : List Act) → IsRatifierOpen t v (later ++ made) → IsRatifierOpen t v made
 open_suffix t v [] made h = h
@@ -54,7 +54,7 @@ pub path_part :
     → IsRatifierPart t v made
 path_part t v made d u h = ([], d, u, h)
 
--- a check whose loads were clear up to a bound is a prefix
+-- acts with a preference, and loads of 0 from its read quorum below a bound, are a prefix
 pub clear_part :
     (t : QuorumTable) (v u n : ℕ) (made : List Act) → n ≤ t.registers → ReadsClear t v u n made
     → IsRatifierPart t v made
@@ -71,7 +71,7 @@ clear_part t v u n made within h =
       ),
     )
 
--- a path up to its preference is a prefix
+-- the acts up to a preference are a prefix
 prefers_part : (t : QuorumTable) (v u : ℕ) (made : List Act) → Prefers t v u made → IsRatifierPart t v made
 prefers_part t v u made h = clear_part t v u 0 made (omega arith) (made, h, refl)
 
@@ -81,7 +81,7 @@ empty_open t v =
     part_older t v (Store Proposal (v + 1)) (Load Proposal 0 ∷ announcement t v)
     (prefers_part t v v (Store Proposal (v + 1) ∷ Load Proposal 0 ∷ announcement t v) (inl (refl, refl)))
 
--- the announcement up to a bound is an open prefix
+-- the announcement's stores below a bound are an open prefix
 pub stores_open : (t : QuorumTable) (v n : ℕ) → n ≤ t.registers → IsRatifierOpen t v (stores_below n (t.write v))
 stores_open t v n within =
     let grown = each_grow (λ r. Store (Quorum r) 1) t.registers (t.write v) n within in
@@ -90,7 +90,7 @@ stores_open t v n within =
     open_suffix t v grown.0 (stores_below n (t.write v)) (rw grown.1 whole)
 
 -- ---- from acts to turns
--- later acts that complete the acts of turns to a path give later turns that complete the turns
+-- if later acts complete the acts of turns to a path, turns made for those acts complete the turns
 path_by_turns :
     (t : QuorumTable) (v : ℕ) (later : List Act) (turns : List Turn) (d : Bool) (u : ℕ)
     → IsRatifierPath t v (later ++ acts turns) d u → IsPath t Ratifier v (turns_for later ++ turns) (answer d u)

@@ -1,4 +1,4 @@
--- The next act of a ratifier's path: what was made names its word, and what it stores.
+-- The next act of a ratifier's path: the acts before it name its word, and what it stores.
 use Rattle.std.proofs.Common.{◌≡◌, ℕ, zero, suc, ◌+◌, ◌<◌, ◌≤◌, ◌==◌, cond, Bool, true, false, List, [], ◌∷◌, ◌++◌}
 use Rattle.std.proofs.Common.{length, inl, inr, sym, refl, ap, ◌∙◌, subst, length-append, arith}
 use Rattle.std.specs.Int.{bit_at}
@@ -27,15 +27,15 @@ abbrev AllFollow : QuorumTable → ℕ → List Act → Type 0
 AllFollow t v [] = Unit {0}
 AllFollow t v (a ∷ made) = Follows t v a made × AllFollow t v made
 
--- ---- each act of a path follows what was done before
--- if each act of a list follows those before it, so it is with one more that follows them, if a test adds it
+-- ---- each act of a path follows the acts before it
+-- if each act of xs follows those before it, it is still so after b adds x in front, if x then follows xs
 follow_cond :
     (t : QuorumTable) (v : ℕ) (b : Bool) (x : Act) (xs : List Act) → (b ≡ true → Follows t v x xs) → AllFollow t v xs
     → AllFollow t v (cond b (x ∷ xs) xs)
 follow_cond t v true x xs f h = (f refl, h)
 follow_cond t v false x xs f h = h
 
--- each act of an announcement up to a bound follows the acts before it
+-- each act of an announcement below a bound follows the acts before it
 stores_follow : (t : QuorumTable) (v n : ℕ) → n ≤ t.registers → AllFollow t v (stores_below n (t.write v))
 stores_follow t v zero within = tt
 stores_follow t v (suc n) within =
@@ -50,7 +50,7 @@ prefers_follow t v u begin (inl h) =
 prefers_follow t v u begin (inr h) =
     subst (λ made. AllFollow t v made) (sym h) (refl, stores_follow t v t.registers (omega arith))
 
--- if each act of two lists joined follows those before it, so it is with one more after both, if a test adds it
+-- if each act of `xs ++ ys` follows those before it, it is still so after b adds x in front, if x then follows them
 check_cond :
     (t : QuorumTable) (v : ℕ) (b : Bool) (x : Act) (xs ys : List Act) → (b ≡ true → Follows t v x (xs ++ ys))
     → AllFollow t v (xs ++ ys) → AllFollow t v (cond b (x ∷ xs) xs ++ ys)
@@ -67,7 +67,7 @@ zeros_follow t v u (suc n) begin p =
     (λ b. (u, eqb-true (bit_at (t.read u) n) 1 b, (begin, p, refl)))
     (zeros_follow t v u n begin p)
 
--- each act of a path whose loads were clear so far follows the acts before it
+-- if the loads of a check below a bound all found 0, each act up to them follows the acts before it
 clear_follow : (t : QuorumTable) (v u n : ℕ) (made : List Act) → ReadsClear t v u n made → AllFollow t v made
 clear_follow t v u n made h = subst (λ xs. AllFollow t v xs) (sym h.2) (zeros_follow t v u n h.0 h.1)
 
@@ -84,14 +84,14 @@ suffix_follow : (t : QuorumTable) (v : ℕ) (later made : List Act) → AllFollo
 suffix_follow t v [] made h = h
 suffix_follow t v (x ∷ later) made h = suffix_follow t v later made h.1
 
--- an act of a path follows all that was done before
+-- each act of a path follows all acts before it
 pub act_follows :
     (t : QuorumTable) (v : ℕ) (later made : List Act) (a : Act) (d : Bool) (u : ℕ)
     → IsRatifierPath t v (later ++ a ∷ made) d u → Follows t v a made
 act_follows t v later made a d u h = (suffix_follow t v later (a ∷ made) (path_follow t v (later ++ a ∷ made) d u h)).0
 
--- ---- what was done before names one op
--- two registers of a quorum with equally many of its registers below them are one
+-- ---- only one op may follow the same acts
+-- if a quorum has equally many registers below r and below s, both of which are its own, then r is s
 same_register :
     (act : ℕ → Act) (mask r s : ℕ) → IsMember mask r → IsMember mask s
     → length (acts_below act r mask) ≡ length (acts_below act s mask) → r ≡ s
@@ -120,7 +120,7 @@ check_late t v u n made h =
       | inr p ↦ omega (arith, ap length h.2, length-append (zeros_below n (t.read u)) h.0, ap length p)
     ]
 
--- after the same acts two loads of a check are of one register
+-- if two loads of a check may follow the same acts, they load one register
 same_check :
     (t : QuorumTable) (v u w r s : ℕ) (made : List Act) → IsMember (t.read u) r → IsMember (t.read w) s
     → ReadsClear t v u r made → ReadsClear t v w s made → r ≡ s
@@ -132,13 +132,13 @@ same_check t v u w r s made a b h k =
     clear_same t v u w r s made h k ∙ ap (λ x. length (zeros_below s (t.read x))) same in
     same_register (λ x. Load (Quorum x) 0) (t.read u) r s a (subst (λ x. IsMember (t.read x) s) same b) long
 
--- after the acts that a store in the proposal follows, no load of a check comes
+-- right after the load of an empty proposal no load of a check may follow: the store comes first
 put_unchecked :
     (t : QuorumTable) (v u n : ℕ) (made : List Act) → made ≡ Load Proposal 0 ∷ announcement t v
     → ReadsClear t v u n made → ⊥
 put_unchecked t v u n made e h = empty_unclear t v u n (subst (λ xs. ReadsClear t v u n xs) e h)
 
--- after the same acts there is one op
+-- two acts that may follow the same acts are of one op
 pub one_op :
     (t : QuorumTable) (v : ℕ) (made : List Act) (a b : Act) → Follows t v a made → Follows t v b made → IsSameOp a b
 one_op t v made (Store Value w) b h k = absurd h

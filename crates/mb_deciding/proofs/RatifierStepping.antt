@@ -1,5 +1,5 @@
--- A process at its place in a ratifier: its acts are an open prefix of a path, its next turn goes on along it, and what
--- its load may find.
+-- A process at its place in a ratifier: its acts are an open prefix of a path, and with the next act still a prefix of
+-- one. Also what a load may find, and to which words the next op may go.
 use Rattle.std.proofs.Common.{◌≡◌, ap, ◌∙◌, ℕ, zero, suc, ◌+◌, ◌<◌, false, List, ◌∷◌, inl, inr}
 use Rattle.std.proofs.Common.{sym, subst, arith}
 use Rattle.std.proofs.Math.Numerals.{add-one}
@@ -20,7 +20,7 @@ use Rattle.mb_deciding.proofs.Advances.{find_anywhere, announce_op, begin_op, pr
 use Rattle.mb_deciding.proofs.Advances.{announced_next, announced_whole, prefers_own, prefers_found, checked_next}
 use Rattle.mb_deciding.proofs.Advances.{checked_one}
 
--- the acts that led to a place are an open prefix of a path
+-- the acts that led to a place are an open prefix of a path: at least one later act completes it
 pub checking_open :
     (t : QuorumTable) → IsQuorumTable t → (v : ℕ) (place : RatifierPlace) (made : List Act) → IsRatifierPlace t place
     → IsInRatifier t v place made → IsRatifierOpen t v made
@@ -39,7 +39,7 @@ loaded_part t v (suc u) =
     clear_part t v u 0 (Load Proposal (suc u) ∷ announcement t v) (omega arith)
     (prefers_found t v u (suc u) (sym (add-one u)))
 
--- the next act of an announcement goes on along a path
+-- with the next act of a process that announces, its acts are a prefix of a path
 announcing_next :
     (t : QuorumTable) → IsQuorumTable t → (v input left : ℕ) (made : List Act) (op : Op) (seen : ℕ) → v < t.values
     → IsInRatifier t v (Announce input left) made → IsRatifierOp t (Announce input left) op
@@ -53,7 +53,7 @@ announcing_next t q v input left made op seen within at is can =
       | inr x ↦ rw ((announced_whole t v input left made op seen at is x.1 can).0) (loaded_part t v seen)
     ]
 
--- the next act of a process at a place, with a value that it can find there, goes on along a path
+-- with the next act of a process at its place, which finds what it can find there, its acts are a prefix of a path
 pub checking_next :
     (t : QuorumTable) → IsQuorumTable t → (v : ℕ) (place : RatifierPlace) (made : List Act) (op : Op) (seen : ℕ)
     → IsRatifierPlace t place → IsInRatifier t v place made → IsRatifierOp t place op → CanFind t
@@ -78,7 +78,7 @@ checking_next t q v (Check u left) made op seen fit at is can =
           (checked_one t q v u left made op seen fit.0 at is can some)
     ]
 
--- a load finds a value that the word can hold
+-- after a lawful history a load finds a value that its word can hold
 pub checking_found :
     (t : QuorumTable) (inputs : ℕ → ℕ) (h : List Access) → IsObjectLawful (ratifier_of t inputs) h
     → (place : RatifierPlace) (op : Op) → CanFind t (InRatifier place) op (seen_by op h)
@@ -89,7 +89,7 @@ checking_found t inputs h l place (to.Load Last) = tt
 checking_found t inputs h l place (to.Store reg w) = tt
 checking_found t inputs h l place (to.Exchange reg w) = tt
 
--- the next op of an announcement is on a word of a ratifier
+-- the next op of a process that announces goes to a word of a ratifier
 announcing_word :
     (t : QuorumTable) → IsQuorumTable t → (v input left : ℕ) (made : List Act) (op : Op) → v < t.values
     → IsInRatifier t v (Announce input left) made → IsRatifierOp t (Announce input left) op
@@ -100,7 +100,7 @@ announcing_word t q v input left made op within at is =
       | inr x ↦ rw (x.0) tt
     ]
 
--- the next op is on a word of a ratifier
+-- the next op of a process at its place goes to a word of a ratifier
 pub checking_word :
     (t : QuorumTable) → IsQuorumTable t → (v : ℕ) (place : RatifierPlace) (made : List Act) (op : Op)
     → IsRatifierPlace t place

@@ -10,20 +10,20 @@ use Rattle.mb_deciding.proofs.Histories.{lawful_older, own_turns, own_some}
 use Rattle.mb_deciding.proofs.Acts.{has_turns}
 use Rattle.mb_deciding.proofs.Grammar.{Behind, AllBehind, HasPreference, IsChosen, part_behind, behind_at}
 
--- ---- the acts of a process in a longer history
--- one turn more, if a test adds it, takes no act away
+-- ---- the acts of a process after one more access
+-- an act of turns is still one of their acts if one more turn comes first, or none
 kept_by :
     (own : Bool) (x : Turn) (turns : List Turn) (c : Act) → Has (acts turns) c
     → Has (acts (cons_option (cond own (Some x) None) turns)) c
 kept_by true x turns c k = inr k
 kept_by false x turns c k = k
 
--- one more access takes no act of a process away
+-- an act that a process has made is still one of its acts after one more access
 has_kept :
     (p : ℕ) (a : Access) (h : List Access) (c : Act) → Has (acts (part p h)) c → Has (acts (part p (a ∷ h))) c
 has_kept p a h c k = kept_by (a.process == p) a.turn (part p h) c k
 
--- an act of turns with one more, if a test adds it, is of that turn, or older
+-- if one more turn comes first, or none, an act is that turn's or one of the older turns
 cases_by :
     (own : Bool) (x : Turn) (turns : List Turn) (c : Act) → Has (acts (cons_option (cond own (Some x) None) turns)) c
     → ((own ≡ true) × (c ≡ x.act)) ⊎ Has (acts turns) c
@@ -31,7 +31,7 @@ cases_by true x turns c (inl e) = inl (refl, e)
 cases_by true x turns c (inr k) = inr k
 cases_by false x turns c k = inr k
 
--- an act of a process is that of the newest access, or older
+-- after one more access an act of process p is the act of that access, or one that p had made before
 pub has_cases :
     (p : ℕ) (a : Access) (h : List Access) (c : Act) → Has (acts (part p (a ∷ h))) c
     → ((a.process ≡ p) × (c ≡ a.turn.act)) ⊎ Has (acts (part p h)) c
@@ -41,7 +41,7 @@ has_cases p a h c k =
       | inr w ↦ inr w
     ]
 
--- in a lawful history each act of a process has older acts, which have what has to come before it
+-- in a lawful history a process has made what has to come before each of its acts (`Behind`)
 pub own_behind :
     (t : QuorumTable) (inputs : ℕ → ℕ) (h : List Access) → IsObjectLawful (ratifier_of t inputs) h → (p : ℕ) (c : Act)
     → Has (acts (part p h)) c
@@ -50,7 +50,7 @@ own_behind t inputs h l p c k =
     behind_at t (inputs p) (acts (part p h)) c
     (part_behind t (inputs p) (part p h) (l.parts p (has_turns (part p h) c k)).1) k
 
--- in a lawful history the process of the newest access has made what has to come before it
+-- in a lawful history the process of the newest access had made before it what has to come before it (`Behind`)
 newest_behind :
     (t : QuorumTable) (inputs : ℕ → ℕ) (a : Access) (h : List Access) → IsObjectLawful (ratifier_of t inputs) (a ∷ h)
     → Behind t (inputs a.process) a.turn.act (acts (part a.process h))
@@ -63,12 +63,12 @@ newest_behind t inputs a h l =
 same_register : (r w n : ℕ) → value_after (Quorum r) (Store (Quorum r) w) n ≡ w
 same_register r w n = ap (λ b. cond b w n) (eq-eqb r r refl)
 
--- a word that holds 1 holds 1 whether or not a 1 is stored there
+-- a word that holds 1 still holds 1 if 1 is stored there, and if nothing is
 cond_one : (b : Bool) (w n : ℕ) → w ≡ 1 → n ≡ 1 → cond b w n ≡ 1
 cond_one true w n e f = e
 cond_one false w n e f = f
 
--- a quorum register that holds 1 holds 1 after one more act
+-- a quorum register that holds 1 still holds 1 after one more act of a ratifier's path
 one_kept :
     (t : QuorumTable) (v r : ℕ) (act : Act) (older : List Act) (n : ℕ) → Behind t v act older → n ≡ 1
     → value_after (Quorum r) act n ≡ 1
@@ -79,7 +79,7 @@ one_kept t v r (Exchange reg w f) older n b e = absurd b
 one_kept t v r (Store Proposal w) older n b e = e
 one_kept t v r (Store (Quorum i) w) older n b e = cond_one (i == r) w n b.0 e
 
--- a proposal that is not empty is not empty after one more act
+-- a proposal that is not empty is still not empty after one more act of a ratifier's path
 filled_kept :
     (t : QuorumTable) (v : ℕ) (act : Act) (older : List Act) (n : ℕ) → Behind t v act older → 0 < n
     → 0 < value_after Proposal act n
@@ -90,8 +90,8 @@ filled_kept t v (Exchange reg w f) older n b e = absurd b
 filled_kept t v (Store Proposal w) older n b e = let k : w ≡ v + 1 = b.0 in omega arith
 filled_kept t v (Store (Quorum i) w) older n b e = e
 
--- after one act a value in the proposal was there before, or is the input of the process, which loaded an empty
--- proposal
+-- after one act of a process with input v, a value in the proposal was there before, or it is v, and the process had
+-- loaded an empty proposal
 proposal_origin :
     (t : QuorumTable) (v u : ℕ) (act : Act) (older : List Act) (n : ℕ) → Behind t v act older
     → value_after Proposal act n ≡ u + 1 → (n ≡ u + 1) ⊎ ((v ≡ u) × Has older (Load Proposal 0))
@@ -102,7 +102,7 @@ proposal_origin t v u (Exchange reg w f) older n b e = absurd b
 proposal_origin t v u (Store Proposal w) older n b e = let k : w ≡ v + 1 = b.0 in inr (omega arith, b.1)
 proposal_origin t v u (Store (Quorum i) w) older n b e = inl e
 
--- a word that is not 0 was stored to, or was not 0 before
+-- if a word is not 0 after an act, the act stored in it, or it was not 0 before
 cond_origin : (b : Bool) (w n : ℕ) → 0 < cond b w n → (b ≡ true) ⊎ (0 < n)
 cond_origin true w n h = inl refl
 cond_origin false w n h = inr h
@@ -123,7 +123,7 @@ register_origin t v r (Store (Quorum i) w) older n b h =
     ]
 
 -- ---- what the proposal and the quorum registers hold, and who stored it
--- a register that a process stored holds 1
+-- a register in which a process has stored 1 holds 1
 pub stored_one :
     (t : QuorumTable) (inputs : ℕ → ℕ) (h : List Access) → IsObjectLawful (ratifier_of t inputs) h → (p r : ℕ)
     → Has (acts (part p h)) (Store (Quorum r) 1) → value_in (Quorum r) h ≡ 1
@@ -150,7 +150,7 @@ stored_filled t inputs (a ∷ h) l p v k =
           (stored_filled t inputs h (lawful_older (ratifier_of t inputs) a h l) p v w)
     ]
 
--- a load that is the newest access has the value that the older ones left
+-- if the newest access is a load, it found the value that the older accesses left
 pub newest_load :
     (t : QuorumTable) (inputs : ℕ → ℕ) (a : Access) (h : List Access) (reg : Reg) (x : ℕ)
     → IsObjectLawful (ratifier_of t inputs) (a ∷ h) → Load reg x ≡ a.turn.act → x ≡ value_in reg h
@@ -182,7 +182,7 @@ preference_filled t inputs h l p v (inr k) = loaded_filled t inputs h l p k.0 k.
 abbrev pub IsFounded : (ℕ → ℕ) → List Access → ℕ → Type 0
 IsFounded inputs h u = (b : ℕ) × (inputs b ≡ u) × Has (acts (part b h)) (Load Proposal 0)
 
--- a value with a founder has one in a longer history
+-- a value with a founder still has it after one more access
 founded_kept :
     (inputs : ℕ → ℕ) (a : Access) (h : List Access) (u : ℕ) → IsFounded inputs h u → IsFounded inputs (a ∷ h) u
 founded_kept inputs a h u f = (f.0, f.1, has_kept f.0 a h (Load Proposal 0) f.2)
@@ -199,7 +199,7 @@ proposal_founded t inputs (a ∷ h) l u e =
       | inr w ↦ founded_kept inputs a h u (a.process, w.0, w.1)
     ]
 
--- a value that was loaded from the proposal has a founder
+-- a value that a process loaded from the proposal has a founder
 loaded_founded :
     (t : QuorumTable) (inputs : ℕ → ℕ) (h : List Access) → IsObjectLawful (ratifier_of t inputs) h → (p u : ℕ)
     → Has (acts (part p h)) (Load Proposal (u + 1)) → IsFounded inputs h u
@@ -212,7 +212,7 @@ loaded_founded t inputs (a ∷ h) l p u k =
       | inr w ↦ founded_kept inputs a h u (loaded_founded t inputs h older p u w)
     ]
 
--- a value that a process chose has a founder
+-- a value that a process chose (`IsChosen`) has a founder
 pub chosen_founded :
     (t : QuorumTable) (inputs : ℕ → ℕ) (h : List Access) → IsObjectLawful (ratifier_of t inputs) h → (p u : ℕ)
     → IsChosen (inputs p) u (acts (part p h)) → IsFounded inputs h u
@@ -226,7 +226,7 @@ pub founded_within :
 founded_within t inputs h l u f =
     subst (λ w. w < t.values) f.1 (l.parts f.0 (has_turns (part f.0 h) (Load Proposal 0) f.2)).0
 
--- a register that holds something was stored by a process
+-- if a register does not hold 0, a process has stored 1 in it
 register_stored :
     (t : QuorumTable) (inputs : ℕ → ℕ) (h : List Access) → IsObjectLawful (ratifier_of t inputs) h → (r : ℕ)
     → 0 < value_in (Quorum r) h → (b : ℕ) × Has (acts (part b h)) (Store (Quorum r) 1)
@@ -239,7 +239,7 @@ register_stored t inputs (a ∷ h) l r e =
       | inr w ↦ (a.process, subst (λ turns. Has (acts turns) (Store (Quorum r) 1)) (sym (own_turns a h)) (inl w))
     ]
 
--- a register that gave 1 was stored by a process
+-- if a process loaded 1 from a register, a process has stored 1 in it
 pub loaded_stored :
     (t : QuorumTable) (inputs : ℕ → ℕ) (h : List Access) → IsObjectLawful (ratifier_of t inputs) h → (p r : ℕ)
     → Has (acts (part p h)) (Load (Quorum r) 1) → (b : ℕ) × Has (acts (part b h)) (Store (Quorum r) 1)
@@ -256,12 +256,12 @@ loaded_stored t inputs (a ∷ h) l p r k =
     ]
 
 -- ---- what the words can hold
--- a register that holds at most 1 does so whether or not a 1 is stored there
+-- a word that holds at most 1 still does if 1 is stored there, and if nothing is
 cond_small : (b : Bool) (w n : ℕ) → w ≡ 1 → n ≤ 1 → cond b w n ≤ 1
 cond_small true w n e h = omega arith
 cond_small false w n e h = h
 
--- each act keeps a quorum register at most 1
+-- a quorum register that holds at most 1 still does after one more act of a ratifier's path
 small_kept :
     (t : QuorumTable) (v r : ℕ) (act : Act) (older : List Act) (n : ℕ) → Behind t v act older → n ≤ 1
     → value_after (Quorum r) act n ≤ 1
@@ -295,7 +295,7 @@ proposal_small t inputs h l =
           omega arith)
     ]
 
--- an act on a ratifier leaves an empty word of a conciliator empty
+-- an act on a ratifier leaves the word of a conciliator empty if it was
 no_value :
     (t : QuorumTable) (v : ℕ) (act : Act) (older : List Act) (n : ℕ) → Behind t v act older → n ≤ 0
     → value_after Value act n ≤ 0
@@ -306,7 +306,7 @@ no_value t v (Store (Quorum i) w) older n b e = e
 no_value t v (Store Last w) older n b e = absurd b
 no_value t v (Exchange reg w f) older n b e = absurd b
 
--- an act on a ratifier leaves an empty word of a last object empty
+-- an act on a ratifier leaves the word of a last object empty if it was
 no_last :
     (t : QuorumTable) (v : ℕ) (act : Act) (older : List Act) (n : ℕ) → Behind t v act older → n ≤ 0
     → value_after Last act n ≤ 0
@@ -317,7 +317,7 @@ no_last t v (Store (Quorum i) w) older n b e = e
 no_last t v (Store Last w) older n b e = absurd b
 no_last t v (Exchange reg w f) older n b e = absurd b
 
--- the word of a last object is empty in a ratifier
+-- a history of a ratifier leaves 0 in the word of a last object
 last_empty :
     (t : QuorumTable) (inputs : ℕ → ℕ) (h : List Access) → IsObjectLawful (ratifier_of t inputs) h
     → value_in Last h ≤ 0
@@ -326,7 +326,7 @@ last_empty t inputs (a ∷ h) l =
     no_last t (inputs a.process) a.turn.act (acts (part a.process h)) (value_in Last h) (newest_behind t inputs a h l)
     (last_empty t inputs h (lawful_older (ratifier_of t inputs) a h l))
 
--- the word of a conciliator is empty in a ratifier
+-- a history of a ratifier leaves 0 in the word of a conciliator
 value_empty :
     (t : QuorumTable) (inputs : ℕ → ℕ) (h : List Access) → IsObjectLawful (ratifier_of t inputs) h
     → value_in Value h ≤ 0
@@ -335,7 +335,7 @@ value_empty t inputs (a ∷ h) l =
     no_value t (inputs a.process) a.turn.act (acts (part a.process h)) (value_in Value h) (newest_behind t inputs a h l)
     (value_empty t inputs h (lawful_older (ratifier_of t inputs) a h l))
 
--- each word holds only values that a word of this name can hold
+-- each word holds only numbers that a word of this name can hold: 0, or one more than a value, in a register 0 or 1
 pub fits :
     (t : QuorumTable) (inputs : ℕ → ℕ) (h : List Access) (reg : Reg) → IsObjectLawful (ratifier_of t inputs) h
     → CanHold t reg (value_in reg h)

@@ -1,4 +1,4 @@
--- Registers of a quorum in rising order: the least of those that are left, and lists with an act for each.
+-- Registers of a quorum in rising order: the least of those that are left, and lists with an act for each register.
 use Rattle.std.proofs.Common.{◌≡◌, ◌≢◌, ℕ, zero, suc, ◌+◌, ◌<◌, ◌≤◌, ◌^◌, ◌==◌, ◌⊎◌, ◌↔◌, cond, Bool, true, false, List}
 use Rattle.std.proofs.Common.{[], ◌∷◌, ◌++◌, inl, inr, sym, refl, ap, ◌∙◌, subst, arith}
 use Rattle.std.specs.Int.{bit_at}
@@ -19,8 +19,8 @@ pub record IsLeastFrom (mask bound r : ℕ) : Type 0 where
   pub member : IsMember mask r
   pub least : (k : ℕ) → bound ≤ k → k < r → IsMember mask k → ⊥
 
--- ---- masks of what is left
--- a number below 2 ^ n has registers below n only
+-- ---- masks of the registers that are left
+-- a mask below 2 ^ n has registers below n only
 pub member_below : (n mask r : ℕ) → mask < 2 ^ n → IsMember mask r → r < n
 member_below n mask r h m =
     elim (cases_lt r n) [
@@ -33,21 +33,21 @@ pub none_empty : (left k : ℕ) → left ≡ 0 → IsMember left k → ⊥
 none_empty left k e m =
     let z : bit_at 0 k ≡ 0 = bit_at-zero k in let one : bit_at 0 k ≡ 1 = subst (λ n. bit_at n k ≡ 1) e m in omega arith
 
--- at and above the bound 0 the whole quorum is left
+-- if the bound is 0, the whole quorum is left
 pub rest_whole : (mask : ℕ) → IsRest mask 0 mask
 rest_whole mask k = ((λ m. (omega arith, m)), (λ both. both.1))
 
--- the least register of what is left is the least of the quorum at or above the bound
+-- the least register that is left is the least of the quorum at or above the bound
 pub rest_least : (mask bound left r : ℕ) → IsRest mask bound left → IsLeast left r → IsLeastFrom mask bound r
 rest_least mask bound left r rest least =
     let own = (rest r).0 least.member in
     record { above = own.0; member = own.1; least = λ k above below m. least.least k below ((rest k).1 (above, m)) }
 
--- if nothing is left, no register is at or above the bound
+-- if no register is left, none of the quorum is at or above the bound
 pub rest_none : (mask bound left : ℕ) → IsRest mask bound left → left ≡ 0 → IsNoneFrom mask bound
 rest_none mask bound left rest e k above m = none_empty left k e ((rest k).1 (above, m))
 
--- without its least register r, what is left is the quorum at and above r + 1
+-- if r, the least register left, is taken away, those of the quorum at and above r + 1 are left
 pub rest_taken :
     (mask bound left r after : ℕ) → IsRest mask bound left → IsLeast left r
     → ((k : ℕ) → IsMember after k ↔ (IsMember left k × (k ≢ r))) → IsRest mask (r + 1) after
@@ -78,7 +78,7 @@ least_below (suc n) mask =
       ])
     ]
 
--- a mask has a register, or has none
+-- there is a register in the mask, or there is none
 pub some_member : (mask : ℕ) → ((r : ℕ) × IsMember mask r) ⊎ ((r : ℕ) → IsMember mask r → ⊥)
 some_member mask =
     elim (least_below mask mask) [
@@ -104,17 +104,17 @@ some_least mask some =
         ]
 
 -- ---- lists with an act for each register
--- if the test fails, the act is not added
+-- if the test b fails, the act x is not added
 skip_cond : (b : Bool) (x : Act) (xs : List Act) → b ≡ false → cond b (x ∷ xs) xs ≡ xs
 skip_cond true x xs e = cc
 skip_cond false x xs e = refl
 
--- if the test holds, the list gets the act in front
+-- if the test b holds, the act x is added in front of the list
 take_cond : (b : Bool) (x : Act) (xs : List Act) → b ≡ true → cond b (x ∷ xs) xs ≡ x ∷ xs
 take_cond true x xs e = refl
 take_cond false x xs e = cc
 
--- bounds with no register of the mask between them give one list
+-- two bounds with no register of the mask between them give the same list
 pub each_skip :
     (act : ℕ → Act) (n mask bound : ℕ) → bound ≤ n → ((k : ℕ) → bound ≤ k → k < n → IsMember mask k → ⊥)
     → acts_below act n mask ≡ acts_below act bound mask
@@ -127,7 +127,7 @@ each_skip act (suc n) mask bound h none =
           ∙ each_skip act n mask bound (omega arith) (λ k a b. none k a (omega arith))
     ]
 
--- up to the least register at or above the bound, the list has the act of that register more
+-- if r is the least register at or above the bound, the list below r + 1 has just the act of r more
 pub each_next :
     (act : ℕ → Act) (mask bound r : ℕ) → IsLeastFrom mask bound r
     → acts_below act (r + 1) mask ≡ act r ∷ acts_below act bound mask
@@ -135,14 +135,14 @@ each_next act mask bound r l =
     rw add-one (take_cond (bit_at mask r == 1) (act r) (acts_below act r mask) (eq-eqb (bit_at mask r) 1 l.member)
     ∙ ap (λ xs. act r ∷ xs) (each_skip act r mask bound l.above l.least))
 
--- an act that a test adds or not stands before the list
+-- if a list ends with ys, it still does after the test b adds one more act in front, or none
 grow_cond :
     (b : Bool) (x : Act) (xs ys : List Act) → ((later : List Act) × (later ++ ys ≡ xs))
     → (later : List Act) × (later ++ ys ≡ cond b (x ∷ xs) xs)
 grow_cond true x xs ys h = (x ∷ h.0, ap (λ zs. x ∷ zs) h.1)
 grow_cond false x xs ys h = h
 
--- a higher bound adds acts before the list
+-- the list below a higher bound is the list below the lower one with acts before it
 pub each_grow :
     (act : ℕ → Act) (n mask bound : ℕ) → bound ≤ n
     → (later : List Act) × (later ++ acts_below act bound mask ≡ acts_below act n mask)

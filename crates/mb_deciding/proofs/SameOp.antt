@@ -1,8 +1,8 @@
--- Acts of one op, after one history.
+-- Two acts of one op after one history are equal.
 use Rattle.std.proofs.Common.{◌≡◌, List, sym, ap, ap₂, ◌∙◌}
 use Rattle.mb_deciding.specs.{Act, Load, Store, Exchange, Access, IsSameOp, value_in, ReadsLast}
 
--- two acts of one op that are true to memory after one history are one act
+-- if two acts of one op are both true to memory after one history, they are equal
 pub same_act : (a b : Act) (h : List Access) → IsSameOp a b → ReadsLast a h → ReadsLast b h → a ≡ b
 same_act (Load reg x) (Load other y) h e f g = ap₂ Load e (f ∙ (ap (λ r. value_in r h) e ∙ sym g))
 same_act (Load reg x) (Store other y) h e f g = absurd e

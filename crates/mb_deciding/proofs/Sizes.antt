@@ -22,7 +22,7 @@ ones_single =
       | inr some ↦ omega (arith, ones_le_self 1)
     ]
 
--- a list with an act more, if the register's bit is 1, is longer by the number of ones of that bit
+-- a list that gets one act more if a bit is 1 is longer by as many as the bit has ones
 cond_size :
     (act : Act) (made : List Act) (bit n : ℕ) → bit < 2 → length made ≡ n → (is : Bool) → (bit == 1) ≡ is
     → length (cond is (act ∷ made) made) ≡ count_ones bit + n
@@ -40,7 +40,7 @@ below_next n mask =
     let bits : mask % 2 ^ suc n ≡ bit_at mask n * 2 ^ n + mask % 2 ^ n = rw one-add at (mod-pow-add mask 1 n) in
     ap count_ones bits ∙ ones_cat n (bit_at mask n) (mask % 2 ^ n) (mod-lt mask (pow_pos n))
 
--- a list with an act for each register below a bound is as long as there are such registers
+-- a list with an act for each register below a bound has as many acts as there are registers of the mask below it
 pub each_exact : (act : ℕ → Act) (n mask : ℕ) → length (acts_below act n mask) ≡ count_ones (mask % 2 ^ n)
 each_exact act zero mask =
     let none : mask % 1 ≡ 0 = omega (arith, mod-lt mask (pow_pos 0)) in omega (arith, ap count_ones none, ones_none)

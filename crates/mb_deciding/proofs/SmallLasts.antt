@@ -1,4 +1,4 @@
--- Samples of a last object: which histories and paths there are.
+-- Samples of a last object: which histories are lawful, which turns are a path, and with which outputs.
 use Rattle.std.proofs.Common.{◌≡◌, ◌≢◌, ℕ, zero, suc, ◌+◌, ◌<◌, Bool, true, cond, Some, None, List, [], ◌∷◌}
 use Rattle.std.proofs.Common.{inl, inr, refl, ap, ◌∙◌, arith}
 use Rattle.std.specs.List.{cons_option}
@@ -15,7 +15,7 @@ skipped : (p q found : ℕ) (h : List Access) → q ≢ p → part p (exchange_b
 skipped p q found h other =
     ap (λ b. cons_option (cond b (Some (turn 0 (Exchange Last (q + 1) found))) None) (part p h)) (ne_eqb q p other)
 
--- each process with a turn has one, which is a prefix of a path of its input
+-- each process with a turn in `first_decides` has one turn, which is a prefix of a path of its input
 first_part : (p : ℕ) → part p first_decides ≢ [] → (p < 3)
     × IsPrefix (unary_table 3) LastObject p (part p first_decides)
 first_part zero some = (omega arith, ([], answer true 0, (refl, inl (refl, refl))))
@@ -40,29 +40,29 @@ first_lawful =
     }
 
 -- ---- histories that are not lawful
--- `found_empty_twice` is not lawful: the second exchange would find the value of the first
+-- `found_empty_twice` is not lawful: in a lawful history the second exchange finds the value of the first
 pub empty_refused : IsObjectLawful small_last found_empty_twice → ⊥
 empty_refused l = let none : ◌≡◌ {A = ℕ} 0 1 = l.memory.0 in absurd (omega (arith, none))
 
--- `stored_over` is not lawful: the third exchange would find the value of the first, too
+-- `stored_over` is not lawful: in a lawful history the third exchange, too, finds the value of the first
 pub over_refused : IsObjectLawful small_last stored_over → ⊥
 over_refused l = let other : ◌≡◌ {A = ℕ} 2 1 = l.memory.0 in absurd (omega (arith, other))
 
--- ---- turns that are no path
--- a load and then a store are no prefix of a path, which is one exchange
+-- ---- turns that are not a prefix of a path
+-- a load and then a store are not a prefix of a path, since a path is one exchange
 pub torn_refused : IsPrefix (unary_table 3) LastObject 0 loaded_then_stored → ⊥
 torn_refused p =
     let x = (last_alone (unary_table 3) 0 (turn 0 (Load Last 0) ∷ []) (turn 0 (Store Last 1)) p).1 in
     let same : Store Last 1 ≡ Exchange Last 1 x.0 = x.1 in cc
 
--- an exchange for another value than the input is no prefix of a path
+-- an exchange for another value than the input is not a prefix of a path
 pub another_refused : IsPrefix (unary_table 3) LastObject 0 (turn 0 (Exchange Last 2 0) ∷ []) → ⊥
 another_refused p =
     let x = (last_alone (unary_table 3) 0 [] (turn 0 (Exchange Last 2 0)) p).1 in
     let same : Exchange Last 2 0 ≡ Exchange Last 1 x.0 = x.1 in
     let put : ◌≡◌ {A = ℕ} 2 1 = cc in absurd (omega (arith, put))
 
--- two exchanges are no prefix of a path
+-- two exchanges are not a prefix of a path
 pub twice_refused : IsPrefix (unary_table 3) LastObject 0
     (turn 0 (Exchange Last 1 1) ∷ turn 0 (Exchange Last 1 0) ∷ []) → ⊥
 twice_refused p =
@@ -70,13 +70,13 @@ twice_refused p =
     (last_alone (unary_table 3) 0 (turn 0 (Exchange Last 1 0) ∷ []) (turn 0 (Exchange Last 1 1)) p).0 in cc
 
 -- ---- whole paths and their outputs
--- a process that found the word empty has its own input as its output
+-- if a process with input 1 found the word empty, its output is its input, decided
 pub own_output :
     (d : Bool) (u : ℕ) → IsPath (unary_table 3) LastObject 1 (turn 0 (Exchange Last 2 0) ∷ []) (answer d u)
     → (d ≡ true) × (u ≡ 1)
 own_output d u path = (path.0, same_value 1 (turn 0 (Exchange Last 2 0)) u 1 path.1 (inl (refl, refl)))
 
--- a process that found a value has that value as its output
+-- if a process with input 1 found the value 0 in the word, its output is that value, decided
 pub met_output :
     (d : Bool) (u : ℕ) → IsPath (unary_table 3) LastObject 1 (turn 0 (Exchange Last 2 1) ∷ []) (answer d u)
     → (d ≡ true) × (u ≡ 0)

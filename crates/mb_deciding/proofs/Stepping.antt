@@ -1,5 +1,5 @@
--- A process at its place in an object of any kind: its turns are an open prefix of a path, its next turn goes on
--- along it, and what that may find.
+-- A process at its place in an object of any kind: its turns are an open prefix of a path, and with the next turn still
+-- a prefix of one. Also what that turn may find.
 use Rattle.std.proofs.Common.{ℕ, List, ◌∷◌, sym, subst}
 use Rattle.mb_deciding.specs.{Op, Turn, Access, Out, Kind, Conciliator}
 use Rattle.mb_deciding.specs.{Ratifier, LastObject, Pc, InRatifier, InConciliator, InLast}
@@ -15,7 +15,7 @@ use Rattle.mb_deciding.proofs.ConciliatorPlaces.{drawing_open}
 use Rattle.mb_deciding.proofs.RatifierStepping.{checking_open, checking_next, checking_found, checking_word}
 use Rattle.mb_deciding.proofs.ConciliatorStepping.{open_turns, drawing_next, drawing_found, drawing_word}
 
--- the next turn of a process at a place goes on along a path
+-- with the next turn of a process at its place, its part is a prefix of a path
 pub next_part :
     (t : QuorumTable) (kind : Kind) (inputs : ℕ → ℕ) (h : List Access) (p : ℕ) (pc : Pc) (op : Op) (word : ℕ)
     → IsQuorumTable t → IsObjectLawful (object_of t kind inputs) h → PcIsAt t kind (inputs p) pc (part p h)
@@ -36,7 +36,7 @@ next_part t LastObject inputs h p (InConciliator place) op word q l at is = absu
 next_part t LastObject inputs h p (InLast place) op word q l at is =
     last_prefix t (inputs p) place (part p h) op (seen_by op h) word at is
 
--- the next op of a place finds a value with which the place can go on
+-- after a lawful history the op that comes next at a place finds a value that it may find there
 pub next_found :
     (t : QuorumTable) (kind : Kind) (inputs : ℕ → ℕ) (h : List Access) (p : ℕ) (pc : Pc) (op : Op) → IsQuorumTable t
     → IsObjectLawful (object_of t kind inputs) h → PcIsAt t kind (inputs p) pc (part p h) → IsOpAt t pc op
@@ -52,7 +52,7 @@ next_found t LastObject inputs h p (InRatifier place) op q l at is = absurd at
 next_found t LastObject inputs h p (InConciliator place) op q l at is = absurd at
 next_found t LastObject inputs h p (InLast place) op q l at is = last_found t inputs h l place op is
 
--- the turns that led to a place are an open prefix of a path
+-- the turns that led to a place are an open prefix of a path: at least one later turn completes it
 pub at_open :
     (t : QuorumTable) (kind : Kind) (v : ℕ) (pc : Pc) (turns : List Turn) → IsQuorumTable t → PcIsAt t kind v pc turns
     → IsOpen t kind v turns
@@ -74,7 +74,7 @@ pub at_part :
     → IsPrefix t kind v turns
 at_part t kind v pc turns q at = open_turns t kind v turns (at_open t kind v pc turns q at)
 
--- the turns that led to a place are no whole path
+-- the turns that led to a place are not a whole path
 pub at_unfinished :
     (t : QuorumTable) (kind : Kind) (v : ℕ) (pc : Pc) (turns : List Turn) (out : Out) → IsQuorumTable t
     → PcIsAt t kind v pc turns → IsPath t kind v turns out → ⊥
@@ -82,7 +82,7 @@ at_unfinished t kind v pc turns out q at path =
     let further = at_open t kind v pc turns q at in
     further.1 (one_end t kind v turns further.0 out further.2.0 path further.2.1).0
 
--- the next op of a place is on a word of the object
+-- the op that comes next at a place goes to a word of the object
 pub at_word :
     (t : QuorumTable) (kind : Kind) (v : ℕ) (pc : Pc) (turns : List Turn) (op : Op) → IsQuorumTable t
     → PcIsAt t kind v pc turns → IsOpAt t pc op → HasReg t.registers kind (reg_of op)

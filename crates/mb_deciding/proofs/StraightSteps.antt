@@ -1,5 +1,5 @@
--- One access of a process that goes straight through an object: each access that it makes is a step, and where that
--- leads.
+-- One access of a process that goes straight through an object: it is the step that comes next at its place, and what
+-- it leads to.
 use Rattle.std.proofs.Common.{◌≡◌, ◌≢◌, ℕ, ◌+◌, ◌-◌, ◌*◌, ◌<◌, ◌≤◌, ◌%◌, true, false, List, ◌∷◌, inl, inr, refl, sym}
 use Rattle.std.proofs.Common.{ap, subst, arith, bit_and, cond}
 use Rattle.std.proofs.lemmas.Bool.{cases_eq, eq-eqb, ne_eqb}
@@ -17,7 +17,7 @@ use Rattle.mb_deciding.proofs.Advances.{checked_whole}
 use Rattle.mb_deciding.proofs.OneStep.{conciliator_step, ratifier_step}
 
 -- ---- conciliators
--- the load of an attempt that finds a value ends the path
+-- if the load of an attempt finds a value, it is a step to the output with that value
 pub met_step :
     (t : QuorumTable) (input limit modulus seen word out : ℕ) (makes : Op → ℕ → Type 0) → makes (to.Load Value) seen
     → seen ≢ 0 → (0 < seen → seen ≤ t.values → seen ≡ out + 1)
@@ -25,7 +25,7 @@ pub met_step :
 met_step t input limit modulus seen word out makes made some met =
     conciliator_step t (Draw input limit modulus) makes (to.Load Value) seen word _ refl made reaches
   where
-    -- the path ends with the value that was found
+    -- with this load the path ends, with the value that was found
     reaches : ConciliatorReaches t (Draw input limit modulus) seen word (leads.Out (answer false out))
     reaches s v turns op at is can =
         let small : seen ≤ t.values = rw is at can in
@@ -37,7 +37,7 @@ met_step t input limit modulus seen word out makes made some met =
               (draw_ends s v input limit modulus seen word turns at.1 more),
         )
 
--- after the load of an attempt that finds 0, with a random word that stores, the process stores
+-- if the load of an attempt finds 0, and its random word stores, it is a step to the store of the input
 pub found_step :
     (t : QuorumTable) (input limit modulus seen word : ℕ) (makes : Op → ℕ → Type 0) → makes (to.Load Value) seen
     → seen ≡ 0 → bit_and word (modulus - 1) < limit
@@ -45,7 +45,7 @@ pub found_step :
 found_step t input limit modulus seen word makes made none stores =
     conciliator_step t (Draw input limit modulus) makes (to.Load Value) seen word _ refl made reaches
   where
-    -- the process is about to store
+    -- with this load the process is about to store its input
     reaches : ConciliatorReaches t (Draw input limit modulus) seen word (leads.Go (InConciliator (Put input)))
     reaches s v turns op at is can =
         let place : IsConciliatorPlace t.values (Draw input limit modulus) = at.0 in
@@ -53,7 +53,7 @@ found_step t input limit modulus seen word makes made none stores =
         let below : word % modulus < limit = rw (low_bits s here.1.0 limit modulus word here.1.1) at stores in
         rw (is, none) (place.0, draw_found s v input limit modulus word turns here below)
 
--- after the load of an attempt that finds 0, with a random word that does not store, the next attempt follows
+-- if the load of an attempt finds 0, and its random word does not store, it is a step to the next attempt
 pub missed_step :
     (t : QuorumTable) (input limit modulus seen word : ℕ) (makes : Op → ℕ → Type 0) → makes (to.Load Value) seen
     → seen ≡ 0 → limit ≤ bit_and word (modulus - 1)
@@ -62,7 +62,7 @@ pub missed_step :
 missed_step t input limit modulus seen word makes made none stays =
     conciliator_step t (Draw input limit modulus) makes (to.Load Value) seen word _ refl made reaches
   where
-    -- the process is at the next attempt
+    -- with this load the process is at the next attempt
     reaches :
         ConciliatorReaches t (Draw input limit modulus) seen word
         (leads.Go (InConciliator (Draw input (limit * 2) modulus)))
@@ -78,7 +78,7 @@ missed_step t input limit modulus seen word makes made none stays =
           draw_missed s v input limit modulus word turns here above,
         )
 
--- after the store of the input the process looks at the word once more
+-- the store of the input is a step to the last load of the word
 pub put_step :
     (t : QuorumTable) (input value seen word : ℕ) (makes : Op → ℕ → Type 0) → value ≡ input + 1
     → makes (to.Store Value value) seen
@@ -87,13 +87,13 @@ put_step t input value seen word makes same made =
     conciliator_step t (Put input) makes (to.Store Value value) seen word _ (ap (λ n. to.Store Value n) same) made
     reaches
   where
-    -- the process is about to look
+    -- with this store the process is about to load the word for the last time
     reaches : ConciliatorReaches t (Put input) seen word (leads.Go (InConciliator (Look input)))
     reaches s v turns op at is can =
         let place : IsConciliatorPlace t.values (Put input) = at.0 in
         rw is (place, put_looks s v input word turns at.1)
 
--- the load after the store ends the path
+-- the load after the store is a step to the output with the value that was found
 pub look_step :
     (t : QuorumTable) (input seen word out : ℕ) (makes : Op → ℕ → Type 0) → makes (to.Load Value) seen
     → (0 < seen → seen ≤ t.values → seen ≡ out + 1)
@@ -101,7 +101,7 @@ pub look_step :
 look_step t input seen word out makes made met =
     conciliator_step t (Look input) makes (to.Load Value) seen word _ refl made reaches
   where
-    -- the path ends with the value that was found
+    -- with this load the path ends, with the value that was found
     reaches : ConciliatorReaches t (Look input) seen word (leads.Out (answer false out))
     reaches s v turns op at is can =
         let range : (0 < seen) × (seen ≤ t.values) = rw is at can in
@@ -113,17 +113,17 @@ look_step t input seen word out makes made met =
         )
 
 -- ---- ratifiers
--- if no register is left, the preference is decided
+-- if no register is left to check, the process has the decided output with its preference
 pub checks_none : (u left : ℕ) → left ≡ 0 → checks_of u left ≡ leads.Out (answer true u)
 checks_none u left none =
     ap (λ b. cond b (leads.Out (answer true u)) (leads.Go (InRatifier (Check u left)))) (eq-eqb left 0 none)
 
--- if a register is left, it is checked
+-- if a register is left to check, the process is at the check of those left
 pub checks_some : (u left : ℕ) → left ≢ 0 → checks_of u left ≡ leads.Go (InRatifier (Check u left))
 checks_some u left some =
     ap (λ b. cond b (leads.Out (answer true u)) (leads.Go (InRatifier (Check u left)))) (ne_eqb left 0 some)
 
--- a process that has read the registers below the bound has reached what follows of the check
+-- a process that read clear below the bound is at the check of the registers left, or has its output if none is
 checks_reached :
     (t : QuorumTable) (v u bound left : ℕ) (turns : List Turn) → u < t.values → bound ≤ t.registers
     → IsRest (t.read u) bound left → ReadsClear t v u bound (acts turns)
@@ -136,21 +136,21 @@ checks_reached t v u bound left turns within few rest clear =
           ((within, some), (bound, few, rest, clear))
     ]
 
--- after the announcement, a load that finds a value of the table leads to the check of that value
+-- after the announcement, the load of a value from the proposal is a step to the check of that value
 pub prefer_step :
     (t : QuorumTable) (input u seen word : ℕ) (makes : Op → ℕ → Type 0) → makes (to.Load Proposal) seen → u < t.values
     → seen ≡ u + 1 → IsStep t (InRatifier (Announce input 0)) makes word (checks_of u (t.read u))
 prefer_step t input u seen word makes made within same =
     ratifier_step t (Announce input 0) makes (to.Load Proposal) seen word _ refl made reaches
   where
-    -- the process is at the check of that value
+    -- with this load the process is at the check of that value
     reaches : RatifierReaches t (Announce input 0) seen (checks_of u (t.read u))
     reaches v turns op word at is can =
         let whole = announced_whole t v input 0 (acts turns) op seen at.1 is refl can in
         checks_reached t v u 0 (t.read u) (record { act = act_of op seen; word = word } ∷ turns) within (omega arith)
         (rest_whole (t.read u)) (rw (whole.0) (prefers_found t v u seen same))
 
--- after the announcement, a load that finds no value of the table leads to the store of the input
+-- after the announcement, a load of the proposal that finds no value of the table is a step to the store of the input
 pub empty_step :
     (t : QuorumTable) (input seen word : ℕ) (makes : Op → ℕ → Type 0) → makes (to.Load Proposal) seen
     → input < t.values → (seen ≤ t.values → seen ≡ 0)
@@ -158,14 +158,14 @@ pub empty_step :
 empty_step t input seen word makes made within none =
     ratifier_step t (Announce input 0) makes (to.Load Proposal) seen word _ refl made reaches
   where
-    -- the process is about to store its input
+    -- with this load the process is about to store its input
     reaches : RatifierReaches t (Announce input 0) seen (leads.Go (InRatifier (Propose input)))
     reaches v turns op word at is can =
         let whole = announced_whole t v input 0 (acts turns) op seen at.1 is refl can in
         let empty : seen ≡ 0 = none whole.1 in
         (within, (at.1.0, subst (λ n. act_of op seen ∷ acts turns ≡ Load Proposal n ∷ announcement t v) empty whole.0))
 
--- the store of the input leads to the check of it
+-- the store of the input in the proposal is a step to the check of the input
 pub propose_step :
     (t : QuorumTable) (input value seen word : ℕ) (makes : Op → ℕ → Type 0) → value ≡ input + 1
     → makes (to.Store Proposal value) seen → input < t.values
@@ -173,13 +173,13 @@ pub propose_step :
 propose_step t input value seen word makes same made within =
     ratifier_step t (Propose input) makes (to.Store Proposal value) seen word _ same made reaches
   where
-    -- the process is at the check of its input
+    -- with this store the process is at the check of its input
     reaches : RatifierReaches t (Propose input) seen (checks_of input (t.read input))
     reaches v turns op word at is can =
         checks_reached t v input 0 (t.read input) (record { act = act_of op seen; word = word } ∷ turns) within
         (omega arith) (rest_whole (t.read input)) (prefers_own t v input (acts turns) op seen at.1 is)
 
--- a load of 0 from the least register that is left leads to the check of the others
+-- a load of 0 from the least register that is left is a step to the check of the others
 pub clear_step :
     (t : QuorumTable) → IsQuorumTable t → (u left r after seen word : ℕ) (makes : Op → ℕ → Type 0)
     → makes (to.Load (Quorum r)) seen → u < t.values → seen ≡ 0 → IsLeast left r → IsTaken left r after
@@ -187,14 +187,14 @@ pub clear_step :
 clear_step t q u left r after seen word makes made within none least taken =
     ratifier_step t (Check u left) makes (to.Load (Quorum r)) seen word _ least made reaches
   where
-    -- the process is at the check of the others
+    -- with this load the process is at the check of the others
     reaches : RatifierReaches t (Check u left) seen (checks_of u after)
     reaches v turns op word at is can =
         let next = checked_zero t q v u left r after (acts turns) op seen within at.1 is none least taken in
         checks_reached t v u (r + 1) after (record { act = act_of op seen; word = word } ∷ turns) within next.0 next.1
         next.2
 
--- a load of another value from the least register that is left ends the path undecided
+-- a load of another value than 0 from the least register that is left is a step to the undecided output
 pub contested_step :
     (t : QuorumTable) → IsQuorumTable t → (u left r seen word : ℕ) (makes : Op → ℕ → Type 0)
     → makes (to.Load (Quorum r)) seen → u < t.values → seen ≢ 0 → IsLeast left r
@@ -202,6 +202,6 @@ pub contested_step :
 contested_step t q u left r seen word makes made within some least =
     ratifier_step t (Check u left) makes (to.Load (Quorum r)) seen word _ least made reaches
   where
-    -- the path ends
+    -- with this load the path ends, with the undecided output
     reaches : RatifierReaches t (Check u left) seen (leads.Out (answer false u))
     reaches v turns op word at is can = checked_one t q v u left (acts turns) op seen within at.1 is can some

@@ -1,4 +1,4 @@
--- How many accesses are left at a place: at least one, and one register or one attempt less after each.
+-- How many accesses are left at a place: at least one. After each there is one register less left, or one attempt.
 use Rattle.std.proofs.Common.{◌≡◌, ◌≢◌, ◌↔◌, ℕ, zero, suc, ◌+◌, ◌-◌, ◌*◌, ◌^◌, ◌<◌, ◌≤◌, ◌==◌, count_ones, cond}
 use Rattle.std.proofs.Common.{Bool, true, false, List, ◌∷◌, length, inl, inr, sym, refl, ap, ap₂, ◌∙◌, subst, arith}
 use Rattle.std.specs.Int.{bit_at}
@@ -19,7 +19,7 @@ use Rattle.mb_deciding.proofs.Sizes.{each_exact}
 abbrev pub IsWithout : ℕ → ℕ → ℕ → Type 0
 IsWithout mask r kept = (k : ℕ) → IsMember kept k ↔ (IsMember mask k × (k ≢ r))
 
--- if both numbers are 1, or neither is, a test for 1 says the same of both
+-- if either both numbers are 1 or neither is, the tests of both for 1 have the same result
 same_test : (a b : ℕ) → (a ≡ 1 → b ≡ 1) → (b ≡ 1 → a ≡ 1) → (a == 1) ≡ (b == 1)
 same_test a b f g =
     elim (cases_eq a 1) [
@@ -27,13 +27,13 @@ same_test a b f g =
       | inr ne ↦ ne_eqb a 1 ne ∙ sym (ne_eqb b 1 (λ e. ne (g e)))
     ]
 
--- another register is in both masks, or in neither
+-- a register k other than r is in both masks or in neither
 other_test :
     (mask r kept k : ℕ) → IsWithout mask r kept → k ≢ r → (bit_at mask k == 1) ≡ (bit_at kept k == 1)
 other_test mask r kept k without other =
     same_test (bit_at mask k) (bit_at kept k) (λ m. (without k).1 (m, other)) (λ m. ((without k).0 m).0)
 
--- below the register r both masks give the same list
+-- below a bound n that is at most r both masks give the same list of acts
 below_same :
     (act : ℕ → Act) (n mask r kept : ℕ) → IsWithout mask r kept → n ≤ r → acts_below act n mask ≡ acts_below act n kept
 below_same act zero mask r kept without le = refl
@@ -41,14 +41,14 @@ below_same act (suc n) mask r kept without le =
     ap₂ (λ b xs. cond b (act n ∷ xs) xs) (other_test mask r kept n without (omega arith))
     (below_same act n mask r kept without (omega arith))
 
--- if one list is longer by one, it stays so with one act more in both, or in none
+-- if xs is longer than ys by one, it still is with the same act added to both, or to none
 cond_more :
     (b : Bool) (x : Act) (xs ys : List Act) → length xs ≡ suc (length ys)
     → length (cond b (x ∷ xs) xs) ≡ suc (length (cond b (x ∷ ys) ys))
 cond_more true x xs ys e = ap suc e
 cond_more false x xs ys e = e
 
--- below a bound above r the mask without r gives one act less
+-- below a bound above r the mask without r gives one act less than the mask
 below_fewer :
     (act : ℕ → Act) (n mask r kept : ℕ) → IsWithout mask r kept → IsMember mask r → r < n
     → length (acts_below act n mask) ≡ suc (length (acts_below act n kept))
@@ -70,7 +70,7 @@ below_fewer act (suc n) mask r kept without member less =
           (below_fewer act n mask r kept without member (omega arith)))
     ]
 
--- a mask without one of its registers has one less
+-- a mask without one of its registers has one register less
 pub ones_fewer :
     (n mask r kept : ℕ) → mask < 2 ^ n → kept < 2 ^ n → IsWithout mask r kept → IsMember mask r → r < n
     → count_ones mask ≡ count_ones kept + 1
@@ -88,7 +88,7 @@ some_ones mask some =
     elim (cases_eq (count_ones mask) 0) [ inl e ↦ absurd (some (zero_from_ones mask e)) | inr more ↦ omega arith ]
 
 -- ---- how many attempts a limit leaves
--- the smaller of two powers of two has the smaller exponent
+-- if one power of two is at most another, so is its exponent
 below_power : (k b : ℕ) → 2 ^ k ≤ 2 ^ b → k ≤ b
 below_power k b le =
     elim (cases_lt b k) [
@@ -110,7 +110,7 @@ pub attempts_left : (s k limit modulus : ℕ) → HasLimits s k limit modulus �
 attempts_left s k limit modulus (within, limit_is, modulus_is) =
     ap₂ (λ a b. a - b) (ap width_of modulus_is ∙ width_of_power s) (ap width_of limit_is ∙ width_of_power k)
 
--- after an attempt that did not store, fewer attempts are left
+-- after an attempt that did not store, fewer accesses are left than before it
 pub attempts_fewer :
     (s k limit modulus : ℕ) → HasLimits s k limit modulus → HasLimits s (suc k) (limit * 2) modulus
     → width_of modulus - width_of (limit * 2) + 3 < width_of modulus - width_of limit + 3

@@ -12,8 +12,8 @@ use Rattle.mb_deciding.proofs.Grammar.{HasPreference, clear_loads, one_chosen, p
 use Rattle.mb_deciding.proofs.RatifierWords.{IsFounded, has_cases, own_behind, newest_load, stored_one}
 use Rattle.mb_deciding.proofs.RatifierWords.{preference_filled, loaded_stored, chosen_founded, founded_within}
 
--- ---- a clear read and an announcement exclude each other
--- who loaded an empty proposal has announced its whole write quorum
+-- ---- what a load of 0 from a register rules out
+-- a process that loaded an empty proposal has stored 1 in each register of its input's write quorum
 empty_announced :
     (t : QuorumTable) (inputs : ℕ → ℕ) (h : List Access) → IsQuorumTable t → IsObjectLawful (ratifier_of t inputs) h
     → (b r : ℕ) → Has (acts (part b h)) (Load Proposal 0) → IsMember (t.write (inputs b)) r
@@ -24,7 +24,7 @@ empty_announced t inputs h q l b r k m =
     at.2 (Store (Quorum r) 1)
     (at.1 r (member_below t.registers (t.write (inputs b)) r (q.write_within (inputs b) within) m) m)
 
--- who loaded a quorum register has a preference
+-- a process that loaded a quorum register has a preference
 loads_preference :
     (t : QuorumTable) (inputs : ℕ → ℕ) (h : List Access) → IsObjectLawful (ratifier_of t inputs) h → (p r x : ℕ)
     → Has (acts (part p h)) (Load (Quorum r) x) → HasPreference (inputs p) (acts (part p h))
@@ -58,7 +58,7 @@ clear_register t inputs (a ∷ h) q l p b r k f m =
       ])
     ]
 
--- in every lawful history of a ratifier a check that met no 1 keeps the others out
+-- so `ChecksKeepOut` holds of every lawful history of a ratifier
 keeps_out :
     (t : QuorumTable) (inputs : ℕ → ℕ) (h : List Access) → IsQuorumTable t → IsObjectLawful (ratifier_of t inputs) h
     → ChecksKeepOut (ratifier_of t inputs) h
@@ -84,7 +84,7 @@ valid t inputs h l p d u o =
     let f = output_founded t inputs h l p d u o in
     (f.0, has_turns (part f.0 h) (Load Proposal 0) f.2, f.1)
 
--- if one output is decided, every output has its value
+-- if one output is decided, every output has the same value
 pub coherent :
     (t : QuorumTable) → IsQuorumTable t → (inputs : ℕ → ℕ) (h : List Access) → IsObjectLawful (ratifier_of t inputs) h
     → IsCoherent (ratifier_of t inputs) h
@@ -99,7 +99,7 @@ coherent t q inputs h l p k d u w o other =
     f.2
     (subst (λ v. IsMember (t.write v) r) (sym f.1) in_write))
 
--- if an output is undecided, another value was announced
+-- if an output is undecided, another value than its own was announced
 other_announced :
     (t : QuorumTable) (inputs : ℕ → ℕ) (h : List Access) → IsQuorumTable t → IsObjectLawful (ratifier_of t inputs) h
     → (p u : ℕ) → HasOutput (ratifier_of t inputs) p false u h → (w : ℕ) × (w ≢ u) × IsAnnounced
@@ -157,7 +157,7 @@ accepted t q inputs h l v all p d u o =
     let same : u ≡ v = sym from.2 ∙ all from.0 from.1 in
     (decided d u o same, same)
   where
-    -- an output with the value v is decided
+    -- an output with the value v, which is the input of all processes with an access, is decided
     decided : (d : Bool) (u : ℕ) → HasOutput (ratifier_of t inputs) p d u h → u ≡ v → d ≡ true
     decided true u o same = refl
     decided false u o same =
@@ -165,13 +165,13 @@ accepted t q inputs h l v all p d u o =
         let a = n.2 in
         absurd (n.1 (sym a.2 ∙ (all a.0 (has_turns (part a.0 h) (Store (Quorum a.1) 1) a.4) ∙ sym same)))
 
--- an object that is a ratifier keeps the further promises of ratifiers
+-- a ratifier whose table keeps the law keeps the promises of ratifiers (`IsRatifying`)
 pub ratifies : (o : Object) → ObjectIsSound o → o.kind ≡ Ratifier → IsRatifying o
 ratifies o q is =
     subst (λ kind. IsRatifying (object_of o.table kind o.inputs)) (sym is)
     (record { acceptance = accepted o.table q o.inputs; contested = contested o.table q o.inputs })
 
--- in every lawful history of an object that is a ratifier a check that met no 1 keeps the others out
+-- if an object is a ratifier, `ChecksKeepOut` holds of each of its lawful histories
 pub ratifier_keeps_out :
     (o : Object) (h : List Access) → ObjectIsSound o → o.kind ≡ Ratifier → IsObjectLawful o h → ChecksKeepOut o h
 ratifier_keeps_out o h q is =

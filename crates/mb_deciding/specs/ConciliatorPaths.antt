@@ -2,7 +2,7 @@
 use Rattle.std.specs.Prelude.{◌≡◌, ℕ, zero, suc, ◌+◌, ◌<◌, ◌≤◌, ◌%◌, ◌^◌, List, [], ◌∷◌, ◌⊎◌}
 use Rattle.mb_deciding.specs.Types.{Value, Load, Store, Turn}
 
--- with this random word a process stores on attempt k
+-- with this random word a process that finds the word empty on attempt k stores there. The last attempt is s
 abbrev pub StoresOn : ℕ → ℕ → ℕ → Type 0
 StoresOn s k word = word % 2 ^ s < 2 ^ k
 

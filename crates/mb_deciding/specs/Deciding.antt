@@ -61,7 +61,7 @@ pub record IsDeciding (o : Object) : Type 0 where
   -- no process has more turns than the most of its kind
   pub bounded :
       (h : List Access) (p : ℕ) → IsObjectLawful o h → length (part p h) ≤ most_turns o.table o.kind
-  -- each word holds only values that a word of this name can hold
+  -- each word holds only a number that a word of this name can hold: 0, or one more than a value, in a register 0 or 1
   pub fits :
       (h : List Access) (reg : Reg) → IsObjectLawful o h → CanHold o.table reg (value_in reg h)
   -- validity, in every lawful history

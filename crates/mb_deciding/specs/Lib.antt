@@ -19,7 +19,7 @@ pub mod Samples
 pub mod Memory
 pub mod Course
 pub mod Vocabulary
--- clauses leave out the file of what these lines name: `Rattle.mb_deciding.specs.NAME`
+-- what these lines name a clause names without its file: `Rattle.mb_deciding.specs.NAME`
 pub use Types.*
 pub use History.*
 pub use ConciliatorPaths.*

@@ -23,25 +23,25 @@ abbrev pub IsRest : ℕ → ℕ → ℕ → Type 0
 IsRest mask bound left = (k : ℕ) → IsMember left k ↔ ((bound ≤ k) × IsMember mask k)
 
 -- ---- places that fit a table
--- the place in a ratifier fits the table
+-- the place in a ratifier fits the table: its value is one of the table's, and a check has a register left
 abbrev pub IsRatifierPlace : QuorumTable → RatifierPlace → Type 0
 IsRatifierPlace t (Begin input) = input < t.values
 IsRatifierPlace t (Announce input left) = input < t.values
 IsRatifierPlace t (Propose input) = input < t.values
 IsRatifierPlace t (Check preference left) = (preference < t.values) × (left ≢ 0)
 
--- `limit` is 2 ^ k and `modulus` is 2 ^ s
+-- attempt k is no later than the last attempt s, `limit` is 2 ^ k and `modulus` is 2 ^ s
 abbrev pub HasLimits : ℕ → ℕ → ℕ → ℕ → Type 0
 HasLimits s k limit modulus = (k ≤ s) × (limit ≡ 2 ^ k) × (modulus ≡ 2 ^ s)
 
--- the place in a conciliator fits the number of values
+-- the place in a conciliator fits: its input is one of so many values, and its limits are those of an attempt
 abbrev pub IsConciliatorPlace : ℕ → ConciliatorPlace → Type 0
 IsConciliatorPlace values (Draw input limit modulus) =
     (input < values) × ((s k : ℕ) × (s ≤ 63) × HasLimits s k limit modulus)
 IsConciliatorPlace values (Put input) = input < values
 IsConciliatorPlace values (Look input) = input < values
 
--- the place fits the table
+-- the place in an object of any kind fits the table
 abbrev pub IsPlace : QuorumTable → Pc → Type 0
 IsPlace t (InRatifier place) = IsRatifierPlace t place
 IsPlace t (InConciliator place) = IsConciliatorPlace t.values place
@@ -130,7 +130,7 @@ HasReg r LastObject Last = Unit {0}
 HasReg r _ _ = ⊥
 
 -- ---- what the access may find, and what it leads to
--- a load of a conciliator's word may find this: one of `values` values, or 0 if the process itself has not stored
+-- what a load of a conciliator's word may find: 0 if the process itself has not stored, or v + 1 for one of the values
 abbrev pub CanMeet : ℕ → ConciliatorPlace → ℕ → Type 0
 CanMeet values (Draw input limit modulus) seen = seen ≤ values
 CanMeet values (Put input) seen = Unit {0}

@@ -5,7 +5,7 @@ use Rattle.std.specs.Int.{bit_at}
 use Rattle.mb_quorum.specs.Quorum.{QuorumTable, IsMember}
 use Rattle.mb_deciding.specs.Types.{Proposal, Quorum, Act, Load, Store}
 
--- `act` for each register of the quorum below the bound. The registers rise with time
+-- a list with `act` of each register of the quorum below the bound. The acts of lower registers are older
 abbrev pub acts_below : (ℕ → Act) → ℕ → ℕ → List Act
 acts_below act zero mask = []
 acts_below act (suc r) mask =

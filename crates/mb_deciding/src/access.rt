@@ -67,7 +67,7 @@ impl Op {
         }
     }
 
-    /// The access that was made, if a load or an exchange found `seen`.
+    /// The act of this op, once it was made. A load or an exchange found `seen`.
     pub fn act(self, seen: u64) -> Act
         ensures { result ≡ act_of self seen }
     {

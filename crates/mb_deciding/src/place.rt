@@ -1,4 +1,4 @@
-//! The places of processes in deciding objects: where one begins, what it does next, and where that leads.
+//! The places of processes in deciding objects: the first, the next access of each, and what that leads to.
 use crate::access::Op;
 use crate::memory::Memory;
 use crate::object::{Kind, Out};
@@ -103,10 +103,10 @@ impl Pc {
         requires { IsPlace (Q.table q.now) self }
         ensures fits { IsNext (Q.table q.now) result }
 
-        // Fewer accesses are left after it, whatever it found. So the process ends.
+        // Fewer accesses are left after this one, whatever it found. So the process comes to an output.
         ensures fewer { turns_after (Q.table q.now) result < turns_left (Q.table q.now) self }
 
-        // A process that was at this place is now at the next one, or has its output.
+        // If the access found what it can find, a process that was at this place is at the next one, or has its output.
         ensures reached { (kind : Kind) (v : ℕ) (turns : List Turn) (op : Op)
             → PcIsAt (Q.table q.now) kind v self turns → IsOpAt (Q.table q.now) self op
             → CanFind (Q.table q.now) self op seen

@@ -104,7 +104,7 @@ impl<A: Allocator + Copy + Drop> Course<A> {
         Ok(())
     }
 
-    /// The entries, and the output of each process.
+    /// Ends the run. Returns the entries, and the output of each process.
     pub fn finish(self, alloc: A) -> Result<Trace<A>, AllocError>
         ensures entries { IfOk result (λ trace. trace.entries.items ≡ self.entries) }
         ensures outputs { IfOk result (λ trace. trace.outputs.items ≡ map out_of self.places) }

@@ -9,7 +9,7 @@ ghost use Rattle.mb_deciding.specs.{ReadsLast, IsInWords, part, IsObjectLawful, 
 ghost use Rattle.mb_deciding.specs.{HasReg, PcIsAt, IsOpAt, CanFind, turn_after, seen_by, reg_of};
 ghost use Rattle.mb_deciding.specs.{IsSameOp, IsPlace, most_turns, turns_left, Conciliator, Ratifier};
 
-/// The empty history is lawful, and one more turn of a process whose path goes on keeps a history lawful.
+/// The empty history is lawful. It stays lawful with turns true to memory that give their process a prefix of a path.
 pub fn history_extends()
     ensures empty { (o : Object) → IsObjectLawful o [] }
     ensures longer { (o : Object) (h : List Access) (p : ℕ) (turn : Turn)
@@ -18,25 +18,25 @@ pub fn history_extends()
         → IsObjectLawful o (record { process = p; turn = turn } ∷ h) }
 {}
 
-/// A process at its place goes on along its path by its next turn, with the value that the history leaves in its word.
+/// With its next turn, which finds what the history leaves in the word, a process at its place has a prefix of a path.
 pub fn places_lead_on()
     ensures prefix { (o : Object) (h : List Access) (p : ℕ) (pc : Pc) (op : Op) (word : ℕ)
         → ObjectIsSound o → IsObjectLawful o h
         → PcIsAt o.table o.kind (o.inputs p) pc (part p h) → IsOpAt o.table pc op
         → IsPrefix o.table o.kind (o.inputs p) (turn_after op word h ∷ part p h) }
 
-    // The place can go on with the value that the history leaves there.
+    // The value that the history leaves in the word is one that the process may find there.
     ensures found { (o : Object) (h : List Access) (p : ℕ) (pc : Pc) (op : Op)
         → ObjectIsSound o → IsObjectLawful o h
         → PcIsAt o.table o.kind (o.inputs p) pc (part p h) → IsOpAt o.table pc op
         → CanFind o.table pc op (seen_by op h) }
 
-    // The act of such a turn is true to memory.
+    // The act of a turn that finds what the history leaves in its word is true to memory.
     ensures reads { (op : Op) (word : ℕ) (h : List Access)
         → ReadsLast (turn_after op word h).act h }
 {}
 
-/// The turns of a process at a place are a prefix of a path that has not ended. Its next word is one of the object's.
+/// The turns of a process at a place are an open prefix of a path. Its next op goes to a word of the object.
 pub fn places_are_unfinished()
     ensures open { (t : QuorumTable) (kind : Kind) (v : ℕ) (pc : Pc) (turns : List Turn)
         → IsQuorumTable t → PcIsAt t kind v pc turns → IsOpen t kind v turns }
@@ -55,13 +55,13 @@ pub fn turns_name_the_next_op()
     ensures op { (t : QuorumTable) (kind : Kind) (v : ℕ) (turns : List Turn) (a b : Turn)
         → IsPrefix t kind v (a ∷ turns) → IsPrefix t kind v (b ∷ turns) → IsSameOp a.act b.act }
 
-    // So two places with the same turns go on with one op.
+    // So if the same turns led to two places, both have the same next op.
     ensures places { (t : QuorumTable) (kind : Kind) (v : ℕ) (turns : List Turn) (pc other : Pc)
         (op next : Op)
         → IsQuorumTable t → PcIsAt t kind v pc turns → PcIsAt t kind v other turns
         → IsOpAt t pc op → IsOpAt t other next → op ≡ next }
 
-    // After one history, two acts of one op are the same act.
+    // Two acts of one op that are true to memory after one history are equal.
     ensures act { (a b : Act) (h : List Access)
         → IsSameOp a b → ReadsLast a h → ReadsLast b h → a ≡ b }
 {}

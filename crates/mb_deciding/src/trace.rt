@@ -1,4 +1,4 @@
-//! The turns of a schedule, as a caller sees them.
+//! The trace of a schedule, and why there may be none.
 ghost use Rattle.std.specs.Prelude.{◌≡◌};
 ghost use Rattle.mb_deciding.specs.declared.trace.Fault.TheVariants as fault;
 
@@ -9,7 +9,7 @@ use std::alloc::{AllocError, Allocator};
 use std::error::Error;
 use std::fmt;
 
-/// One turn of a schedule. Processes count from 0.
+/// What one turn of a schedule came to. Processes count from 0.
 #[derive(Clone, Copy, PartialEq, Eq, Debug)]
 pub enum Entry {
     /// The process made an access.
@@ -28,7 +28,7 @@ pub enum Entry {
     },
 }
 
-/// The turns of a schedule in order, and what each process has at the end.
+/// What each turn of a schedule came to, and what output each process has at the end.
 #[derive(Debug, Drop)]
 pub struct Trace<A: Allocator + Drop> {
     /// One entry for each turn of the schedule, in its order.

@@ -16,14 +16,14 @@ use Rattle.mb_shared_claims.specs.SeatSteps.{access_of, MayComeNext}
 use Rattle.mb_shared_claims.proofs.Plans.{OwnPart, OtherParts}
 use Rattle.mb_shared_claims.proofs.Moves.{rule_of, GoesOn, goes_on, access_asked}
 
--- the turn of a load has values below 2^64
+-- if what a load finds and its random word are below 2^64, its turn is in words (`IsInWords`)
 pub load_small :
     (object word n : ℕ) (op : Op) (reg : Reg) → op ≡ to.Load reg → n < 18446744073709551616
     → word < 18446744073709551616 → IsInWords (step_of object op n word).turn
 load_small object word n op reg e small fits =
     subst (λ (o : Op). IsInWords (step_of object o n word).turn) (sym e) ((small, tt), fits)
 
--- the turn of a store has values below 2^64
+-- if what a store stores and its random word are below 2^64, its turn is in words (`IsInWords`)
 pub store_small :
     (object word n value : ℕ) (op : Op) (reg : Reg) → op ≡ to.Store reg value → value < 18446744073709551616
     → word < 18446744073709551616 → IsInWords (step_of object op n word).turn
@@ -36,7 +36,7 @@ stored_small : (b : Bool) (w : ℕ) → w < 18446744073709551616
 stored_small true w small = small
 stored_small false w small = tt
 
--- the turn of an exchange has values below 2^64
+-- if an exchange's value, what it finds and its random word are below 2^64, its turn is in words (`IsInWords`)
 pub exchange_small :
     (object word n value : ℕ) (op : Op) (reg : Reg) → op ≡ to.Exchange reg value → value < 18446744073709551616
     → n < 18446744073709551616 → word < 18446744073709551616 → IsInWords (step_of object op n word).turn
@@ -49,7 +49,7 @@ exchanged : (b : Bool) (w n : ℕ) → either b w n ≡ option_map_or (λ value.
 exchanged true w n = refl
 exchanged false w n = refl
 
--- what an exchange leaves is what its op leaves
+-- what a compare-exchange from 0 leaves in the table's word is what the claim's op leaves there
 pub exchange_after :
     (value n : ℕ) (op : Op) (reg : Reg) → op ≡ to.Exchange reg value → either (n == 0) value n ≡ after_op op n
 exchange_after value n op reg e =
@@ -92,7 +92,7 @@ access_may own_part other_parts t seat key inside size me slots count id address
           (goes_on k seat.consumer cell word seat.part next f access may is_f is_access small)),
     )
 
--- a consumer's seat keeps what it has to after an access
+-- what holds of each consumer's seat (`IsClaimSeat`) holds of it after an access, too
 pub seat_after :
     OwnPart → (own : ℕ) (a : ClaimAccess) (me now : Seated) → IsClaimSeat me own → a.consumer ≡ own → makes a me now
     → IsClaimSeat now own

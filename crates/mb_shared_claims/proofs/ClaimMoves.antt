@@ -10,7 +10,7 @@ use Rattle.mb_shared_claims.specs.Seats.{SeatView, TableView, name_of, claims_at
 use Rattle.mb_shared_claims.specs.SeatSteps.{access_of, with_access, IsSeatStep, MayComeNext}
 
 -- ---- the laws of claims that are used here
--- the next access of a claim, made on the words of a history, leaves those of the longer history
+-- if the words hold what a history leaves, after the next access of a claim they hold what the history with it leaves
 abbrev pub KeepsMemory : Type 0
 KeepsMemory =
     (layout : Layout) (cells k : ℕ) (claim : Claim) (next : ClaimOp) (word : ℕ) (words : List ℕ) (h : List ClaimAccess)
@@ -20,7 +20,7 @@ KeepsMemory =
     → let a = access_in cs (consumer_of claim) k next.object next.op word words in
     IsInWords a.step.turn → IsMemoryOf cs (words_after cs k next.object next.op words) (a ∷ h)
 
--- if the next access of a claim came after a lawful history, the claim can go on with what it found
+-- if the next access of a claim came after a lawful history, it found a value that it can find (`CanClaimFind`)
 abbrev pub FindsTold : Type 0
 FindsTold =
     (layout : Layout) (cells k : ℕ) (claim : Claim) (next : ClaimOp) (seen word : ℕ) (h : List ClaimAccess)
@@ -46,7 +46,7 @@ module _ (cut : CutParts) (t : TableView) (seat : SeatView) (cell : ℕ) (claim 
   abbrev cs : Claims
   cs = claims_in t.layout t.cells
 
-  -- the claim has made its consumer's part of each history in which the consumer has done what the seat shows
+  -- in each history in which the consumer did what the seat shows, the claim has made all that it did on the cell
   in_history :
       (h : List ClaimAccess) → part seat.consumer h ≡ seat.part
       → IsClaimIn t.layout claim (part_on (consumer_of claim) cell h)
@@ -55,7 +55,7 @@ module _ (cut : CutParts) (t : TableView) (seat : SeatView) (cell : ℕ) (claim 
       (ap (part_on seat.consumer cell) (sym all) ∙ cut seat.consumer cell h
       ∙ ap (λ c. part_on c cell h) (sym own)) stands
 
-  -- the claim's next access may come next from its seat
+  -- the claim's next access may come next after each history in which the consumer did what the seat shows
   pub may_come :
       KeepsMemory → (next : ClaimOp) → IsNextOp t.layout claim next → MayComeNext cs seat.consumer cell seat.part next
   may_come keeps next is word words h memory all =
@@ -65,7 +65,7 @@ module _ (cut : CutParts) (t : TableView) (seat : SeatView) (cell : ℕ) (claim 
       (access_in cs c cell next.object next.op word words ∷ h)) own
       (keeps t.layout t.cells cell claim next word words h memory low (in_history h all) going is)
 
-  -- the claim can go on with any value that its next access found after a lawful history
+  -- if the claim's next access came after a lawful history with the seat's part, it found what it can find
   pub can_find :
       FindsTold → (next : ClaimOp) (seen word : ℕ) → IsNextOp t.layout claim next
       → ComesAfter cs (access_of seat.consumer cell next seen word) seat.part → CanClaimFind t.layout claim next seen
@@ -93,7 +93,7 @@ module _ (cut : CutParts) (t : TableView) (seat : SeatView) (cell : ℕ) (claim 
         path = λ xs of. path xs of (can_find finds next seen word is comes);
       }
 
--- after a step of a seat, the claim that follows has made its consumer's longer part
+-- after a step of a seat, the claim that follows has made all that its consumer has then done on the cell
 pub stands_on :
     OwnCell → (layout : Layout) (cell word : ℕ) (claim follows : Claim) (seat now : SeatView)
     → IsSeatStep layout cell word claim seat follows now

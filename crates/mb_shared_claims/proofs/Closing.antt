@@ -12,7 +12,7 @@ count_out-snoc [] = refl
 count_out-snoc (Some done ∷ rest) = count_out-snoc rest
 count_out-snoc (None ∷ rest) = let x = count_out-snoc rest in omega arith
 
--- one seat fewer is out after its part is in the roll
+-- after the part of a seat that was out is put into the roll, one seat fewer is out
 pub count_out-set :
     (roll : Roll) (c : ℕ) (done : List ClaimAccess) → IsOut roll c
     → count_out (set roll c (Some done)) + 1 ≡ count_out roll

@@ -18,11 +18,11 @@ HasOneStage =
     (cs : Claims) (c : ℕ) (xs : List ObjectTurn) (s r : Stage) → ClaimsAreSound cs → IsClaimPrefix cs c xs s
     → IsClaimPrefix cs c xs r → s ≡ r
 
--- a consumer's stage, if its number was decided
+-- if a consumer's own number was decided, its claim is won
 own_stage : (c : ℕ) → stage_for c c ≡ Won
 own_stage c = search rules
 
--- the stage of a claim path of one exchange, by what that found
+-- a claim path of one exchange has the stage r, which is won if it found 0, and `stage_for c w` if it found w + 1
 ended_by :
     HasOneStage → (t : QuorumTable) (c word found : ℕ) (s r : Stage) → IsQuorumTable t
     → IsClaimPrefixFrom t c (LastObject ∷ []) 0 c (step_of 0 (to.Exchange Last (c + 1)) found word ∷ []) s
@@ -52,7 +52,7 @@ names_winner : (b : Bool) (w : ℕ) → let r : Stage = if b then Won else Lost 
 names_winner true w = ((λ e. cc), (λ e. cc))
 names_winner false w = ((λ e. cc), (λ e. cc))
 
--- a stage that an exchange leads to is neither
+-- the stage to which an exchange leads is neither that of a claim that goes on nor undecided
 pub exchange_ends :
     (c found : ℕ) (r : Stage) → (found ≡ 0 → r ≡ Won) → ((w : ℕ) → found ≡ w + 1 → r ≡ stage_for c w)
     → (r ≢ Going) × (r ≢ Undecided)
@@ -62,7 +62,7 @@ exchange_ends c (suc w) r empty other =
     subst (λ (x : Stage). (x ≢ Going) × (x ≢ Undecided)) (sym (other w (omega arith))) (names_winner (c == w) w)
 
 module _ (layout : Layout) (c : ℕ) (alone : kinds_of layout ≡ LastObject ∷ []) where
-  -- a claim that has made no access makes an exchange of object 0
+  -- the next access of a claim that has made none is an exchange on object 0 for its own number
   pub next_alone :
       (claim : Claim) (next : ClaimOp) → IsStanding layout c 0 c claim → IsNextOp layout claim next
       → (next.object ≡ 0) × (next.op ≡ to.Exchange Last (c + 1))
@@ -73,7 +73,7 @@ module _ (layout : Layout) (c : ℕ) (alone : kinds_of layout ≡ LastObject ∷
       let so = subst (λ (k : Claim). IsNextOp layout k next) at is in
       (so.object, so.op)
 
-  -- it finds no more than there are consumers
+  -- that exchange finds at most the number of consumers
   pub found_alone :
       (claim : Claim) (next : ClaimOp) (found : ℕ) → IsStanding layout c 0 c claim → IsNextOp layout claim next
       → CanClaimFind layout claim next found → found ≤ consumer_count layout
@@ -85,7 +85,7 @@ module _ (layout : Layout) (c : ℕ) (alone : kinds_of layout ≡ LastObject ∷
       subst (λ (z : Claim × Op). CanClaimFind layout z.0 (record { object = next.object; op = z.1 }) found)
       (λ i. (at i, so.1 i)) can
 
-  -- its stage is then determined by what it found
+  -- after that exchange the claim has the stage r, which is won if it found 0, and `stage_for c w` if it found w + 1
   pub stage_alone :
       HasOneStage → IsQuorumTable (quorums_of layout) → (next : ClaimOp) (end : Claim) (found word : ℕ) (r : Stage)
       → (next.object ≡ 0) × (next.op ≡ to.Exchange Last (c + 1)) → consumer_of end ≡ c

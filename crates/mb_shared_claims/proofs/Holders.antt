@@ -24,7 +24,7 @@ all_set P views id w others mine j u e =
     (λ (x : (j ≢ id) × IsViewAt views j u). others j u x.0 x.1)
     (at_set views id j w u e)
 
--- a view of a longer list is one of the front, or the one added at the end
+-- a view of a list with one view added is one of those before, or the added one, at the end
 at_added :
     (views : List View) (w u : View) (j : ℕ) → IsViewAt (views ++ w ∷ []) j u
     → IsViewAt views j u ⊎ ((j ≡ length views) × (w ≡ u))
@@ -43,8 +43,8 @@ all_added P views w others mine j u e =
     (λ (x : (j ≡ length views) × (w ≡ u)). subst (λ (y : ℕ × View). P y.0 y.1) (λ i. (sym x.0 i, x.1 i)) mine)
     (at_added views w u j e)
 
--- a part at a seat is there still after a view is replaced by one that has it if the old one had.
--- The proof goes by whether the seat is the one of that view
+-- a part at a seat is still there after a view is replaced, if the new view has that part in case the old one had it.
+-- Either the seat is that of the view, or it is another
 kept_by :
     (views : List View) (id j c : ℕ) (v w : View) (xs : List ClaimAccess) → IsViewAt views id v
     → (HasPart v c xs → HasPart w c xs) → HasPartAt views j c xs → Dec (j ≡ id) → HasPartAt (set views id w) j c xs
@@ -54,25 +54,25 @@ kept_by views id j c v w xs at keeps has (yes same) =
     (w, at_replaced views id v w at, keeps (subst (λ u. HasPart u c xs) is has.2))
 kept_by views id j c v w xs at keeps has (no apart) = (has.0, set_else views id j w apart ∙ has.1, has.2)
 
--- a part at a seat is there still after a view is replaced by one that has it if the old one had
+-- a part at a seat is still there after a view is replaced, if the new view has that part in case the old one had it
 pub kept_at :
     (views : List View) (id j c : ℕ) (v w : View) (xs : List ClaimAccess) → IsViewAt views id v
     → (HasPart v c xs → HasPart w c xs) → HasPartAt views j c xs → HasPartAt (set views id w) j c xs
 kept_at views id j c v w xs at keeps has = kept_by views id j c v w xs at keeps has (ℕ_discrete j id)
 
--- a part at a seat is there still after a view is added
+-- a part at a seat is still there after a view is added at the end
 pub kept_beside :
     (views : List View) (w : View) (j c : ℕ) (xs : List ClaimAccess) → HasPartAt views j c xs
     → HasPartAt (views ++ w ∷ []) j c xs
 kept_beside views w j c xs has = (has.0, at_longer views (w ∷ []) j has.0 has.1, has.2)
 
--- a part of the view that is added is at the new seat
+-- a part that an added view has is at the new seat, the last
 pub has_added :
     (views : List View) (w : View) (c : ℕ) (xs : List ClaimAccess) → HasPart w c xs
     → HasPartAt (views ++ w ∷ []) (length views) c xs
 has_added views w c xs has = (w, at_last views w (length views) refl, has)
 
--- a part of the view that replaces another is at that seat
+-- a part that the new view of a seat has is at that seat
 pub has_replaced :
     (views : List View) (id c : ℕ) (v w : View) (xs : List ClaimAccess) → IsViewAt views id v → HasPart w c xs
     → HasPartAt (set views id w) id c xs

@@ -1,4 +1,4 @@
--- In the order of reading: a file stands on files above it.
+-- In the order of reading: a file uses files above it.
 
 -- Lists of parts and views
 pub mod Rolls
@@ -12,6 +12,6 @@ pub mod ClaimMoves
 pub mod Running
 pub mod Sites
 pub mod Exchanging
--- Names of tables, and their end
+-- Names of tables, and how a table is closed
 pub mod Names
 pub mod Closing

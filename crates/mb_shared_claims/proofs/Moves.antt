@@ -22,8 +22,8 @@ abbrev pub rule_of : TableSize → State (Unit {0}) View → Type 0
 rule_of k s = IsClaimsState k s.words s.views
 
 -- ---- an access of a consumer's seat
--- the access goes on: on the words of any history in which the consumer has done this, it leaves the words of the
--- longer history
+-- if the words hold what a history leaves in which consumer `own` has done this, then with f of what the word at `at`
+-- holds in it they hold what the history with the access leaves. The access is that consumer's
 abbrev pub GoesOn : TableSize → ℕ → List ClaimAccess → ℕ → (ℕ → ℕ) → (ℕ → ClaimAccess) → Type 0
 GoesOn k own done at f access =
     (words : List ℕ) (h : List ClaimAccess) → IsMemoryOf (claims_of_size k) words h → part own h ≡ done
@@ -31,7 +31,7 @@ GoesOn k own done at f access =
     → let n = slice_index words at in
     IsMemoryOf (claims_of_size k) (set words at (f n)) (access n ∷ h) × ((access n).consumer ≡ own)
 
--- the access of an op that may come next goes on
+-- `GoesOn` holds of the access of an op that may come next
 pub goes_on :
     (k : TableSize) (own cell word : ℕ) (done : List ClaimAccess) (next : ClaimOp) (f : ℕ → ℕ)
     (access : ℕ → ClaimAccess)
@@ -48,7 +48,7 @@ goes_on k own cell word done next f access may is_f is_access small words h memo
       ap (λ a. a.consumer) (is_access n),
     )
 
--- a consumer's seat may make an access that goes on
+-- the rule allows a consumer's seat an access of which `GoesOn` holds
 pub access_allows :
     OwnPart → OtherParts → (k size : TableSize) (slots id own at : ℕ) (done : List ClaimAccess) (f : ℕ → ℕ)
     (access : ℕ → ClaimAccess) → at < roster k → GoesOn k own done at f access
@@ -81,13 +81,13 @@ access_allows own_part other_parts k size slots id own at done f access within g
     )
 
 -- ---- the hub issues a seat
--- a word after those of the cells is none of the claims'
+-- if a word after those of the cells changes, the words still hold what the history leaves
 abbrev pub OtherWords : TableSize → Type 0
 OtherWords k =
     (at n : ℕ) (words : List ℕ) (h : List ClaimAccess) → words_in (claims_of_size k) ≤ at
     → IsMemoryOf (claims_of_size k) words h → IsMemoryOf (claims_of_size k) (set words at n) h
 
--- the hub may draw the next number
+-- the rule allows the hub to draw the next number
 pub draw_allows :
     (k size : TableSize) → OtherWords k → (slots id : ℕ) (roll : Roll) → length roll < consumer_count k.layout
     → length roll < 2 ^ 32
@@ -112,7 +112,7 @@ draw_allows k size others slots id roll room small state held _ is _ =
       (counted, refl),
     )
 
--- the hub may issue the number drawn with a new seat
+-- the rule allows the hub to issue the number drawn, with a new seat
 pub give_allows :
     (k size : TableSize) (id : ℕ) (roll : Roll)
     → Splits (rule_of k) id (Drawing size roll) (Handing size (roll ++ None ∷ [])) (Standing size (length roll) [])
@@ -120,14 +120,14 @@ give_allows k size id roll state held is =
     (_, after_giving k state.words state.views held.0 held.1 size id roll is)
 
 -- ---- the hub takes a seat back
--- the hub may join a consumer's seat
+-- the rule allows the hub to join a consumer's seat
 pub take_allows :
     (k size its : TableSize) (id other own : ℕ) (roll : Roll) (done : List ClaimAccess)
     → Joins (rule_of k) id (Handing size roll) other (Standing its own done) (Taking size roll own done) Spent
 take_allows k size its id other own roll done state held is apart there =
     (_, after_taking k state.words state.views held.0 held.1 size its id other own roll done apart is there)
 
--- the hub may put the part of the joined seat into the roll
+-- the rule allows the hub to put the part of the joined seat into the roll
 pub settle_allows :
     (k size : TableSize) (slots id own : ℕ) (roll : Roll) (done : List ClaimAccess)
     → Allows (rule_of k) slots id (Taking size roll own done, []) 0 (λ n. n)
@@ -145,13 +145,13 @@ settle_allows k size slots id own roll done state held _ is _ =
     )
 
 -- ---- a new table
--- words that are all 0 are those of the empty history
+-- the empty history leaves words that are all 0
 abbrev pub BeginsWithZeros : TableSize → Type 0
 BeginsWithZeros k =
     (words : List ℕ) → words_in (claims_of_size k) ≤ length words → ((i : ℕ) → slice_index words i ≡ 0)
     → IsMemoryOf (claims_of_size k) words []
 
--- a new table keeps the rule
+-- the rule holds of the words and the view of a new table
 pub begins : (k : TableSize) → BeginsWithZeros k → IsClaimsState k (replicate (roster k + 1) 0) (Handing k [] ∷ [])
 begins k empty = (
   record { history = []; given = 0; hub = 0; place = λ _. 0 },
@@ -186,8 +186,8 @@ begins k empty = (
         (some-injective _ _ e) (refl, (refl, refl), zeros (roster k + 1) (roster k))
     first (suc seat) v e = absurd (some-ne-none v (sym e))
 
--- ---- each of these steps, for a table and seats that are known by equations
--- a consumer's seat may make an access that goes on
+-- ---- the same steps, if the table's size and the views of the seats only equal those above
+-- the rule allows a seat whose view equals a consumer's an access of which `GoesOn` holds
 pub access_asked :
     OwnPart → OtherParts → (key k size : TableSize) (slots id own at : ℕ) (me : Seated) (done : List ClaimAccess)
     (f : ℕ → ℕ) (access : ℕ → ClaimAccess) → key ≡ k → me ≡ (Standing size own done, []) → at < roster k
@@ -198,7 +198,7 @@ access_asked own_part other_parts key k size slots id own at me done f access sa
     Allows (rule_of z.0) slots id z.1 at f (λ found now. makes (access found) z.1 now))
     (λ i. (sym same i, sym is i)) (access_allows own_part other_parts k size slots id own at done f access within goes)
 
--- the hub may draw the next number
+-- the rule allows a seat whose view equals the hub's to draw the next number
 pub draw_asked :
     (key k size : TableSize) → OtherWords k → (slots id at : ℕ) (me : Seated) (roll : Roll) → key ≡ k
     → me ≡ (Handing size roll, []) → at ≡ roster k → length roll < consumer_count k.layout → length roll < 2 ^ 32
@@ -208,14 +208,14 @@ draw_asked key k size others slots id at me roll same is is_at room small =
     Allows (rule_of z.0) slots id z.1 z.2 (λ n. (n + 1) % 2 ^ 64) (λ found now. draws found z.1 now))
     (λ i. (sym same i, sym is i, sym is_at i)) (draw_allows k size others slots id roll room small)
 
--- the hub may issue the number drawn with a new seat
+-- the rule allows a seat whose view equals the hub's to issue the number drawn, with a new seat
 pub give_asked :
     (key size : TableSize) (id : ℕ) (v : View) (roll : Roll) → v ≡ Drawing size roll
     → Splits (rule_of key) id v (given_out v) (newcomer v)
 give_asked key size id v roll is =
     subst (λ u. Splits (rule_of key) id u (given_out u) (newcomer u)) (sym is) (give_allows key size id roll)
 
--- the hub may join a consumer's seat
+-- the rule allows a seat whose view equals the hub's to join one whose view equals a consumer's
 pub take_asked :
     (key size its : TableSize) (id other own : ℕ) (v w : View) (roll : Roll) (done : List ClaimAccess)
     → v ≡ Handing size roll → w ≡ Standing its own done → Joins (rule_of key) id v other w (took_in v w) Spent
@@ -223,7 +223,7 @@ take_asked key size its id other own v w roll done is that =
     subst (λ (z : View × View). Joins (rule_of key) id z.0 other z.1 (took_in z.0 z.1) Spent)
     (λ i. (sym is i, sym that i)) (take_allows key size its id other own roll done)
 
--- the hub may put the part of the joined seat into the roll
+-- the rule allows a seat whose view equals the hub's to put the part of the joined seat into the roll
 pub settle_asked :
     (key size : TableSize) (slots id own : ℕ) (me : Seated) (roll : Roll) (done : List ClaimAccess)
     → me ≡ (Taking size roll own done, [])

@@ -1,4 +1,4 @@
--- What a table's name tells.
+-- What the name of a seat's table says of the size that the seat's view has.
 use Rattle.std.proofs.Common.{◌≡◌, Some, sym, ap, ◌∙◌}
 use Rattle.mb_shared_claims.specs.Types.{TableId, TableSize, View}
 use Rattle.mb_shared_claims.specs.Seats.{TableView, ClaimTable, name_of, size_in, table_of}

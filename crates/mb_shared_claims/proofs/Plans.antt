@@ -1,4 +1,4 @@
--- The plan that explains a table after each of its steps.
+-- After each step of a table some plan, a history and a seat for each part, explains words and views (`IsStateOf`).
 use Rattle.std.proofs.Common.{◌≡◌, ◌≢◌, ℕ, suc, ◌<◌, ◌≤◌, Some, None, List, [], ◌∷◌, ◌++◌, length, set, slice_get}
 use Rattle.std.proofs.Common.{slice_index, refl, sym, ap, ◌∙◌, subst, ⊎_elim, inl, inr, arith, length-append}
 use Rattle.std.proofs.Common.{length-set, get_or-set_same, get_or-set_other, le_refl}
@@ -13,15 +13,15 @@ use Rattle.mb_shared_claims.proofs.Rolls.{moved-here, moved-else}
 use Rattle.mb_shared_claims.proofs.Holders.{all_set, all_added, kept_at, kept_beside, has_added, has_replaced}
 use Rattle.mb_shared_claims.proofs.Holders.{at_replaced}
 
--- an access is in front of its consumer's part
+-- an access comes first in the part of its consumer
 abbrev pub OwnPart : Type 0
 OwnPart = (a : ClaimAccess) (h : List ClaimAccess) → part a.consumer (a ∷ h) ≡ a ∷ part a.consumer h
 
--- an access leaves the parts of all other consumers
+-- an access leaves the parts of all other consumers as they were
 abbrev pub OtherParts : Type 0
 OtherParts = (c : ℕ) (a : ClaimAccess) (h : List ClaimAccess) → a.consumer ≢ c → part c (a ∷ h) ≡ part c h
 
--- if a view that is not the hub's fits the table, it does so with any other plan and count of numbers drawn
+-- if a view that is not the hub's fits the table, it also fits with any other plan and any other count of numbers drawn
 fits_apart :
     (k : TableSize) (plan other : Plan) (drawn more seat : ℕ) → seat ≢ plan.hub → (v : View)
     → FitsTable k plan drawn seat v → FitsTable k other more seat v
@@ -31,7 +31,7 @@ fits_apart k plan other drawn more seat apart (Standing size own done) f = f
 fits_apart k plan other drawn more seat apart (Taking size roll own done) f = absurd (apart f.1.0)
 fits_apart k plan other drawn more seat apart Spent f = f
 
--- the plan with a longer history
+-- the plan with this access added to its history
 abbrev pub longer : ClaimAccess → Plan → Plan
 longer a plan = record { history = a ∷ plan.history; given = plan.given; hub = plan.hub; place = plan.place }
 
@@ -109,7 +109,7 @@ module _ (k : TableSize) (words : List ℕ) (views : List View) (plan : Plan) (s
       same_count : slice_index (set words at n) (roster k) ≡ count
       same_count = get_or-set_other words at (roster k) n 0 (λ e. omega arith)
 
-      -- after an access the plan with a longer history explains the table
+      -- after an access the plan with that access in its history explains the table
       pub after_access : IsStateOf k (set words at n) (set views id after) (longer a plan)
       after_access = record {
         memory = memory;
@@ -193,7 +193,7 @@ module _ (k : TableSize) (words : List ℕ) (views : List View) (plan : Plan) (s
         (kept_at views id (plan.place c) c (Drawing size roll) left (part c plan.history) is
         (get_front roll (None ∷ []) c (Some (part c plan.history))) (s.stands c (omega arith))))
 
-    -- a part that a seat had before is where the plan with the number has it
+    -- in the plan with the new number, a part that a seat had before is at the same seat
     parts_before :
         (j d : ℕ) (ys : List ClaimAccess) → HasPartAt views j d ys
         → (d < suc plan.given) × (given_plan.place d ≡ j) × (ys ≡ part d plan.history)
@@ -274,7 +274,7 @@ module _ (k : TableSize) (words : List ℕ) (views : List View) (plan : Plan) (s
     handing_fits : FitsTable k plan count id (Handing size roll)
     handing_fits = s.fits id (Handing size roll) is
 
-    -- a number whose part is at another seat than the one returned is another number
+    -- if the part of number d is at another seat than the one returned, d is not the number of the seat returned
     elsewhere : (j d : ℕ) → j ≢ other → plan.place d ≡ j → d ≢ own
     elsewhere j d far at same = far (sym at ∙ ap plan.place same ∙ theirs.1)
 
@@ -304,7 +304,7 @@ module _ (k : TableSize) (words : List ℕ) (views : List View) (plan : Plan) (s
         (λ has. absurd (far has.0))
         (kept_at views id (plan.place c) c (Handing size roll) both (part c plan.history) is inr (s.stands c below)))
 
-    -- a part that another seat had is where the plan has it after the join
+    -- in the plan after the join, a part that another seat had is at the same seat
     parts_apart :
         (j d : ℕ) (ys : List ClaimAccess) → j ≢ other → HasPartAt views j d ys
         → (d < plan.given) × (taken_plan.place d ≡ j) × (ys ≡ part d plan.history)
@@ -378,7 +378,7 @@ module _ (k : TableSize) (words : List ℕ) (views : List View) (plan : Plan) (s
         ⊎_elim (λ (t : (c ≡ own) × (Some done ≡ Some xs)). inl (t.0, cc)) inr
         (get-set roll own c (Some done) (Some xs) e)
 
-    -- after its part is put in the same plan explains the table
+    -- after that part is put into the roll the same plan explains the table
     pub after_settling : IsStateOf k words (set views id (Handing size filled)) plan
     after_settling = record {
       memory = s.memory;

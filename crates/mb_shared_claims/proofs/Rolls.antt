@@ -1,10 +1,10 @@
--- Lists that are read or changed at one number, and functions that are changed at one number.
+-- Lists that are read or changed at one position, and functions that are changed at one number.
 use Rattle.std.proofs.Common.{◌≡◌, ◌≢◌, ◌⊎◌, ℕ, zero, suc, ◌<◌, cond, eqb, Option, Some, None, List, [], ◌∷◌, ◌++◌}
 use Rattle.std.proofs.Common.{length, set, refl, ap, ⊎_elim, inl, inr, arith, replicate, slice_get, slice_index}
 use Rattle.std.proofs.lemmas.Bool.{eq-eqb, ne_eqb}
 
 module _ {A : Type 0} where
-  -- what stands in a list with one element added stood in the list before, or is that element
+  -- an element of a list with one added at the end was in the list before, at the same position, or is the added one
   pub get-snoc :
       (xs : List A) (a b : A) (k : ℕ) → slice_get (xs ++ a ∷ []) k ≡ Some b
       → (slice_get xs k ≡ Some b) ⊎ (a ≡ b)
@@ -13,19 +13,19 @@ module _ {A : Type 0} where
   get-snoc (x ∷ xs) a b zero e = inl e
   get-snoc (x ∷ xs) a b (suc k) e = get-snoc xs a b k e
 
-  -- what stands in the front stands in the longer list
+  -- an element of the first list is at the same position in both lists joined
   pub get_front : (xs ys : List A) (k : ℕ) (a : A) → slice_get xs k ≡ Some a → slice_get (xs ++ ys) k ≡ Some a
   get_front [] ys k a e = absurd (cc)
   get_front (x ∷ xs) ys zero a e = e
   get_front (x ∷ xs) ys (suc k) a e = get_front xs ys k a e
 
-  -- at a number that was replaced stands the new element
+  -- after the element at a position is replaced, that position has the new element
   pub get-set_same : (xs : List A) (i : ℕ) (a b : A) → slice_get xs i ≡ Some b → slice_get (set xs i a) i ≡ Some a
   get-set_same [] i a b e = absurd (cc)
   get-set_same (x ∷ xs) zero a b e = refl
   get-set_same (x ∷ xs) (suc i) a b e = get-set_same xs i a b e
 
-  -- each other element stays
+  -- every other position has the same element as before
   pub get-set_other : (xs : List A) (i k : ℕ) (a : A) → k ≢ i → slice_get (set xs i a) k ≡ slice_get xs k
   get-set_other [] i k a n = refl
   get-set_other (x ∷ xs) zero zero a n = absurd (n refl)
@@ -33,7 +33,7 @@ module _ {A : Type 0} where
   get-set_other (x ∷ xs) (suc i) zero a n = refl
   get-set_other (x ∷ xs) (suc i) (suc k) a n = get-set_other xs i k a (λ e. n (ap suc e))
 
-  -- an element of the new list is the new one, or one of the old list
+  -- an element of the new list is the new one, at its position, or one of the old list
   pub get-set :
       (xs : List A) (i k : ℕ) (a b : A) → slice_get (set xs i a) k ≡ Some b
       → ((k ≡ i) × (a ≡ b)) ⊎ (slice_get xs k ≡ Some b)
@@ -43,7 +43,7 @@ module _ {A : Type 0} where
   get-set (x ∷ xs) (suc i) zero a b e = inr e
   get-set (x ∷ xs) (suc i) (suc k) a b e = ⊎_elim (λ t. inl (ap suc t.0, t.1)) inr (get-set xs i k a b e)
 
-  -- at each number of a list of options stands None or a value
+  -- at each position of a list of options there is None, or Some value
   pub given_at :
       (xs : List (Option A)) (k : ℕ) → k < length xs
       → (slice_get xs k ≡ Some None) ⊎ ((a : A) × (slice_get xs k ≡ Some (Some a)))

@@ -23,26 +23,26 @@ frame : {N P : Type 0} → TableView → ℕ → N → P → Frame N P
 frame t k n p = record { table = t; cell = k; seat = n; rng = p }
 
 module _ {N P : Type 0} {a b : Frame N P} where
-  -- frames with the same parts are one
+  -- frames are equal if their tables, cells, seats and sources are
   pub same_frame : a.table ≡ b.table → a.cell ≡ b.cell → a.seat ≡ b.seat → a.rng ≡ b.rng → a ≡ b
   unfolding frame
   same_frame e f g h =
       ap (λ x. frame x a.cell a.seat a.rng) e ∙ ap (λ x. frame b.table x a.seat a.rng) f
       ∙ ap (λ x. frame b.table b.cell x a.rng) g ∙ ap (λ x. frame b.table b.cell b.seat x) h
 
-  -- one frame has one table
+  -- equal frames have equal tables
   pub same_table : a ≡ b → a.table ≡ b.table
   same_table e = ap (λ (k : Frame N P). k.table) e
 
-  -- one frame has one cell
+  -- equal frames have equal cells
   pub same_cell : a ≡ b → a.cell ≡ b.cell
   same_cell e = ap (λ (k : Frame N P). k.cell) e
 
-  -- one frame has one seat
+  -- equal frames have equal seats
   pub same_seat : a ≡ b → a.seat ≡ b.seat
   same_seat e = ap (λ (k : Frame N P). k.seat) e
 
-  -- one frame has one source
+  -- equal frames have equal sources
   pub same_rng : a ≡ b → a.rng ≡ b.rng
   same_rng e = ap (λ (k : Frame N P). k.rng) e
 
@@ -67,13 +67,13 @@ HasNextWord =
 -- ---- accesses in a memory of type M, which shows a seat, a stream and a random word
 module _ (t : TableView) (cell : ℕ) {M : Type 0} {K : Type 0} (seat : M → SeatView) (stream : M → Stream) (word : M → ℕ)
     (kept : M → K) (draws : M → ℕ → M → Type 0) (makes : M → ℕ → Op → ℕ → M → Type 0) where
-  -- a word was drawn, and nothing else was changed
+  -- each draw gives the stream's next word, and changes nothing but the word and the stream
   abbrev pub Draws : Type 0
   Draws =
       (m mid : M) (w : ℕ) → draws m w mid
       → ((w, stream mid) ≡ next_u64 (stream m)) × (word mid ≡ w) × (seat mid ≡ seat m) × (kept mid ≡ kept m)
 
-  -- an access was made, and nothing but the seat was changed
+  -- each access is made from the seat with the memory's random word, and changes nothing but the seat
   abbrev pub MakeAccess : M → Type 0
   MakeAccess start =
       (m now : M) (next : ClaimOp) (seen : ℕ) → kept m ≡ kept start → makes m next.object next.op seen now
@@ -83,7 +83,7 @@ module _ (t : TableView) (cell : ℕ) {M : Type 0} {K : Type 0} (seat : M → Se
       (own_cell : OwnCell) (finds : FindsTold)
       (low : cell < t.cells) (named : (seat start).table ≡ name_of t) (own : consumer_of claim ≡ (seat start).consumer)
       (stands : IsClaimIn t.layout claim (part_on (seat start).consumer cell (seat start).part)) where
-    -- what n accesses led to: they are steps of the seat, and the claim there has made its consumer's part on the cell
+    -- what n accesses led to: they are steps of the seat, and the claim has made all that its consumer did on the cell
     pub record Arrived (n : ℕ) (at : Claim) (now : M) : Type 0 where
       pub steps : AreSeatSteps t.layout cell claim (seat start) (stream start) n at (seat now) (stream now)
       pub keeps : kept now ≡ kept start
@@ -93,7 +93,7 @@ module _ (t : TableView) (cell : ℕ) {M : Type 0} {K : Type 0} (seat : M → Se
       pub count : length (part_on (seat now).consumer cell (seat now).part)
           ≡ n + length (part_on (seat start).consumer cell (seat start).part)
 
-    -- each chain of accesses of the claim leads to that
+    -- n accesses of the claim, one after the other, lead to that (`Arrived`)
     pub arrives :
         (n : ℕ) (at : Claim) (now : M) → AreClaimSteps t.layout (DrawsAndMakesNext draws makes) claim start n at now
         → Arrived n at now
@@ -158,7 +158,7 @@ module _ (t : TableView) (cell : ℕ) {M : Type 0} {K : Type 0} (seat : M → Se
           d.3 ∙ p.keeps,
         )
 
-    -- a chain of accesses of the claim has no more of them than the layout allows
+    -- n accesses of the claim, one after the other, are at most as many as the layout allows
     pub few_steps :
         ((h : List ClaimAccess) (c k : ℕ) → IsClaimLawful (claims_in t.layout t.cells) h
         → length (part_on c k h) ≤ most_accesses t.layout)
@@ -192,7 +192,7 @@ module _ (t : TableView) (cell : ℕ) {M : Type 0} {K : Type 0} (seat : M → Se
       chain n at now steps = subst (λ x. AreClaimSteps x (DrawsAndMakesNext draws makes) claim start
           n at now) same steps
 
-      -- each chain over the equal layout leads to steps of the seat
+      -- n accesses of the claim over the equal layout, one after the other, lead to that (`Arrived`)
       pub arrives_in :
           (n : ℕ) (at : Claim) (now : M) → AreClaimSteps l (DrawsAndMakesNext draws makes) claim start n at now
           → Arrived n at now
@@ -207,7 +207,7 @@ module _ (t : TableView) (cell : ℕ) {M : Type 0} {K : Type 0} (seat : M → Se
           may_go_on keeps has n w at before mid next (chain n at before steps) going draw
           (subst (λ x. IsNextOp x at next) same is)
 
-      -- a chain over the equal layout has no more accesses than the table's layout allows
+      -- n accesses of the claim over the equal layout are at most as many as the table's layout allows
       pub few_steps_in :
           ((h : List ClaimAccess) (c k : ℕ) → IsClaimLawful (claims_in t.layout t.cells) h
           → length (part_on c k h) ≤ most_accesses t.layout)

@@ -1,4 +1,4 @@
--- In the order of reading: a file stands on files above it.
+-- In the order of reading: a file uses files above it.
 pub mod Types
 pub mod Views
 pub mod ViewSteps
@@ -7,7 +7,7 @@ pub mod Seats
 pub mod SeatSteps
 pub mod ManySeatSteps
 pub mod Vocabulary
--- what clauses name is here, too
+-- what these lines name a clause names without its file: `Rattle.mb_shared_claims.specs.NAME`
 pub use Types.*
 pub use Views.*
 pub use ViewSteps.*

@@ -7,8 +7,8 @@ use Rattle.mb_shared_claims.specs.Seats.{SeatView}
 use Rattle.mb_shared_claims.specs.SeatSteps.{IsSeatStep}
 
 -- from a claim, a seat and a stream, this number of accesses to a cell led to the claim and the seat that follow, and
--- to another stream. Each is the next one of a claim that goes on, with the stream's next word. The claim is then still
--- its consumer's, and has made all that this consumer has done on the cell
+-- to another stream. Each is the next one of a claim that goes on, with the stream's next word. After it the claim has
+-- the same consumer, and has made all that this consumer has done on the cell
 abbrev pub AreSeatSteps :
     Layout → ℕ → Claim → SeatView → Stream → ℕ → Claim → SeatView → Stream → Type 0
 AreSeatSteps layout cell claim seat s zero follows now t = (follows ≡ claim) × (now ≡ seat) × (t ≡ s)

@@ -10,7 +10,7 @@ use Rattle.mb_shared_claims.specs.Views.{claims_of_size, Roll, IsOut, IsViewAt, 
 abbrev pub roster : TableSize → ℕ
 roster size = words_in (claims_of_size size)
 
--- a plan: what explains the words and the views of a table
+-- a plan: a history, and which seat has which part. It explains the words and the views of a table (`IsStateOf`)
 pub record Plan : Type 0 where
   -- the history of all claims
   pub history : List ClaimAccess
@@ -45,9 +45,9 @@ pub record IsStateOf (k : TableSize) (words : List ℕ) (views : List View) (pla
   pub few : slice_index words (roster k) ≤ consumer_count k.layout
   -- each number issued was drawn
   pub drawn : plan.given ≤ slice_index words (roster k)
-  -- each number issued has its part of the history at its seat
+  -- the seat of each number issued has that consumer's part of the history
   pub stands : (c : ℕ) → c < plan.given → HasPartAt views (plan.place c) c (part c plan.history)
-  -- each part that a seat has is that of an issued number, which has its place there and nowhere else
+  -- each part that a seat has is the whole part of a number issued, and that number's place is this seat
   pub parts :
       (seat c : ℕ) (xs : List ClaimAccess) → HasPartAt views seat c xs
       → (c < plan.given) × (plan.place c ≡ seat) × (xs ≡ part c plan.history)

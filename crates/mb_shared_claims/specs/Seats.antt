@@ -1,4 +1,4 @@
--- What callers see of a table, its hub and its seats, and what each of these keeps.
+-- What callers see of a table, its hub and its seats, and what always holds of each.
 use Rattle.std.specs.Prelude.{ℕ, zero, suc, ◌≡◌, ◌+◌, ◌<◌, ◌≤◌, Option, Some, None, List, [], ◌∷◌, length}
 use Rattle.mb_claim.specs.Vocabulary.{Claims, claims_of, part, consumer_count, IsClaimLawful}
 use Rattle.mb_shared_claims.specs.Types.{TableId, ClaimAccess, Layout, MAX_LARGE_CELLS, TableSize, View, Handing, Drawing}
@@ -65,7 +65,7 @@ AreOfOneHistory cs parts = (h : List ClaimAccess) × IsClaimLawful cs h × ((c :
 abbrev pub IsLawfulPart : Claims → ℕ → List ClaimAccess → Type 0
 IsLawfulPart cs c done = (h : List ClaimAccess) × IsClaimLawful cs h × (part c h ≡ done)
 
--- ---- what a table, a hub and a seat keep
+-- ---- what always holds of a table, a hub and a seat
 -- the size of the table that a view has, if it has one
 abbrev pub size_in : View → Option TableSize
 size_in (Handing size roll) = Some size
@@ -85,14 +85,14 @@ pub record IsTable (id : TableId) (key size : TableSize) : Type 0 where
   pub slots : id.slots ≡ 0
   pub cells : size.cells ≤ MAX_LARGE_CELLS
 
--- what is kept in the hub: its seat has the hub's view, and it counts the numbers issued and the seats that are out
+-- what holds of each hub: its seat has the hub's view, and it counts the numbers issued and the seats that are out
 pub record IsHubSeat (me : Seated) (given out : ℕ) : Type 0 where
   pub size : TableSize
   pub is : me ≡ (Handing size (roll_of me.0), [])
   pub all : given ≡ length (roll_of me.0)
   pub absent : out ≡ count_out (roll_of me.0)
 
--- what is kept in a consumer's seat: its number is one of the layout's, and some lawful history has its part
+-- what holds of each consumer's seat: its number is one of the layout's, and some lawful history has its part
 pub record IsClaimSeat (me : Seated) (consumer : ℕ) : Type 0 where
   pub size : TableSize
   pub is : me ≡ (Standing size consumer (part_of me.0), [])

@@ -38,8 +38,8 @@ abbrev pub ComesAfterView : ClaimAccess → View → Type 0
 ComesAfterView a (Standing size own done) = ComesAfter (claims_of_size size) a done
 ComesAfterView a v = Unit {0}
 
--- what an access of a claim proves, be it a load, a store or an exchange: it came after the seat's part, and is then in
--- that part
+-- what an access of a claim proves, be it a load, a store or an exchange: it came after a lawful history with the
+-- seat's part, and is then in that part
 abbrev pub makes : ClaimAccess → Seated → Seated → Type 0
 makes a me now = (now ≡ (with_one_more a me.0, me.1)) × ComesAfterView a me.0
 

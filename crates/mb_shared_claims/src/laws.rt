@@ -101,7 +101,7 @@ pub fn seats_have_one_winner()
         → IsClaimPrefix (claims_of_size k) c (part_on c cell xs) Won
         → IsClaimPrefix (claims_of_size k) d (part_on d cell ys) Won → c ≡ d }
 
-    // Two seats that have each won or lost a cell name one winner. So if one has won, who has lost names its consumer.
+    // Two seats that have each won or lost a cell name one winner. If one has won, a seat that has lost names that one.
     ensures named { (k : TableSize) (words : List ℕ) (views : List View) (i j c d cell u w : ℕ)
         (xs ys : List ClaimAccess) (s r : Stage)
         → IsClaimsState k words views → HasPartAt views i c xs → HasPartAt views j d ys

@@ -56,7 +56,7 @@ impl Play<(), View> for Draws {
     ghost then = { λ s me found now. draws found me now };
 }
 
-/// The split of the hub's view: the number that was drawn goes out with a seat of its own.
+/// The split of the hub's view: the number that was drawn is issued, with a seat of its own.
 pub struct GivesOut;
 
 impl Split<View> for GivesOut {
@@ -67,7 +67,7 @@ impl Split<View> for GivesOut {
     ghost right = { newcomer };
 }
 
-/// The join of a seat's view to the hub's.
+/// The join of a seat's view to the hub's: the hub takes that seat's part, and the seat has none any more.
 pub struct TakesIn;
 
 impl Join<View> for TakesIn {

@@ -1,4 +1,4 @@
-//! Samples of the rule of the table: what it admits, and what only looks right. The functions compute nothing: their
+//! Samples of the rule of the table: what it admits, and what it refuses. The functions compute nothing: their
 //! contracts are the samples.
 ghost use Rattle.std.specs.Prelude.{ℕ, ◌≡◌, ◌+◌, ◌<◌, List, None, [], ◌∷◌, replicate, slice_index};
 ghost use Rattle.mb_claim.specs.Vocabulary.{IsWordIn, address_in};
@@ -7,18 +7,18 @@ ghost use Rattle.mb_shared_claims.specs.{Handing, IsClaimsState, Reg, Standing, 
 use crate::laws::{states_have_one_history, steps_keep_states};
 use mb_claim::steps::accesses_lengthen_one_part;
 
-/// Words and views of a table, whatever its size.
+/// Words and views of a table of any size that are a state.
 pub fn words_and_views_agree()
-    // Nothing was done yet.
+    // All words are 0, and the hub alone has a view, with no number issued.
     ensures new { (k : TableSize)
         → IsClaimsState k (replicate (roster k + 1) 0) (Handing k [] ∷ []) }
 {
     steps_keep_states();
 }
 
-/// Words and views that do not come from a history and a hub.
+/// Words and views of a table of any size that are no state.
 pub fn words_and_views_disagree()
-    // A value that nobody stored.
+    // A word of cell 0 holds 1, and nobody stored that: no number was issued.
     ensures made_up { (k : TableSize) (o : ℕ) (reg : Reg) (words : List ℕ) → 0 < k.cells
         → IsWordIn (claims_of_size k) o reg
         → slice_index words (address_in (claims_of_size k) 0 o reg) ≡ 1

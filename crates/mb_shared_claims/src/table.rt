@@ -41,7 +41,7 @@ impl<A: Allocator + Clone + Drop> SharedClaims<A> {
     ghost use Rattle.std.specs.Prelude.{◌≡◌, ◌≤◌, [], IfOk};
     ghost use Rattle.mb_shared_claims.specs.{MAX_LARGE_CELLS, name_of};
 
-    /// A table of this layout with `cells` cells, at most 2^24, all words 0, and its hub, which has issued no number. It
+    /// A table of this layout with `cells` cells, at most 2^24, all words 0, and its hub, with no number issued. It
     /// allocates all that the table will ever need. The error is [`NoMemory`] if the allocator refuses a part of that.
     pub fn new(
         alloc: A,
@@ -89,8 +89,8 @@ impl<A: Allocator + Drop> SharedClaims<A> {
     }
 
     /// Issues the seat of the next number: 0 first, then 1, and so on to the last of the layout's consumers. One
-    /// fetch-add of the roster draws it, which no history has. The error is [`AllGiven`] exactly if the last was issued,
-    /// and then nothing changes.
+    /// fetch-add of the roster draws it, and is in no history. The error is [`AllGiven`] exactly if the last was
+    /// issued, and then nothing changes.
     pub fn enroll(&self, hub: &mut ClaimHub) -> Result<ClaimSeat, AllGiven>
         requires { hub.old.table ≡ name_of self.now }
         ensures all_given { IsErr result ↔ (consumer_count self.now.layout ≤ length hub.old.roll) }
@@ -124,7 +124,7 @@ impl<A: Allocator + Drop> SharedClaims<A> {
         })
     }
 
-    /// Takes a seat back. Its part goes to the hub, to the place of its number. It makes one load, which no history has.
+    /// Takes a seat back. Its part goes to the hub, to the place of its number. It makes one load, in no history.
     pub fn take_in(&self, hub: &mut ClaimHub, seat: ClaimSeat)
         requires hub { hub.old.table ≡ name_of self.now }
         requires seat { seat.table ≡ name_of self.now }

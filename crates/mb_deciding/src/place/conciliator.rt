@@ -6,7 +6,7 @@ pub enum ConciliatorPlace {
     /// The process has not stored, and is about to load the word. If that is empty, and the random word modulo
     /// `modulus` is below `limit`, it stores next.
     Draw {
-        /// The process's own value.
+        /// The process's input.
         input: u32,
         /// 2^k on attempt k.
         limit: u64,
@@ -15,12 +15,12 @@ pub enum ConciliatorPlace {
     },
     /// The process is about to store its input.
     Put {
-        /// The process's own value.
+        /// The process's input.
         input: u32,
     },
     /// The process has stored, and is about to load the word once more.
     Look {
-        /// The process's own value.
+        /// The process's input.
         input: u32,
     },
 }

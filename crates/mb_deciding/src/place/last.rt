@@ -5,7 +5,7 @@ use crate::object::Out;
 /// The place of one process in a last object, before its only access.
 #[derive(Clone, Copy, PartialEq, Eq, Debug)]
 pub struct LastPlace {
-    /// The process's own value.
+    /// The process's input.
     pub(crate) input: u32,
 }
 
@@ -23,8 +23,8 @@ impl LastPlace {
         Op::Exchange(Reg::Last, u64::from(self.input) + 1)
     }
 
-    /// The output, in a last object for `values` values. `seen` is what the exchange found. The output has the value
-    /// `seen - 1` if that is one of these, and else the process's own input: if the word was empty.
+    /// The output, in a last object for `values` values. `seen` is what the exchange found. If `seen - 1` is one of
+    /// these values, the output has that value. Else, as after an empty word, it has the process's own input.
     #[inline(always)]
     pub(crate) fn after(self, values: u32, seen: u64) -> Out
         requires { self.input < values }

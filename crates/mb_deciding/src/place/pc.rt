@@ -4,8 +4,8 @@ use super::last::LastPlace;
 use super::ratifier::RatifierPlace;
 use crate::object::Out;
 
-/// The place of one process in a deciding object, between two of its accesses. It is its program counter, with the
-/// little that it has to keep.
+/// The place of one process in a deciding object, between two of its accesses: where the process is, and what it has to
+/// remember.
 #[derive(Clone, Copy, PartialEq, Eq, Debug)]
 pub enum Pc {
     /// The process is in a conciliator.
@@ -40,7 +40,7 @@ impl Next {
         }
     }
 
-    /// Sets this to the output, if there is one, and else leaves it.
+    /// Sets this to the output, if there is one, and else leaves it as it is.
     #[inline(always)]
     pub(crate) fn end(&mut self, out: Option<Out>)
         ensures { self.new ≡ come_to out self.old }

@@ -5,26 +5,26 @@
 pub enum RatifierPlace {
     /// The process has made no access.
     Begin {
-        /// The process's own value.
+        /// The process's input.
         input: u32,
     },
     /// The process announces its input.
     Announce {
-        /// The process's own value.
+        /// The process's input.
         input: u32,
-        /// The registers of the write quorum that are still to be stored, as a mask.
+        /// The registers of the write quorum that the process has still to set, as a mask.
         left: u64,
     },
     /// The process loaded an empty proposal and is about to store its input there.
     Propose {
-        /// The process's own value.
+        /// The process's input.
         input: u32,
     },
     /// The process checks its preference.
     Check {
         /// The value that the process stored in the proposal, or found there.
         preference: u32,
-        /// The registers of the read quorum that are still to be loaded, as a mask. There is at least one.
+        /// The registers of the read quorum that the process has still to load, as a mask. There is at least one.
         left: u64,
     },
 }

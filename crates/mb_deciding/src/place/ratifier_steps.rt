@@ -140,8 +140,8 @@ impl RatifierPlace {
         }
     }
 
-    /// Goes on to the registers that are left of the preference's read quorum. If none is left, the preference is
-    /// decided.
+    /// Goes on to check these registers, which are left of the preference's read quorum. If none is left, returns the
+    /// decided output.
     #[inline(always)]
     fn checks(&mut self, preference: u32, left: u64) -> Option<Out>
         ensures fits { (t : QuorumTable) → preference < t.values

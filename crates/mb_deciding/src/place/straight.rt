@@ -28,7 +28,7 @@ pub fn through_conciliator<Q: Quorums, M: Drawing>(
     requires s { s ≤ 63 }
     requires room { most_turns (Q.table q.now) (Conciliator s) ≤ left.old }
 
-    // Each access to which these places lead may be made.
+    // At each place that the process reaches, its next access may be made.
     requires may { (n word : ℕ) (at : Pc) (before mid : M) (op : Op)
         → AreSteps (Q.table q.now) (DrawsAndMakes M.draws M.makes site.object)
         (first_place (Q.table q.now) (Conciliator s) input) memory.old n (leads.Go at) before
@@ -91,7 +91,7 @@ pub fn through_ratifier<Q: Quorums, M: Drawing>(
     requires input { input < (Q.table q.now).values }
     requires room { most_turns (Q.table q.now) Ratifier ≤ left.old }
 
-    // Each access to which these places lead may be made.
+    // At each place that the process reaches, its next access may be made.
     requires may { (n word : ℕ) (at : Pc) (before mid : M) (op : Op)
         → AreSteps (Q.table q.now) (DrawsAndMakes M.draws M.makes site.object)
         (first_place (Q.table q.now) Ratifier input) memory.old n (leads.Go at) before

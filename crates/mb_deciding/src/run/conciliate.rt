@@ -17,7 +17,7 @@ use std::alloc::Allocator;
 /// process with its random word: one access, or none if the process has its output. A process has at most
 /// `spread(m) + 3` accesses.
 ///
-/// It is refused as [`ratify`](crate::ratify).
+/// It is refused for the reasons for which [`ratify`](crate::ratify) is.
 pub fn conciliate<A: Allocator + Copy + Drop>(
     alloc: A,
     m: u64,

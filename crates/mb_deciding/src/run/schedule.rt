@@ -22,7 +22,7 @@ pub trait ScheduledTurn: Copy {
         ensures { result ≡ (turn self).1 };
 }
 
-/// A turn without a random word.
+/// A turn of this process, with the random word 0.
 impl ScheduledTurn for u64 {
     ghost turn = { λ process. (process, 0) };
 
@@ -35,7 +35,7 @@ impl ScheduledTurn for u64 {
     }
 }
 
-/// A turn with its random word.
+/// A turn of a process, with its random word.
 impl ScheduledTurn for (u64, u64) {
     ghost turn = { λ turn. turn };
 

@@ -16,7 +16,7 @@ impl ObjectMemory {
     ghost use Rattle.mb_deciding.specs.{Reg, Store, Access, value_after, IsActInWords, act_of, reg_of, seen_by};
     ghost use Rattle.mb_deciding.specs.{IsMemory, IsReg, held_in};
 
-    /// Words that hold nothing yet.
+    /// Words that all hold 0.
     pub fn new() -> ObjectMemory
         ensures { IsMemory result [] }
     {

@@ -188,7 +188,7 @@ fn stage_found(consumer: u32, found: u64) -> Stage
     if found == 0 || found == u64::from(consumer) + 1 {
         return Stage::Won;
     }
-    // The compiler sees that the number has eight bits, and so what kind of note it needs.
+    // The cast tells the compiler that the number has eight bits. That determines what kind of note it needs.
     Stage::Lost(u32::from((found - 1) as u8))
 }
 

@@ -22,9 +22,9 @@ impl<A: Allocator + Drop> SharedClaims<A> {
     ghost use Rattle.mb_shared_claims.specs.{Claim, Going, name_of, AreSeatSteps};
 
     /// Makes the accesses of a new claim of the seat's consumer on a cell, each with the next word of `rng`. It goes
-    /// object by object, as long as 10 of `most` accesses and 2 for each quorum register are left. For a last object one
-    /// is enough. As many calls of [`SharedClaims::step`] make the same accesses. The rest is for that call, with the
-    /// claim of [`Claim::standing`].
+    /// object by object, as long as 10 of `most` accesses and 2 for each quorum register are left. For a last object
+    /// one is enough. As many calls of [`SharedClaims::step`] make the same accesses. If the claim goes on then, that
+    /// call makes the rest, from the claim of [`Claim::standing`].
     #[inline(always)]
     pub fn straight<R: Rng>(
         &self,
@@ -50,7 +50,7 @@ impl<A: Allocator + Drop> SharedClaims<A> {
             × IsClaimIn self.now.layout end (part_on seat.new.consumer cell seat.new.part)
             × (n ≤ most_accesses self.now.layout) }
 
-        // It did not stop before it had to. A claim that is still going can be made.
+        // It stopped no earlier than it had to. If the claim goes on, `Claim::standing` can make that claim.
         ensures goes { HasStopped self.now.layout result }
         ensures object { result.stage ≡ Going → result.object < length (kinds_of self.now.layout) }
         ensures value { result.value < consumer_count self.now.layout }

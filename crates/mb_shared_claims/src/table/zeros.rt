@@ -7,7 +7,7 @@ use std::alloc::{AllocError as NoMemory, Allocator};
 /// repeats. That is no faster, and callgrind counts it once a byte.
 const PIECE: usize = 240;
 
-/// This many zeros.
+/// A list of this many zeros.
 pub(super) fn zeros<A: Allocator + Drop>(alloc: A, many: usize) -> Result<Vec<u64, A>, NoMemory>
     ensures { IfOk result (λ words. words.items ≡ replicate many 0) }
 {

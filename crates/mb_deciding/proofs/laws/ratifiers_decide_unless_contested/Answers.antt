@@ -1,4 +1,4 @@
--- Proof of `laws::ratifiers_decide_unless_contested`: what a ratifier promises besides.
+-- Proof of `laws::ratifiers_decide_unless_contested`: acceptance and contention, which a ratifier promises, too.
 use Rattle.mb_deciding.proofs.Winner.{ratifies}
 use Rattle.mb_deciding.proofs.laws.ratifiers_decide_unless_contested.Goals as goal
 

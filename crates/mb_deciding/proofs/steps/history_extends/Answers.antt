@@ -1,5 +1,5 @@
--- Proof of `steps::history_extends`: the empty history is lawful, and one more turn of a process whose path goes on
--- keeps a history lawful.
+-- Proof of `steps::history_extends`: the empty history is lawful. A history stays lawful with a turn that is true to
+-- memory and gives its process a prefix of a path.
 use Rattle.mb_deciding.proofs.Histories.{longer, none_lawful}
 use Rattle.mb_deciding.proofs.steps.history_extends.Goals as goal
 

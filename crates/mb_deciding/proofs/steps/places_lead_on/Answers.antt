@@ -1,5 +1,5 @@
--- Proof of `steps::places_lead_on`: a process at its place goes on along its path by its next turn, with the value that
--- the history leaves in its word.
+-- Proof of `steps::places_lead_on`: with its next turn, which finds what the history leaves in the word, a process at
+-- its place has a prefix of a path.
 use Rattle.mb_deciding.proofs.Stepping.{next_part, next_found}
 use Rattle.mb_deciding.proofs.Courses.{reads_seen}
 use Rattle.mb_deciding.proofs.steps.places_lead_on.Goals as goal

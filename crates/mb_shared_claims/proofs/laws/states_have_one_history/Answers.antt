@@ -7,14 +7,14 @@ use Rattle.mb_shared_claims.specs.Views.{HasPartAt}
 use Rattle.mb_shared_claims.specs.Rule.{Plan, IsStateOf}
 use Rattle.mb_shared_claims.proofs.laws.states_have_one_history.Goals as goal
 
--- the part of a consumer that has done something is at a seat. It goes by whether its number was issued
+-- if a consumer has done something, its part is at a seat: its number was issued, or else it has done nothing
 standing :
     (k : TableSize) (words : List ℕ) (views : List View) (plan : Plan) → IsStateOf k words views plan → (c : ℕ)
     → part c plan.history ≢ [] → Dec (plan.given ≤ c) → (seat : ℕ) × HasPartAt views seat c (part c plan.history)
 standing k words views plan s c some (yes past) = absurd (some (s.others c past))
 standing k words views plan s c some (no below) = (plan.place c, s.stands c (omega arith))
 
--- the history is the one of the plan
+-- the history that explains the words is that of the plan
 pub returns-clause-history : goal.returns-clause-history
 returns-clause-history g k words views held =
     let plan = held.0 in

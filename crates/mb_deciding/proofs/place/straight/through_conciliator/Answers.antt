@@ -1,4 +1,4 @@
--- Proof of `through_conciliator`: goes through a conciliator whose last attempt is `s`.
+-- Proof of `through_conciliator`: takes a process through a conciliator whose last attempt is `s`.
 use Rattle.std.proofs.Common.{◌+◌, ◌%◌, ◌*◌, ◌^◌, false, arith, suc, refl, ap}
 use Rattle.mb_quorum.specs.Quorum.{QuorumTable}
 use Rattle.mb_deciding.specs.{Value, Conciliator, InConciliator, Draw, Put, Look, first_place, answer}
@@ -9,7 +9,7 @@ use Rattle.mb_deciding.proofs.ManySteps.{one_more}
 use Rattle.mb_deciding.proofs.StraightSteps.{met_step, missed_step, found_step, put_step, look_step}
 use Rattle.mb_deciding.proofs.place.straight.through_conciliator.Goals as goal
 
--- In each proof `at` is the place before the load of this attempt. `one_more` adds an access to those before it.
+-- In each proof below `at` is the place before the load of this attempt. `one_more` adds one access to those before it.
 pub returns-then-seen-ne0-clause-steps : goal.returns-then-seen-ne0-clause-steps
 returns-then-seen-ne0-clause-steps g c =
     let t : QuorumTable = g.Q.Quorums.table c.args.q.now in

@@ -1,4 +1,4 @@
--- Loop invariants of `through_conciliator`: goes through a conciliator whose last attempt is `s`.
+-- Loop invariants of `through_conciliator`: takes a process through a conciliator whose last attempt is `s`.
 use Rattle.std.proofs.Common.{◌≡◌, ◌+◌, ℕ}
 use Rattle.mb_deciding.specs.{Conciliator, InConciliator, Draw, HasLimits, AreSteps, DrawsAndMakes, first_place}
 use Rattle.mb_deciding.specs.declared.place.pc.Next.TheVariants as leads
@@ -7,7 +7,7 @@ use Rattle.mb_deciding.proofs.place.straight.through_conciliator.Given as goal
 abbrev pub decreases-draws : goal.decreases-draws
 decreases-draws g l = l.left
 
--- As many accesses were made as attempts.
+-- Before each round of the loop `made` attempts were made, with one access each.
 abbrev pub invariant-draws : goal.invariant-draws
 invariant-draws g l = record {
   made : ℕ;

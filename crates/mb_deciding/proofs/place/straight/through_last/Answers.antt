@@ -1,4 +1,4 @@
--- Proof of `through_last`: goes through a last object.
+-- Proof of `through_last`: takes a process through a last object, from its first access to its output.
 use Rattle.std.proofs.Common.{◌≡◌, ◌+◌, true, refl, sym, ap, subst, arith}
 use Rattle.mb_quorum.specs.Quorum.{QuorumTable}
 use Rattle.mb_deciding.specs.{Next, LastPlace, InLast, LastReaches, answer}

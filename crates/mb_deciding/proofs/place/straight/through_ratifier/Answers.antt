@@ -1,4 +1,4 @@
--- Proof of `through_ratifier`: goes through a ratifier.
+-- Proof of `through_ratifier`: takes a process through a ratifier, from its first access to its output.
 use Rattle.std.proofs.Common.{◌+◌, false, arith, suc, refl, sym, ap, subst, count_ones}
 use Rattle.mb_quorum.specs.Quorum.{QuorumTable, IsQuorumTable}
 use Rattle.mb_deciding.specs.{Ratifier, InRatifier, Announce, Check, Next, AreSteps, DrawsAndMakes, first_place, answer, checks_of}
@@ -9,7 +9,7 @@ use Rattle.mb_deciding.proofs.TurnsLeft.{some_ones}
 use Rattle.mb_deciding.proofs.StraightSteps.{checks_some, clear_step, contested_step}
 use Rattle.mb_deciding.proofs.place.straight.through_ratifier.Goals as goal
 
--- In each proof `one_more` adds an access to those made before it.
+-- In each proof below `one_more` adds one access to those made before it.
 pub announces-init : goal.announces-init
 announces-init g c =
     let t : QuorumTable = g.Q.Quorums.table c.args.q.now in

@@ -1,4 +1,4 @@
--- Loop invariants of `Course::finish`: the entries, and the output of each process.
+-- Loop invariants of `Course::finish`: ends the run, and returns the entries and the output of each process.
 use Rattle.std.proofs.Common.{◌≡◌, map, take}
 use Rattle.mb_deciding.specs.{out_of}
 use Rattle.mb_deciding.proofs.run.Course.finish.Given as goal

@@ -8,11 +8,11 @@ use Rattle.mb_deciding.proofs.Courses.{reads_seen, place_at, ended_at, not_ended
 use Rattle.mb_deciding.proofs.CourseTables.{place_leads, place_finds, place_word, same_self, same_table}
 use Rattle.mb_deciding.proofs.run.Course.turn.Goals as goal
 
--- a process of a run is one of those of an equal run
+-- if the states of two runs are equal, a process of the one is a process of the other
 below_same : (state run : CourseState) (p : ℕ) → state ≡ run → p < length run.places → p < length state.places
 below_same state run p same below = subst (λ (s : CourseState). p < length s.places) (sym same) below
 
--- a state that equals a run of a schedule is a run of it
+-- if a state equals that of a run after a schedule, it is the state of a run after this schedule
 course_same :
     (state run : CourseState) (u : ObjectSetup) (schedule : List (ℕ × ℕ)) → state ≡ run → IsCourse u schedule run
     → IsCourse u schedule state

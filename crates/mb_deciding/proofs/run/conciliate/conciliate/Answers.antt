@@ -22,7 +22,7 @@ named_by t s r inputs schedule given entries outs result turns own answer =
     (subst (λ (xs : List (ℕ × ℕ)). IfOk result (λ x. IsTrace (setup_of t (Conciliator s) inputs) xs (entries x)
     (outs x))) own answer)
 
--- the result is a trace over each table with m values
+-- a result that is a trace is one over each table with m values
 answer_trace :
     (g : Given.Over) (c : goal.After-trace g) (t : QuorumTable) → t.values ≡ c.args.m
     → IfOk c.trace.result

@@ -11,7 +11,7 @@ use Rattle.mb_deciding.proofs.Refused.{refusal_in-of}
 use Rattle.mb_deciding.proofs.run.ratify.ratify.Given
 use Rattle.mb_deciding.proofs.run.ratify.ratify.Goals as goal
 
--- the result is a trace over the named table
+-- a result that is a trace is one over the named table
 answer_trace : (g : Given.Over) (c : goal.After-trace g)
     → IfOk c.trace.result
     (λ trace. IsTrace (setup_of (table_of c.args.name c.args.m) Ratifier c.args.inputs.now)

@@ -10,7 +10,7 @@ use Rattle.mb_shared_claims.proofs.Exchanging.{exchange_ends, found_alone, next_
 use Rattle.mb_shared_claims.proofs.table.SharedClaims.exchange.{Given.Over, Goals.After-next-next}
 use Rattle.mb_shared_claims.proofs.table.SharedClaims.exchange.Goals as goal
 
--- before the access
+-- what holds before the access
 module _ (g : Over) (c : After-next-next g) where
   -- the table's layout
   abbrev layout : Layout
@@ -45,7 +45,7 @@ make_at-found-requires-clause-next g c =
     c.alone-claim.result c.requires.cell (own g at) (stands g at) c.alone-claim.ensures.going
     c.claims_make_steps.ensures.memory c.next-next.result (next g at)
 
--- the value that it found is no more than there are consumers
+-- the value that the access found is at most the number of consumers
 pub stage_found-requires : goal.stage_found-requires
 stage_found-requires g c =
     let at = (goal.at.stage_found-requires g c).After-next-next in
@@ -59,7 +59,7 @@ stage_found-requires g c =
     let all = (c.layouts_are_sound.ensures.consumers layout).1 in
     omega (arith, few, all)
 
--- it is a step of the seat, and what it found determines the claim's stage
+-- the access is a step of the seat, and what it found determines the claim's stage
 pub returns : goal.returns
 returns g c =
     let at = (goal.at.returns g c).After-next-next in

@@ -8,7 +8,7 @@ use Rattle.mb_shared_claims.specs.Seats.{TableView, SeatView, ClaimTable}
 use Rattle.mb_shared_claims.proofs.Accesses.{load_small, exchange_small, exchange_after, store_small, store_same, access_may, seat_after}
 use Rattle.mb_shared_claims.proofs.table.SharedClaims.make_at.Goals as goal
 
--- the load may be made: seat and table have one identity, and the access goes on at its address
+-- the load may be made: seat and table have one identity, and `GoesOn` holds of the access at its address
 pub load-requires : goal.load-requires
 load-requires g c =
     let t = c.args.self.now in
@@ -30,7 +30,7 @@ load-requires g c =
     (λ n small. load_small next.object c.args.word n next.op _ op small c.ranges.word.fits) in
     (same, may.0, may.1)
 
--- the exchange may be made: seat and table have one identity, and the access goes on at its address
+-- the exchange may be made: seat and table have one identity, and `GoesOn` holds of the access at its address
 pub compare_exchange-requires : goal.compare_exchange-requires
 compare_exchange-requires g c =
     let t = c.args.self.now in
@@ -55,7 +55,7 @@ compare_exchange-requires g c =
     c.is_word-in-Exchange.ensures small c.ranges.word.fits) in
     (same, may.0, may.1)
 
--- the store may be made: seat and table have one identity, and the access goes on at its address
+-- the store may be made: seat and table have one identity, and `GoesOn` holds of the access at its address
 pub store-requires : goal.store-requires
 store-requires g c =
     let t = c.args.self.now in

@@ -1,5 +1,5 @@
--- Proof of `SharedClaims::new`: a table of this layout with `cells` cells, all words 0, and its hub, which has given no
--- number.
+-- Proof of `SharedClaims::new`: a table of this layout with `cells` cells, all words 0, and its hub, which has issued
+-- no number.
 use Rattle.std.proofs.Common.{rules, ◌≡◌, ◌+◌, length, sym, ap, ◌∙◌, subst, [], ◌∷◌, replicate}
 use Rattle.mb_shared_claims.specs.Types.{TableSize, Handing}
 use Rattle.mb_shared_claims.specs.Views.{claims_of_size}
@@ -9,7 +9,7 @@ use Rattle.mb_shared_claims.specs.Seats.{count_out}
 use Rattle.mb_shared_claims.proofs.Moves.{begins}
 use Rattle.mb_shared_claims.proofs.table.SharedClaims.new.Goals as goal
 
--- words that are all 0, and the hub's view, keep the rule
+-- the rule holds of words that are all 0 and of the hub's view
 pub of_words-requires : goal.of_words-requires
 of_words-requires g c =
     let k : TableSize = record { layout = c.args.layout; cells = c.args.cells } in

@@ -40,14 +40,14 @@ returns-clause-step g c =
     → IsClaimIn l c.step.new.self (step_of step.next.object step.next.op step.seen c.args.word ∷ xs))
     layout step.path)
 
--- so the claim has made all that its consumer has done on the cell
+-- after the step the claim has made all that its consumer has done on the cell
 pub returns-clause-standing : goal.returns-clause-standing
 returns-clause-standing g c =
     let t = c.args.self.now in
     stands_on c.accesses_lengthen_one_part.ensures.own_cell t.layout c.args.cell c.args.word c.args.claim.now
     c.step.new.self c.args.seat.now c.seat-1.given.0 (returns-clause-step g c) c.requires.standing
 
--- a claim that has made this over a layout with a last object is not undecided
+-- over a layout with a last object, a claim that has made all that its consumer did on the cell is not undecided
 pub returns-clause-decided : goal.returns-clause-decided
 returns-clause-decided g c has undecided =
     c.last_objects_decide_claims.ensures.layouts c.args.self.now.layout c.step.new.self

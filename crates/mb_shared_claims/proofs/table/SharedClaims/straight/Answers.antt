@@ -12,7 +12,7 @@ use Rattle.mb_shared_claims.proofs.Sites.{seat_known}
 use Rattle.mb_shared_claims.proofs.table.SharedClaims.straight.{Given.Over, Goals.After-begin}
 use Rattle.mb_shared_claims.proofs.table.SharedClaims.straight.Goals as goal
 
--- before the accesses
+-- what holds before the accesses
 module _ (g : Over) (c : After-begin g) where
   -- the seat's consumer is one of the layout's
   known : c.args.seat.now.consumer < consumer_count c.args.self.now.layout
@@ -20,14 +20,14 @@ module _ (g : Over) (c : After-begin g) where
       (seat_known c.seat.inside.seat.me c.seat.inside.consumer c.seat.inside.seat.table_id c.args.self.now
       c.seat.invariant (ap (λ (v : SeatView). v.table) c.seat.view_is ∙ c.requires.table))
 
-  -- a claim before its first access has made all that the consumer did on the cell
+  -- a claim before its first access has made all that the consumer did on the cell, which is nothing
   begun : (start : Claim) → IsStanding c.args.self.now.layout c.args.seat.now.consumer 0 c.args.seat.now.consumer start
       → IsClaimIn c.args.self.now.layout start (part_on c.args.seat.now.consumer c.args.cell c.args.seat.now.part)
   begun start first = subst (IsClaimIn c.args.self.now.layout start) (sym c.requires.fresh)
       (first_path c.places_show_prefixes.ensures.prefix c.args.self.now.layout c.args.seat.now.consumer start known
       first)
 
--- Each clause needs two facts, which stand after `start` in this order. A draw changes only the random word and its
+-- Each clause needs two facts, which come after `start` in this order. A draw changes only the random word and its
 -- source. An access changes only the seat: its part is longer by that access. The facts `seat` and `rng` say that the
 -- caller gets back the seat and the source as the accesses left them in its memory
 pub straight-requires-clause-may : goal.straight-requires-clause-may

@@ -1,7 +1,7 @@
 use Rattle.std.proofs.Common.{◌≡◌, ◌+◌, ◌-◌, ◌≤◌, length, replicate, vec_capacity}
 use Rattle.mb_shared_claims.proofs.table.zeros.zeros.Given as goal
 
--- the words are zeros, there is room for all, and they are not too many
+-- the words are all 0, there is room for `many` of them, and there are at most `many`
 abbrev pub invariant-loop-words : goal.invariant-loop-words
 invariant-loop-words g l = record {
   zeros : l.words.items ≡ replicate (length l.words.items) 0;
@@ -9,7 +9,7 @@ invariant-loop-words g l = record {
   most : length l.words.items ≤ l.many;
 }
 
--- the words are as many more as the loop has made turns
+-- the words are all 0, there is room for `many`, and each round of the loop has added one word
 abbrev pub invariant-loop : goal.invariant-loop
 invariant-loop g l = record {
   zeros : l.words.items ≡ replicate (length l.words.items) 0;
@@ -18,6 +18,6 @@ invariant-loop g l = record {
   most : length l.initial.words.items + l.piece ≤ l.many;
 }
 
--- each turn adds a word or more
+-- each round adds at least one word, so fewer are missing after it
 abbrev pub decreases-loop-words : goal.decreases-loop-words
 decreases-loop-words g l = l.many - length l.words.items

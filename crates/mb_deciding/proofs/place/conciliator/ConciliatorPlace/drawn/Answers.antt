@@ -7,7 +7,7 @@ use Rattle.mb_deciding.proofs.ConciliatorPlaces.{low_bits, next_limits, draw_mis
 use Rattle.mb_deciding.proofs.TurnsLeft.{attempts_fewer}
 use Rattle.mb_deciding.proofs.place.conciliator.ConciliatorPlace.drawn.Goals as goal
 
--- the load of a conciliator's word that finds 0 is a load of 0
+-- if an op loads the conciliator's word and finds 0, its act is the load of 0
 empty_load : (op : Op) (seen : ℕ) → op ≡ to.Load Value → seen ≡ 0 → act_of op seen ≡ Load Value 0
 empty_load op seen is e = ap (λ o. act_of o seen) is ∙ ap (λ n. Load Value n) e
 

@@ -1,4 +1,4 @@
--- Proof of `Pc::after`: what the access leads to.
+-- Proof of `Pc::after`: what the next access of a place leads to.
 use Rattle.std.proofs.Common.{sym}
 use Rattle.mb_deciding.proofs.place.pc.Pc.after.Goals as goal
 

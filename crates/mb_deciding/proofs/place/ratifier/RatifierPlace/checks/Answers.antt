@@ -1,4 +1,4 @@
--- Proof of `RatifierPlace::checks`: goes on to the registers that are left of the preference's read quorum.
+-- Proof of `RatifierPlace::checks`: goes on to check the registers that are left, or decides if none is left.
 use Rattle.std.proofs.Common.{sym, subst}
 use Rattle.mb_deciding.specs.{Ratifier, Out, acts, IsPath}
 use Rattle.mb_deciding.proofs.Advances.{checked_whole}

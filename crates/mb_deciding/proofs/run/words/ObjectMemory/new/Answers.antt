@@ -1,4 +1,4 @@
--- Proof of `ObjectMemory::new`: words that hold nothing yet.
+-- Proof of `ObjectMemory::new`: words that all hold 0.
 use Rattle.std.proofs.Common.{◌≡◌, refl, replicate}
 use Rattle.std.proofs.lemmas.List.{get_or-replicate}
 use Rattle.mb_deciding.specs.{Reg, Value, Proposal, Quorum, Last, IsReg, held_in}
