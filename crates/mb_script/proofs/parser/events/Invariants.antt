@@ -18,6 +18,6 @@ invariant-loop-line g l = record {
       ≡ events_of (plan_in l.fn.setup) 2 (lines_of l.fn.text);
 }
 
--- each turn leaves less of the text
+-- each pass of the loop leaves less of the text
 abbrev pub decreases-loop-line : goal.decreases-loop-line
 decreases-loop-line g l = length l.rest

@@ -16,6 +16,6 @@ invariant-loop-word l = record {
   full : has_empty (map (λ w. w.now) (take l.count l.words)) ≡ false;
 }
 
--- each turn leaves less of the line
+-- each pass of the loop leaves less of the line
 abbrev pub decreases-loop-word : goal.decreases-loop-word
 decreases-loop-word l = length l.rest
