@@ -1,5 +1,5 @@
--- Proof of `Rounds::round`: runs one round over a mailbox of its own, with a thread for each producer of the setup and
--- for each source of random words.
+-- Proof of `Rounds::round`: it runs one round over a mailbox of its own, with a thread for each producer of the setup
+-- and for each source of random words.
 use Rattle.std.proofs.Common.{◌≡◌, ◌∙◌, ◌≤◌, length, rules, subst, sym, vec_len}
 use Rattle.mb_world.specs.Plan.{consumers_of}
 use Rattle.mb_world.specs.Setups.{plan_in}
