@@ -20,7 +20,7 @@ use Rattle.mb_script.specs.Vocabulary.{◌>>=◌, table_name, table_named, IsWor
 use Rattle.mb_script.proofs.ReadAgain.{table_word}
 use Rattle.mb_script.proofs.ReadBack.{table_takes}
 
--- the laws of mb_script of words, numbers and ASCII, on which the reading stands
+-- the laws of mb_script that reading rests on. A word as `IsWord` says is not empty, is ASCII and has no space
 pub record TextLaws : Type 0 where
   -- if words are joined, with one space between two, the line is cut into the same words again
   pub cut : (w : List ℕ) (ws : List (List ℕ)) → AllByRecursion IsWord (w ∷ ws)
@@ -47,13 +47,13 @@ bind_ok : {A B : Type 0} (r : Result A RatifyFault) (f : A → Result B RatifyFa
 bind_ok (Ok x) f y e = (x, refl, e)
 bind_ok (Err d) f y e = absurd (cc)
 
--- if there is the fault d unless a test holds, and there was no fault, the test holds
+-- if a test that does not hold gives the fault d, and there was no fault, the test holds
 passed : {A : Type 0} (b : Bool) (d : RatifyFault) (r : Result A RatifyFault) (y : A) → cond b r (Err d) ≡ Ok y
     → (b ≡ true) × (r ≡ Ok y)
 passed true d r y e = (refl, e)
 passed false d r y e = absurd (cc)
 
--- if there is the fault d if a test holds, and there was no fault, the test does not hold
+-- if a test that holds gives the fault d, and there was no fault, the test does not hold
 avoided : {A : Type 0} (b : Bool) (d : RatifyFault) (r : Result A RatifyFault) (y : A) → cond b (Err d) r ≡ Ok y
     → (b ≡ false) × (r ≡ Ok y)
 avoided false d r y e = (refl, e)

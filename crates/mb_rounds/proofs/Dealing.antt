@@ -67,7 +67,7 @@ shares_on q k j left more shares =
           )
     ]
 
--- a list of the first n items that remain has a fair share, if n is one and so many items remain
+-- if n is q or one more, and at least n items remain, a list of the first n of them has a fair share
 pub share_has : (q n : ℕ) (rest list : List ℕ) → list ≡ take n rest → n ≤ length rest → (q ≤ n) × (n ≤ 1 + q)
     → IsShare q list
 share_has q n rest list front within part =

@@ -13,7 +13,7 @@ use Rattle.mb_rounds.specs.Carried.{times}
 use Rattle.mb_rounds.specs.Round.{IsPlayed}
 use Rattle.mb_rounds.proofs.Counts.{given_and_left, sum_below, sum_same}
 
--- if the value chosen from is none, the choice between it and none is none
+-- if an option has no value, a choice between it and no value has none
 chosen_none : {X : Type 0} (b : Bool) (o : Option X) → o ≡ None → (if b then o else None) ≡ None
 chosen_none true o e = e
 chosen_none false o e = refl
@@ -24,7 +24,7 @@ module _ {may_stop may_pass : Who → ℕ → Type 0} (terms : Terms) (lists : L
   abbrev plan : Plan
   plan = terms.plan
 
-  -- the report has no diary for a number that no consumer has
+  -- if c is no consumer's number, the report has no diary of c
   no_diary : (c p : ℕ) → consumers_of plan ≤ c → diary c p r ≡ None
   no_diary c p far =
       chosen_none (nat_lt p (length r.lanes)) (slice_get r.diaries (c * length r.lanes + p))
@@ -36,7 +36,7 @@ module _ {may_stop may_pass : Who → ℕ → Type 0} (terms : Terms) (lists : L
       let same : c * length r.lanes ≡ c * plan.lanes = ap (λ k. c * k) lanes in
       omega (arith, count, few, same)))
 
-  -- a number that no consumer has has not competed for an item
+  -- if c is no consumer's number, the report does not say that c competed for an item
   competitor_is_known : (c p j : ℕ) → HasCompeted c p j r → consumers_of plan ≤ c → ⊥
   competitor_is_known c p j competed far =
       let none = no_diary c p far in

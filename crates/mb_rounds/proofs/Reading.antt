@@ -18,7 +18,7 @@ one_after [] i x low e = absurd (omega arith)
 one_after (y ∷ xs) zero x low e = ap (λ z. z ∷ []) e
 one_after (y ∷ xs) (suc i) x low e = ap (λ l. y ∷ l) (one_after xs i x (omega arith) e)
 
--- what `one_after` says, with i + 1 in place of suc i
+-- if x is the element at position i, the first i + 1 elements (written as in the code) are the first i, and then x
 one_more : {X : Type 0} (xs : List X) (i : ℕ) (x : X) → i < length xs → get_or xs i x ≡ x
     → take (i + 1) xs ≡ take i xs ++ x ∷ []
 one_more xs i x low e = ap (λ k. take k xs) (next i) ∙ one_after xs i x low e
@@ -67,7 +67,7 @@ stays_after (l ∷ lists) (k ∷ lanes) (suc p) list lane e low here =
     ∙ sym (append_assoc (k.left ++ drop (length k.put) l) (staying (take p lists) (take p lanes))
     (lane.left ++ drop (length lane.put) list))
 
--- what `stays_after` says, with p + 1 in place of suc p
+-- what stays of the first p + 1 lanes (written as in the code) is what stays of the first p, and then of lane p
 pub stays_more : (lists : List (List ℕ)) (lanes : List LaneView) (p : ℕ) (list : List ℕ) (lane : LaneView)
     → slice_get lists p ≡ Some list → p < length lanes → get_or lanes p lane ≡ lane
     → staying (take (p + 1) lists) (take (p + 1) lanes)

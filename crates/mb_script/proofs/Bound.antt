@@ -10,13 +10,13 @@ pub bind_ok : {A B : Type 0} (r : Result A Fault) (f : A → Result B Fault) (y 
 bind_ok (Ok x) f y e = (x, refl, e)
 bind_ok (Err d) f y e = absurd (cc)
 
--- if there is the fault d unless a test holds, and there was no fault, the test holds
+-- if a test that does not hold gives the fault d, and there was no fault, the test holds
 pub passed : {A : Type 0} (b : Bool) (d : Fault) (r : Result A Fault) (y : A) → cond b r (Err d) ≡ Ok y
     → (b ≡ true) × (r ≡ Ok y)
 passed true d r y e = (refl, e)
 passed false d r y e = absurd (cc)
 
--- if there is the fault d if a test holds, and there was no fault, the test does not hold
+-- if a test that holds gives the fault d, and there was no fault, the test does not hold
 pub avoided : {A : Type 0} (b : Bool) (d : Fault) (r : Result A Fault) (y : A) → cond b (Err d) r ≡ Ok y
     → (b ≡ false) × (r ≡ Ok y)
 avoided false d r y e = (refl, e)

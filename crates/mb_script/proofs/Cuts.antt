@@ -11,7 +11,7 @@ use Rattle.mb_script.specs.Text.{words_in_line, has_empty, number_of, numbers_of
 abbrev pub is_space : ℕ → Bool
 is_space b = nat_eq b 32
 
--- what `words_cut` says holds with one byte more in front: the byte ends the first word, or belongs to it
+-- if bs is cut at its first space, so is bs with a byte b in front: b is that first space, or part of the first word
 cut_step : (b : ℕ) (bs : List ℕ) (t : Bool) → cond (not t) (1 + position_or_len is_space bs) 0 < suc (length bs)
     → (position_or_len is_space bs < length bs → words_in_line bs ≡ before_first is_space bs
     ∷ words_in_line (after_first is_space bs))
@@ -32,7 +32,7 @@ pub words_cut : (bs : List ℕ) → position_or_len is_space bs < length bs
 words_cut [] within = absurd (omega arith)
 words_cut (b ∷ bs) within = cut_step b bs (nat_eq b 32) within (words_cut bs)
 
--- what `words_last` says holds with one byte more in front, if this is no space
+-- a line with no space stays its only word if a byte that is no space is put in front
 last_step : (b : ℕ) (bs : List ℕ) (t : Bool) → cond (not t) (1 + position_or_len is_space bs) 0 ≡ suc (length bs)
     → (position_or_len is_space bs ≡ length bs → words_in_line bs ≡ bs ∷ [])
     → cond t ([] ∷ words_in_line bs) (onto_first b (words_in_line bs)) ≡ (b ∷ bs) ∷ []
@@ -71,7 +71,7 @@ pub empty_behind : (ws : List (List ℕ)) (w : List ℕ) (vs all : List (List �
     → nat_eq (length w) 0 ≡ true → ws ++ w ∷ vs ≡ all → (has_empty all || long) ≡ true
 empty_behind ws w vs all long full empty cut = rw (sym cut, empty_among ws (w ∷ vs), full, empty) refl
 
--- if none of the words ws is empty, and w is not empty, none of them all is
+-- if none of the words ws is empty, and w is not empty, there is no empty word among all of these
 pub none_behind : (ws : List (List ℕ)) (w : List ℕ) → has_empty ws ≡ false → nat_eq (length w) 0 ≡ false
     → has_empty (ws ++ w ∷ []) ≡ false
 none_behind ws w full some = rw (empty_among ws (w ∷ []), full, some) refl

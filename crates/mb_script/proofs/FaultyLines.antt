@@ -77,7 +77,7 @@ same_step false (Err d) rest rest2 e is on = is
 same_step false (Ok x) (Ok ys) rest2 e is on = absurd (cc)
 same_step false (Ok x) (Err d) rest2 e is on = rw (on refl is) refl
 
--- if lists of lines begin alike, they have the same fault, if it is about a line of that beginning
+-- lists of lines that begin alike have the same fault, if it is about a line of that beginning
 events_same : (plan : Plan) (n k m : ℕ) (us bs : List (List ℕ)) (e : Fault) → n ≤ MAX_EVENTS + 2
     → events_of plan n us ≡ Err e
     → line_of e ≡ Some m → n + k ≡ suc m → take k us ≡ take k bs → events_of plan n bs ≡ Err e
@@ -152,7 +152,7 @@ by_lines true ascii read e m is about = let none = ap line_of (err_is TooLong e 
 by_lines false true read e m is about = is
 by_lines false false read e m is about = let none = ap line_of (err_is NotAscii e is) ∙ about in absurd (cc)
 
--- if a text that is ASCII and not too long has the lines of another up to its faulty one, it has the same fault
+-- if a text that is ASCII and not too long has the lines of a faulty one up to the faulty line, it has the same fault
 pub script_same : (us bs : List ℕ) (e : Fault) (m : ℕ) → script_of us ≡ Err e → line_of e ≡ Some m
     → take m (lines_of us) ≡ take m (lines_of bs) → length bs ≤ MAX_SCRIPT_LEN → list_all is_ascii bs ≡ true
     → script_of bs ≡ Err e
@@ -196,7 +196,7 @@ events_well made (Ok ys) s e is on = absurd (cc)
 events_well made (Err d) s e is on =
     let so = on (ap (λ (f : Fault). Err f) (err_is d e is)) in (script_with made so.0, rw (so.1) refl)
 
--- if the fault is about a later line than the first, the first line with events that have no fault has none
+-- if a script's fault is about a later line than the first, and others without fault replace its events, it has none
 setup_well : (r : Result SetupLine Fault) (f g : SetupLine → Result (List Event) Fault) (e : Fault) (m : ℕ)
     → At 1 r → line_of e ≡ Some m
     → 1 < m → (r >>= (λ made. f made >>= (λ es. Ok (script_with made es)))) ≡ Err e

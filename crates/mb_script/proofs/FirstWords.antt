@@ -57,7 +57,7 @@ unfolding lines_script
 no_setup_lines [] is = λ e. cc
 no_setup_lines (line ∷ lines) is = λ e. no_setup_by (words_in_line line) lines e is
 
--- what `other_setup` says, if t is the result of the test whether the first word is `setup`
+-- if the first word is not `setup`, the first line has the fault NoSetup. The test of this word has the result t
 other_by : (key : List ℕ) (ws : List (List ℕ)) (t : Bool) → bytes_eq key (codes "setup") ≡ t → key ≢ codes "setup"
     → cond t (cond (has_empty ws) (Err (BadLine 1)) (sizes_of ws)) (Err NoSetup) ≡ Err NoSetup
 other_by key ws true is other = absurd (other ((bytes_eq-Decides key (codes "setup")).0 is))

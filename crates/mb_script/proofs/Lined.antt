@@ -43,7 +43,7 @@ long_event n (key ∷ a ∷ b ∷ c ∷ d ∷ ws) long =
     any_key (bytes_eq key (codes "offer")) (bytes_eq key (codes "push")) (bytes_eq key (codes "finish"))
     (bytes_eq key (codes "step")) (Err (BadLine n))
 
--- what `bad_event` says, if `empty` is the result of the test for an empty word
+-- a line with an empty word, which `empty` says, or with more than eight words is a bad line
 bad_by : (plan : Plan) (n : ℕ) (line : List ℕ) (empty : Bool) → has_empty (words_in_line line) ≡ empty
     → (empty || nat_lt 8 (length (words_in_line line))) ≡ true → event_at plan n line ≡ Err (BadLine n)
 unfolding event_at
@@ -84,7 +84,7 @@ short_setup (a ∷ b ∷ c ∷ []) short = refl
 short_setup (a ∷ b ∷ c ∷ d ∷ []) short = refl
 short_setup (a ∷ b ∷ c ∷ d ∷ e ∷ ws) short = absurd (omega (arith, short))
 
--- what `bad_setup` says, if `empty` is the result of the test for an empty word
+-- a first line that begins with `setup`, and has an empty word, which `empty` says, or more than eight, is a bad line
 bad_setup_by : (ws : List (List ℕ)) (empty : Bool) → has_empty ws ≡ empty
     → (empty || nat_lt 8 (suc (length ws))) ≡ true → setup_of (codes "setup" ∷ ws) ≡ Err (BadLine 1)
 unfolding setup_of

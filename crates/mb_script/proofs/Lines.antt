@@ -9,7 +9,7 @@ use Rattle.mb_script.specs.Text.{lines_of}
 abbrev ends : ℕ → Bool
 ends b = nat_eq b 10
 
--- what `lines_cut` says holds with one byte more in front: the byte ends the first line, or belongs to it
+-- if bs is cut at its first LF, so is bs with a byte b in front: b is that first LF, or part of the first line
 cut_step : (b : ℕ) (bs : List ℕ) (t : Bool) → cond (not t) (1 + position_or_len ends bs) 0 < suc (length bs)
     → (position_or_len ends bs < length bs → lines_of bs ≡ before_first ends bs ∷ lines_of (after_first ends bs))
     → cond t ([] ∷ lines_of bs) (onto_first b (lines_of bs))
@@ -29,7 +29,7 @@ pub lines_cut : (bs : List ℕ) → position_or_len ends bs < length bs
 lines_cut [] within = absurd (omega arith)
 lines_cut (b ∷ bs) within = cut_step b bs (nat_eq b 10) within (lines_cut bs)
 
--- what `lines_last` says holds with one byte more in front, if this is no LF
+-- a text with no LF stays its only line if a byte that is no LF is put in front
 last_step : (b : ℕ) (bs : List ℕ) (t : Bool) → cond (not t) (1 + position_or_len ends bs) 0 ≡ suc (length bs)
     → (position_or_len ends bs ≡ length bs → 0 < length bs → lines_of bs ≡ bs ∷ [])
     → cond t ([] ∷ lines_of bs) (onto_first b (lines_of bs)) ≡ (b ∷ bs) ∷ []

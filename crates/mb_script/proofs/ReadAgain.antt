@@ -1,4 +1,4 @@
--- The lines that spell a replay script are read as that script.
+-- The lines that spell a replay script are read as it. A word as `IsWord` says is not empty, is ASCII and has no space.
 use Rattle.std.proofs.Common.{◌≡◌, ℕ, suc, ◌+◌, ◌<◌, ◌≤◌, ◌^◌, Bool, true, false, cond, nat_lt, ◌||◌, List, [], ◌∷◌, length, codes, map, Some, None, Ok, refl, sym, ◌∙◌, subst, arith, rules}
 use Rattle.std.specs.Char.{is_ascii}
 use Rattle.std.specs.List.{AllByRecursion, join_with_byte, list_all}
@@ -85,7 +85,7 @@ sizes_again shape p c m k Middle e =
     let named = shape_again shape.fast shape.last in
     rw (named, number_again p s.0, number_again c s.1, number_again m s.2, number_again k s.3, e) refl
 
--- the name of a table is a word
+-- the name of a table is a word as `IsWord` says
 pub table_word : (t : TableName) → IsWord (table_name t)
 table_word Unary = search rules
 table_word Bits = search rules

@@ -34,7 +34,7 @@ key_is : (key name : List ℕ) (ws vs : List (List ℕ)) → bytes_eq key name �
 key_is key name ws vs is same =
     ap (λ (w : List ℕ). w ∷ ws) ((bytes_eq-Decides key name).0 is) ∙ ap (λ (t : List (List ℕ)). name ∷ t) same
 
--- what `event_takes` says, if o, p, f and s are the results of the four tests of the key
+-- if an event was read from a key and words ws, they spell it. The four tests of the key have the results o, p, f, s
 by_key : (n : ℕ) (key : List ℕ) (ws : List (List ℕ)) (e : Event) (o p f s : Bool) → bytes_eq key (codes "offer") ≡ o
     → bytes_eq key (codes "push") ≡ p → bytes_eq key (codes "finish") ≡ f → bytes_eq key (codes "step") ≡ s
     → cond o (two_numbers n ws >>= (λ x. Ok (Offer x.0 x.1)))
@@ -173,7 +173,7 @@ script_takes bytes s e =
     let b = passed (list_all is_ascii bytes) NotAscii read s a.1 in
     lines_take (lines_of bytes) s b.1
 
--- if a call found a script in bytes, their lines spell that script
+-- if a call returned the script that it read from bytes, the lines of these bytes spell that script
 pub is_found : {A : Type 0} (bytes : List ℕ) (r : Result (code.Script A) Fault)
     → Gives (λ s. view s) r (script_of bytes)
     → IfOk r (λ s. Spells (lines_of bytes) (view s))

@@ -1,5 +1,5 @@
 -- Words and numbers that are spelled are read again, a word that was read as a number is its decimal, and lines of
--- words are ASCII.
+-- words are ASCII. A word as `IsWord` says is not empty, is ASCII and has no space.
 use Rattle.std.proofs.Common.{◌≡◌, ℕ, suc, zero, ◌<◌, ◌^◌, Bool, true, false, cond, nat_eq, nat_lt, ◌&&◌, ◌||◌, List, [], ◌∷◌, ◌++◌, length, get_or, map}
 use Rattle.std.proofs.Common.{Option, Some, None, refl, ap, sym, subst, ◌∙◌, arith, lit<, inl, inr}
 use Rattle.std.specs.Prelude.{slice_index, option_and_then}
@@ -152,7 +152,7 @@ pub ascii_join : (w : List ℕ) (ws : List (List ℕ)) → AllByRecursion IsWord
 ascii_join w [] are = are.0.2
 ascii_join w (v ∷ ws) are = ascii_append w (32 ∷ join_with_byte 32 (v ∷ ws)) are.0.2 (ascii_join v ws are.1)
 
--- what `ascii_lines` says holds with one byte more in front, whether this ends a line or not
+-- if the lines of a text are ASCII, the text is: its first byte b, whether it ends a line or not, and the rest bs
 ascii_step : (b : ℕ) (bs : List ℕ) (lines : List (List ℕ)) (t : Bool) → nat_eq b 10 ≡ t
     → AllByRecursion (λ l. list_all is_ascii l ≡ true) (cond t ([] ∷ lines) (onto_first b lines))
     → (AllByRecursion (λ l. list_all is_ascii l ≡ true) lines → list_all is_ascii bs ≡ true)

@@ -28,11 +28,11 @@ pub record SetupLine : Type 0 where
   pub pairs : ℕ
   pub shape : Shape
 
--- what a `Setup` of the code says, as such a record
+-- what a `Setup` of the code says, as a `SetupLine`
 abbrev pub made_in : Setup → SetupLine
 made_in setup = record { plan = plan_in setup; pairs = pairs_in setup; shape = shape_in setup }
 
--- such a record of the numbers of producers, consumers, cells and pairs, of this quorum table and this shape
+-- the `SetupLine` of these numbers of producers, consumers, cells and pairs, with this quorum table and this shape
 abbrev pub made_from : Shape → ℕ → ℕ → ℕ → ℕ → TableName → SetupLine
 made_from shape p c m k t = record { plan = shaped_plan shape p c m k t; pairs = k; shape = shape }
 
