@@ -11,7 +11,7 @@ use Rattle.mb_program.specs.declared.command.Choice.{Choice}
 use Rattle.mb_program.specs.declared.command.Choice.TheVariants.{Ratify, Replay, Run}
 use Rattle.mb_program.specs.declared.options.TheConstants.{MAX_BUDGET}
 
--- an option that takes a number from `low` to `high`, and else has this default
+-- an option that takes a number from `low` to `high`, and has this default if it is not given
 abbrev pub number_rule : Text → Text → ℕ → ℕ → Rule
 number_rule name default low high = record (new_rule name) {
   long = Some name;
@@ -37,7 +37,7 @@ somewhere x = record { ref_ptr = (0, 0); now = x }
 abbrev pub texts_at : List Text → TextsAt
 texts_at texts = somewhere (map somewhere texts)
 
--- an option that takes one of these names, and else has this default
+-- an option that takes one of these names, and has this default if it is not given
 abbrev pub named_rule : Text → Text → TextsAt → Rule
 named_rule name default names = record (new_rule name) {
   long = Some name;

@@ -85,8 +85,7 @@ guard : (b : Bool) (v n : ℕ) → cond b (Some v) None ≡ Some n → (b ≡ tr
 guard true v n e = (refl, cc)
 guard false v n e = absurd (cc)
 
--- if a word's first byte is above that of 0, or the word has one byte, it is not empty, and begins with 0 only if it
--- has one byte
+-- a word whose first byte is above that of 0, or which has one byte, is not empty, and begins with 0 only if it has one
 led : (w : List ℕ) → (nat_lt 48 (slice_index w 0) || nat_eq (length w) 1) ≡ true
     → (0 < length w) × (get_or w 0 0 ≡ 48 → length w ≡ 1)
 led [] h = absurd (false≢true h)

@@ -3,7 +3,7 @@ use Rattle.std.specs.Prelude.{◌≡◌, ℕ, ◌+◌, ◌-◌, ◌%◌, ◌^◌
 use Rattle.std.specs.declared.option.Option.{Option}
 use Rattle.std.specs.Io.KnownBytes.{Appends, Consumes}
 
--- the number of failures after one more
+-- the number of failures that is counted after one more, modulo 2^64
 abbrev pub one_more : ℕ → ℕ
 one_more failures = (failures + 1) % 2 ^ 64
 

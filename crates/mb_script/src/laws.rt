@@ -45,7 +45,7 @@ pub fn numbers_are_read_as_spelled()
         → (ws ≡ map decimal ns) × AllByRecursion (λ n. n < 2 ^ 64) ns }
 {}
 
-/// A text whose lines are spelled as words is ASCII.
+/// If each line of a text is words as `IsWordLine` says, joined by single spaces, the text is ASCII.
 pub fn lines_of_words_are_ascii()
     ensures { (bytes : List ℕ) (lines : List (List (List ℕ))) → AllByRecursion IsWordLine lines
         → lines_of bytes ≡ map (join_with_byte 32) lines → list_all is_ascii bytes ≡ true }
