@@ -89,7 +89,7 @@ replay_known plan (e ∷ es) (r ∷ rs) was now there replay = (
 abbrev pub TablesHaveTheirValues : Type 0
 TablesHaveTheirValues = (name : TableName) (m : ℕ) → (table_of name m).values ≡ m
 
--- an event that is spelled has its lane and its consumer in the script's world
+-- an event that names a lane and a consumer of these sizes has them in the world of a script of these sizes
 event_there : TablesHaveTheirValues → (z : Sizes) (events : List Event) (e : Event) → IsEventOf z e
     → IsEventIn (script_in z events).plan e
 event_there values z events (event.Offer p x) of = of.0
@@ -98,7 +98,7 @@ event_there values z events (event.Finish p) of = of
 event_there values z events (event.Step c p word) of =
     (of.0, subst (λ n. c < n) (sym (values z.table z.consumers)) of.1)
 
--- all events that are spelled have their lane and their consumer in the script's world
+-- events that name lanes and consumers of these sizes have them in the world of a script of these sizes
 all_there : TablesHaveTheirValues → (z : Sizes) (events es : List Event) → AllByRecursion (IsEventOf z) es
     → AllByRecursion (IsEventIn (script_in z events).plan) es
 all_there values z events [] of = tt

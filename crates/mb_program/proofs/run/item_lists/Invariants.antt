@@ -1,4 +1,4 @@
--- Loop invariants of `item_lists`: the items of all producers, one list for each.
+-- Loop invariants of `item_lists`, which returns the items of all producers, one list for each.
 use Rattle.std.proofs.Common.{◌≡◌}
 use Rattle.std.specs.Prelude.{vec_len}
 use Rattle.mb_mailbox.specs.Worked.{lists_in}

@@ -1,4 +1,4 @@
--- Loop invariants of `sources`: the sources of the consumers' random words, one for each consumer.
+-- Loop invariants of `sources`, which returns the sources of the consumers' random words, one for each consumer.
 use Rattle.std.proofs.Common.{◌≡◌, map}
 use Rattle.std.specs.Prelude.{vec_len}
 use Rattle.std.specs.List.{range_with_len}

@@ -1,5 +1,5 @@
--- Proof of `stay`: the items that stay after a round: for each list those put that nobody took, and then those that
--- were not put.
+-- Proof of `stay`, which returns the items that stay after a round: for each list those put that nobody took, and then
+-- those that were not put.
 use Rattle.std.proofs.Common.{◌≡◌, ◌∙◌, ◌<◌, ◌≤◌, ◌++◌, ap, append_assoc, arith, drop, length, get_or, rules, sym}
 use Rattle.mb_mailbox.specs.Worked.{lists_in}
 use Rattle.mb_world.specs.Theorem.{LaneView, ReportView}

@@ -1,4 +1,4 @@
--- Loop invariants of `numbers`: the numbers that these words spell, or `None` if some word spells none.
+-- Loop invariants of `numbers`, which returns the numbers that these words spell, or `None` if some word spells none.
 use Rattle.std.proofs.Common.{◌≡◌, List, ℕ, ◌++◌, option_map}
 use Rattle.mb_script.specs.Text.{numbers_of, words_behind}
 use Rattle.mb_script.proofs.Cuts.{bytes_left}

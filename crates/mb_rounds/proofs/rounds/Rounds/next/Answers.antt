@@ -1,4 +1,4 @@
--- Proof of `Rounds::next`: what the next round gives out, and what is carried after it.
+-- Proof of `Rounds::next`, which returns what the next round gives out, and what is carried after it.
 use Rattle.std.proofs.Common.{rules}
 use Rattle.mb_mailbox.specs.Worked.{lists_in}
 use Rattle.mb_rounds.proofs.rounds.Rounds.next.Goals as goal

@@ -1,5 +1,5 @@
--- Loop invariants of `LineWords::of_line`: the words of a line, or `None` if some word is empty or there are more than
--- `MAX_WORDS`.
+-- Loop invariants of `LineWords::of_line`, which returns the words of a line, or `None` if some word is empty or there
+-- are more than `MAX_WORDS`.
 use Rattle.std.proofs.Common.{◌≡◌, ◌++◌, ◌<◌, map, take, length, false}
 use denote.Text.{Utf8}
 use denote.Shadow.{shadow}
