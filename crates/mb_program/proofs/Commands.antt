@@ -28,7 +28,7 @@ alone_found name Ratify = refl
 alone_found name Replay = refl
 alone_found name (Run options) = refl
 
--- the name that stands with the rows of the entered subcommand is the name of that subcommand
+-- in matches, the name beside the rows of the entered subcommand is the name of that subcommand
 rows_name : (m : ArgMatches) → option_map (λ (found : _). found.0) (subcommand_rows_of m) ≡ subcommand_name_of m
 rows_name m = grind (arith, common_steps)
 
@@ -44,7 +44,7 @@ alone_named app words m name choice is_program alone matches =
     ∙ alone_found name choice
 
 -- ---- two facts of results and options
--- if `?` hands on the error that memory ran out, the result is an error of that kind
+-- if `?` returns the error that memory ran out, the error of the result has the kind `OutOfMemory`
 pub kind_kept : {X : Type 0} (r : Result X Error) (e : Error) → IsErrAnd r (λ f. f ≡ e) → kind_of e ≡ OutOfMemory
     → IfErr r (λ f. kind_of f ≡ OutOfMemory)
 kind_kept (Ok x) e same kind = tt
@@ -77,7 +77,7 @@ told_in app words m choice is_program matches named =
     sym (ap (option_map (λ found. found.0)) (found_in app words m is_program matches)) ∙ rows_name m ∙ named
 
 -- ---- the kind of a refusal
--- if `?` hands on an error, what holds of that error's kind holds of the kind of the result's error
+-- if `?` returns an error, and P holds of its kind, P holds of the kind of the result's error
 pub error_kept : {X : Type 0} (P : ErrorKind → Type 0) (r : Result X Error) (e : Error)
     → IsErrAnd r (λ f. f ≡ e) → P (kind_of e)
     → IfErr r (λ f. P (kind_of f))
@@ -92,7 +92,7 @@ refused_by words app e is has = elim has [
   | inr among ↦ inr (inl (subst (λ (kinds : Kinds). IsAmong (kind_of e) kinds) (faults_alike app words is) among))
 ]
 
--- words whose matches are no choice name no command, and `InvalidSubcommand` is a refusal of them
+-- if the matches of the words give no choice, the words name no command, so `InvalidSubcommand` is a refusal of them
 pub unnamed : (words : List Text) (app : App) (m : ArgMatches) (kind : ErrorKind)
     (r : Option Choice) → IsProgramApp app → HasMatchesOf app words m
     → r ≡ None → ((choice : Choice) → subcommand_name_of m ≡ Some (choice_name choice) → IsSome r)

@@ -84,7 +84,7 @@ fault_other : (r : Result Script RatifyFault) → For IsOther r → fault_in r �
 fault_other (Ok s) other is = other_refusal (refusal_of s.values s.inputs s.turns) is
 fault_other (Err e) other is = other (let same : ◌≡◌ {A = Option RatifyFault} (Some e) (Some TooLong) = is in cc)
 
--- a text whose fault is TooLong has more bytes than the limit, by its tests
+-- if the fault of a text is TooLong, the test whether it has more bytes than the limit (`long`) holds
 long_test : (long ascii : Bool) (lines : List (List ℕ))
     → fault_in (if long then Err TooLong else if ascii then three_lines lines else Err NotAscii)
     ≡ Some TooLong → long ≡ true

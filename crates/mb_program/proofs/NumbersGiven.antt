@@ -1,4 +1,4 @@
--- What `get_one` gives of an option that takes a number, by the rows that clap found.
+-- What `get_one` of clap returns for an option that takes a number, by the rows that clap found.
 use Rattle.std.proofs.Common.{◌≡◌, ◌^◌, ◌-◌, ℕ, Bool, true, false, List, Option, Some, None, Result, Ok, Err, refl, sym, arith}
 use Rattle.std.specs.Prelude.{unwrap_or}
 use Rattle.std.specs.Str.Parse.{ParsesUnsigned}
@@ -15,7 +15,7 @@ use Rattle.mb_program.specs.RunOptions.{number_from}
 abbrev most : ℕ
 most = 2 ^ 64 - 1
 
--- a text that writes no number gives the default
+-- if a text spells no number below 2^64, the default is taken
 read_out : (default : ℕ) (t : Text) → (IsUnsignedIn 0 most t → ⊥) → number_from 0 most default (Some t) ≡ default
 read_out default t outside = go (is_unsigned_in 0 most t) refl
   where
@@ -23,7 +23,7 @@ read_out default t outside = go (is_unsigned_in 0 most t) refl
     go true passed = absurd (outside (accepts-Accepts false (Unsigned 0 most) t passed))
     go false failed = rw failed refl
 
--- what `get_one` gives, or else the default, is the number of the text that clap found
+-- what `get_one` returns, or else the default, is the number that the text found by clap spells, or else the default
 pub number_read : (E : Type 0) (G : List ℕ → Result ℕ E → Type 0) (default : ℕ) (f : Found) (id : Text) (r : Option ℕ)
     → ((u : List ℕ) (x : Result ℕ E) → G u x → ParsesUnsigned 64 10 u x)
     → (one_text f id ≡ None → r ≡ None) → ((t : Text) → one_text f id ≡ Some t → ReadsOne G t r)

@@ -1,4 +1,4 @@
--- Wherever the words for shapes lie, clap makes the same of the words of a command line.
+-- Clap reads, takes and refuses the words of a command line alike, wherever in memory the names of shapes lie.
 use Rattle.std.proofs.Common.{◌≡◌, ◌∙◌, refl, sym, ap, Bool, true, List, [], ◌∷◌, map, Option, Some, None}
 use Rattle.std.specs.Prelude.{◌&&◌, ◌||◌}
 use Rattle.std.specs.Borrow.{Bor}
@@ -18,12 +18,12 @@ use Rattle.mb_program.proofs.SameProgram.{below_swapped, entered_same, fault_sam
 use Rattle.mb_program.proofs.SameWalk.{ReadsSame, Swap}
 use Rattle.mb_program.specs.CommandLine.{IsProgramApp, TextsAt, program, program_with, shape_names, somewhere, texts_at}
 
--- ---- parsers whose words are put elsewhere
+-- ---- parsers whose names are put elsewhere in memory
 -- the same names, put elsewhere in memory
 abbrev moved : TextsAt → TextsAt
 moved names = texts_at (map (λ (n : Bor Text). n.now) names.now)
 
--- a parser with its words put elsewhere
+-- a parser, with its names put elsewhere in memory if it has any
 abbrev moved_parser : ValueParser → ValueParser
 moved_parser (vp.Names names) = vp.Names (moved names)
 moved_parser vp.String = vp.String
@@ -37,7 +37,7 @@ moved_parser vp.Float = vp.Float
 moved_parser vp.Char = vp.Char
 moved_parser (vp.Values values) = vp.Values values
 
--- the change of every parser to one with its words put elsewhere
+-- the change that puts the names of every parser elsewhere in memory
 abbrev swap : Swap
 swap None = None
 swap (Some p) = Some (moved_parser p)
@@ -50,7 +50,7 @@ same_words : (i : Bool) (t : Text) (names : List (Bor Text))
 same_words i t [] = refl
 same_words i t (n ∷ names) = ap (λ x. same_text i n.now t || x) (same_words i t names)
 
--- a parser with its words elsewhere accepts the same values
+-- a parser whose names lie elsewhere accepts the same values
 same_accepts : (i : Bool) (p : ValueParser) (t : Text)
     → accepts i (moved_parser p) t ≡ accepts i p t
 same_accepts i (vp.Names names) t = same_words i t names.now
@@ -65,7 +65,7 @@ same_accepts i vp.Float t = refl
 same_accepts i vp.Char t = refl
 same_accepts i (vp.Values values) t = refl
 
--- a parser with its words elsewhere reads values in the same way
+-- a parser whose names lie elsewhere reads values in the same way
 same_reading : (p : ValueParser) → reading_of (moved_parser p) ≡ reading_of p
 same_reading (vp.Names names) = refl
 same_reading vp.String = refl
@@ -79,7 +79,7 @@ same_reading vp.Float = refl
 same_reading vp.Char = refl
 same_reading (vp.Values values) = refl
 
--- a parser with its words elsewhere refuses values for the same kind of reason
+-- a parser whose names lie elsewhere refuses values for the same kind of reason
 same_kind : (p : ValueParser) → refused_kind (moved_parser p) ≡ refused_kind p
 same_kind (vp.Names names) = refl
 same_kind vp.String = refl
@@ -93,51 +93,51 @@ same_kind vp.Float = refl
 same_kind vp.Char = refl
 same_kind (vp.Values values) = refl
 
--- an argument reads values in the same way, if its parser is changed so
+-- an argument reads values in the same way after its parser was changed by `swap`
 reading_kept : (o : Option ValueParser)
     → reading_of (parser_of_value (swap o)) ≡ reading_of (parser_of_value o)
 reading_kept None = refl
 reading_kept (Some p) = same_reading p
 
--- an argument accepts the same values, if its parser is changed so
+-- an argument accepts the same values after its parser was changed by `swap`
 accepts_kept : (i : Bool) (o : Option ValueParser) (t : Text)
     → accepts i (parser_of_value (swap o)) t ≡ accepts i (parser_of_value o) t
 accepts_kept i None t = refl
 accepts_kept i (Some p) t = same_accepts i p t
 
--- an argument refuses values for the same kind of reason, if its parser is changed so
+-- an argument refuses values for the same kind of reason after its parser was changed by `swap`
 kind_kept : (o : Option ValueParser)
     → refused_kind (parser_of_value (swap o)) ≡ refused_kind (parser_of_value o)
 kind_kept None = refl
 kind_kept (Some p) = same_kind p
 
--- the changed parsers read, accept and refuse values as the old ones do
+-- the parsers changed by `swap` read, accept and refuse values as those before the change do
 reads_same : ReadsSame swap
 reads_same = record { reading = reading_kept; accepts = accepts_kept; kind = kind_kept }
 
--- the program, with the words put elsewhere
+-- the program over some names, changed by `swap`, is the program over the same names elsewhere
 built_moved : (names : TextsAt)
     → below_swapped swap (built (program_with names)) ≡ built (program_with (moved names))
 built_moved names = refl
 
--- the program over names that lie elsewhere, with that change, is the program
+-- if names say the four names of shapes, wherever they lie, the program over them, changed by `swap`, is `program`
 there : (names : TextsAt) → map (λ (n : Bor Text). n.now) names.now ≡ shape_names
     → below_swapped swap (built (program_with names)) ≡ built program
 there names says =
     built_moved names ∙ ap (λ (texts : List Text). built (program_with (texts_at texts))) says
 
 -- ---- clap's rules say which words the program takes
--- clap says which matches a command line of the program gives
+-- the program is simple as clap's rules ask, so they say which matches its command line gives
 pub program_is_simple : (app : App) → IsProgramApp app → is_simple app ≡ true
 unfolding clap_on_literals
 program_is_simple app is = ap is_simple is.2 ∙ refl
 
--- no argument of the program has a rule on another. So clap says which faults its words have
+-- no argument of the program has a rule on another, so clap's rules say which faults its words have
 pub program_is_free : (app : App) → IsProgramApp app → is_simple_and_free app ≡ true
 unfolding clap_on_literals
 program_is_free app is = ap is_simple_and_free is.2 ∙ refl
 
--- ---- what clap makes of the words
+-- ---- what clap finds in the words, and whether it takes them
 -- clap finds the same command in the words, wherever the names of shapes lie
 pub commands_same : (app : App) (words : List Text) → IsProgramApp app
     → subcommand_of app words ≡ subcommand_of program words

@@ -1,4 +1,4 @@
--- How a run ends: by a fault before it writes, or with its writing.
+-- How a run ends: by a fault before it writes, by a failed write, or with its whole text written.
 use Rattle.std.proofs.Common.{◌≡◌, ◌≢◌, ℕ, List, Option, Some, None, Result, Ok, Err, refl, sym, ap, ◌∙◌, subst}
 use Rattle.std.specs.Prelude.{IsErrAnd, IsOk, MatchOption, ◌↔◌}
 use Rattle.std.specs.Io.KnownBytes.{Appends}
@@ -12,7 +12,7 @@ use Rattle.mb_program.specs.Running.{IsRun, IsRunText, setup_refused}
 use Rattle.mb_program.proofs.RunSetups.{no_refusal}
 
 -- ---- which setups are refused
--- a result refuses the setup exactly if the options do, for the same reason
+-- the result is a refusal of the setup exactly if the options are refused, for the same reason
 abbrev Refuses : {Y : Type 0} → Options → Result Y RunFault → Type 0
 Refuses o r = (why : SetupFault) → (r ≡ Err (BadSetup why)) ↔ (setup_refused o ≡ Some why)
 
@@ -20,7 +20,7 @@ Refuses o r = (why : SetupFault) → (r ≡ Err (BadSetup why)) ↔ (setup_refus
 no_ok : {Y : Type 0} (y : Y) (e : RunFault) → ◌≡◌ {A = Result Y RunFault} (Ok y) (Err e) → ⊥
 no_ok y e is = absurd (cc)
 
--- equal results have one fault
+-- if two results with a fault each are equal, their faults are
 pub same_err : {Y : Type 0} (e f : RunFault) → ◌≡◌ {A = Result Y RunFault} (Err e) (Err f) → e ≡ f
 same_err e f is = cc
 
@@ -29,7 +29,7 @@ not_refused : {Y : Type 0} (o : Options) (y : Y) → Refuses o (Ok y) → (why :
     → setup_refused o ≡ Some why → ⊥
 not_refused o y refuses why is = no_ok y _ ((refuses why).1 is)
 
--- a fault that comes after the setup was made is no refusal of it
+-- if the setup was made, a later fault is no refusal of it, and the options are not refused
 pub fault_behind : {Y : Type 0} (o : Options) (s : Setup) (e : RunFault)
     → MatchOption (setup_refused o) (IsOk {E = SetupFault} (Ok s))
     (λ why. ◌≡◌ {A = Result Setup SetupFault} (Ok s) (Err why))

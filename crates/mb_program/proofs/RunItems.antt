@@ -1,4 +1,4 @@
--- Lists that are made of numbers grow by one: items, and lists of items.
+-- Lists with one value for each number below n, as items and lists of items, grow by one value at their end.
 use Rattle.std.proofs.Common.{◌≡◌, ◌+◌, ◌*◌, ◌++◌, ℕ, zero, suc, List, [], ◌∷◌, map, refl, sym, ap, ◌∙◌, arith}
 use Rattle.std.specs.List.{range_with_len}
 use Rattle.std.specs.Prelude.{Vec}
@@ -6,13 +6,13 @@ use Rattle.std.proofs.lemmas.List.{map-append}
 use Rattle.mb_mailbox.specs.Worked.{lists_in}
 use Rattle.mb_program.specs.Running.{items_of, item_lists}
 
--- one more number from a on stands at the end of the others
+-- the first n + 1 numbers from a on are the first n, and then a + n
 range_more : (a n : ℕ) → range_with_len a (suc n) ≡ range_with_len a n ++ (a + n) ∷ []
 range_more a zero = let e : a + 0 ≡ a = omega arith in rw e refl
 range_more a (suc n) = ap (λ xs. a ∷ xs)
     (range_more (a + 1) n ∙ (let e : a + 1 + n ≡ a + suc n = omega arith in rw e refl))
 
--- a list made of one number more has one value more
+-- the values of f for the numbers below n + 1 are those for the numbers below n, and then f n
 pub map_more : {X : Type 0} (f : ℕ → X) (n : ℕ) → map f (range_with_len 0 (n + 1))
     ≡ map f (range_with_len 0 n) ++ f n ∷ []
 map_more f n =

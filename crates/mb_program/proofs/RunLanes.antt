@@ -1,4 +1,4 @@
--- In a run whose gate stops nobody no producer is stopped. So a producer that put less than its list found no cell.
+-- In a run whose gate stops nobody, no producer is stopped. So a producer that put less than its list found no cell.
 -- After that stand lemmas of sums and of beginnings of lists.
 use Rattle.std.proofs.Common.{◌≡◌, ◌+◌, ◌*◌, ◌++◌, ◌<◌, ◌≤◌, ℕ, zero, suc, Bool, true, false, List, [], ◌∷◌, Some, inl, inr, length, slice_get, refl, sym, ap, ◌∙◌, subst, arith}
 use Rattle.std.specs.Prelude.{slice_index_or}
@@ -12,8 +12,8 @@ use Rattle.mb_mailbox.specs.Jobs.{IsFront}
 use Rattle.mb_mailbox.specs.Worked.{AreCutByCells, AreStoppedPuts, IsStoppedPut, ProducerEnd}
 use Rattle.mb_mailbox.specs.declared.gate.Who.{Who}
 
--- ---- what is told of all the lanes is told of each
--- what is told of all producers that were stopped holds of producer p
+-- ---- what holds of all lanes holds of each
+-- what is said of each producer that was stopped holds of producer p, if it was stopped
 stopped_at : (may_stop : Who → ℕ → Type 0) (cells from : ℕ) (lists : List (List ℕ))
     (lanes : List ProducerEnd) (p : ℕ) (list : List ℕ) (l : ProducerEnd)
     → AreStoppedPuts may_stop cells from lists lanes → slice_get lists p ≡ Some list → slice_get lanes p ≡ Some l
@@ -32,7 +32,7 @@ stopped_at may_stop cells from (x ∷ xs) (y ∷ ys) (suc p) list l all at there
     subst (λ (k : ℕ). l.stopped ≡ true → IsStoppedPut may_stop cells k list l) next
     (stopped_at may_stop cells (suc from) xs ys p list l all.1 at there)
 
--- what is told of all producers that found no cell holds of producer p
+-- what is said of each producer that put less than its list and was not stopped holds of producer p
 cut_at : (cells from : ℕ) (lists : List (List ℕ)) (lanes : List ProducerEnd) (p : ℕ) (list : List ℕ) (l : ProducerEnd)
     → AreCutByCells cells from lists lanes → slice_get lists p ≡ Some list → slice_get lanes p ≡ Some l
     → l.stopped ≡ false → length l.put < length list → HasFoundNone cells (from + p) l.part
@@ -50,7 +50,7 @@ cut_at cells from (x ∷ xs) (y ∷ ys) (suc p) list l all at there =
     subst (λ (k : ℕ). l.stopped ≡ false → length l.put < length list → HasFoundNone cells k l.part) next
     (cut_at cells (suc from) xs ys p list l all.1 at there)
 
--- if the gate stops nobody, the producer of a short list is not stopped
+-- if the gate stops nobody, a producer with a list of at most 256 items is not stopped
 not_stopped : (may_stop : Who → ℕ → Type 0) → ((w : Who) (n : ℕ) → may_stop w n → ⊥)
     → (cells p : ℕ) (list : List ℕ) (l : ProducerEnd) → length list ≤ 256
     → (l.stopped ≡ true → IsStoppedPut may_stop cells p list l) → l.stopped ≡ false
@@ -80,11 +80,11 @@ found_none may_stop never cells lists lanes stopped cut p list l at there few sh
     (stopped_at may_stop cells 0 lists lanes p list l stopped at there)) short)
 
 -- ---- what holds of each element, for all, and for a sum
--- what holds at each place holds of all
+-- what holds of the element at each position holds of all elements
 all_of : {X : Type 0} (P : X → Type 0) (xs : List X) → ((p : ℕ) (x : X) → slice_get xs p ≡ Some x → P x) → All P xs
 all_of P xs each = λ k d low. each k (slice_index_or xs k d) (slice_get-get_or xs k d low)
 
--- if no value is over b and one is under it, the sum of the values is less than as many times b
+-- if no value is over b and one is under it, the sum of the values is less than b times their number
 pub sum_short : {X : Type 0} (f : X → ℕ) (b : ℕ) (xs : List X) (p : ℕ) (x : X)
     → ((q : ℕ) (y : X) → slice_get xs q ≡ Some y → f y ≤ b)
     → slice_get xs p ≡ Some x → f x < b → sum_by f xs < length xs * b

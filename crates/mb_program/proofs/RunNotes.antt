@@ -14,11 +14,11 @@ use Rattle.mb_mailbox.specs.Worked.{AreStoppedPolls, ConsumerEnd, HasNoteAtEach,
 use Rattle.mb_mailbox.specs.declared.gate.Who.{Who}
 use Rattle.mb_program.specs.Running.{HasNotedAll, accesses_by}
 
--- two `Some` that are one have one value
+-- if `Some x` and `Some y` are equal, x and y are
 pub same_some : {X : Type 0} {x y : X} → ◌≡◌ {A = Option X} (Some x) (Some y) → x ≡ y
 same_some e = cc
 
--- ---- what is told of all is told of each
+-- ---- what holds of all holds of each
 -- the part of a consumer that was returned is the one that this consumer left
 taken_at : (cs : List ConsumerEnd) (c : ℕ) (one : ConsumerEnd) → slice_get cs c ≡ Some one
     → taken_part (map (λ x. Some x.claimed) cs) c ≡ one.claimed
@@ -26,7 +26,7 @@ taken_at [] c one at = absurd (cc)
 taken_at (x ∷ xs) zero one at = ap (λ (y : ConsumerEnd). y.claimed) (same_some at)
 taken_at (x ∷ xs) (suc c) one at = taken_at xs c one at
 
--- what is told of all consumers that were stopped holds of consumer c
+-- what is said of each consumer that was stopped holds of consumer c, if it was stopped
 stopped_at : (may_stop : Who → ℕ → Type 0) (budget from : ℕ) (cs : List ConsumerEnd) (c : ℕ)
     (one : ConsumerEnd) → AreStoppedPolls may_stop budget from cs
     → slice_get cs c ≡ Some one → one.stopped ≡ true
@@ -56,18 +56,18 @@ noted_at from (x ∷ xs) (suc p) l kept has at =
     let next : from + suc p ≡ suc from + p = omega arith in
     ap (λ (k : ℕ). length (notes_on k kept.notes)) next ∙ noted_at (suc from) xs p l kept has.1 at
 
--- at each place below its length a list has an element
+-- at each position below its length a list has an element
 one_at : {X : Type 0} (xs : List X) (k : ℕ) → k < length xs → (x : X) × (slice_get xs k ≡ Some x)
 one_at [] k low = absurd (omega (arith, low))
 one_at (x ∷ xs) zero low = (x, refl)
 one_at (x ∷ xs) (suc k) low = one_at xs k (omega (arith, low))
 
--- what holds of all elements of a list holds of the one at place k
+-- what holds of all elements of a list holds of element k
 of_one : {X : Type 0} (P : X → Type 0) (xs : List X) (k : ℕ) (x : X) → All P xs → k < length xs
     → slice_get xs k ≡ Some x → P x
 of_one P xs k x all low at = subst P (same_some (sym (slice_get-get_or xs k x low) ∙ at)) (all k x low)
 
--- if the gate stops nobody, a consumer that was stopped has come to call 2^64 - 1
+-- if the gate stops nobody, a consumer was only stopped after 2^64 - 2 calls, so its accesses have these bounds
 come_to_last : (may_stop : Who → ℕ → Type 0) → ((w : Who) (n : ℕ) → may_stop w n → ⊥)
     → (budget c made : ℕ) → IsStoppedPoll may_stop budget c made
     → (2 ^ 64 - 2 ≤ made) × (made ≤ budget * (2 ^ 64 - 2))
@@ -110,7 +110,7 @@ notes_told may_stop budget never count m h r left cs g told records readers clai
     at : slice_get cs c ≡ Some one
     at = found.1
 
-    -- the hub kept the record of consumer c
+    -- the hub's record of consumer c is what this consumer left
     kept : kept_at h.records c ≡ Some one.kept
     kept = ap (λ xs. kept_at xs c) records ∙ rw (slice_get-map (λ (x : ConsumerEnd). Some x.kept) cs c, at) refl
 

@@ -1,5 +1,5 @@
 -- Clap refuses words for the same reasons, if the parsers of some arguments are changed for ones
--- that accept the same values.
+-- that accept the same values. A row is what clap found for one argument.
 use Rattle.std.proofs.Common.{◌≡◌, ◌∙◌, refl, ap, ap₂, Bool, cond, not, ℕ, zero, suc, List, [], ◌∷◌, map, Option, Some, None, ◌&&◌, ◌||◌, drop, encode_utf8, is_some, length, option_map}
 use Rattle.std.proofs.Common.{slice_get, bytes_eq, chars}
 use Rattle.std.specs.List.{list_any}
@@ -20,7 +20,7 @@ use Rattle.mb_program.proofs.SameTakes.{with_swapped}
 use Rattle.mb_program.proofs.SameWalk.{ReadsSame, Swap, finished_swapped, found_swapped, id_swapped, reacted_swapped, settled_swapped, swapped}
 use Rattle.mb_program.proofs.SameWalk.{walk_swapped, walked_swapped, with_default_swapped, word_met_swapped}
 
--- a search for any argument that does not look at the parser finds one after the change as before
+-- if p does not look at parsers, it holds of some argument after the change exactly if it held of one before
 any_swapped : (s : Swap) (p : Rule → Bool) → ((a : Rule) → p (swapped s a) ≡ p a) → (c : List Rule)
     → list_any p (map (swapped s) c) ≡ list_any p c
 any_swapped s p same [] = refl
@@ -34,7 +34,7 @@ module _ (s : Swap) (same : ReadsSame s) where
   f = swapped s
 
   -- ---- one use of an argument
-  -- the values of an argument have the same faults
+  -- the values of an argument have the same faults as before the change
   values_same : (a : Rule) (values : List Text) → values_fault (f a) values ≡ values_fault a values
   values_same a [] = refl
   values_same a (v ∷ values) =
@@ -42,20 +42,20 @@ module _ (s : Swap) (same : ReadsSame s) where
       (ap₂ (λ x k. cond x [] (k ∷ [])) (same.accepts a.ignore_case a.parser v) (same.kind a.parser))
       (values_same a values)
 
-  -- an argument that is set has the same faults
+  -- an argument that is set has the same faults as before the change
   set_same : (again : Bool) (a : Rule) (values : List Text) (rows : List Row)
       → set_fault again (f a) values rows ≡ set_fault again a values rows
   set_same again a values rows =
       ap (λ x. or_else (repeat_fault again a.id rows) x) (values_same a values)
 
-  -- an argument that counts its uses has the same faults
+  -- an argument that counts its uses has the same faults as before the change
   count_same : (a : Rule) (values : List Text) (rows : List Row)
       → count_fault (f a) values rows ≡ count_fault a values rows
   count_same a [] rows =
       ap₂ (λ x k. cond x [] (k ∷ [])) (same.accepts a.ignore_case a.parser _) (same.kind a.parser)
   count_same a (v ∷ values) rows = values_same a (v ∷ values)
 
-  -- one use of an argument has the same faults, by its action
+  -- one use of an argument with this action has the same faults as before the change
   action_same : (action : ArgAction) (again : Bool) (a : Rule) (values : List Text)
       (rows : List Row)
       → action_fault action again (f a) values rows ≡ action_fault action again a values rows
@@ -69,7 +69,7 @@ module _ (s : Swap) (same : ReadsSame s) where
   action_same HelpLong again a values rows = refl
   action_same Version again a values rows = refl
 
-  -- one use of an argument has the same faults
+  -- one use of an argument has the same faults as before the change
   use_same : (again : Bool) (a : Rule) (values : List Text) (rows : List Row)
       → use_fault again (f a) values rows ≡ use_fault again a values rows
   use_same again a values rows =
@@ -77,7 +77,7 @@ module _ (s : Swap) (same : ReadsSame s) where
       (range_kinds (unwrap_or_range a.range).start_inclusive (most_values a) (length values)) x)
       (action_same (action_of a) again a (values_or_missing a values) rows)
 
-  -- one use of an argument that was found, if one was, has the same faults
+  -- one use of an argument that was found, if one was, has the same faults as before the change
   by_id_same : (again : Bool) (values : List Text) (rows : List Row) (o : Option Rule)
       → option_map_or (λ a. use_fault again a values rows) (option_map f o) []
       ≡ option_map_or (λ a. use_fault again a values rows) o []
@@ -90,7 +90,7 @@ module _ (s : Swap) (same : ReadsSame s) where
     abbrev d : List Rule
     d = map f c
 
-    -- the use of the pending argument, if there is one, has the same faults
+    -- the use of the pending argument, if there is one, has the same faults as before the change
     pending_same : (p : Option (Text × List Text)) (rows : List Row)
         → option_map_or
         (λ p. option_map_or (λ a. use_fault again a p.1 rows) (arg_by_id d p.0) []) p []
@@ -101,11 +101,11 @@ module _ (s : Swap) (same : ReadsSame s) where
         ap (λ o. option_map_or (λ a. use_fault again a p.1 rows) o []) (id_swapped s same c p.0)
         ∙ by_id_same again p.1 rows (arg_by_id c p.0)
 
-    -- what is held has the same faults once the pending argument is used
+    -- the use of the pending argument that clap holds has the same faults as before the change
     settle_same : (h : Held) → settle_fault d again h ≡ settle_fault c again h
     settle_same h = pending_same h.pending h.rows
 
-    -- the pending argument and then this one have the same faults
+    -- the uses of the pending argument and then of this one have the same faults as before the change
     react_same : (a : Rule) (values : List Text) (h : Held)
         → react_fault d again (f a) values h ≡ react_fault c again a values h
     react_same a values h =
@@ -113,13 +113,13 @@ module _ (s : Swap) (same : ReadsSame s) where
         (use_same again a values (settled d h).rows
         ∙ ap (λ (x : Held). use_fault again a values x.rows) (settled_swapped s same c h))
 
-    -- an option with the value that is attached to it has the same faults
+    -- an option, with the value attached to it if there is one, has the same faults as before the change
     option_same : (a : Rule) (v : Option Text) (h : Held)
         → option_fault d again (f a) v h ≡ option_fault c again a v h
     option_same a (Some v) h = react_same a (v ∷ []) h
     option_same a None h = settle_same h
 
-    -- a word `--name` or `--name=value` has the same faults
+    -- a word `--name` or `--name=value` has the same faults as before the change
     long_same : (o : Option Rule) (v : Option Text) (h : Held)
         → long_fault d again (option_map f o) v h ≡ long_fault c again o v h
     long_same None v h = refl
@@ -127,7 +127,7 @@ module _ (s : Swap) (same : ReadsSame s) where
         ap₂ (λ (x y : Kinds). cond (takes_values a) x
         (cond (is_some v) (kind.TooManyValues ∷ []) y)) (option_same a v h) (react_same a [] h)
 
-    -- one character of a word `-abc` has the same faults, if those after it have
+    -- one character of a word `-abc` has the same faults as before the change, if those after it have
     short_same : (o : Option Rule) (rest : Text) (h : Held) (go other : Held → Kinds)
         → ((x : Held) → go x ≡ other x)
         → short_fault d again (option_map f o) rest h go ≡ short_fault c again o rest h other
@@ -137,7 +137,7 @@ module _ (s : Swap) (same : ReadsSame s) where
         (ap₂ (λ (x y : Kinds). or_else x y) (react_same a [] h)
         (e (reacted d (f a) [] h) ∙ ap other (reacted_swapped s same c a [] h)))
 
-    -- a step in a word `-abc` has the same faults, if the steps after it have
+    -- one step through a word `-abc` has the same faults as before the change, if the steps after it have
     step_of_bundle_same : (o : Option ℕ) (flags : Text) (skip : ℕ) (h : Held)
         (go other : Text → ℕ → Held → Kinds)
         → ((t : Text) (n : ℕ) (x : Held) → go t n x ≡ other t n x)
@@ -151,7 +151,7 @@ module _ (s : Swap) (same : ReadsSame s) where
     step_of_bundle_same (Some x) flags (suc skip) h go other e =
         e (drop (length (encode_utf8 x)) flags) skip h
 
-    -- the characters of a word `-abc` have the same faults
+    -- the characters of a word `-abc` have the same faults as before the change
     flags_same : (k : ℕ) (flags : Text) (skip : ℕ) (h : Held)
         → flags_fault d again k flags skip h ≡ flags_fault c again k flags skip h
     unfolding flags_fault
@@ -160,7 +160,7 @@ module _ (s : Swap) (same : ReadsSame s) where
         step_of_bundle_same (slice_get (chars flags) 0) flags skip h (flags_fault d again k)
         (flags_fault c again k) (flags_same k)
 
-    -- a word `-abc`, if it is one, has the same faults
+    -- a word `-abc`, if it is one, has the same faults as before the change
     shorts_same : (o : Option Text) (h : Held)
         → option_map_or
         (λ flags. flags_fault d again (length flags) flags h.skip (record h { skip = 0 })) o []
@@ -169,7 +169,7 @@ module _ (s : Swap) (same : ReadsSame s) where
     shorts_same None h = refl
     shorts_same (Some flags) h = flags_same (length flags) flags h.skip (record h { skip = 0 })
 
-    -- a word that may be a flag has the same faults
+    -- a word that may be a flag has the same faults as before the change
     flag_word_same : (o : Option (Text × Option Text)) (word : Text) (h : Held)
         → flag_word_fault d again o word h ≡ flag_word_fault c again o word h
     flag_word_same (Some p) word h =
@@ -177,7 +177,7 @@ module _ (s : Swap) (same : ReadsSame s) where
         ∙ long_same (arg_by_long c p.0) p.1 h
     flag_word_same None word h = shorts_same (short_of word) h
 
-    -- a word for a positional argument, if there is one, has the same faults
+    -- a word for a positional argument, if there is one, has the same faults as before the change
     positional_same : (stray : Kinds) (o : Option Rule) (h : Held)
         → option_map_or (λ a. positional_fault d again a h) (option_map f o) stray
         ≡ option_map_or (λ a. positional_fault c again a h) o stray
@@ -186,13 +186,13 @@ module _ (s : Swap) (same : ReadsSame s) where
         ap (λ (x : Kinds). cond (is_pending a h.pending && takes_several a) [] x) (settle_same h)
 
   -- ---- faults of defaults
-  -- the default values of one argument have the same faults
+  -- the default values of one argument have the same faults as before the change
   default_same : (rows : List Row) (a : Rule) → default_fault rows (f a) ≡ default_fault rows a
   default_same rows a =
       ap (λ (x : Kinds). cond (has_row a.id rows || is_empty a.defaults) []
       (or_else (request_kinds (action_of a)) x)) (values_same a a.defaults)
 
-  -- the default values of all arguments have the same faults
+  -- the default values of all arguments have the same faults as before the change
   defaults_same : (rows : List Row) (c : List Rule)
       → defaults_fault rows (map f c) ≡ defaults_fault rows c
   unfolding defaults_fault
@@ -208,7 +208,7 @@ module _ (s : Swap) (same : ReadsSame s) where
     abbrev other : Shape
     other = with_swapped s top
 
-    -- a word that is no subcommand's name has the same faults
+    -- a word that is no subcommand's name has the same faults as before the change
     other_same : (o : Option Text) (word : Text) (h : Held)
         → other_fault other o word h ≡ other_fault top o word h
     other_same (Some name) word h = refl
@@ -216,7 +216,7 @@ module _ (s : Swap) (same : ReadsSame s) where
         ap (λ (x : Kinds). cond (bytes_eq word (45 ∷ 45 ∷ [])) [] x)
         (flag_word_same top.rules top.args_override_self (long_of word) word h)
 
-    -- the step of a word has the same faults
+    -- the step of a word has the same faults as before the change
     step_same : (position : ℕ) (h : Held) (step : Step)
         → step_fault other position h step ≡ step_fault top position h step
     step_same position h (next waiting) = refl
@@ -228,7 +228,7 @@ module _ (s : Swap) (same : ReadsSame s) where
         ∙ positional_same top.rules top.args_override_self (stray_fault top)
         (arg_by_index top.rules position) h
 
-    -- one more word has the same faults
+    -- one more word has the same faults as before the change
     turn_same : (names : Names) (w : Walk) (word : Text)
         → turn_fault other names w word ≡ turn_fault top names w word
     turn_same names w word =
@@ -239,7 +239,7 @@ module _ (s : Swap) (same : ReadsSame s) where
         (word_met_swapped s same top.rules names w.is_trailing w.waiting w.position word w.held)
         ∙ step_same w.position met.0 met.1)
 
-    -- all the words have the same faults
+    -- all the words have the same faults as before the change
     walk_same : (names : Names) (w : Walk) (words : List Text)
         → walk_fault other names w words ≡ walk_fault top names w words
     unfolding walk_fault
@@ -250,7 +250,7 @@ module _ (s : Swap) (same : ReadsSame s) where
         ∙ walk_same names (walked top.rules names w word) words)
 
     -- ---- the faults after the walk
-    -- the rows at the end have the same faults after the walk
+    -- the tests after the walk find the same faults in its rows as before the change
     check_same : (rows : List Row) (has_subcommand : Bool)
         → check_fault other rows has_subcommand ≡ check_fault top rows has_subcommand
     check_same rows has_subcommand =
@@ -262,7 +262,7 @@ module _ (s : Swap) (same : ReadsSame s) where
         (any_swapped s (λ a. a.required && not (is_given a.id rows)) (λ a. refl) top.rules)
 
     -- ---- all faults of the command
-    -- the command has the same faults: of the walk, or else `below` (of its subcommand), or else after the walk
+    -- the command has the same faults as before: those of the walk, else `below` (its subcommand's), else later ones
     pub level_fault_same : (names : Names) (h : Held) (words : List Text) (has_subcommand : Bool)
         (below : Kinds)
         → level_fault other names h words has_subcommand below

@@ -1,5 +1,5 @@
--- Clap makes the same of a command and its subcommands, if the parsers of some of their arguments are
--- changed for ones that read, accept and refuse values as they do.
+-- Clap reads, takes and refuses the words of a command with subcommands as before, if the parsers of some arguments are
+-- changed for ones that read, accept and refuse values as they do. A row is what clap found for one argument.
 use Rattle.std.proofs.Common.{◌≡◌, ◌∙◌, refl, ap, ap₂, Bool, cond, true, false, List, [], ◌∷◌, map, Option, Some, None}
 use Rattle.std.specs.Prelude.{◌&&◌, find, is_some, option_map}
 use Rattle.std.specs.Option.{option_map_or}
@@ -16,7 +16,7 @@ use Rattle.mb_program.proofs.SameWalk.{ReadsSame, Swap, rows_after_swapped}
 abbrev pub below_swapped : Swap → App → App
 below_swapped s app = record app { subs = map (with_swapped s) app.subs }
 
--- a search for a subcommand by its name finds the same one, with its parsers changed
+-- a search for a subcommand by its name finds the one that it found before the change, with its parsers changed
 sub_swapped : (s : Swap) (word : Text) (subs : List Shape)
     → find (λ x. answers_to word (label_of x)) (map (with_swapped s) subs)
     ≡ option_map (with_swapped s) (find (λ x. answers_to word (label_of x)) subs)
@@ -41,7 +41,7 @@ names_swapped s (x ∷ subs) = ap (λ xs. label_of x ∷ xs) (names_swapped s su
 
 module _ (s : Swap) (same : ReadsSame s) where
   -- ---- the subcommand that is entered: its rows, whether it takes its words, and its faults
-  -- the rows of a subcommand stay the same
+  -- the rows of a subcommand are the same as before the change
   rows_at_same : (o : Option Shape) (words : List Text)
       → option_map (λ x. rows_at x words) (option_map (with_swapped s) o)
       ≡ option_map (λ x. rows_at x words) o
@@ -49,7 +49,7 @@ module _ (s : Swap) (same : ReadsSame s) where
   rows_at_same (Some x) words =
       ap (λ (rows : List Row). Some (x.name, rows)) (rows_after_swapped s same x.rules [] words)
 
-  -- the subcommand that is entered, and its rows, stay the same
+  -- the name of the subcommand that is entered, and its rows, are the same as before the change
   pub entered_same : (app : App) (stop : Option (Text × List Text))
       → entered (below_swapped s app) stop ≡ entered app stop
   entered_same app None = refl
@@ -57,7 +57,7 @@ module _ (s : Swap) (same : ReadsSame s) where
       ap (option_map (λ x. rows_at x p.1)) (sub_swapped s p.0 app.subs)
       ∙ rows_at_same (find (λ x. answers_to p.0 (label_of x)) app.subs) p.1
 
-  -- a subcommand takes the same words
+  -- a subcommand takes the same words as before the change
   sub_passes_same : (o : Option Shape) (words : List Text)
       → option_map_or (λ x. level_passes x [] nothing_held words false)
       (option_map (with_swapped s) o) true
@@ -65,7 +65,7 @@ module _ (s : Swap) (same : ReadsSame s) where
   sub_passes_same None words = refl
   sub_passes_same (Some x) words = level_same s same x [] nothing_held words false
 
-  -- the subcommand that is entered takes the same words
+  -- the subcommand that is entered takes the same words as before the change
   entered_passes_same : (app : App) (stop : Option (Text × List Text))
       → entered_passes (below_swapped s app) stop ≡ entered_passes app stop
   entered_passes_same app None = refl
@@ -74,7 +74,7 @@ module _ (s : Swap) (same : ReadsSame s) where
       (sub_swapped s p.0 app.subs)
       ∙ sub_passes_same (find (λ x. answers_to p.0 (label_of x)) app.subs) p.1
 
-  -- a subcommand has the same faults
+  -- a subcommand has the same faults as before the change
   sub_fault_same : (o : Option Shape) (words : List Text)
       → option_map_or (λ x. level_fault x [] nothing_held words false [])
       (option_map (with_swapped s) o) []
@@ -82,7 +82,7 @@ module _ (s : Swap) (same : ReadsSame s) where
   sub_fault_same None words = refl
   sub_fault_same (Some x) words = level_fault_same s same x [] nothing_held words false []
 
-  -- the subcommand that is entered has the same faults
+  -- the subcommand that is entered has the same faults as before the change
   entered_fault_same : (app : App) (stop : Option (Text × List Text))
       → entered_fault (below_swapped s app) stop ≡ entered_fault app stop
   entered_fault_same app None = refl
@@ -92,7 +92,7 @@ module _ (s : Swap) (same : ReadsSame s) where
       ∙ sub_fault_same (find (λ x. answers_to p.0 (label_of x)) app.subs) p.1
 
   -- ---- the whole command line
-  -- clap takes the same words, over the changed parsers and over those before the change
+  -- clap takes the same words as before the change
   pub takes_same : (app : App) (h : Held) (words : List Text)
       → built_takes (below_swapped s app) h words ≡ built_takes app h words
   takes_same app h words =
@@ -106,7 +106,7 @@ module _ (s : Swap) (same : ReadsSame s) where
       (is_some (entered other (walk app.top.rules ns h words).stopped))) names
       ∙ ap (λ x. level_passes app.top (names_of app) h words (is_some x)) (entered_same app stop))
 
-  -- clap refuses words for the same reasons, over the changed parsers and over those before the change
+  -- clap refuses words for the same reasons as before the change
   pub fault_same : (app : App) (h : Held) (words : List Text)
       → built_fault (below_swapped s app) h words ≡ built_fault app h words
   fault_same app h words =

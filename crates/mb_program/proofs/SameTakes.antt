@@ -1,5 +1,5 @@
 -- Clap takes the same words, if the parsers of some arguments are changed for ones that accept the
--- same values.
+-- same values. A row is what clap found for one argument.
 use Rattle.std.proofs.Common.{◌≡◌, ◌∙◌, refl, ap, ap₂, Bool, cond, true, false, not, ℕ, zero, suc, List, [], ◌∷◌, map, Option, Some, None}
 use Rattle.std.specs.Prelude.{◌&&◌, ◌||◌, drop, encode_utf8, is_some, length, nat_le, option_map, slice_get}
 use Rattle.std.specs.List.{list_all, list_any}
@@ -23,7 +23,7 @@ use Rattle.mb_program.proofs.SameWalk.{ReadsSame, Swap, finished_swapped, found_
 abbrev pub with_swapped : Swap → Shape → Shape
 with_swapped s shape = record shape { rules = map (swapped s) shape.rules }
 
--- a test of all arguments that does not look at the parser passes after the change as before
+-- if p holds of a changed argument exactly if q held of it before, p holds of all exactly if q held of all before
 pub all_swapped : (s : Swap) (p q : Rule → Bool) → ((a : Rule) → p (swapped s a) ≡ q a)
     → (c : List Rule)
     → list_all p (map (swapped s) c) ≡ list_all q c
@@ -38,25 +38,25 @@ module _ (s : Swap) (same : ReadsSame s) where
   f = swapped s
 
   -- ---- one use of an argument, and its default values
-  -- the values of an argument pass as before
+  -- the values of an argument pass as before the change
   values_same : (a : Rule) (values : List Text) → values_pass (f a) values ≡ values_pass a values
   values_same a [] = refl
   values_same a (v ∷ values) =
       ap₂ (λ x y. x && y) (same.accepts a.ignore_case a.parser v) (values_same a values)
 
-  -- an argument that is set passes as before
+  -- an argument that is set passes as before the change
   set_same : (again : Bool) (a : Rule) (values : List Text) (rows : List Row)
       → set_passes again (f a) values rows ≡ set_passes again a values rows
   set_same again a values rows =
       ap (λ x. (not (has_row a.id rows) || again) && x) (values_same a values)
 
-  -- an argument that counts its uses passes as before
+  -- an argument that counts its uses passes as before the change
   count_same : (a : Rule) (values : List Text) (rows : List Row)
       → count_passes (f a) values rows ≡ count_passes a values rows
   count_same a [] rows = same.accepts a.ignore_case a.parser _
   count_same a (v ∷ values) rows = values_same a (v ∷ values)
 
-  -- one use of an argument passes as before, by its action
+  -- one use of an argument with this action passes as before the change
   action_same : (action : ArgAction) (again : Bool) (a : Rule) (values : List Text)
       (rows : List Row)
       → action_passes action again (f a) values rows ≡ action_passes action again a values rows
@@ -70,7 +70,7 @@ module _ (s : Swap) (same : ReadsSame s) where
   action_same HelpLong again a values rows = refl
   action_same Version again a values rows = refl
 
-  -- one use of an argument passes as before
+  -- one use of an argument passes as before the change
   use_same : (again : Bool) (a : Rule) (values : List Text) (rows : List Row)
       → use_passes again (f a) values rows ≡ use_passes again a values rows
   use_same again a values rows =
@@ -78,14 +78,14 @@ module _ (s : Swap) (same : ReadsSame s) where
       (nat_le (length values) (most_values a) && x))
       (action_same (action_of a) again a (values_or_missing a values) rows)
 
-  -- one use of an argument that was found, if one was, passes as before
+  -- one use of an argument that was found, if one was, passes as before the change
   by_id_same : (again : Bool) (values : List Text) (rows : List Row) (o : Option Rule)
       → option_map_or (λ a. use_passes again a values rows) (option_map f o) true
       ≡ option_map_or (λ a. use_passes again a values rows) o true
   by_id_same again values rows None = refl
   by_id_same again values rows (Some a) = use_same again a values rows
 
-  -- the default values of an argument pass as before
+  -- the default values of an argument pass as before the change
   default_same : (a : Rule) → default_passes (f a) ≡ default_passes a
   default_same a =
       ap (λ x. is_empty a.defaults || (not (is_request (action_of a)) && x))
@@ -97,7 +97,7 @@ module _ (s : Swap) (same : ReadsSame s) where
     abbrev d : List Rule
     d = map f c
 
-    -- the use of the pending argument, if there is one, passes as before
+    -- the use of the pending argument, if there is one, passes as before the change
     pending_same : (p : Option (Text × List Text)) (rows : List Row)
         → option_map_or
         (λ p. option_map_or (λ a. use_passes again a p.1 rows) (arg_by_id d p.0) true) p true
@@ -108,11 +108,11 @@ module _ (s : Swap) (same : ReadsSame s) where
         ap (λ o. option_map_or (λ a. use_passes again a p.1 rows) o true) (id_swapped s same c p.0)
         ∙ by_id_same again p.1 rows (arg_by_id c p.0)
 
-    -- what is held passes as before once the pending argument is used
+    -- the use of the pending argument that clap holds passes as before the change
     settle_same : (h : Held) → settle_passes d again h ≡ settle_passes c again h
     settle_same h = pending_same h.pending h.rows
 
-    -- the pending argument and then this one pass as before
+    -- the uses of the pending argument and then of this one pass as before the change
     react_same : (a : Rule) (values : List Text) (h : Held)
         → react_passes d again (f a) values h ≡ react_passes c again a values h
     react_same a values h =
@@ -120,13 +120,13 @@ module _ (s : Swap) (same : ReadsSame s) where
         (use_same again a values (settled d h).rows
         ∙ ap (λ (x : Held). use_passes again a values x.rows) (settled_swapped s same c h))
 
-    -- an option with the value that is attached to it passes as before
+    -- an option, with the value attached to it if there is one, passes as before the change
     option_same : (a : Rule) (v : Option Text) (h : Held)
         → option_passes d again (f a) v h ≡ option_passes c again a v h
     option_same a (Some v) h = react_same a (v ∷ []) h
     option_same a None h = settle_same h
 
-    -- a word `--name` or `--name=value` passes as before
+    -- a word `--name` or `--name=value` passes as before the change
     long_same : (o : Option Rule) (v : Option Text) (h : Held)
         → long_passes d again (option_map f o) v h ≡ long_passes c again o v h
     long_same None v h = refl
@@ -134,7 +134,7 @@ module _ (s : Swap) (same : ReadsSame s) where
         ap₂ (λ x y. cond (takes_values a) x (not (is_some v) && y)) (option_same a v h)
         (react_same a [] h)
 
-    -- one character of a word `-abc` passes as before, if those after it do
+    -- one character of a word `-abc` passes as before the change, if those after it do
     short_same : (o : Option Rule) (rest : Text) (h : Held) (go other : Held → Bool)
         → ((x : Held) → go x ≡ other x)
         → short_passes d again (option_map f o) rest h go ≡ short_passes c again o rest h other
@@ -144,7 +144,7 @@ module _ (s : Swap) (same : ReadsSame s) where
         (ap₂ (λ x y. x && y) (react_same a [] h)
         (e (reacted d (f a) [] h) ∙ ap other (reacted_swapped s same c a [] h)))
 
-    -- a step in a word `-abc` passes as before, if the steps after it do
+    -- one step through a word `-abc` passes as before the change, if the steps after it do
     step_of_bundle_same : (o : Option ℕ) (flags : Text) (skip : ℕ) (h : Held)
         (go other : Text → ℕ → Held → Bool)
         → ((t : Text) (n : ℕ) (x : Held) → go t n x ≡ other t n x)
@@ -158,7 +158,7 @@ module _ (s : Swap) (same : ReadsSame s) where
     step_of_bundle_same (Some x) flags (suc skip) h go other e =
         e (drop (length (encode_utf8 x)) flags) skip h
 
-    -- the characters of a word `-abc` pass as before
+    -- the characters of a word `-abc` pass as before the change
     flags_same : (k : ℕ) (flags : Text) (skip : ℕ) (h : Held)
         → flags_pass d again k flags skip h ≡ flags_pass c again k flags skip h
     unfolding flags_pass
@@ -167,7 +167,7 @@ module _ (s : Swap) (same : ReadsSame s) where
         step_of_bundle_same (slice_get (chars flags) 0) flags skip h (flags_pass d again k)
         (flags_pass c again k) (flags_same k)
 
-    -- a word `-abc`, if it is one, passes as before
+    -- a word `-abc`, if it is one, passes as before the change
     shorts_same : (o : Option Text) (h : Held)
         → option_map_or
         (λ flags. flags_pass d again (length flags) flags h.skip (record h { skip = 0 })) o true
@@ -176,7 +176,7 @@ module _ (s : Swap) (same : ReadsSame s) where
     shorts_same None h = refl
     shorts_same (Some flags) h = flags_same (length flags) flags h.skip (record h { skip = 0 })
 
-    -- a word that may be a flag passes as before
+    -- a word that may be a flag passes as before the change
     flag_word_same : (o : Option (Text × Option Text)) (word : Text) (h : Held)
         → flag_word_passes d again o word h ≡ flag_word_passes c again o word h
     flag_word_same (Some p) word h =
@@ -184,7 +184,7 @@ module _ (s : Swap) (same : ReadsSame s) where
         ∙ long_same (arg_by_long c p.0) p.1 h
     flag_word_same None word h = shorts_same (short_of word) h
 
-    -- a word for a positional argument, if there is one, passes as before
+    -- a word for a positional argument, if there is one, passes as before the change
     positional_same : (o : Option Rule) (h : Held)
         → option_map_or (λ a. positional_passes d again a h) (option_map f o) false
         ≡ option_map_or (λ a. positional_passes c again a h) o false
@@ -198,7 +198,7 @@ module _ (s : Swap) (same : ReadsSame s) where
     abbrev other : Shape
     other = with_swapped s top
 
-    -- a word that is no subcommand's name passes as before
+    -- a word that is no subcommand's name passes as before the change
     other_same : (o : Option Text) (word : Text) (h : Held)
         → other_passes other o word h ≡ other_passes top o word h
     other_same (Some name) word h = refl
@@ -206,7 +206,7 @@ module _ (s : Swap) (same : ReadsSame s) where
         ap (λ x. bytes_eq word (45 ∷ 45 ∷ []) || x)
         (flag_word_same top.rules top.args_override_self (long_of word) word h)
 
-    -- the step of a word passes as before
+    -- the step of a word passes as before the change
     step_same : (position : ℕ) (h : Held) (step : Step)
         → step_passes other position h step ≡ step_passes top position h step
     step_same position h (next waiting) = refl
@@ -218,7 +218,7 @@ module _ (s : Swap) (same : ReadsSame s) where
         (found_swapped s _ (λ a. refl) top.rules)
         ∙ positional_same top.rules top.args_override_self (arg_by_index top.rules position) h
 
-    -- one more word passes as before
+    -- one more word passes as before the change
     turn_same : (names : Names) (w : Walk) (word : Text)
         → turn_passes other names w word ≡ turn_passes top names w word
     turn_same names w word =
@@ -229,7 +229,7 @@ module _ (s : Swap) (same : ReadsSame s) where
         (word_met_swapped s same top.rules names w.is_trailing w.waiting w.position word w.held)
         ∙ step_same w.position met.0 met.1)
 
-    -- all the words pass as before
+    -- all the words pass as before the change
     walk_same : (names : Names) (w : Walk) (words : List Text)
         → walk_passes other names w words ≡ walk_passes top names w words
     unfolding walk_passes
@@ -240,7 +240,7 @@ module _ (s : Swap) (same : ReadsSame s) where
         ∙ walk_same names (walked top.rules names w word) words)
 
     -- ---- the tests after the walk
-    -- the rows at the end pass the tests after the walk as before
+    -- the rows at the end of the walk pass the tests after it as before the change
     valid_same : (rows : List Row) (has_subcommand : Bool)
         → is_valid other rows has_subcommand ≡ is_valid top rows has_subcommand
     valid_same rows has_subcommand =
@@ -252,7 +252,7 @@ module _ (s : Swap) (same : ReadsSame s) where
         (all_swapped s (λ a. not a.required || is_given a.id rows)
         (λ a. not a.required || is_given a.id rows) (λ a. refl) top.rules)
 
-    -- a command takes the same words for its own arguments
+    -- a command takes the same words for its own arguments as before the change
     pub level_same : (names : Names) (h : Held) (words : List Text) (has_subcommand : Bool)
         → level_passes other names h words has_subcommand
         ≡ level_passes top names h words has_subcommand

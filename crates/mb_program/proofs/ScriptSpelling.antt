@@ -1,4 +1,4 @@
--- A ratifier script that is spelled is read, and bytes that were read as a script spell that script.
+-- The lines that spell a ratifier script are read as that script, and bytes that were read as a script spell it.
 use Rattle.std.proofs.Common.{◌≡◌, ℕ, ◌<◌, ◌≤◌, ◌^◌, Bool, true, false, cond, nat_eq, nat_lt, List, [], ◌∷◌, length, codes, map, Option, Some, None, Result, Ok, Err, refl, ap, sym, subst, ◌∙◌, rules}
 use Rattle.std.specs.Prelude.{IfOk}
 use Rattle.std.specs.Fmt.{decimal}
@@ -20,14 +20,14 @@ use Rattle.mb_script.specs.Vocabulary.{◌>>=◌, table_name, table_named, IsWor
 use Rattle.mb_script.proofs.ReadAgain.{table_word}
 use Rattle.mb_script.proofs.ReadBack.{table_takes}
 
--- the laws of mb_script of words, numbers and ASCII, on which the reading stands
+-- the laws of mb_script that reading rests on. A word as `IsWord` says is not empty, is ASCII and has no space
 pub record TextLaws : Type 0 where
-  -- words with one space between each two are cut out again
+  -- if words are joined, with one space between two, the line is cut into the same words again
   pub cut : (w : List ℕ) (ws : List (List ℕ)) → AllByRecursion IsWord (w ∷ ws)
       → words_in_line (join_with_byte 32 (w ∷ ws)) ≡ w ∷ ws
-  -- among words that may stand on a line none is empty
+  -- if all words are as `IsWord` says, none of them is empty
   pub none_empty : (ws : List (List ℕ)) → AllByRecursion IsWord ws → has_empty ws ≡ false
-  -- the decimals of numbers may stand on a line
+  -- the decimals of numbers below 2^64 are words as `IsWord` says
   pub word : (n : ℕ) → n < 2 ^ 64 → IsWord (decimal n)
   pub words : (ns : List ℕ) → AllByRecursion (λ n. n < 2 ^ 64) ns → AllByRecursion IsWord (map decimal ns)
   -- the decimals of numbers are read as these numbers
@@ -37,42 +37,42 @@ pub record TextLaws : Type 0 where
   pub spelled : (w : List ℕ) (n : ℕ) → number_of w ≡ Some n → (w ≡ decimal n) × (n < 2 ^ 64)
   pub all_spelled : (ws : List (List ℕ)) (ns : List ℕ) → numbers_of ws ≡ Some ns
       → (ws ≡ map decimal ns) × AllByRecursion (λ n. n < 2 ^ 64) ns
-  -- a text whose lines are lines of words is ASCII
+  -- if the lines of a text are joined words, as `IsWordLine` says, the text is ASCII
   pub ascii : (bytes : List ℕ) (lines : List (List (List ℕ))) → AllByRecursion IsWordLine lines
       → lines_of bytes ≡ map (join_with_byte 32) lines → list_all is_ascii bytes ≡ true
 
--- if a step after another went well, the first step went well, too
+-- if two steps in a row gave y, the first gave some x, and the second gave y for it
 bind_ok : {A B : Type 0} (r : Result A RatifyFault) (f : A → Result B RatifyFault) (y : B) → (r >>= f) ≡ Ok y
     → (x : A) × (r ≡ Ok x) × (f x ≡ Ok y)
 bind_ok (Ok x) f y e = (x, refl, e)
 bind_ok (Err d) f y e = absurd (cc)
 
--- a step after a test that had to hold went well, so it held
+-- if a test that does not hold gives the fault d, and there was no fault, the test holds
 passed : {A : Type 0} (b : Bool) (d : RatifyFault) (r : Result A RatifyFault) (y : A) → cond b r (Err d) ≡ Ok y
     → (b ≡ true) × (r ≡ Ok y)
 passed true d r y e = (refl, e)
 passed false d r y e = absurd (cc)
 
--- a step after a test that had to fail went well, so it failed
+-- if a test that holds gives the fault d, and there was no fault, the test does not hold
 avoided : {A : Type 0} (b : Bool) (d : RatifyFault) (r : Result A RatifyFault) (y : A) → cond b (Err d) r ≡ Ok y
     → (b ≡ false) × (r ≡ Ok y)
 avoided false d r y e = (refl, e)
 avoided true d r y e = absurd (cc)
 
--- `Ok` with its type of fault
+-- `Ok x` as a result whose fault, if it had one, would be that of `ratify`
 abbrev done : {A : Type 0} → A → Result A RatifyFault
 done x = Ok x
 
--- two `Ok` that are one have one value
+-- if `Ok x` and `Ok y` are equal, x and y are
 ok_is : {A : Type 0} (x y : A) → done x ≡ done y → x ≡ y
 ok_is x y e = cc
 
--- a step after an option that had to have a value went well, so it had one
+-- if an option gives a fault in place of no value, and there was no fault, it has a value
 some_from : {A : Type 0} (o : Option A) (d : RatifyFault) (x : A) → ok_or o d ≡ Ok x → o ≡ Some x
 some_from (Some y) d x e = ap (λ (z : _). Some z) (ok_is y x e)
 some_from None d x e = absurd (cc)
 
--- the words read from a line are that line, with one space between each two
+-- if a line's words were read, it is these words, with one space between two, and the lines after it are left
 line_takes : (n : ℕ) (lines : List (List ℕ)) (x : List (List ℕ) × List (List ℕ)) → line_words n lines ≡ Ok x
     → lines ≡ join_with_byte 32 x.0 ∷ x.1
 unfolding line_words
@@ -92,7 +92,7 @@ line_again law n w ws rest are = rw (law.cut w ws are, law.none_empty (w ∷ ws)
 abbrev head_values : List ℕ → TableName → Result (TableName × ℕ) RatifyFault
 head_values values t = ok_or (number_of values) (BadNumber 1) >>= (λ m. Ok (t, m))
 
--- words that were read as a table and a number of values spell them as the first line does
+-- words that were read as a first line are `ratify`, the table's name and the decimal of the number of values
 head_takes : TextLaws → (ws : List (List ℕ)) (x : TableName × ℕ) → head_of ws ≡ Ok x
     → (ws ≡ codes "ratify" ∷ table_name x.0 ∷ decimal x.1 ∷ []) × (x.1 < 2 ^ 64)
 unfolding head_of
@@ -125,7 +125,7 @@ head_again law Unary m h = rw (law.read m h) refl
 head_again law Bits m h = rw (law.read m h) refl
 head_again law Middle m h = rw (law.read m h) refl
 
--- words that were read as a key and numbers are the key and the decimals of these numbers
+-- words of a line that were read as numbers are the key and the decimals of these numbers
 list_takes : TextLaws → (n : ℕ) (key : List ℕ) (ws : List (List ℕ)) (ns : List ℕ) → list_of n key ws ≡ Ok ns
     → (ws ≡ key ∷ map decimal ns) × AllByRecursion (λ k. k < 2 ^ 64) ns
 unfolding list_of
@@ -205,7 +205,7 @@ lines_take law lines s e =
     subst (λ (t : Script). HasSpelling t × (lines ≡ script_lines t)) (ok_is made s h.1)
     (record { values = head.1; inputs = inputs.1; turns = turns.1 }, whole)
 
--- the words of a script may stand on lines
+-- if a script has a spelling, the words of each of its lines are a line of words as `IsWordLine` says
 words_fit : TextLaws → (s : Script) → HasSpelling s → AllByRecursion IsWordLine (script_words s)
 words_fit law s h = (
   (search rules, (table_word s.table, (law.word s.values h.values, tt))),
@@ -245,7 +245,7 @@ script_again law bytes s h short e =
     let ascii = law.ascii bytes (script_words s) (words_fit law s h) e in
     rw (le-ltb MAX_SCRIPT_LEN (length bytes) short, ascii, e) (lines_again law s h)
 
--- if a call found a script in bytes, they have that script's lines
+-- if a call returned the script that it read from bytes, the bytes have that script's lines
 pub is_found : {A : Type 0} → TextLaws → (bytes : List ℕ) (r : Result (code.RatifyScript A) RatifyFault)
     → Gives (λ s. view s) r (script_of bytes)
     → IfOk r (λ s. HasSpelling (view s) × (lines_of bytes ≡ script_lines (view s)))

@@ -1,4 +1,4 @@
--- What `get_str` gives of the option for a shape, by the rows that clap found.
+-- What `get_str` of clap returns for the option of a shape, by the rows that clap found.
 use Rattle.std.proofs.Common.{◌≡◌, ◌∙◌, ap, sym, Option, Some, None, codes}
 use Rattle.std.specs.Prelude.{option_map, unwrap_or}
 use Rattle.std.specs.Borrow.{Bor}
@@ -10,7 +10,7 @@ use Rattle.mb_script.specs.Vocabulary.{shape_of_word}
 use Rattle.mb_program.specs.declared.options.TheConstants.{DEFAULTS}
 use Rattle.mb_program.specs.RunOptions.{shape_from, shape_in}
 
--- the shape that the text of `get_str` names, or else the default, is the shape of the rows
+-- the shape that the text returned by `get_str` names, or else the default, is the shape of the rows
 shape_read : (f : Found) (o p : Option (Bor Text))
     → option_map (λ (s : Bor Text). s.now) o ≡ first_value f (codes "shape") → o ≡ p
     → shape_from (option_map (λ (s : Bor Text). s.now) p) ≡ shape_in (rows_of f)
@@ -18,7 +18,7 @@ shape_read f o p gives is =
     ap (λ (q : Option (Bor Text)). shape_from (option_map (λ (s : Bor Text). s.now) q)) (sym is)
     ∙ ap shape_from (gives ∙ first_value-rows f (codes "shape"))
 
--- a word that `get_str` gives names the shape, or else the default holds
+-- if `get_str` returns a word, the shape of the rows is the one that it names, or the default if it names none
 pub word_read : (f : Found) (o : Option (Bor Text)) (word : Bor Text) (named : Option Shape)
     (r : Shape)
     → option_map (λ (s : Bor Text). s.now) o ≡ first_value f (codes "shape") → o ≡ Some word
@@ -28,7 +28,7 @@ word_read f o word named r gives is found made =
     made ∙ ap (λ (q : Option Shape). unwrap_or q DEFAULTS.shape) found
     ∙ shape_read f o (Some word) gives is
 
--- if `get_str` gives no word, the default holds
+-- if `get_str` returns no word, the shape of the rows is the default
 pub none_read : (f : Found) (o : Option (Bor Text))
     → option_map (λ (s : Bor Text). s.now) o ≡ first_value f (codes "shape") → o ≡ None
     → DEFAULTS.shape ≡ shape_in (rows_of f)

@@ -1,4 +1,4 @@
--- Where clap's text went.
+-- To which of its two writers the program wrote clap's text.
 use Rattle.std.proofs.Common.{◌≡◌, ◌≢◌, inl, inr, ℕ, Bool, true, false, List, [], refl, sym, ◌∙◌, subst}
 use Rattle.std.specs.Prelude.{IsTrue, ◌↔◌}
 use Rattle.clap.specs.declared.error.ErrorKind.{ErrorKind}
@@ -10,7 +10,7 @@ use Rattle.mb_program.specs.Program.{IsPrinted, IsTold}
 abbrev Decides : Bool → ErrorKind → Type 0
 Decides stderr kind = IsTrue stderr ↔ ((kind ≢ DisplayHelp) × (kind ≢ DisplayVersion))
 
--- what was printed may be told of an equal writer, and by an equal flag
+-- what `IsPrinted` says of a writer and a flag, it says of an equal writer and an equal flag
 printed_as : {D : Type 0} (sink : IoModel D) (old new end : D) (text : List ℕ) (printed flag : Bool)
     → end ≡ new → flag ≡ printed
     → IsPrinted sink old new text printed → IsPrinted sink old end text flag

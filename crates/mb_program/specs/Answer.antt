@@ -21,7 +21,7 @@ IsTraceOf s entries outputs =
 abbrev pub refused_as : Script → Option RatifyFault
 refused_as s = option_map fault_from (refusal_of s.values s.inputs s.turns)
 
--- the fault of what was read: that of reading it, or else that of `ratify`
+-- the fault that reading found, if it found one, or else the one for which `ratify` refuses what was read
 abbrev pub fault_in : Result Script RatifyFault → Option RatifyFault
 fault_in (Err e) = Some e
 fault_in (Ok s) = refused_as s

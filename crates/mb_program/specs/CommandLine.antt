@@ -11,7 +11,7 @@ use Rattle.mb_program.specs.declared.command.Choice.{Choice}
 use Rattle.mb_program.specs.declared.command.Choice.TheVariants.{Ratify, Replay, Run}
 use Rattle.mb_program.specs.declared.options.TheConstants.{MAX_BUDGET}
 
--- an option that takes a number from `low` to `high`, and else has this default
+-- an option that takes a number from `low` to `high`, and has this default if it is not given
 abbrev pub number_rule : Text → Text → ℕ → ℕ → Rule
 number_rule name default low high = record (new_rule name) {
   long = Some name;
@@ -29,15 +29,15 @@ any_number name default = number_rule name default 0 (2 ^ 64 - 1)
 abbrev pub TextsAt : Type 0
 TextsAt = Bor (List (Bor Text))
 
--- a value with a place in memory, which is the same for all: clap reads what texts say, and not where they lie
+-- a reference to a value, at an address that is the same for all: clap reads what texts say, and not where they lie
 abbrev pub somewhere : {X : Type 0} → X → Bor X
 somewhere x = record { ref_ptr = (0, 0); now = x }
 
--- texts, each with that place in memory
+-- references to texts, each at that address
 abbrev pub texts_at : List Text → TextsAt
 texts_at texts = somewhere (map somewhere texts)
 
--- an option that takes one of these names, and else has this default
+-- an option that takes one of these names, and has this default if it is not given
 abbrev pub named_rule : Text → Text → TextsAt → Rule
 named_rule name default names = record (new_rule name) {
   long = Some name;
@@ -75,7 +75,7 @@ program_with names =
 abbrev pub program : App
 program = program_with (texts_at shape_names)
 
--- the app is made with these texts, wherever they lie
+-- the app is `app_with` of these texts, wherever they lie in memory
 abbrev pub IsHanded : (TextsAt → App) → List Text → App → Type 0
 IsHanded app_with texts app =
     (names : TextsAt) × (map (λ (n : Bor Text). n.now) names.now ≡ texts) × (app ≡ app_with names)
@@ -92,7 +92,7 @@ IsProgramApp = IsHanded program_with shape_names
 abbrev pub command_in : List Text → Option Text
 command_in words = option_map (λ found. found.0) (subcommand_of program words)
 
--- the name of the command that a choice is of
+-- the name of the command that was chosen
 abbrev pub choice_name : Choice → Text
 choice_name Ratify = codes "ratify"
 choice_name Replay = codes "replay"

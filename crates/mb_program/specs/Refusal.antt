@@ -1,4 +1,4 @@
--- What `ratify` refuses, and where reading stops, as a fault of the program.
+-- The fault of the program for each refusal of `ratify`, and for each end of reading.
 use Rattle.mb_deciding.specs.declared.trace.Fault.{Fault}
 use Rattle.mb_deciding.specs.declared.trace.Fault.TheVariants as ratify
 use Rattle.mb_program.specs.declared.fault.RatifyFault.{RatifyFault}
@@ -7,14 +7,14 @@ use Rattle.mb_program.specs.declared.fault.RatifyFault.TheVariants.{NoSuchProces
 use Rattle.mb_script.specs.declared.transfer.ReadEnd.{ReadEnd}
 use Rattle.mb_script.specs.declared.transfer.ReadEnd.TheVariants as end
 
--- the fault of a refusal of `ratify`, which keeps its name
+-- the fault that has the name of this refusal of `ratify`
 abbrev pub fault_from : Fault → RatifyFault
 fault_from ratify.BadValues = BadValues
 fault_from (ratify.BadInput place) = BadInput place
 fault_from (ratify.NoSuchProcess place) = NoSuchProcess place
 fault_from ratify.NoMemory = NoMemory
 
--- the fault of an end of reading, which keeps its name
+-- the fault that has the name of this end of reading
 abbrev pub fault_at : ReadEnd → RatifyFault
 fault_at end.TooLong = TooLong
 fault_at end.NoMemory = NoMemory

@@ -1,4 +1,4 @@
--- The options of `run` that the words of a command line give.
+-- The options of `run` that the words of a command line give. A row is what clap found for one option.
 use Rattle.std.specs.Prelude.{ℕ, ◌≡◌, ◌≤◌, ◌-◌, ◌^◌, ◌||◌, nat_lt, List, codes, Option, Some, None, option_map, unwrap_or, if◌then◌else◌}
 use Rattle.std.specs.Str.Parse.{digits_value, without_leading_plus}
 use Rattle.clap.specs.Words.{Row, Text, first_of, one_of, subcommand_of}
@@ -11,7 +11,7 @@ use Rattle.mb_program.specs.declared.options.Options.{Options}
 use Rattle.mb_program.specs.declared.options.TheConstants.{DEFAULTS, MAX_BUDGET}
 use Rattle.mb_program.specs.CommandLine.{program}
 
--- the number from `low` to `high` that a text writes, else the default
+-- the number that the text spells, if there is a text and the number is from `low` to `high`, else the default
 abbrev pub number_from : ℕ → ℕ → ℕ → Option Text → ℕ
 number_from low high default None = default
 number_from low high default (Some text) =

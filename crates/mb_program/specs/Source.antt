@@ -13,6 +13,6 @@ seed_bytes seed = to_le_bytes w64 seed ++ replicate 24 0
 abbrev pub source_from : ℕ → ℕ → ChaCha
 source_from seed c = record (of_seed (seed_bytes seed)) { stream = c }
 
--- the words that a generator of eight rounds gives from now on
+-- the random words that a generator (ChaCha of eight rounds) gives from now on
 abbrev pub words_from : ChaCha → Stream
 words_from rng = stream_of (steps_u32 (next_word 4)) rng

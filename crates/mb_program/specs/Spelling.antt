@@ -13,7 +13,7 @@ script_words s =
     ∷ (codes "turns" ∷ map decimal s.turns)
     ∷ []
 
--- the lines of a script: one space between each two words
+-- the lines of a script: between two words of a line stands one space
 abbrev pub script_lines : Script → List (List ℕ)
 script_lines s = map (join_with_byte 32) (script_words s)
 

@@ -11,7 +11,7 @@ pub(crate) const RATIFY_ABOUT: &str =
 
 /// What the help of `ratify` says after its options.
 pub(crate) const RATIFY: &str = "\
-A script has three lines of words, with one space between each two:
+A script has three lines. Between two words of a line stands one space:
   ratify <table> <m>      the quorum table, unary, bits or middle, for m values, 1 to 64
   inputs <i0> <i1> ..     the input of each process, each below m
   turns <p> <p> ..        the process of each turn, in the order of time
@@ -27,7 +27,7 @@ pub(crate) const REPLAY_ABOUT: &str =
 
 /// What the help of `replay` says after its options.
 pub(crate) const REPLAY: &str = "\
-A script is lines of words, with one space between each two. The first is
+A script is lines. Between two words of a line stands one space. The first line is
   setup <producers> <consumers> <cells> <pairs> <table> <shape>
 with 1 to 16, 1 to 64, 0 to 256, 1 to 8, unary, bits or middle, and fast, last or fastlast, or no shape at all if
 each cell has pairs alone. Each line after it is an event:

@@ -1,4 +1,4 @@
-//! What the program does: it reads a command line, and does what that asks over a reader and two writers.
+//! What the program does: it reads a command line, and does what that asks, with a reader and two writers.
 #![tactic(auto)]
 
 mod command;

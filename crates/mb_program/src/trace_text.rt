@@ -76,7 +76,7 @@ fn push_processes<A: Allocator>(
     Ok(())
 }
 
-/// A line for each entry of the trace, and then a line for the output of each process. The error comes if memory runs out.
+/// A line for each entry of the trace, and then one for the output of each process. The error comes if memory runs out.
 pub fn trace_text<A: Allocator + Copy>(alloc: A, trace: &Trace<A>) -> Result<String<A>, AllocError>
     ensures { IfOk result (λ text. string_bytes text
         ≡ trace_text trace.now.entries.items trace.now.outputs.items) }

@@ -1,4 +1,4 @@
--- How often values stand in lists, and sums of that.
+-- How often a value is in a list, and sums of such numbers.
 use Rattle.std.proofs.Common.{◌≡◌, ◌≢◌, ℕ, zero, suc, ◌+◌, ◌<◌, List, [], ◌∷◌, ◌++◌, length, refl, ap, ◌∙◌, arith, Option, Some, None}
 use Rattle.std.proofs.lemmas.Bool.{eq-eqb, ne_eqb}
 use Rattle.std.specs.Prelude.{nat_eq, if◌then◌else◌}
@@ -8,15 +8,15 @@ use mathlib.Core.Bool.{cond}
 use Rattle.mb_world.specs.Theorem.{is_consumer, items_where}
 use Rattle.mb_rounds.specs.Carried.{times}
 
--- how often x is the one value y: once or never
+-- 1 if x is y, else 0
 abbrev pub one : ℕ → ℕ → ℕ
 one x y = cond (nat_eq x y) 1 0
 
--- how often a value is in two lists joined
+-- a value is in two lists joined as often as in both together
 pub times_both : (x : ℕ) (xs ys : List ℕ) → times x (xs ++ ys) ≡ times x xs + times x ys
 times_both x xs ys = sum_by-append (λ y. one x y) xs ys
 
--- how often a value is in a list, by its first element
+-- a value x is in a list once if it is the first element y, and as often as it is in the rest of the list
 pub times_first : (x y : ℕ) (ys : List ℕ) → times x (y ∷ ys) ≡ one x y + times x ys
 times_first x y ys = sum_by-cons (λ z. one x z) y ys
 
@@ -25,12 +25,12 @@ abbrev pub sum_below : ℕ → (ℕ → ℕ) → ℕ
 sum_below zero f = 0
 sum_below (suc n) f = sum_below n f + f n
 
--- a sum begins with its first term
+-- the sum of n + 1 terms is the first term and the sum of the n others
 pub sum_first : (n : ℕ) (f : ℕ → ℕ) → sum_below (suc n) f ≡ f 0 + sum_below n (λ k. f (suc k))
 sum_first zero f = omega arith
 sum_first (suc n) f = let t = sum_first n f in omega (arith, t)
 
--- sums of the same terms are one
+-- two sums are equal if their terms are
 pub sum_same : (n : ℕ) (f g : ℕ → ℕ) → ((k : ℕ) → k < n → f k ≡ g k) → sum_below n f ≡ sum_below n g
 sum_same zero f g same = refl
 sum_same (suc n) f g same =
@@ -38,17 +38,17 @@ sum_same (suc n) f g same =
     let e = same n (omega arith) in
     omega (arith, t, e)
 
--- a sum of nothing is 0
+-- a sum is 0 if each term is 0
 pub sum_none : (n : ℕ) → sum_below n (λ k. 0) ≡ 0
 sum_none zero = refl
 sum_none (suc n) = let t = sum_none n in omega (arith, t)
 
--- the sum of two terms each is the sum of both sums
+-- if each term is a sum of two numbers, the sum is that of all first numbers and that of all second ones together
 pub sum_both : (n : ℕ) (f g : ℕ → ℕ) → sum_below n (λ k. f k + g k) ≡ sum_below n f + sum_below n g
 sum_both zero f g = refl
 sum_both (suc n) f g = let t = sum_both n f g in omega (arith, t)
 
--- a sum of sums may be taken rows first or columns first
+-- the sum of all f c p is the same, whether it is taken for each p first or for each c first
 pub sum_swap : (n m : ℕ) (f : ℕ → ℕ → ℕ) → sum_below n (λ c. sum_below m (f c))
     ≡ sum_below m (λ p. sum_below n (λ c. f c p))
 sum_swap n zero f = sum_none n
@@ -57,7 +57,7 @@ sum_swap n (suc m) f =
     let s = sum_both n (λ c. sum_below m (f c)) (λ c. f c m) in
     omega (arith, t, s)
 
--- one term that is larger by v makes the sum larger by v
+-- if term d of f is larger by v than that of g, and all other terms are equal, the sum of f is larger by v
 pub sum_more : (n d : ℕ) (f g : ℕ → ℕ) (v : ℕ) → d < n → f d ≡ v + g d → ((k : ℕ) → d ≢ k → f k ≡ g k)
     → sum_below n f ≡ v + sum_below n g
 sum_more zero d f g v low here others = absurd (omega arith)
@@ -74,17 +74,17 @@ sum_more (suc n) (suc d) f g v low here others =
     (λ k ne. others (suc k) (λ e. ne (omega arith))) in
     omega (arith, a, b, head, tail)
 
--- ---- items that an assignment gives out
+-- ---- items that an assignment t gives out: t j says to which consumer, if any, item j goes
 module _ (x n : ℕ) where
-  -- how often x is given to one of the first n consumers
+  -- how often x is among the items that go to the first n consumers
   abbrev pub shares : (ℕ → Option ℕ) → List ℕ → ℕ
   shares t items = sum_below n (λ c. times x (items_where (λ j. is_consumer c (t j)) items))
 
-  -- how often x is given to nobody
+  -- how often x is among the items that go to nobody
   abbrev pub rests : (ℕ → Option ℕ) → List ℕ → ℕ
   rests t items = times x (items_where (λ j. is_none (t j)) items)
 
-  -- if the first item is given to nobody, it is among those left
+  -- if the first item goes to nobody, it counts among the rests, and not among the shares
   first_left : (t : ℕ → Option ℕ) (y : ℕ) (ys : List ℕ) → t 0 ≡ None
       → (shares t (y ∷ ys) ≡ shares (λ j. t (suc j)) ys) × (rests t (y ∷ ys) ≡ one x y + rests (λ j. t (suc j)) ys)
   first_left t y ys e =
@@ -95,7 +95,7 @@ module _ (x n : ℕ) where
         ap (λ (z : Option ℕ). times x (if is_none z then y ∷ left else left)) e ∙ times_first x y left,
       )
 
-  -- if the first item is given to one of these consumers, it is among the shares
+  -- if the first item goes to one of the first n consumers, it counts among the shares, and not among the rests
   first_given : (t : ℕ → Option ℕ) (y : ℕ) (ys : List ℕ) (d : ℕ) → t 0 ≡ Some d → d < n
       → (shares t (y ∷ ys) ≡ one x y + shares (λ j. t (suc j)) ys) × (rests t (y ∷ ys) ≡ rests (λ j. t (suc j)) ys)
   first_given t y ys d e known =
@@ -109,7 +109,7 @@ module _ (x n : ℕ) where
         ap (λ (z : Option ℕ). times x (if is_none z then y ∷ left else left)) e,
       )
 
-  -- the shares and those left together are how often x is there, if only these consumers are given items
+  -- if items go to none but the first n consumers, shares and rests together are how often x is among the items
   pub given_and_left : (t : ℕ → Option ℕ) (items : List ℕ) → ((j c : ℕ) → j < length items → t j ≡ Some c → c < n)
       → shares t items + rests t items ≡ times x items
   given_and_left t [] few = let z = sum_none n in omega (arith, z)

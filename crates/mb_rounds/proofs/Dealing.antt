@@ -11,19 +11,19 @@ use Rattle.mb_rounds.specs.Round.{AreEven}
 abbrev pub IsShare : ℕ → List ℕ → Type 0
 IsShare q list = (q ≤ length list) × (length list ≤ suc q)
 
--- `left` items are enough for q in each of k lists, and no more than one more in each
+-- `left` items are enough for k lists of q items each, and not too many for k lists of q + 1 items each
 pub record HasShares (q k left : ℕ) : Type 0 where
   pub low : q * k ≤ left
   pub high : left ≤ k + q * k
 
--- so many items for each of k lists, in whole numbers
+-- if n items are dealt to k lists, the fair share q is n / k in whole numbers
 pub shares_first : (n k : ℕ) → 0 < k → HasShares (n / k) k n
 shares_first n k some = record {
   low = div-mul-le_self n k;
   high = let below = lt-div-mul-add {a = n} {b = k} some in omega (arith, below);
 }
 
--- a list that gets its part of what is left has a fair share
+-- if the next list gets one k-th of the items that remain for k lists, in whole numbers, it has a fair share
 pub share_of : (q k left : ℕ) → 0 < k → HasShares q k left → (q ≤ left / k) × (left / k ≤ 1 + q)
 share_of q k left some shares =
     let one = mul-add k 1 q in
@@ -34,7 +34,7 @@ share_of q k left some shares =
       div-le_of_le-mul k {m = left} {n = 1 + q} (omega (arith, one, unit, swap, high)),
     )
 
--- after it what is left has fair shares for the other lists
+-- after that list, the items that remain are enough for fair shares of the other lists, and not too many
 pub shares_on : (q k j left : ℕ) → k ≡ 1 + j → HasShares q k left → HasShares q j (left - left / k)
 shares_on q k j left more shares =
     let some : 0 < k = omega (arith, more) in
@@ -67,7 +67,7 @@ shares_on q k j left more shares =
           )
     ]
 
--- the first items of what is left are a fair share, if so many are
+-- if n is q or one more, and at least n items remain, a list of the first n of them has a fair share
 pub share_has : (q n : ℕ) (rest list : List ℕ) → list ≡ take n rest → n ≤ length rest → (q ≤ n) × (n ≤ 1 + q)
     → IsShare q list
 share_has q n rest list front within part =
@@ -76,7 +76,7 @@ share_has q n rest list front within part =
     let most = part.1 in
     (omega (arith, count, least), omega (arith, count, most))
 
--- lists with fair shares are even
+-- lists with fair shares differ by one item at most, so they are even
 pub shares_are_even : (q : ℕ) (lists : List (List ℕ)) → All (IsShare q) lists → AreEven lists
 shares_are_even q lists all = λ k d low. λ n e less.
     let most = (all k d low).1 in

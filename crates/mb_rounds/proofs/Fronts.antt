@@ -1,4 +1,4 @@
--- What a run of workers put is what the report has of each lane.
+-- What a run's producers put on each lane is what the report says was put there.
 use Rattle.std.proofs.Common.{◌≡◌, ℕ, zero, suc, ◌<◌, List, [], ◌∷◌, map, length, get_or, refl, sym, ap, subst, ◌∙◌, arith, Option, Some, None}
 use Rattle.std.specs.Prelude.{slice_get}
 use Rattle.std.specs.Option.{option_map_or}
@@ -13,14 +13,14 @@ use Rattle.mb_world.specs.Theorem.{LaneView, ReportView}
 use Rattle.mb_mailbox.proofs.Lists.{map_get}
 use Rattle.mb_rounds.specs.Round.{IsPutOf}
 
--- what a function makes of the element at a position stands there
+-- if x is the element at position i, the list after `map f` has f x at position i
 pub get_map_at : {A B : Type 0} (f : A → B) (xs : List A) (i : ℕ) (x : A) → i < length xs → get_or xs i x ≡ x
     → slice_get (map f xs) i ≡ Some (f x)
 get_map_at f [] i x low e = absurd (omega arith)
 get_map_at f (y ∷ xs) zero x low e = ap (λ z. Some (f z)) e
 get_map_at f (y ∷ xs) (suc i) x low e = get_map_at f xs i x (omega arith) e
 
--- position by position, the lanes of the report have what the workers put
+-- if the report says of each lane what its producer put, this is a beginning of the list dealt to that producer
 zip_put : (lists : List (List ℕ)) (ls : List ProducerEnd) (vs : List LaneView)
     → AllZip (λ list l. IsFront l.put list) lists ls
     → length vs ≡ length ls
@@ -38,7 +38,7 @@ zip_put (list ∷ lists) (l ∷ ls) (v ∷ vs) z count each =
     let put : l.put ≡ v.put = sym (ap (λ (w : LaneView). w.put) same ∙ here.2) in
     (subst (λ items. IsFront items list) put z.0, zip_put lists ls vs z.1 (omega arith) (λ p k e. each (suc p) k e))
 
--- what the report has of each lane is a beginning of the list dealt to its producer
+-- what the report says was put on each lane is a beginning of the list dealt to its producer
 pub fronts_told : (lanes consumers : ℕ) (lists : List (List ℕ)) (ls : List ProducerEnd) (h : HubView) (r : ReportView)
     → lanes ≡ length lists → IsReportIn lanes consumers h r
     → h.puts ≡ map (λ l. Some (ended_list l)) ls

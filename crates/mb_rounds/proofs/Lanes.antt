@@ -1,4 +1,4 @@
--- What is given out of one lane, and what is left of it, is what was put there.
+-- What consumers took of one lane, and what is left of it, is what was put there.
 use Rattle.std.proofs.Common.{◌≡◌, ℕ, zero, suc, ◌+◌, ◌*◌, ◌<◌, ◌≤◌, Bool, true, false, List, [], length, refl, sym, ap, ◌∙◌, arith, Option, Some, None, ⊎_elim}
 use Rattle.std.proofs.lemmas.Bool.{false≢true}
 use Rattle.std.proofs.lemmas.Nat.{mul-le}
@@ -13,7 +13,7 @@ use Rattle.mb_rounds.specs.Carried.{times}
 use Rattle.mb_rounds.specs.Round.{IsPlayed}
 use Rattle.mb_rounds.proofs.Counts.{given_and_left, sum_below, sum_same}
 
--- a choice between no value and no value is no value
+-- if an option has no value, a choice between it and no value has none
 chosen_none : {X : Type 0} (b : Bool) (o : Option X) → o ≡ None → (if b then o else None) ≡ None
 chosen_none true o e = e
 chosen_none false o e = refl
@@ -24,7 +24,7 @@ module _ {may_stop may_pass : Who → ℕ → Type 0} (terms : Terms) (lists : L
   abbrev plan : Plan
   plan = terms.plan
 
-  -- a number that no consumer has is that of no diary
+  -- if c is no consumer's number, the report has no diary of c
   no_diary : (c p : ℕ) → consumers_of plan ≤ c → diary c p r ≡ None
   no_diary c p far =
       chosen_none (nat_lt p (length r.lanes)) (slice_get r.diaries (c * length r.lanes + p))
@@ -36,7 +36,7 @@ module _ {may_stop may_pass : Who → ℕ → Type 0} (terms : Terms) (lists : L
       let same : c * length r.lanes ≡ c * plan.lanes = ap (λ k. c * k) lanes in
       omega (arith, count, few, same)))
 
-  -- who is no consumer has not competed
+  -- if c is no consumer's number, the report does not say that c competed for an item
   competitor_is_known : (c p j : ℕ) → HasCompeted c p j r → consumers_of plan ≤ c → ⊥
   competitor_is_known c p j competed far =
       let none = no_diary c p far in
@@ -46,7 +46,7 @@ module _ {may_stop may_pass : Who → ℕ → Type 0} (terms : Terms) (lists : L
       ⊎_elim (λ low. let n = ap length no_notes in omega (arith, low, n))
       (λ t. false≢true (sym not_begun ∙ t.1)) competed
 
-  -- who competed is one of the consumers
+  -- who competed for an item is one of the consumers
   known : (c p j : ℕ) → HasCompeted c p j r → c < consumers_of plan
   known c p j competed = below c (consumers_of plan) (competitor_is_known c p j competed)
     where
@@ -55,7 +55,7 @@ module _ {may_stop may_pass : Who → ℕ → Type 0} (terms : Terms) (lists : L
       below zero (suc n) not_far = omega arith
       below (suc c) (suc n) not_far = let t = below c n (λ far. not_far (omega arith)) in omega (arith, t)
 
-  -- the ledgers of all consumers from a lane, and the items left there, are those that were put
+  -- the ledgers of all consumers from a lane, and the items left there, have x as often as it was put there
   pub lane_adds_up : (x p : ℕ) (l : LaneView) → slice_get r.lanes p ≡ Some l
       → sum_below (consumers_of plan) (λ c. times x (ledger c p r)) + times x l.left ≡ times x l.put
   lane_adds_up x p l e =

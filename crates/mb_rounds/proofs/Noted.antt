@@ -19,8 +19,8 @@ use Rattle.mb_mailbox.proofs.Lists.{get_some, map_get, some_same}
 use Rattle.mb_world.specs.Vocabulary.{LaneView, Plan, ReportView, consumers_of, items_put, notes}
 use Rattle.mb_rounds.specs.Round.{HaveNotedAll, IsPlayed, IsPutOf}
 
--- ---- what is told of all is told of each
--- if no flag counts, each flag is off
+-- ---- what holds of all elements holds of each
+-- if the flag is on for no element of the list, it is off for element k
 none_on : {X : Type 0} (flag : X → Bool) (xs : List X) (k : ℕ) (x : X)
     → sum_by (λ y. from_bool (flag y)) xs ≡ 0 → slice_get xs k ≡ Some x → flag x ≡ false
 none_on flag [] k x none at = absurd (cc)
@@ -40,13 +40,13 @@ none_on flag (y ∷ ys) (suc k) x none at =
     let first = sum_by-cons (λ z. from_bool (flag z)) y ys in
     none_on flag ys k x (omega (arith, first, none)) at
 
--- what holds of all elements of a list holds of the one at place k
+-- what holds of all elements of a list holds of element k
 of_one : {X : Type 0} (P : X → Type 0) (xs : List X) (k : ℕ) (x : X) → All P xs → k < length xs
     → slice_get xs k ≡ Some x → P x
 of_one P xs k x all low at =
     subst P (some_same _ _ (sym (slice_get-get_or xs k x low) ∙ at)) (all k x low)
 
--- a consumer with a note at each item has as many notes on a lane as items were put there
+-- a consumer with a note at each item put in a run has as many notes on a lane as items were put there
 noted_at : (from p : ℕ) (lanes : List ProducerEnd) (l : ProducerEnd) (kept : ConsumerRecordView)
     → HasNoteAtEach from lanes kept → slice_get lanes p ≡ Some l
     → length (notes_on (from + p) kept.notes) ≡ length l.put
@@ -62,7 +62,7 @@ noted_at from (suc p) (x ∷ xs) l kept has at =
 
 module _ {may_stop may_pass : Who → ℕ → Type 0} (terms : Terms) (lists : List (List ℕ)) (w : Worked)
     (r : ReportView) (played : IsPlayed may_stop may_pass terms lists w r) where
-  -- what the run left, and whose report this is
+  -- the hub after the run, and how each producer and each consumer of the run ended
   abbrev hub : HubView
   hub = played.run.hub
 
@@ -72,11 +72,11 @@ module _ {may_stop may_pass : Who → ℕ → Type 0} (terms : Terms) (lists : L
   abbrev consumers : List ConsumerEnd
   consumers = played.run.called.worked.consumers
 
-  -- on a lane that the report does not have there are no notes and no items
+  -- if the report has no lane p, it has neither notes nor items of lane p
   past : (c p : ℕ) → length r.lanes ≤ p → length (notes c p r) ≡ length (items_put p r)
   past c p far = rw (le-ltb p (length r.lanes) far, slice_get_past r.lanes p far) refl
 
-  -- the notes of a consumer that worked are those that it left
+  -- the report has those notes of a consumer that this consumer had at the end of the run
   notes_are : (c p : ℕ) (one : ConsumerEnd) → c < consumers_of terms.plan → p < length r.lanes
       → slice_get consumers c ≡ Some one → notes c p r ≡ notes_on p one.kept.notes
   notes_are c p one known low at =
@@ -92,7 +92,7 @@ module _ {may_stop may_pass : Who → ℕ → Type 0} (terms : Terms) (lists : L
       ∙ rw (map_get (λ (x : ConsumerEnd). Some x.kept) consumers c one at) refl in
       told ∙ rw kept refl
 
-  -- the items of a lane are those that its producer put
+  -- the report has those items of a lane that its producer put
   items_are : (p : ℕ) (l : ProducerEnd) → p < length r.lanes → slice_get lanes p ≡ Some l
       → items_put p r ≡ l.put
   items_are p l low at =
@@ -105,7 +105,7 @@ module _ {may_stop may_pass : Who → ℕ → Type 0} (terms : Terms) (lists : L
       (run.told.lane p (omega (arith, low, size)))
       ∙ rw kept refl
 
-  -- each consumer with a source has a note at each item put, if none was stopped
+  -- if no worker was stopped, each consumer with a source has a note at each item put
   pub all_noted : w.stopped ≡ 0 → length terms.sources ≤ consumers_of terms.plan
       → HaveNotedAll (length terms.sources) r
   all_noted none few c p low = elim (cases_lt p (length r.lanes)) [

@@ -18,11 +18,11 @@ use Rattle.mb_mailbox.specs.ReportedRuns.{Terms}
 use Rattle.mb_rounds.specs.Round.{IsPlayed}
 use Rattle.mb_rounds.proofs.Fronts.{fronts_told}
 
--- there is one source of random words for each generator
+-- there are as many streams of random words as generators
 pub count_sources : {X : Type 0} (stream : X → Stream) (rngs : List X) → length rngs ≡ length (map stream rngs)
 count_sources stream rngs = sym (length-map rngs stream)
 
--- a new hub has a number for each lane and for each consumer of its plan, so a round does not ask for too many
+-- a new hub has issued no number, and has one for each lane and consumer of its plan, so a round asks for no more
 pub asks_enough : (plan : Plan) (m : MailboxView) (old : HubView) (lists sources : ℕ) → plan_at m ≡ plan
     → old ≡ hub_empty m
     → lists ≡ plan.lanes → sources ≤ consumers_of plan → AsksTooMany m lists sources old → ⊥
@@ -36,12 +36,12 @@ asks_enough plan m old lists sources same empty all few asks =
       | inr more ↦ omega (arith, more, consumers, few, nobody)
     ]
 
--- what holds of each value that a result can have holds if it has one
+-- if P holds of each value that a result can have, it holds of the result's value, if it has one
 pub of_value : {Y F : Type 0} (P : Y → Type 0) (r : Result Y F) → ((y : Y) → r ≡ Ok y → P y) → IfOk r P
 of_value P (Ok y) holds = holds y refl
 of_value P (Err e) holds = tt
 
--- workers that led from a new hub to the hub of a report have played the round
+-- if workers led from a new hub to this one, of which the report was made, the record IsPlayed holds of the round
 pub played : (m : MailboxView) (old h : HubView) (r : ReportView) (terms : Terms) (lists : List (List ℕ))
     (may_stop may_pass : Who → ℕ → Type 0) (w : Worked)
     → plan_at m ≡ terms.plan → m.cells.size ≡ size_of terms.plan → terms.plan.lanes ≡ length lists

@@ -1,11 +1,11 @@
--- What was handed in, turn by turn, is what was given out and what is carried.
+-- What was handed in, over all turns, is what was given out and what is still carried.
 use Rattle.std.proofs.Common.{◌≡◌, ℕ, ◌+◌, List, [], ◌∷◌, ap, arith}
 use Rattle.std.specs.List.{concat}
 use Rattle.mb_rounds.specs.Carried.{times}
 use Rattle.mb_rounds.specs.Turns.{AreCarriedAfter, Gave, HandedIn, Turn, given_out, handed_in}
 use Rattle.mb_rounds.proofs.Counts.{times_both}
 
--- each value is handed in as often as it is given out and is carried now
+-- each value was handed in as often as it was given out and is carried now, together
 pub all_there : (x : ℕ) (turns : List Turn) (now : List ℕ) → AreCarriedAfter turns now
     → times x (handed_in turns) ≡ times x (given_out turns) + times x now
 all_there x [] now e = let t = ap (times x) e in omega (arith, t)

@@ -1,4 +1,4 @@
--- What a round gives out, and what stays, is what was carried before it.
+-- What a round gives out, and what is carried after it, is what was carried before it.
 use Rattle.std.proofs.Common.{◌≡◌, ℕ, zero, suc, ◌+◌, List, [], ◌∷◌, ◌++◌, length, refl, sym, ap, ◌∙◌, append-nil, append_assoc, arith, Some}
 use Rattle.std.proofs.lemmas.List.{drop_at}
 use Rattle.std.specs.Prelude.{drop, slice_get}
@@ -12,12 +12,12 @@ use Rattle.mb_rounds.specs.Round.{IsPutOf, IsRound, ledgers_of, staying, taken_b
 use Rattle.mb_rounds.proofs.Counts.{sum_below, sum_first, sum_same, sum_swap, times_both}
 use Rattle.mb_rounds.proofs.Lanes.{lane_adds_up}
 
--- lists joined, with one more at the end, are those before joined, and then the last one
+-- if one list is added at the end of some lists, and all are joined, its elements come after those of the others
 pub concat_push : (lists : List (List ℕ)) (list : List ℕ) → concat (lists ++ list ∷ []) ≡ concat lists ++ list
 concat_push [] list = append-nil list
 concat_push (l ∷ lists) list = ap (λ z. l ++ z) (concat_push lists list) ∙ sym (append_assoc l (concat lists) list)
 
--- a consumer took x as often as it did from each lane, added up
+-- a consumer took x as often as it took it from each lane, added up over the first n lanes
 taken_adds_up : (x n c : ℕ) (r : ReportView) → times x (taken_below n c r) ≡ sum_below n (λ p. times x (ledger c p r))
 taken_adds_up x zero c r = refl
 taken_adds_up x (suc n) c r =
@@ -25,7 +25,7 @@ taken_adds_up x (suc n) c r =
     let b = times_both x (taken_below n c r) (ledger c n r) in
     omega (arith, t, b)
 
--- consumers took x as often as each of them did, added up
+-- the first n consumers took x as often as each of them did, added up
 ledgers_add_up : (x n : ℕ) (r : ReportView)
     → times x (concat (ledgers_of n r)) ≡ sum_below n (λ c. times x (taken_below (length r.lanes) c r))
 ledgers_add_up x zero r = refl
@@ -35,7 +35,7 @@ ledgers_add_up x (suc n) r =
     let b = ap (times x) (concat_push (ledgers_of n r) own) ∙ times_both x (concat (ledgers_of n r)) own in
     omega (arith, t, b)
 
--- what is given out of each lane, what is left there, and what was not put of its list make up the lists
+-- x is taken, left or not put as often as it was dealt, if on each lane it is taken or left as often as it was put
 lanes_add_up : (x : ℕ) (given : ℕ → ℕ) (lists : List (List ℕ)) (lanes : List LaneView) → AllZip IsPutOf lists lanes
     → ((p : ℕ) (l : LaneView) → slice_get lanes p ≡ Some l → given p + times x l.left ≡ times x l.put)
     → sum_below (length lanes) given + times x (staying lists lanes) ≡ times x (concat lists)
@@ -56,7 +56,7 @@ lanes_add_up x given (list ∷ lists) (l ∷ ls) z each =
     let c = times_both x list (concat lists) in
     omega (arith, rest, here, own, beyond, first, a, b, c)
 
--- a round gives out, and lets stay, what was carried before it
+-- the items that a round gives out and those carried after it are the items that were carried before it
 pub round_adds_up : {may_stop may_pass : Who → ℕ → Type 0} (terms : Terms) (was : List ℕ)
     (taken : List (List ℕ)) (w : Worked) (r : ReportView)
     (now : List ℕ) → IsRound may_stop may_pass terms was taken w r now → AreSameItems was (concat taken ++ now)

@@ -3,7 +3,7 @@ use Rattle.std.specs.Prelude.{ℕ, ◌≡◌, ◌++◌, List, [], nat_eq}
 use Rattle.std.specs.List.{count_by}
 use Rattle.mb_world.specs.declared.setup.Setup.{Setup}
 
--- what rounds keep: the setup of each round's mailbox, and the items carried, the oldest first
+-- what a `Rounds` holds: the setup of each round's mailbox, and the items carried, the oldest first
 pub record RoundsView : Type 0 where
   pub setup : Setup
   pub carried : List ℕ
@@ -12,7 +12,7 @@ pub record RoundsView : Type 0 where
 abbrev pub none_carried : Setup → RoundsView
 none_carried setup = record { setup = setup; carried = [] }
 
--- rounds that carry these items, too, after all others
+-- the same rounds, with these items added after all that were carried
 abbrev pub with_items : List ℕ → RoundsView → RoundsView
 with_items items r = record { setup = r.setup; carried = r.carried ++ items }
 

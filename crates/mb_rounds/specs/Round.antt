@@ -21,21 +21,21 @@ AreEven lists = All (λ list. All (λ other. length list ≤ suc (length other))
 abbrev pub IsPutOf : List ℕ → LaneView → Type 0
 IsPutOf list lane = IsFront lane.put list
 
--- these lists were put into a mailbox of these terms, each up to some item, and the report is that of the mailbox
+-- a beginning of each of these lists was put into a mailbox of these terms, and the report is that of this mailbox
 pub record IsPlayed (may_stop may_pass : Who → ℕ → Type 0) (terms : Terms) (lists : List (List ℕ))
     (counts : Worked) (r : ReportView) : Type 0 where
   pub fronts : AllZip IsPutOf lists r.lanes
-  -- what was done to the words of the claims and to those of the cells is lawful, and the report is of that
+  -- the history of the claims and that of the cells are lawful, and the report is that of these histories
   pub histories : Histories
   pub sound : AreSound terms.plan histories
   pub report : IsReportOf terms.plan histories r
   -- one assignment of items to consumers agrees with the whole report
   pub main_theorem : MainTheorem histories.pool histories.reader_of r
-  -- a producer for each list and a consumer for each source did this, and went on until they were done or stopped. The
-  -- counts are of these workers
+  -- a producer for each list and a consumer for each source worked until they were done or stopped. The counts are of
+  -- these workers
   pub run : IsReportedRun may_stop may_pass terms lists counts histories r
 
--- the fault of a round whose workers came to this, if it has no report: a refused thread, or else out of memory
+-- the fault of a round without a report, by what its workers came to: a refused thread, or else out of memory
 abbrev pub fault_after : Result Worked WorkFault → RoundFault
 fault_after (Err work.NoThread) = NoThread
 fault_after worked = NoMemory

@@ -29,8 +29,8 @@ fn three_of<A: Allocator + Clone>(alloc: &A) -> Result<(A, A, A), AllocError> {
     Ok((alloc.clone()?, alloc.clone()?, alloc.clone()?))
 }
 
-/// What the workers of a round came to and the report of its mailbox, or the fault of the round. A refused thread keeps
-/// its name.
+/// What the workers of a round came to and the report of its mailbox, or the fault of the round: `NoThread` if a thread
+/// was refused, and else `NoMemory`.
 fn report_after<A: Allocator + Clone + Drop>(
     alloc: A,
     worked: Result<Worked, WorkFault>,

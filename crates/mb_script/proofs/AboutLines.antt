@@ -22,7 +22,7 @@ use Rattle.mb_script.specs.Text.{has_empty, words_in_line}
 abbrev pub For : {A F : Type 0} → (F → Type 0) → Result A F → Type 0
 For P r = IfErr r P
 
--- what holds of each fault of two steps holds of both in a row
+-- if P holds of each fault of the first step, and of each of the second, it holds of each fault of both in a row
 pub for_bind : {A B F : Type 0} (P : F → Type 0) (r : Result A F) (f : A → Result B F)
     → For P r → ((x : A) → For P (f x))
     → For P (r >>= f)
@@ -35,7 +35,7 @@ pub for_cond : {A F : Type 0} (P : F → Type 0) (b : Bool) (r s : Result A F) �
 for_cond P true r s p q = p
 for_cond P false r s p q = q
 
--- what holds of a fault holds of an option that gives this fault if it is empty
+-- if P holds of the fault e, it holds of the fault of an option that gives e in place of no value
 pub for_option : {A F : Type 0} (P : F → Type 0) (o : Option A) (e : F) → P e → For P (ok_or o e)
 for_option P (Some x) e is = tt
 for_option P None e is = is
@@ -110,13 +110,13 @@ at_line plan n line =
     (at_event n (words_in_line line)) (at_placed plan n))
 
 -- ---- faults of the first line
--- what holds of each fault of a setup holds of each fault of what the first line makes
+-- if P holds of `BadSetup` for each reason to refuse a setup, it holds of each fault of `made_of`
 for_made : (P : Fault → Type 0) (o : Option SetupFault) (made : SetupLine)
     → ((f : SetupFault) → P (BadSetup 1 f)) → For P (made_of o made)
 for_made P None made bad = tt
 for_made P (Some fault) made bad = bad fault
 
--- what holds of the three kinds of fault of a setup holds of each fault of its words
+-- if P holds of the three kinds of faults that the words after `setup` can have, it holds of each fault of these words
 pub for_sizes : (P : Fault → Type 0) (ws : List (List ℕ)) → P (BadLine 1) → P (BadNumber 1)
     → ((f : SetupFault) → P (BadSetup 1 f))
     → For P (sizes_of ws)

@@ -5,7 +5,7 @@ use Rattle.std.specs.List.{list_any, list_all}
 use Rattle.std.specs.Char.{is_ascii}
 use Rattle.std.proofs.lemmas.Bool.{lt-ltb}
 
--- a test holds of some image of the elements if it holds of the image of some element
+-- some element of the list after `map f` passes the test p exactly if f of some element passes it
 pub list_any-map : {X Y : Type 0} (p : Y → Bool) (f : X → Y) (xs : List X)
     → list_any p (map f xs) ≡ list_any (λ x. p (f x)) xs
 list_any-map p f [] = refl

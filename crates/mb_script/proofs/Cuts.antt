@@ -11,7 +11,7 @@ use Rattle.mb_script.specs.Text.{words_in_line, has_empty, number_of, numbers_of
 abbrev pub is_space : ℕ → Bool
 is_space b = nat_eq b 32
 
--- one byte more in front of a line with a space: the byte ends the first word, or belongs to it
+-- if bs is cut at its first space, so is bs with a byte b in front: b is that first space, or part of the first word
 cut_step : (b : ℕ) (bs : List ℕ) (t : Bool) → cond (not t) (1 + position_or_len is_space bs) 0 < suc (length bs)
     → (position_or_len is_space bs < length bs → words_in_line bs ≡ before_first is_space bs
     ∷ words_in_line (after_first is_space bs))
@@ -26,37 +26,37 @@ cut_step b bs false within rest =
     let cut = rest (omega arith) in
     rw (cut, two, one) refl
 
--- if there is a space, the first word stands before it
+-- if a line has a space, its first word stands before the first space, and its other words are those of the rest
 pub words_cut : (bs : List ℕ) → position_or_len is_space bs < length bs
     → words_in_line bs ≡ before_first is_space bs ∷ words_in_line (after_first is_space bs)
 words_cut [] within = absurd (omega arith)
 words_cut (b ∷ bs) within = cut_step b bs (nat_eq b 32) within (words_cut bs)
 
--- one byte more, which is no space, in front of a line with no space
+-- a line with no space stays its only word if a byte that is no space is put in front
 last_step : (b : ℕ) (bs : List ℕ) (t : Bool) → cond (not t) (1 + position_or_len is_space bs) 0 ≡ suc (length bs)
     → (position_or_len is_space bs ≡ length bs → words_in_line bs ≡ bs ∷ [])
     → cond t ([] ∷ words_in_line bs) (onto_first b (words_in_line bs)) ≡ (b ∷ bs) ∷ []
 last_step b bs true none rest = absurd (omega arith)
 last_step b bs false none rest = ap (onto_first b) (rest (omega arith))
 
--- if there is no space, the line is its only word
+-- if a line has no space, it is its only word
 pub words_last : (bs : List ℕ) → position_or_len is_space bs ≡ length bs → words_in_line bs ≡ bs ∷ []
 words_last [] none = refl
 words_last (b ∷ bs) none = last_step b bs (nat_eq b 32) none (words_last bs)
 
--- a line with one byte more has a word still
+-- a line that has a word has one, too, with one byte more in front
 first_step : (b : ℕ) (ws : List (List ℕ)) (t : Bool) → 0 < length ws → 0 < length (cond t ([] ∷ ws) (onto_first b ws))
 first_step b ws true some = omega arith
 first_step b [] false some = omega (arith, some)
 first_step b (w ∷ ws) false some = omega arith
 
--- a line has a word
+-- each line has at least one word, which may be empty
 pub some_word : (bs : List ℕ) → 0 < length (words_in_line bs)
 some_word [] = omega arith
 some_word (b ∷ bs) = first_step b (words_in_line bs) (nat_eq b 32) (some_word bs)
 
 -- ---- empty words, and too many words
--- of three tests it does not matter which two are joined first
+-- if the test a is `b or c`, the test `t or a` is `t or b, or c`
 any_step : (a b c t : Bool) → a ≡ (b || c) → (t || a) ≡ ((t || b) || c)
 any_step a b c true e = refl
 any_step a b c false e = e
@@ -71,12 +71,12 @@ pub empty_behind : (ws : List (List ℕ)) (w : List ℕ) (vs all : List (List �
     → nat_eq (length w) 0 ≡ true → ws ++ w ∷ vs ≡ all → (has_empty all || long) ≡ true
 empty_behind ws w vs all long full empty cut = rw (sym cut, empty_among ws (w ∷ vs), full, empty) refl
 
--- words none of which is empty, and one more that is not, have no empty word
+-- if none of the words ws is empty, and w is not empty, there is no empty word among all of these
 pub none_behind : (ws : List (List ℕ)) (w : List ℕ) → has_empty ws ≡ false → nat_eq (length w) 0 ≡ false
     → has_empty (ws ++ w ∷ []) ≡ false
 none_behind ws w full some = rw (empty_among ws (w ∷ []), full, some) refl
 
--- if `most` words are cut off and a line is left, all the words are more than `most`
+-- if `most` words were cut off and something of the line is left, the line has more than `most` words
 pub too_many : (ws : List (List ℕ)) (w bs : List ℕ) (all : List (List ℕ)) (most : ℕ) → length ws + 1 ≡ most
     → ws ++ w ∷ words_in_line bs ≡ all → (has_empty all || nat_lt most (length all)) ≡ true
 too_many ws w bs all most count cut =
@@ -85,7 +85,7 @@ too_many ws w bs all most count cut =
     let some = some_word bs in
     or_right (has_empty all) _ (lt-ltb most (length all) (omega (arith, long, some, count)))
 
--- one word moves from the line to the words before it
+-- if the next word is cut off the line, the words cut off so far and those of the rest are still all its words
 pub word_moves : (ws : List (List ℕ)) (w bs after : List ℕ) (all : List (List ℕ)) → words_in_line bs
     ≡ w ∷ words_in_line after
     → ws ++ words_in_line bs ≡ all → (ws ++ w ∷ []) ++ words_in_line after ≡ all
@@ -105,12 +105,12 @@ pub words_taken : (ws : List (Bor (List ℕ))) (i : ℕ) → i ≤ length ws →
 words_taken ws i low = length-map (take i ws) (λ (x : Bor (List ℕ)). x.now) ∙ length-take-le i ws low
 
 -- ---- the numbers that words spell
--- how many bytes are left to be cut, and one more if a word is left
+-- 1 more than the number of bytes that are left to be cut into words, or 0 if no word is left
 abbrev pub bytes_left : Option (List ℕ) → ℕ
 bytes_left None = 0
 bytes_left (Some rest) = suc (length rest)
 
--- a word that is no number fails the whole
+-- if one word spells no number, there is no list of the numbers of all words (`whole`)
 pub number_fails : (done : List ℕ) (w : List ℕ) (ws : List (List ℕ)) (whole : Option (List ℕ)) → number_of w ≡ None
     → option_map (λ ns. done ++ ns) (numbers_of (w ∷ ws)) ≡ whole → None ≡ whole
 unfolding numbers_of
@@ -122,7 +122,7 @@ map_one : (done : List ℕ) (n : ℕ) (o : Option (List ℕ)) → option_map (λ
 map_one done n None = refl
 map_one done n (Some ns) = ap (λ (l : List ℕ). Some l) (append_assoc done (n ∷ []) ns)
 
--- a word that is a number comes after those before it
+-- if the next word spells a number, this comes after the numbers `done`, and the numbers of all words stay `whole`
 pub number_works : (done : List ℕ) (w : List ℕ) (ws : List (List ℕ)) (n : ℕ)
     (whole : Option (List ℕ)) → number_of w ≡ Some n
     → option_map (λ ns. done ++ ns) (numbers_of (w ∷ ws)) ≡ whole
@@ -130,7 +130,7 @@ pub number_works : (done : List ℕ) (w : List ℕ) (ws : List (List ℕ)) (n : 
 unfolding numbers_of
 number_works done w ws n whole works same = map_one done n (numbers_of ws) ∙ sym (rw works refl) ∙ same
 
--- if no word is left, the numbers are those before
+-- if no word is left, the numbers of all words (`whole`) are those `done`
 pub numbers_end : (done : List ℕ) (whole : Option (List ℕ)) → option_map (λ ns. done ++ ns) (numbers_of []) ≡ whole
     → Some done ≡ whole
 unfolding numbers_of

@@ -1,4 +1,4 @@
--- The length of a script, and the fault that it has for that.
+-- The length of a script, and the fault `too_long`, which a script of more bytes than the limit has.
 use Rattle.std.proofs.Common.{◌≡◌, ◌≢◌, ℕ, ◌+◌, ◌<◌, ◌≤◌, List, length, Option, Some, None, refl, sym, ◌∙◌, subst, arith, length-append}
 use Rattle.mb_script.specs.declared.transfer.TheConstants.{MAX_SCRIPT_LEN}
 use Rattle.mb_script.specs.Devices.{ConsumesCount, Had}

@@ -1,4 +1,4 @@
--- The first faulty line of a replay script: what stands after it, and before it.
+-- The first faulty line of a replay script: no line after it counts, and the lines before it have no fault.
 use Rattle.std.proofs.Common.{◌≡◌, ℕ, suc, zero, ◌+◌, ◌<◌, ◌≤◌, Bool, true, false, cond, nat_lt, List, [], ◌∷◌, length, take, Option, Some, Result, Ok, Err, refl, ap, sym, ◌∙◌, subst, arith}
 use Rattle.std.specs.List.{list_all}
 use Rattle.std.specs.Char.{is_ascii}
@@ -19,19 +19,19 @@ use Rattle.mb_script.proofs.ScriptBack.{lines_take}
 use Rattle.mb_script.proofs.AboutLines.{At, at_line, at_setup}
 
 -- ---- equal results, and lists that begin alike
--- equal options have one number
+-- if two options with a number each are equal, their numbers are
 some_is : (x y : ℕ) → ◌≡◌ {A = Option ℕ} (Some x) (Some y) → x ≡ y
 some_is x y e = cc
 
--- equal results have one fault
+-- if two results with a fault each are equal, their faults are
 pub err_is : {A : Type 0} (d e : Fault) → ◌≡◌ {A = Result A Fault} (Err d) (Err e) → d ≡ e
 err_is d e is = cc
 
--- equal faults are about one line
+-- if two faults are equal, they are about the same line
 one_line : (d e : Fault) (n m : ℕ) → line_of d ≡ Some n → d ≡ e → line_of e ≡ Some m → n ≡ m
 one_line d e n m first same second = some_is n m (sym first ∙ ap line_of same ∙ second)
 
--- of two lists that begin alike, the second has the head of the first, and their tails begin alike
+-- if the first k + 1 elements of two lists are the same, so are their heads, and the first k elements of their tails
 same_head : {X : Type 0} (k : ℕ) (a : X) (us bs : List X) → take (suc k) (a ∷ us) ≡ take (suc k) bs
     → (rest : List X) × (bs ≡ a ∷ rest) × (take k us ≡ take k rest)
 same_head k a us [] e = absurd (cc)
@@ -69,7 +69,7 @@ events_least plan n m (line ∷ lines) e low is about =
     e low (at_line plan n line) about is
     (λ few fails. events_least plan (suc n) m lines e (below_by n few) fails about)
 
--- a list of lines with the same first line has the same fault, if the fault lies after it
+-- if the lines after one line are replaced by others with the same fault, the fault from that line on stays the same
 same_step : (many : Bool) (r : Result Event Fault) (rest rest2 : Result (List Event) Fault) (e : Fault)
     → from_line many r rest ≡ Err e → (many ≡ false → rest ≡ Err e → rest2 ≡ Err e) → from_line many r rest2 ≡ Err e
 same_step true r rest rest2 e is on = is
@@ -92,14 +92,14 @@ events_same plan n (suc k) m (line ∷ lines) bs e low is about count same =
     (λ few fails. events_same plan (suc n) k m lines h.0 e (below_by n few) fails about (omega (arith, count)) h.2) in
     subst (λ (t : List (List ℕ)). events_of plan n t ≡ Err e) (sym h.1) further
 
--- if the events of one script have the fault that the events of another have, the first script has it, too
+-- if a script has the fault e, and its events are replaced by others with their fault, it still has the fault e
 events_step : (made : SetupLine) (r s : Result (List Event) Fault) (e : Fault)
     → (r >>= (λ es. Ok (script_with made es))) ≡ Err e
     → (r ≡ Err e → s ≡ Err e) → (s >>= (λ es. Ok (script_with made es))) ≡ Err e
 events_step made (Ok ys) s e is on = absurd (cc)
 events_step made (Err d) s e is on = rw (on (ap (λ (f : Fault). Err f) (err_is d e is))) refl
 
--- scripts with the same first line have the same fault, if their events have
+-- if the events of a script are replaced by others with the same fault, the script still has the same fault
 setup_step : (r : Result SetupLine Fault) (f g : SetupLine → Result (List Event) Fault) (e : Fault)
     → (r >>= (λ made. f made >>= (λ es. Ok (script_with made es)))) ≡ Err e
     → ((x : SetupLine) → f x ≡ Err e → g x ≡ Err e)
@@ -107,7 +107,7 @@ setup_step : (r : Result SetupLine Fault) (f g : SetupLine → Result (List Even
 setup_step (Err d) f g e is on = is
 setup_step (Ok x) f g e is on = events_step x (f x) (g x) e is (on x)
 
--- a fault of a line after the first is about line 1 or a later one
+-- a fault of the lines after the first is about line 2 or a later one, so it is not about line 0
 least_behind : (made : SetupLine) (r : Result (List Event) Fault) (m : ℕ) (e : Fault)
     → (r >>= (λ es. Ok (script_with made es))) ≡ Err e → (r ≡ Err e → 2 ≤ m) → 1 ≤ m
 least_behind made (Ok ys) m e is on = absurd (cc)
@@ -123,7 +123,8 @@ setup_least (Err d) f m e at about is on =
     let same = one_line d e 1 m at (err_is d e is) about in omega (arith, same)
 setup_least (Ok x) f m e at about is on = least_behind x (f x) m e is (on x)
 
--- scripts whose lines begin alike have the same fault, if it is about a line of that beginning
+-- if the first m lines of two scripts are the same, a fault of one about line m is that of the other, too. Lines count
+-- from 1, so no fault is about line 0
 lines_same : (m : ℕ) (us bs : List (List ℕ)) (e : Fault) → lines_script us ≡ Err e → line_of e ≡ Some m
     → take m us ≡ take m bs → lines_script bs ≡ Err e
 unfolding lines_script
@@ -151,7 +152,7 @@ by_lines true ascii read e m is about = let none = ap line_of (err_is TooLong e 
 by_lines false true read e m is about = is
 by_lines false false read e m is about = let none = ap line_of (err_is NotAscii e is) ∙ about in absurd (cc)
 
--- what stands after the first faulty line counts for nothing
+-- if a text that is ASCII and not too long has the lines of a faulty one up to the faulty line, it has the same fault
 pub script_same : (us bs : List ℕ) (e : Fault) (m : ℕ) → script_of us ≡ Err e → line_of e ≡ Some m
     → take m (lines_of us) ≡ take m (lines_of bs) → length bs ≤ MAX_SCRIPT_LEN → list_all is_ascii bs ≡ true
     → script_of bs ≡ Err e
@@ -162,7 +163,7 @@ script_same us bs e m is about same short ascii =
     rw (le-ltb MAX_SCRIPT_LEN (length bs) short, ascii) (lines_same m (lines_of us) (lines_of bs) e read about same)
 
 -- ---- the lines before the first faulty one have no fault
--- a line before the faulty one has no fault
+-- if the fault from line n on is about a later line, and others without fault replace the lines after n, there is none
 before_step : (n m : ℕ) (many : Bool) (r : Result Event Fault)
     (rest rest2 : Result (List Event) Fault) (e : Fault) → At n r
     → line_of e ≡ Some m → nat_lt (MAX_EVENTS + 1) n ≡ many → n < m → m ≤ MAX_EVENTS + 2 → from_line many r rest ≡ Err e
@@ -175,7 +176,7 @@ before_step n m false (Ok x) (Ok ys) rest2 e at about test less low is on = absu
 before_step n m false (Ok x) (Err d) rest2 e at about test less low is on =
     let so = on is in (x ∷ so.0, rw (so.1) refl)
 
--- the lines before the faulty one have no fault
+-- if the lines from n on have a fault about line m, the lines from n on and before m have no fault
 events_before : (plan : Plan) (n k m : ℕ) (us : List (List ℕ)) (e : Fault) → m ≤ MAX_EVENTS + 2
     → events_of plan n us ≡ Err e
     → line_of e ≡ Some m → n + k ≡ m → (es : List Event) × (events_of plan n (take k us) ≡ Ok es)
@@ -187,7 +188,7 @@ events_before plan n (suc k) m (line ∷ lines) e low is about count =
     (events_of plan (suc n) (take k lines)) e (at_line plan n line) about refl (omega (arith, count)) low is
     (λ fails. events_before plan (suc n) k m lines e low fails about (omega (arith, count)))
 
--- if events with a fault are replaced by events without one, the script has no fault
+-- if the events of a script with a fault are replaced by events without one, the script has no fault
 events_well : (made : SetupLine) (r s : Result (List Event) Fault) (e : Fault)
     → (r >>= (λ es. Ok (script_with made es))) ≡ Err e
     → (r ≡ Err e → (es : List Event) × (s ≡ Ok es)) → (t : Script) × ((s >>= (λ es. Ok (script_with made es))) ≡ Ok t)
@@ -195,7 +196,7 @@ events_well made (Ok ys) s e is on = absurd (cc)
 events_well made (Err d) s e is on =
     let so = on (ap (λ (f : Fault). Err f) (err_is d e is)) in (script_with made so.0, rw (so.1) refl)
 
--- a script with the same first line, and events without a fault, has no fault
+-- if a script's fault is about a later line than the first, and others without fault replace its events, it has none
 setup_well : (r : Result SetupLine Fault) (f g : SetupLine → Result (List Event) Fault) (e : Fault) (m : ℕ)
     → At 1 r → line_of e ≡ Some m
     → 1 < m → (r >>= (λ made. f made >>= (λ es. Ok (script_with made es)))) ≡ Err e
@@ -228,7 +229,7 @@ events_last plan n m (line ∷ lines) e low is about =
     e low (at_line plan n line) about is
     (λ few fails. events_last plan (suc n) m lines e (below_by n few) fails about)
 
--- the lines before the faulty one are a script
+-- if the fault of lines is about line n + 1, the first n lines are a script
 lines_before : (n : ℕ) (us : List (List ℕ)) (e : Fault) → lines_script us ≡ Err e → line_of e ≡ Some (suc n) → 0 < n
     → (t : Script) × (lines_script (take n us) ≡ Ok t)
 unfolding lines_script
@@ -242,7 +243,7 @@ lines_before (suc k) (line ∷ lines) e is about some =
     (λ made fails. events_before made.plan 2 k (suc (suc k)) lines e
     (events_last made.plan 2 (suc (suc k)) lines e (omega arith) fails about) fails about (omega arith))
 
--- the lines before the first faulty one spell a script
+-- if the fault of a text is about line n + 1, its first n lines spell a script
 pub script_before : (bytes : List ℕ) (e : Fault) (n : ℕ) → script_of bytes ≡ Err e → line_of e ≡ Some (suc n) → 0 < n
     → (t : Script) × Spells (take n (lines_of bytes)) t
 unfolding script_of

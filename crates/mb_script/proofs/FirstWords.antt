@@ -36,11 +36,11 @@ never_step : (r : Result SetupLine Fault) (f : SetupLine → Result (List Event)
 never_step (Err d) f first behind = λ is. first (err_is d NoSetup is)
 never_step (Ok x) f first behind = λ is. never_behind x (f x) (behind x) is
 
--- equal options have one word
+-- if two options with a word each are equal, their words are
 word_is : (w v : List ℕ) → ◌≡◌ {A = Option (List ℕ)} (Some w) (Some v) → w ≡ v
 word_is w v e = cc
 
--- if the first word is `setup`, NoSetup does not come
+-- if the first word is `setup`, the fault is not NoSetup
 no_setup_by : (ws lines : List (List ℕ)) → first_of ws ≡ Some (codes "setup")
     → (setup_of ws >>= (λ made. events_of made.plan 2 lines >>= (λ es. Ok (script_with made es)))) ≢ Err NoSetup
 no_setup_by [] lines e = absurd (cc)
@@ -57,25 +57,25 @@ unfolding lines_script
 no_setup_lines [] is = λ e. cc
 no_setup_lines (line ∷ lines) is = λ e. no_setup_by (words_in_line line) lines e is
 
--- a first word that is not `setup` gives NoSetup, by its test
+-- if the first word is not `setup`, the first line has the fault NoSetup. The test of this word has the result t
 other_by : (key : List ℕ) (ws : List (List ℕ)) (t : Bool) → bytes_eq key (codes "setup") ≡ t → key ≢ codes "setup"
     → cond t (cond (has_empty ws) (Err (BadLine 1)) (sizes_of ws)) (Err NoSetup) ≡ Err NoSetup
 other_by key ws true is other = absurd (other ((bytes_eq-Decides key (codes "setup")).0 is))
 other_by key ws false is other = refl
 
--- a first line with another first word is no setup
+-- if the first word is not `setup`, the first line has the fault NoSetup
 other_setup : (ws : List (List ℕ)) → first_of ws ≢ Some (codes "setup") → setup_of ws ≡ Err NoSetup
 unfolding setup_of
 other_setup [] other = refl
 other_setup (key ∷ ws) other = other_by key ws _ refl (λ e. other (ap (λ (w : List ℕ). Some w) e))
 
--- if the first word is no `setup`, NoSetup always comes
+-- if the first word is not `setup`, the lines have the fault NoSetup
 always_lines : (us : List (List ℕ)) → first_word_in us ≢ Some (codes "setup") → lines_script us ≡ Err NoSetup
 unfolding lines_script
 always_lines [] other = refl
 always_lines (line ∷ lines) other = rw (other_setup (words_in_line line) other) refl
 
--- NoSetup tells that the first word is no `setup`
+-- if the fault of a text is NoSetup, its first word is not `setup`
 pub no_setup_told : (bytes : List ℕ) → script_of bytes ≡ Err NoSetup
     → first_word_in (lines_of bytes) ≢ Some (codes "setup")
 unfolding script_of
@@ -84,7 +84,7 @@ no_setup_told bytes is =
     (by_lines (nat_lt MAX_SCRIPT_LEN (length bytes)) (list_all is_ascii bytes)
     (lines_script (lines_of bytes)) NoSetup 1 is refl)
 
--- a text of few bytes of ASCII whose first word is no `setup` has the fault NoSetup
+-- if a text is ASCII and not too long, and its first word is not `setup`, its fault is NoSetup
 pub no_setup_always : (bytes : List ℕ) → length bytes ≤ MAX_SCRIPT_LEN → list_all is_ascii bytes ≡ true
     → first_word_in (lines_of bytes) ≢ Some (codes "setup") → script_of bytes ≡ Err NoSetup
 unfolding script_of

@@ -1,4 +1,4 @@
--- In the replay of a script each lane and each consumer is there.
+-- In the replay of a script each lane and each consumer that an event names is there.
 use Rattle.std.proofs.Common.{◌≡◌, ℕ, ◌-◌, ◌<◌, Bool, true, false, nat_eq, List, [], ◌∷◌, Option, Some, None, inl, inr, sym, subst, arith, if◌then◌else◌}
 use Rattle.std.specs.List.{AllByRecursion}
 use Rattle.mb_quorum.specs.declared.table.TableName.{TableName}
@@ -19,7 +19,7 @@ use Rattle.mb_world.specs.World.{ToClaims}
 use Rattle.mb_script.specs.Vocabulary.{IsAnswer, IsOfWorld, Script, IsEventOf, Sizes, script_in}
 use Rattle.mb_script.proofs.ScriptBack.{script_takes}
 
--- ---- the answer to an access names it
+-- ---- an answer that names an access does not say that a lane or a consumer is missing
 -- an answer to a store in a link says nothing of missing lanes or consumers
 linked : (b : Bool) (v : ℕ) (r : Answer)
     → Some (if b then answer.Finished finish.Ended else answer.Pushed (push.Link v)) ≡ Some r → IsOfWorld r
@@ -46,7 +46,7 @@ named_known : (plan : Plan) (r : Answer) (a : WorldAccess) (h : WorldHistory) �
 named_known plan r (ToCells a) h names = cells_known plan.claims.cells a.word a.act r names
 named_known plan r (ToClaims a) h names = let is = names.2 in (λ e. cc, λ e. cc)
 
--- ---- an event whose lane and consumer are there has another refusal than that they are not
+-- ---- if the lane and consumer of an event are there, its answer does not say that they are missing
 -- the event's lane and consumer are there
 abbrev IsEventIn : Plan → Event → Type 0
 IsEventIn plan (event.Offer p x) = p < plan.lanes
@@ -89,7 +89,7 @@ replay_known plan (e ∷ es) (r ∷ rs) was now there replay = (
 abbrev pub TablesHaveTheirValues : Type 0
 TablesHaveTheirValues = (name : TableName) (m : ℕ) → (table_of name m).values ≡ m
 
--- an event that is spelled has its lane and its consumer in the script's world
+-- an event that names a lane and a consumer of these sizes has them in the world of a script of these sizes
 event_there : TablesHaveTheirValues → (z : Sizes) (events : List Event) (e : Event) → IsEventOf z e
     → IsEventIn (script_in z events).plan e
 event_there values z events (event.Offer p x) of = of.0
@@ -98,7 +98,7 @@ event_there values z events (event.Finish p) of = of
 event_there values z events (event.Step c p word) of =
     (of.0, subst (λ n. c < n) (sym (values z.table z.consumers)) of.1)
 
--- all events that are spelled have their lane and their consumer in the script's world
+-- events that name lanes and consumers of these sizes have them in the world of a script of these sizes
 all_there : TablesHaveTheirValues → (z : Sizes) (events es : List Event) → AllByRecursion (IsEventOf z) es
     → AllByRecursion (IsEventIn (script_in z events).plan) es
 all_there values z events [] of = tt

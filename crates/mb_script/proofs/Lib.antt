@@ -8,7 +8,7 @@ pub mod Cuts
 pub mod Lines
 pub mod Numerals
 pub mod Spelled
--- What a replay script spells is read, and what was read is what it spells
+-- The lines that spell a replay script are read as it, and lines that were read as a script spell it
 pub mod ReadAgain
 pub mod ManyLines
 pub mod Lined

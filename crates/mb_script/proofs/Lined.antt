@@ -23,7 +23,7 @@ onto done (Ok events) = Ok (done ++ events)
 onto done (Err e) = Err e
 
 -- ---- lines with an empty word, or with too many or too few words
--- if a key chooses between equal results, it does not matter which key it is
+-- if the result is r for each of the four keys of events, and for any other key, it is r
 any_key : (o p f s : Bool) (r : Result Event Fault) → cond o r (cond p r (cond f r (cond s r r))) ≡ r
 any_key true p f s r = refl
 any_key false true f s r = refl
@@ -31,7 +31,7 @@ any_key false false true s r = refl
 any_key false false false true r = refl
 any_key false false false false r = refl
 
--- a line of more than eight words is no event's
+-- a line of more than eight words is a bad line
 long_event : (n : ℕ) (ws : List (List ℕ)) → 8 < length ws → event_of n ws ≡ Err (BadLine n)
 unfolding event_of one_number two_numbers three_numbers
 long_event n [] long = absurd (omega (arith, long))
@@ -43,7 +43,7 @@ long_event n (key ∷ a ∷ b ∷ c ∷ d ∷ ws) long =
     any_key (bytes_eq key (codes "offer")) (bytes_eq key (codes "push")) (bytes_eq key (codes "finish"))
     (bytes_eq key (codes "step")) (Err (BadLine n))
 
--- a line with an empty word or with too many words is a bad line, by the test for an empty word
+-- a line with an empty word, which `empty` says, or with more than eight words is a bad line
 bad_by : (plan : Plan) (n : ℕ) (line : List ℕ) (empty : Bool) → has_empty (words_in_line line) ≡ empty
     → (empty || nat_lt 8 (length (words_in_line line))) ≡ true → event_at plan n line ≡ Err (BadLine n)
 unfolding event_at
@@ -62,7 +62,7 @@ bad_either : (o : Option TableName)
 bad_either None = refl
 bad_either (Some t) = refl
 
--- more than seven words after `setup` are no setup
+-- if more than seven words come after `setup`, the first line is bad
 long_setup : (ws : List (List ℕ)) → 7 < length ws → sizes_of ws ≡ Err (BadLine 1)
 unfolding sizes_of
 long_setup [] long = absurd (omega (arith, long))
@@ -74,7 +74,7 @@ long_setup (a ∷ b ∷ c ∷ d ∷ e ∷ []) long = absurd (omega (arith, long)
 long_setup (a ∷ b ∷ c ∷ d ∷ e ∷ f ∷ []) long = absurd (omega (arith, long))
 long_setup (a ∷ b ∷ c ∷ d ∷ e ∷ f ∷ g ∷ ws) long = bad_either (table_named e)
 
--- fewer than five words after `setup` are no setup
+-- if fewer than five words come after `setup`, the first line is bad
 pub short_setup : (ws : List (List ℕ)) → length ws < 5 → sizes_of ws ≡ Err (BadLine 1)
 unfolding sizes_of
 short_setup [] short = refl
@@ -84,7 +84,7 @@ short_setup (a ∷ b ∷ c ∷ []) short = refl
 short_setup (a ∷ b ∷ c ∷ d ∷ []) short = refl
 short_setup (a ∷ b ∷ c ∷ d ∷ e ∷ ws) short = absurd (omega (arith, short))
 
--- a first line with an empty word or with too many words is bad, by the test for an empty word
+-- a first line that begins with `setup`, and has an empty word, which `empty` says, or more than eight, is a bad line
 bad_setup_by : (ws : List (List ℕ)) (empty : Bool) → has_empty ws ≡ empty
     → (empty || nat_lt 8 (suc (length ws))) ≡ true → setup_of (codes "setup" ∷ ws) ≡ Err (BadLine 1)
 unfolding setup_of
@@ -93,7 +93,7 @@ bad_setup_by ws false is bad =
     let more : 8 < suc (length ws) = ltb-true _ _ bad in
     rw (is, long_setup ws (omega (arith, more))) refl
 
--- a first line with the right key and an empty word or too many is a bad line
+-- if the first line begins with `setup`, and has an empty word or too many words, it is a bad line
 pub bad_setup : (line key : List ℕ) (ws : List (List ℕ)) → words_in_line line ≡ key ∷ ws → key ≡ codes "setup"
     → (has_empty (words_in_line line) || nat_lt 8 (length (words_in_line line))) ≡ true
     → setup_of (words_in_line line) ≡ Err (BadLine 1)
@@ -102,14 +102,14 @@ bad_setup line key ws cut is bad =
     rw words (bad_setup_by ws _ refl (rw words at bad))
 
 -- ---- one line more
--- a line after the last that may have an event fails the whole with TooManyEvents
+-- if line n comes after the last that may have an event, the result of all lines (`whole`) is TooManyEvents
 pub line_too_many : (plan : Plan) (done : List Event) (n : ℕ) (line : List ℕ) (lines : List (List ℕ))
     (whole : Result (List Event) Fault) → MAX_EVENTS + 1 < n → onto done (events_of plan n (line ∷ lines)) ≡ whole
     → whole ≡ Err TooManyEvents
 unfolding events_of
 line_too_many plan done n line lines whole above same = sym same ∙ rw (lt-ltb (MAX_EVENTS + 1) n above) refl
 
--- a faulty line fails the whole
+-- if line n is not too late to have an event, and is faulty, its fault is the result of all lines (`whole`)
 pub line_fails : (plan : Plan) (done : List Event) (n : ℕ) (line : List ℕ) (lines : List (List ℕ)) (e : Fault)
     (whole : Result (List Event) Fault) → n ≤ MAX_EVENTS + 1 → onto done (events_of plan n (line ∷ lines)) ≡ whole
     → event_at plan n line ≡ Err e → whole ≡ Err e
@@ -123,7 +123,7 @@ onto_one : (done : List Event) (event : Event) (r : Result (List Event) Fault)
 onto_one done event (Ok events) = ap (λ (l : List Event). Ok l) (append_assoc done (event ∷ []) events)
 onto_one done event (Err e) = refl
 
--- a line with an event adds this event to those before
+-- if line n has an event, this comes after the events `done`, and the result of all lines stays `whole`
 pub line_works : (plan : Plan) (done : List Event) (n : ℕ) (line : List ℕ) (lines : List (List ℕ)) (event : Event)
     (whole : Result (List Event) Fault) → n ≤ MAX_EVENTS + 1 → onto done (events_of plan n (line ∷ lines)) ≡ whole
     → event_at plan n line ≡ Ok event → onto (done ++ event ∷ []) (events_of plan (suc n) lines) ≡ whole
@@ -131,13 +131,13 @@ unfolding events_of
 line_works plan done n line lines event whole below same works =
     onto_one done event (events_of plan (suc n) lines) ∙ sym (rw (le-ltb (MAX_EVENTS + 1) n below, works) refl) ∙ same
 
--- if no line is left, the events are those before
+-- if no line is left, the result of all lines (`whole`) is the events `done`
 pub lines_end : (plan : Plan) (done : List Event) (n : ℕ) (whole : Result (List Event) Fault)
     → onto done (events_of plan n []) ≡ whole → whole ≡ Ok done
 unfolding events_of
 lines_end plan done n whole same = sym same ∙ ap (λ (l : List Event). Ok l) (append-nil done)
 
--- if a line's fault decides the whole, a call that hands this fault on gives what was to be read
+-- if a line's fault is the result of all lines, a call that returns this fault returns what was to be read of all
 pub fails_whole : {X : Type 0} (view : X → List Event) (r : Result X Fault) (e : Fault) (read : Result Event Fault)
     (whole : Result (List Event) Fault) → IsErrAnd r (λ f. f ≡ e)
     → (e ≢ NoMemory → read ≡ Err e) × (e ≢ ReadFault) × (e ≢ WriteFault) → (read ≡ Err e → whole ≡ Err e)

@@ -9,7 +9,7 @@ use Rattle.mb_script.specs.Text.{lines_of}
 abbrev ends : ℕ → Bool
 ends b = nat_eq b 10
 
--- one byte more in front of a text with an LF: the byte ends the first line, or belongs to it
+-- if bs is cut at its first LF, so is bs with a byte b in front: b is that first LF, or part of the first line
 cut_step : (b : ℕ) (bs : List ℕ) (t : Bool) → cond (not t) (1 + position_or_len ends bs) 0 < suc (length bs)
     → (position_or_len ends bs < length bs → lines_of bs ≡ before_first ends bs ∷ lines_of (after_first ends bs))
     → cond t ([] ∷ lines_of bs) (onto_first b (lines_of bs))
@@ -23,13 +23,13 @@ cut_step b bs false within rest =
     let cut = rest (omega arith) in
     rw (cut, two, one) refl
 
--- if there is an LF, the first line stands before it
+-- if a text has an LF, its first line stands before the first LF, and its other lines are those of the rest
 pub lines_cut : (bs : List ℕ) → position_or_len ends bs < length bs
     → lines_of bs ≡ before_first ends bs ∷ lines_of (after_first ends bs)
 lines_cut [] within = absurd (omega arith)
 lines_cut (b ∷ bs) within = cut_step b bs (nat_eq b 10) within (lines_cut bs)
 
--- one byte more, which is no LF, in front of a text with no LF
+-- a text with no LF stays its only line if a byte that is no LF is put in front
 last_step : (b : ℕ) (bs : List ℕ) (t : Bool) → cond (not t) (1 + position_or_len ends bs) 0 ≡ suc (length bs)
     → (position_or_len ends bs ≡ length bs → 0 < length bs → lines_of bs ≡ bs ∷ [])
     → cond t ([] ∷ lines_of bs) (onto_first b (lines_of bs)) ≡ (b ∷ bs) ∷ []
@@ -37,12 +37,12 @@ last_step b bs true none rest = absurd (omega arith)
 last_step b [] false none rest = refl
 last_step b (x ∷ bs) false none rest = ap (onto_first b) (rest (omega arith) (omega arith))
 
--- if there is no LF, the text is its only line
+-- if a text has no LF and is not empty, it is its only line
 pub lines_last : (bs : List ℕ) → position_or_len ends bs ≡ length bs → 0 < length bs → lines_of bs ≡ bs ∷ []
 lines_last [] none some = absurd (omega arith)
 lines_last (b ∷ bs) none some = last_step b bs (nat_eq b 10) none (lines_last bs)
 
--- the first line and the text after it are what stands before and after the first LF, or else the text and nothing
+-- the text before its first LF, or all of it if it has none, is its first line, and the other lines are those after it
 pub line_taken : (t : List ℕ) (cut : Option (Bor (List ℕ) × Bor (List ℕ))) (all : Bor (List ℕ) × Bor (List ℕ))
     → MatchOption cut (position_or_len ends t ≡ length t)
     (λ x. (x.0.now ≡ before_first ends t) × (x.1.now ≡ after_first ends t) × (position_or_len ends t < length t))

@@ -53,7 +53,7 @@ fault_other : (r : Result Script Fault) → For IsOther r → fault_in r ≡ Som
 fault_other (Ok s) other is = absurd (cc)
 fault_other (Err e) other is = other (let same : ◌≡◌ {A = Option Fault} (Some e) (Some TooLong) = is in cc)
 
--- a text whose fault is TooLong has more bytes than the limit, by its tests
+-- if the fault of a text is TooLong, the test whether it has more bytes than the limit (`long`) holds
 long_test : (long ascii : Bool) (lines : List (List ℕ))
     → fault_in (if long then Err TooLong else if ascii then lines_script lines else Err NotAscii)
     ≡ Some TooLong → long ≡ true

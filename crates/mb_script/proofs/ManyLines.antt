@@ -13,7 +13,7 @@ use Rattle.mb_script.specs.Text.{lines_of}
 use Rattle.mb_script.specs.Spelling.{IsEventOf, IsScript, Sizes, event_words, script_lines}
 use Rattle.mb_script.proofs.ReadAgain.{event_again, plan_for, setup_again}
 
--- a line after as many events as a script may have is one too many
+-- if the last of the events from line n on is on the last line that may have one, a further line is one too many
 events_many : (z : Sizes) (n : ℕ) (events : List Event) (line : List ℕ) (rest : List (List ℕ))
     → setup_refusal z.producers z.consumers z.cells z.pairs ≡ None → AllByRecursion (IsEventOf z) events
     → n + length events ≡ MAX_EVENTS + 2

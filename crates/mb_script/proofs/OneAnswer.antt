@@ -98,7 +98,7 @@ cells_few bytes s read =
     (let below : z.cells < END = omega (arith, few) in below)
 
 -- ---- one text, and one answer
--- the replay of events has one text
+-- the replay of events in a new world has at most one text
 pub one_text : (plan : Plan) (es : List Event) (t u : List ℕ) → ReplaysDoNotDiffer → ReplaysAreLawful → WorldsAreSound
     → ReportsDoNotDiffer → IsQuorumTable plan.claims.table → IsWorldLawful plan [] → IsReplayText plan es t
     → IsReplayText plan es u → t ≡ u
@@ -110,7 +110,7 @@ one_text plan es t u same lawful sound reports table begins a b =
     a.written ∙ ap₂ (λ (rs : List Answer) (r : ReportView). transcript_text es rs ++ report_text r)
     both.0 report ∙ sym b.written
 
--- a script that was read has one answer
+-- a script that was read without a fault has at most one answer
 pub one_answer : (bytes t u : List ℕ) (s : Script) → TablesAreLawful → WorldsBegin
     → ReplaysDoNotDiffer → ReplaysAreLawful
     → WorldsAreSound → ReportsDoNotDiffer → script_of bytes ≡ Ok s → IsReplayText s.plan s.events t

@@ -1,4 +1,4 @@
--- A replay script that is spelled is read.
+-- The lines that spell a replay script are read as it. A word as `IsWord` says is not empty, is ASCII and has no space.
 use Rattle.std.proofs.Common.{◌≡◌, ℕ, suc, ◌+◌, ◌<◌, ◌≤◌, ◌^◌, Bool, true, false, cond, nat_lt, ◌||◌, List, [], ◌∷◌, length, codes, map, Some, None, Ok, refl, sym, ◌∙◌, subst, arith, rules}
 use Rattle.std.specs.Char.{is_ascii}
 use Rattle.std.specs.List.{AllByRecursion, join_with_byte, list_all}
@@ -51,12 +51,12 @@ sizes_small p c m k e =
       small_by 8 k (omega arith) (second (nat_lt k 1) _ a.3),
     )
 
--- the consumers of a plan are as many as it was made with
+-- a plan that was made with c consumers has c consumers
 pub consumers_are : (shape : Shape) (p c m k : ℕ) (t : TableName)
     → consumers_of (shaped_plan shape p c m k t) ≡ c
 consumers_are shape p c m k t = named_values t c
 
--- the plan that sizes make
+-- the plan of a world of these sizes
 abbrev pub plan_for : Sizes → Plan
 plan_for z = (made_for z).plan
 
@@ -67,7 +67,7 @@ shape_again true false = refl
 shape_again false true = refl
 shape_again true true = refl
 
--- the words after `setup` are read as what their sizes make
+-- if the words after `setup` spell sizes that are not refused, they are read as just these sizes
 sizes_again : (shape : Shape) (p c m k : ℕ) (t : TableName) → setup_refusal p c m k ≡ None
     → sizes_of (decimal p ∷ decimal c ∷ decimal m ∷ decimal k ∷ table_name t ∷ shape_words shape)
     ≡ Ok (made_from shape p c m k t)
@@ -85,20 +85,20 @@ sizes_again shape p c m k Middle e =
     let named = shape_again shape.fast shape.last in
     rw (named, number_again p s.0, number_again c s.1, number_again m s.2, number_again k s.3, e) refl
 
--- the name of a table is a word
+-- the name of a table is a word as `IsWord` says
 pub table_word : (t : TableName) → IsWord (table_name t)
 table_word Unary = search rules
 table_word Bits = search rules
 table_word Middle = search rules
 
--- the words of a shape may stand on a line
+-- the words of a shape are as `IsWord` says
 shape_fit : (fast last : Bool) → AllByRecursion IsWord (words_with fast last)
 shape_fit false false = tt
 shape_fit true false = (search rules, tt)
 shape_fit false true = (search rules, tt)
 shape_fit true true = (search rules, tt)
 
--- the words of a first line may stand on a line
+-- if a setup of these sizes is not refused, the words of a first line with these sizes are as `IsWord` says
 setup_fit : (z : Sizes) → setup_refusal z.producers z.consumers z.cells z.pairs ≡ None
     → AllByRecursion IsWord (setup_words z)
 setup_fit z e =
@@ -121,7 +121,7 @@ setup_is : (ws : List (List ℕ)) → has_empty ws ≡ false → setup_of (codes
 unfolding setup_of
 setup_is ws e = rw e refl
 
--- a first line that is spelled is read as what its sizes make
+-- if a first line spells sizes that are not refused, it is read as just these sizes
 pub setup_again : (z : Sizes) → setup_refusal z.producers z.consumers z.cells z.pairs ≡ None
     → setup_of (words_in_line (join_with_byte 32 (setup_words z))) ≡ Ok (made_for z)
 setup_again z e =
@@ -201,7 +201,7 @@ lines_again z events is =
     let few = is.few in
     rw (setup_again z is.sizes, events_again z 2 events is.sizes is.known (omega (arith, few))) refl
 
--- the words of an event may stand on a line
+-- the words of an event of the world are a line of words as `IsWord` says
 event_fit : (z : Sizes) (e : Event) → setup_refusal z.producers z.consumers z.cells z.pairs ≡ None → IsEventOf z e
     → IsWordLine (event_words e)
 event_fit z (Offer lane item) sized is =
@@ -217,7 +217,7 @@ event_fit z (Step consumer lane word) sized is =
       ),
     )
 
--- the words of all events may stand on lines
+-- the words of each event of the world are a line of words as `IsWord` says
 events_fit : (z : Sizes) (events : List Event) → setup_refusal z.producers z.consumers z.cells z.pairs ≡ None
     → AllByRecursion (IsEventOf z) events → AllByRecursion IsWordLine (map event_words events)
 events_fit z [] sized are = tt

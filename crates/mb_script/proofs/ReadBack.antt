@@ -13,7 +13,7 @@ use Rattle.mb_script.proofs.Bound.{avoided, bind_ok, ok_is, passed, some_from}
 use Rattle.mb_script.proofs.Spelled.{number_takes}
 
 -- ---- words and numbers
--- a word that was read as a table, by its tests, is that table's name
+-- if the tests u, b and m, whether a word is one of the three names, choose a table, the word is that table's name
 pub table_takes : (word : List ℕ) (t : TableName) (u b m : Bool)
     → bytes_eq word (codes "unary") ≡ u → bytes_eq word (codes "bits") ≡ b → bytes_eq word (codes "middle") ≡ m
     → cond u (Some Unary) (cond b (Some Bits) (cond m (Some Middle) None)) ≡ Some t → word ≡ table_name t
@@ -28,7 +28,7 @@ table_takes word Unary false false true p q r e = absurd (cc)
 table_takes word Bits false false true p q r e = absurd (cc)
 table_takes word t false false false p q r e = absurd (cc)
 
--- a word that was read as a shape, by its tests, is that shape's word
+-- if the tests a, b and c, whether a word is one of the three words of shapes, choose a shape, it is that shape's word
 word_takes : (word : List ℕ) (f : Shape) (a b c : Bool)
     → bytes_eq word (codes "fast") ≡ a → bytes_eq word (codes "last") ≡ b
     → bytes_eq word (codes "fastlast") ≡ c
@@ -86,7 +86,7 @@ two_takes n (a ∷ b ∷ []) x e =
     (ok_is made x g.2)
     (ap (λ (w : List ℕ). w ∷ b ∷ []) p.0 ∙ ap (λ (w : List ℕ). decimal f.0 ∷ w ∷ []) q.0, p.1, q.1)
 
--- the type of three numbers
+-- three numbers
 abbrev Three : Type 0
 Three = ℕ × ℕ × ℕ
 
@@ -137,16 +137,16 @@ abbrev with_table : List ℕ → List ℕ → List ℕ → List ℕ → List (Li
 with_table producers consumers cells pairs shape t =
     ok_or (shape_named shape) (BadLine 1) >>= with_shape producers consumers cells pairs t
 
--- if a setup was made, it was not refused
+-- if `made_of o x` is no fault, there is no reason o to refuse the setup, and the result y is x
 made_takes : (o : Option SetupFault) (x y : SetupLine) → made_of o x ≡ Ok y → (o ≡ None) × (x ≡ y)
 made_takes None x y e = (refl, ok_is x y e)
 made_takes (Some f) x y e = absurd (cc)
 
--- these sizes are not refused, and this is what they make
+-- a setup of sizes z is not refused, and a first line with these sizes says `made`
 abbrev pub Sized : SetupLine → Sizes → Type 0
 Sized made z = (setup_refusal z.producers z.consumers z.cells z.pairs ≡ None) × (made_for z ≡ made)
 
--- words after `setup` that were read without a fault spell sizes
+-- if the words after `setup` were read without a fault, they are the words of some sizes, which are not refused
 sizes_take : (ws : List (List ℕ)) (made : SetupLine) → sizes_of ws ≡ Ok made
     → (z : Sizes) × (codes "setup" ∷ ws ≡ setup_words z) × Sized made z
 unfolding sizes_of
@@ -182,7 +182,7 @@ sizes_take (producers ∷ consumers ∷ cells ∷ pairs ∷ name ∷ shape) made
     ∷ decimal k.0 ∷ table_name t.0 ∷ ws) shaped in
     (z, whole, sized)
 
--- a first line that was read without a fault spells sizes
+-- if a first line was read without a fault, it has the words of some sizes, which are not refused
 pub setup_take : (ws : List (List ℕ)) (made : SetupLine) → setup_of ws ≡ Ok made → (z : Sizes)
     × (ws ≡ setup_words z) × Sized made z
 unfolding setup_of

@@ -29,12 +29,12 @@ Small (Step consumer lane word) = (consumer < 2 ^ 64) × (lane < 2 ^ 64) × (wor
 abbrev SpellsOne : List (List ℕ) → Event → Type 0
 SpellsOne ws e = (ws ≡ event_words e) × Small e
 
--- if a key is this name and the words after it are those words, all the words are the name and those words
+-- if the key is this name, and the words ws are vs, the key and then ws are the name and then vs
 key_is : (key name : List ℕ) (ws vs : List (List ℕ)) → bytes_eq key name ≡ true → ws ≡ vs → key ∷ ws ≡ name ∷ vs
 key_is key name ws vs is same =
     ap (λ (w : List ℕ). w ∷ ws) ((bytes_eq-Decides key name).0 is) ∙ ap (λ (t : List (List ℕ)). name ∷ t) same
 
--- if an event was read from words, by the tests of their key, the words spell that event
+-- if an event was read from a key and words ws, they spell it. The four tests of the key have the results o, p, f, s
 by_key : (n : ℕ) (key : List ℕ) (ws : List (List ℕ)) (e : Event) (o p f s : Bool) → bytes_eq key (codes "offer") ≡ o
     → bytes_eq key (codes "push") ≡ p → bytes_eq key (codes "finish") ≡ f → bytes_eq key (codes "step") ≡ s
     → cond o (two_numbers n ws >>= (λ x. Ok (Offer x.0 x.1)))
@@ -90,7 +90,7 @@ placed_takes z n d e read small =
     let b = passed (has_consumer (plan_for z) (consumer_in d)) (NoConsumer n) (Ok d) e a.1 in
     (ok_is d e b.1, place_takes z n d a.0 b.0 small)
 
--- a line that was read as an event is spelled as that event's words
+-- if a line was read as an event of a world of these sizes, it is the line of that event's words
 pub line_takes : (z : Sizes) (n : ℕ) (line : List ℕ) (e : Event) → event_at (plan_for z) n line ≡ Ok e
     → (line ≡ join_with_byte 32 (event_words e)) × IsEventOf z e
 unfolding event_at
@@ -136,7 +136,7 @@ events_take z n (line ∷ lines) events read =
     subst (Lines z n (line ∷ lines)) (ok_is (b.0 ∷ c.0) events c.2)
     (line_before _ _ _ _ first.0 rest.0, (first.1, rest.1), λ h. omega (arith, few))
 
--- if sizes make this, it is with the events the script of those sizes and events
+-- if a first line with sizes z says `made`, the script of `made` and some events is that of z and these events
 script_is : (z : Sizes) (made : SetupLine) (events : List Event) → made_for z ≡ made
     → script_with made events ≡ script_in z events
 script_is z made events e = ap (λ (m : SetupLine). script_with m events) (sym e)
@@ -173,7 +173,7 @@ script_takes bytes s e =
     let b = passed (list_all is_ascii bytes) NotAscii read s a.1 in
     lines_take (lines_of bytes) s b.1
 
--- if a call found a script in bytes, their lines spell that script
+-- if a call returned the script that it read from bytes, the lines of these bytes spell that script
 pub is_found : {A : Type 0} (bytes : List ℕ) (r : Result (code.Script A) Fault)
     → Gives (λ s. view s) r (script_of bytes)
     → IfOk r (λ s. Spells (lines_of bytes) (view s))

@@ -31,7 +31,7 @@ meter bytes failures = record { bytes = bytes; failures = failures }
 abbrev pub LiesIn : {F : Type 0} → Command F → F → Type 0
 LiesIn command e = (e ≢ command.no_memory) × (e ≢ command.read_fault) × (e ≢ command.write_fault)
 
--- one call of a command did this, with its reader and its writer before it and after it
+-- what one call of a command did: its result, its reader and writer before it, and those after it (reader', writer')
 pub record IsCommandIo {F X R W : Type 0} (command : Command F) (source : IoModel R) (sink : IoModel W)
     (reader reader' : R) (writer writer' : W) (result : Result X F) : Type 0 where
   -- if the call did what was asked, the reader had a script, and the answer to it was written and nothing else

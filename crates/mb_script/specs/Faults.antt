@@ -6,7 +6,7 @@ use Rattle.mb_script.specs.declared.transfer.ReadEnd.{ReadEnd}
 use Rattle.mb_script.specs.declared.transfer.ReadEnd.TheVariants as end
 use Rattle.mb_script.specs.Steps.{GivesUnless}
 
--- the fault of an end of reading, which keeps its name
+-- the fault that has the name of this end of reading
 abbrev pub fault_at : ReadEnd → Fault
 fault_at end.TooLong = TooLong
 fault_at end.NoMemory = NoMemory
@@ -16,6 +16,6 @@ fault_at end.ReadFault = ReadFault
 abbrev pub LiesInScript : Fault → Type 0
 LiesInScript e = (e ≢ NoMemory) × (e ≢ ReadFault) × (e ≢ WriteFault)
 
--- what a call returned, seen by `view`, is what was to be read, unless memory ran out. No device fails in the call
+-- the call returned what was to be read (`read`), seen by `view`, unless memory ran out. No device fails in the call
 abbrev pub Gives : {X Y : Type 0} → (X → Y) → Result X Fault → Result Y Fault → Type 0
 Gives view result read = GivesUnless NoMemory ReadFault WriteFault view result read

@@ -15,7 +15,7 @@ pub record IsAnswer (bytes text : List ℕ) : Type 0 where
   pub read : script_of bytes ≡ Ok script
   pub replayed : IsReplayText script.plan script.events text
 
--- an answer to an event whose lane and consumer exist
+-- an answer to an event that does not say that the event's lane or consumer is missing
 abbrev pub IsOfWorld : Answer → Type 0
 IsOfWorld r = (r ≢ NoLane) × (r ≢ NoConsumer)
 

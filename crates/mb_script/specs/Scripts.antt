@@ -20,23 +20,23 @@ use Rattle.mb_script.specs.Shapes.{shape_named}
 use Rattle.mb_script.specs.Tables.{table_named}
 use Rattle.mb_script.specs.Text.{lines_of, words_in_line, has_empty, number_of}
 
--- what a first line makes: what a world is made of, how many pairs of deciding objects each cell has, and what it has
--- beside them
+-- what the first line of a script says: what a world is made of, how many pairs of deciding objects each cell has, and
+-- what a cell has beside them
 pub record SetupLine : Type 0 where
   -- the plan of the world, the number of pairs of each cell, and the shape of the cells
   pub plan : Plan
   pub pairs : ℕ
   pub shape : Shape
 
--- what a setup of the code makes, as plain data
+-- what a `Setup` of the code says, as a `SetupLine`
 abbrev pub made_in : Setup → SetupLine
 made_in setup = record { plan = plan_in setup; pairs = pairs_in setup; shape = shape_in setup }
 
--- what these numbers make, over the quorum table of this name, with cells of this shape
+-- the `SetupLine` of these numbers of producers, consumers, cells and pairs, with this quorum table and this shape
 abbrev pub made_from : Shape → ℕ → ℕ → ℕ → ℕ → TableName → SetupLine
 made_from shape p c m k t = record { plan = shaped_plan shape p c m k t; pairs = k; shape = shape }
 
--- a script: what its first line makes, and its events, in their order
+-- a script: what its first line says, and its events, in their order
 pub record Script : Type 0 where
   -- the plan of the world, the number of pairs of each cell, and the shape of the cells
   pub plan : Plan
@@ -45,7 +45,7 @@ pub record Script : Type 0 where
   -- the events, in the order of time
   pub events : List Event
 
--- the script of what a first line makes, and of these events
+-- the script with this first line and these events
 abbrev pub script_with : SetupLine → List Event → Script
 script_with made events = record {
   plan = made.plan;
@@ -80,12 +80,12 @@ three_numbers n (a ∷ b ∷ c ∷ []) =
 three_numbers n words = Err (BadLine n)
 
 -- ---- the first line: `setup`, four numbers, a table's name, and the shape of cells that have more than pairs
--- what a setup makes, or the fault of line 1, if there is a reason to refuse the setup
+-- what a first line says, or the fault of line 1, if there is a reason to refuse its setup
 abbrev pub made_of : Option SetupFault → SetupLine → Result SetupLine Fault
 made_of None made = Ok made
 made_of (Some fault) made = Err (BadSetup 1 fault)
 
--- what the words after `setup` make, or a fault: first of their count, the table and the shape, then of the first bad
+-- what the words after `setup` say, or a fault: first of their count, the table and the shape, then of the first bad
 -- number, and last of the ranges
 unfoldable pub sizes_of : List (List ℕ) → Result SetupLine Fault
 sizes_of (producers ∷ consumers ∷ cells ∷ pairs ∷ name ∷ shape) = do
@@ -98,7 +98,7 @@ sizes_of (producers ∷ consumers ∷ cells ∷ pairs ∷ name ∷ shape) = do
   made_of (setup_refusal p c m k) (made_from f p c m k t)
 sizes_of words = Err (BadLine 1)
 
--- what the words of the first line make, or their first fault. If the first word is not `setup`, no other fault of the
+-- what the words of the first line say, or their first fault. If the first word is not `setup`, no other fault of the
 -- line counts
 unfoldable pub setup_of : List (List ℕ) → Result SetupLine Fault
 setup_of [] = Err NoSetup
@@ -108,7 +108,7 @@ setup_of (key ∷ words) =
     else Err NoSetup
 
 -- ---- each further line: an event
--- the event that the words of line n say, of whatever world, or the fault of the line
+-- the event that the words of line n say, or the fault of the line. No world is asked for its lane and its consumer yet
 unfoldable pub event_of : ℕ → List (List ℕ) → Result Event Fault
 event_of n [] = Err (BadLine n)
 event_of n (key ∷ words) =

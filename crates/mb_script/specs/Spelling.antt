@@ -36,7 +36,7 @@ event_words (Push lane) = codes "push" ∷ decimal lane ∷ []
 event_words (Finish lane) = codes "finish" ∷ decimal lane ∷ []
 event_words (Step consumer lane word) = codes "step" ∷ decimal consumer ∷ decimal lane ∷ decimal word ∷ []
 
--- the lines of a script with these sizes and events: one space between each two words
+-- the lines of a script with these sizes and events: between two words of a line stands one space
 abbrev pub script_lines : Sizes → List Event → List (List ℕ)
 script_lines z events = map (join_with_byte 32) (setup_words z ∷ map event_words events)
 
@@ -57,7 +57,7 @@ pub record IsScript (z : Sizes) (events : List Event) : Type 0 where
   -- there are at most as many events as a script may have
   pub few : length events ≤ MAX_EVENTS
 
--- what the first line makes of these sizes
+-- what a first line with these sizes says
 abbrev pub made_for : Sizes → SetupLine
 made_for z = made_from z.shape z.producers z.consumers z.cells z.pairs z.table
 
@@ -65,6 +65,6 @@ made_for z = made_from z.shape z.producers z.consumers z.cells z.pairs z.table
 abbrev pub script_in : Sizes → List Event → Script
 script_in z events = script_with (made_for z) events
 
--- these lines spell this script
+-- some sizes and events make up this script, and these lines spell them
 abbrev pub Spells : List (List ℕ) → Script → Type 0
 Spells lines s = (z : Sizes) × IsScript z s.events × (lines ≡ script_lines z s.events) × (s ≡ script_in z s.events)

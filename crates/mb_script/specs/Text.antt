@@ -27,7 +27,7 @@ has_empty words = list_any (λ w. length w == 0) words
 abbrev pub is_numeral : List ℕ → Bool
 is_numeral word = all_ascii_digits word && (nat_lt 48 (slice_index word 0) || length word == 1)
 
--- the number of a word, at most 2^64 - 1
+-- the number that a word spells, if the word is a numeral and the number is below 2^64
 unfoldable pub number_of : List ℕ → Option ℕ
 number_of word =
     if is_numeral word && nat_lt (digits_value 10 word) (2 ^ 64) then Some (digits_value 10 word) else None

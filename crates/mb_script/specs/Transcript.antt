@@ -45,7 +45,7 @@ finish_text finish.Ended = codes "ended"
 finish_text finish.Busy = codes "busy"
 finish_text finish.Closed = codes "closed"
 
--- the text of the answer to a look: what the link says
+-- the text of the answer to a look at a link: it leads to no cell yet, to this cell, or is the end mark
 abbrev pub look_text : Look → List ℕ
 look_text look.Nothing = codes "nothing"
 look_text (look.Cell cell) = codes "found " ++ decimal cell

@@ -33,7 +33,7 @@ pub trait CountedRead {
         ensures gives_none { IsErr result → given self.new ≡ given self.old };
 }
 
-/// A writer that counts its failures, modulo 2^64. To take none of some bytes is a failure.
+/// A writer that counts its failures, modulo 2^64. A write that takes no byte is a failure.
 pub trait CountedWrite {
     // The bytes that the writer holds, if they are known.
     ghost held: { Self → Option (List ℕ) };

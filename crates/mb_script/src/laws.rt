@@ -21,8 +21,8 @@ use mb_quorum::laws::named_tables_are_lawful;
 use mb_world::laws::{histories_have_one_report, replays_do_not_differ, worlds_are_sound};
 use mb_world::steps::history_extends;
 
-/// Words that are joined by one space between each two are cut into the same words. The words of a line, joined so, are
-/// that line.
+/// If words are joined, with one space between two, the line is cut into the same words. If the words of a line are
+/// joined so, they are that line.
 pub fn words_are_cut_as_spelled()
     ensures cut { (w : List ℕ) (ws : List (List ℕ)) → AllByRecursion IsWord (w ∷ ws)
         → words_in_line (join_with_byte 32 (w ∷ ws)) ≡ w ∷ ws }
@@ -45,7 +45,7 @@ pub fn numbers_are_read_as_spelled()
         → (ws ≡ map decimal ns) × AllByRecursion (λ n. n < 2 ^ 64) ns }
 {}
 
-/// A text whose lines are spelled as words is ASCII.
+/// If each line of a text is words as `IsWordLine` says, joined by single spaces, the text is ASCII.
 pub fn lines_of_words_are_ascii()
     ensures { (bytes : List ℕ) (lines : List (List (List ℕ))) → AllByRecursion IsWordLine lines
         → lines_of bytes ≡ map (join_with_byte 32) lines → list_all is_ascii bytes ≡ true }
@@ -99,7 +99,7 @@ pub fn scripts_have_one_answer()
     histories_have_one_report();
 }
 
-/// In the transcript of a script no lane and no consumer is missing.
+/// No answer in the transcript of a script says that a lane or a consumer is not there.
 pub fn transcripts_name_what_is_there()
     ensures { (bytes text : List ℕ) (a : IsAnswer bytes text)
         → AllByRecursion IsOfWorld a.replayed.answers }
@@ -107,13 +107,12 @@ pub fn transcripts_name_what_is_there()
     named_tables_are_lawful();
 }
 
-/// One more failure changes the number of failures.
+/// After one more failure the count of failures is another, although it counts modulo 2^64.
 pub fn failures_are_seen()
     ensures { (failures : ℕ) → one_more failures ≢ failures }
 {}
 
-/// A count that grows by at most `most`, and does not reach its limit by that, shows that at most `most` bytes were
-/// given.
+/// If a count grows by at most `most`, and stays below its limit by that, at most `most` bytes were given.
 pub fn counts_bound_what_is_given()
     ensures { (most n old new : ℕ) → old + most < 2 ^ 64 - 1 → CountGrows n old new
         → CountGrowsUpTo most old new → n ≤ most }

@@ -100,7 +100,7 @@ fn setup(line: &str) -> Result<Setup, Fault>
     sizes(sizes_words)
 }
 
-/// The event that the words of line `n` say, of whatever world, or the fault of the line.
+/// The event that the words of line `n` say, or the fault of the line. No world is asked for its lane and consumer yet.
 #[tactic(auto, unfolding(crate::specs::Scripts::event_of))]
 fn event(n: usize, words: &[&str]) -> Result<Event, Fault>
     ensures { Gives (λ e. e) result (event_of n (map (λ w. w.now) words.now)) }

@@ -1,4 +1,4 @@
--- Proof of `command_of`: reads the command line, whose first word is the program's name.
+-- Proof of `command_of`: it reads the command line, whose first word is the program's name.
 use Rattle.std.proofs.Common.{map, subst, sym, ap, ◌∙◌}
 use Rattle.clap.specs.Words.{takes}
 use Rattle.mb_program.proofs.Commands.{alone_taken, alone_named, error_kept, found_in, kind_kept, named_in, not_some, refused_by, told_in, unnamed}

@@ -1,4 +1,4 @@
--- Proof of `program`: the program with its commands, as clap describes it.
+-- Proof of `program`, which returns the program with its commands, as clap describes it.
 use Rattle.std.proofs.Common.{◌∙◌, ap, ap₂}
 use Rattle.std.proofs.lemmas.Result.{IfOk-weaker}
 use Rattle.clap.specs.Words.{App, with_subcommand}

@@ -1,4 +1,4 @@
--- Proof of `read_script`: the script that the bytes spell, or their first fault.
+-- Proof of `read_script`, which returns the script that the bytes spell, or their first fault.
 use Rattle.std.proofs.Common.{subst}
 use Rattle.mb_program.specs.Steps.{Gives}
 use Rattle.mb_program.specs.RatifyScript.{view}

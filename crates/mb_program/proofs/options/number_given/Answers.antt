@@ -1,4 +1,4 @@
--- Proof of `number_given`: the number of an option, or `default` if it is not given.
+-- Proof of `number_given`, which returns the number of an option, or `default` if it is not given.
 use Rattle.std.proofs.Common.{◌∙◌}
 use Rattle.std.specs.Str.Parse.{ParsesUnsigned, ExplainsUnsignedError, HasUnsignedDigitsIfOk}
 use Rattle.clap.specs.Words.{found_of}

@@ -1,4 +1,4 @@
--- Proof of `run_command`: the command `run`, as clap describes it.
+-- Proof of `run_command`, which returns the command `run`, as clap describes it.
 use Rattle.std.proofs.Common.{◌||◌, ◌∙◌, ap₂, refl}
 use Rattle.std.proofs.lemmas.Result.{IfOk-weaker}
 use Rattle.clap.specs.Words.{with_rule}

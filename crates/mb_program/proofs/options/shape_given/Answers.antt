@@ -1,4 +1,4 @@
--- Proof of `shape_given`: the shape that the option names.
+-- Proof of `shape_given`, which returns the shape that the option names.
 use Rattle.clap.specs.Words.{found_of}
 use Rattle.mb_program.proofs.ShapesGiven.{none_read, word_read}
 use Rattle.mb_program.proofs.options.shape_given.Goals as goal

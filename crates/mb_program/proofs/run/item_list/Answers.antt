@@ -1,4 +1,4 @@
--- Proof of `item_list`: the items of producer `p`, in the order in which it puts them.
+-- Proof of `item_list`, which returns the items of producer `p`, in the order in which it puts them.
 use Rattle.std.proofs.Common.{◌∙◌}
 use Rattle.mb_program.proofs.RunItems.{items_more}
 use Rattle.mb_program.proofs.run.item_list.Goals as goal

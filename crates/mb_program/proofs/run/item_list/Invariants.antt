@@ -1,4 +1,4 @@
--- Loop invariants of `item_list`: the items of producer `p`, in the order in which it puts them.
+-- Loop invariants of `item_list`, which returns the items of producer `p`, in the order in which it puts them.
 use Rattle.std.proofs.Common.{◌≡◌}
 use Rattle.mb_program.specs.Running.{items_of}
 use Rattle.mb_program.proofs.run.item_list.Given as goal

@@ -1,4 +1,4 @@
--- Proof of `item_lists`: the items of all producers, one list for each.
+-- Proof of `item_lists`, which returns the items of all producers, one list for each.
 use Rattle.std.proofs.Common.{◌+◌, ◌∙◌, ap, ℕ}
 use Rattle.mb_mailbox.specs.Worked.{lists_in}
 use Rattle.mb_program.proofs.RunItems.{lists_more}

@@ -1,4 +1,4 @@
--- Proof of `run_threads`: lets producers and consumers work in threads, one for each, and writes the report of what
+-- Proof of `run_threads`: it lets producers and consumers work in threads, one for each, and writes the report of what
 -- they did and nothing else.
 use Rattle.std.proofs.Common.{◌∙◌, refl}
 use Rattle.mb_program.specs.declared.fault.RunFault.TheVariants.{NoMemory, WriteFault}

@@ -1,4 +1,4 @@
--- Proof of `sources`: the sources of the consumers' random words, one for each consumer.
+-- Proof of `sources`, which returns the sources of the consumers' random words, one for each consumer.
 use Rattle.std.proofs.Common.{◌+◌, ◌++◌, ◌∙◌, ap, ap₂, sym, ℕ, [], ◌∷◌}
 use Rattle.mb_program.specs.Source.{source_from}
 use Rattle.mb_program.proofs.RunItems.{map_more}

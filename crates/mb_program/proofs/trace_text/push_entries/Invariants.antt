@@ -1,4 +1,4 @@
--- Loop invariants of `push_entries`: appends a line for each entry.
+-- Loop invariants of `push_entries`: it appends a line for each entry.
 use Rattle.std.proofs.Common.{◌≡◌, ◌++◌, take, string_bytes}
 use Rattle.std.specs.List.{flat_map}
 use Rattle.mb_program.specs.TraceText.{entry_text}

@@ -1,4 +1,4 @@
--- Proof of `deal`: the items in their order, cut into `count` lists of about the same length.
+-- Proof of `deal`, which returns the items in their order, cut into `count` lists of about the same length.
 use Rattle.std.proofs.Common.{◌∙◌, ◌++◌, ◌<◌, ◌+◌, ◌-◌, ◌/◌, ap, arith, length, refl, rules, subst, sym}
 use Rattle.std.proofs.Math.Nat.{div-le_self}
 use Rattle.std.proofs.lemmas.List.{length-drop}
@@ -9,7 +9,7 @@ use Rattle.mb_rounds.proofs.Cutting.{dealt_more, last_has_all, lists_push}
 use Rattle.mb_rounds.proofs.Dealing.{HasShares, IsShare, share_has, share_of, shares_are_even, shares_first, shares_on}
 use Rattle.mb_rounds.proofs.hands.deal.Goals as goal
 
--- no list is cut yet, and there are enough items for each list
+-- before the first list is cut off, all items remain, and they are enough for a fair share of each list
 pub loop-number-init : goal.loop-number-init
 loop-number-init g c =
     let some = c.requires.some in
@@ -22,7 +22,7 @@ loop-number-init g c =
           (shares_first count c.args.count some),
     )
 
--- one more list is cut off the front of what is left, and the last list has all of it
+-- one more list is cut off the front of the items that remain, and the last list has all of them
 pub loop-number-preserved : goal.loop-number-preserved
 loop-number-preserved g c =
     let rest = c.loop-number.rest.now in
@@ -47,6 +47,6 @@ loop-number-preserved g c =
           (shares_on q left after (length rest) (omega (arith, some)) shares),
     )
 
--- lists with fair shares are even
+-- lists with fair shares differ by one item at most
 pub returns-clause-even : goal.returns-clause-even
 returns-clause-even g c = shares_are_even _ _ c.loop-number.invariant.3

@@ -1,4 +1,4 @@
--- Loop invariants of `deal`: the items in their order, cut into `count` lists.
+-- Loop invariants of `deal`: the lists cut so far, each a fair share, and what remains are the items in their order.
 use Rattle.std.specs.Prelude.{◌≡◌, ◌++◌, ◌-◌, ◌/◌, length, vec_len}
 use Rattle.std.specs.List.{All, concat}
 use Rattle.mb_mailbox.specs.Worked.{lists_in}

@@ -5,7 +5,7 @@ use Rattle.mb_rounds.proofs.Counts.{times_first}
 use Rattle.mb_rounds.proofs.Turning.{all_there}
 use Rattle.mb_rounds.proofs.laws.sample_carried.Goals as goal
 
--- the items carried before each turn, and that each round kept all values: 8, 7 and 9 were carried into the second
+-- 8, 7 and 9 were carried into the second round. Each round gave out and carried on just the items carried into it
 pub returns-clause-one_left : goal.returns-clause-one_left
 returns-clause-one_left c = (
   8 ∷ 7 ∷ 9 ∷ [],

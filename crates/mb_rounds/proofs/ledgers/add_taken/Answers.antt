@@ -1,11 +1,11 @@
--- Proof of `add_taken`: adds the items that these notes say were taken.
+-- Proof of `add_taken`: it adds the items that these notes say were taken.
 use Rattle.std.proofs.Common.{◌≡◌, ◌∙◌, ap, sym, refl, rules, Option, Some, None}
 use Rattle.mb_world.specs.Theorem.{item_taken}
 use Rattle.mb_rounds.proofs.Reading.{read_none, read_some}
 use Rattle.mb_rounds.proofs.ledgers.add_taken.Goals as goal
 use Rattle.mb_rounds.proofs.ledgers.add_taken.Goals.{in-Some+in_ok-push, in_default}
 
--- the next note adds its item, if it says that one was taken
+-- if the next note says that an item was taken, that item is added, else none
 pub loop-note-preserved : goal.loop-note-preserved
 loop-note-preserved g c =
     let notes = c.args.notes.now in

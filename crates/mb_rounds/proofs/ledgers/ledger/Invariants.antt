@@ -1,4 +1,4 @@
--- Loop invariants of `ledger`: what this consumer took, lane by lane.
+-- Loop invariants of `ledger`: the items are those that the consumer took on the lanes before this one.
 use Rattle.std.specs.Prelude.{◌≡◌}
 use Rattle.mb_rounds.specs.Round.{taken_below}
 use Rattle.mb_rounds.proofs.ledgers.ledger.Given as goal

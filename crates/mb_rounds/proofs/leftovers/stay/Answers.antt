@@ -1,5 +1,5 @@
--- Proof of `stay`: the items that stay after a round: for each list those put that nobody took, and then those that
--- were not put.
+-- Proof of `stay`, which returns the items that stay after a round: for each list those put that nobody took, and then
+-- those that were not put.
 use Rattle.std.proofs.Common.{◌≡◌, ◌∙◌, ◌<◌, ◌≤◌, ◌++◌, ap, append_assoc, arith, drop, length, get_or, rules, sym}
 use Rattle.mb_mailbox.specs.Worked.{lists_in}
 use Rattle.mb_world.specs.Theorem.{LaneView, ReportView}
@@ -7,7 +7,7 @@ use Rattle.mb_rounds.proofs.Fronts.{get_map_at}
 use Rattle.mb_rounds.proofs.Reading.{stays_more, stays_whole}
 use Rattle.mb_rounds.proofs.leftovers.stay.Goals as goal
 
--- what stays of the next lane comes after what stays of those before
+-- what stays of the next lane comes after what stays of the lanes before it
 pub loop-p-preserved : goal.loop-p-preserved
 loop-p-preserved g c =
     let lanes = c.args.report.now.lanes in
@@ -33,7 +33,7 @@ loop-p-preserved g c =
     ∙ (λ i. c.loop-p.invariant i ++ (left i ++ behind i))
     ∙ sym (stays_more lists lanes p list.items lane got low (sym here))
 
--- after the loop all that stays of the lanes is there, and the items that were not dealt follow
+-- after the loop all items that stay of the lanes are there, and the items that were not dealt follow
 pub returns : goal.returns
 returns g c =
     let lanes = c.args.report.now.lanes in

@@ -1,5 +1,5 @@
--- Loop invariants of `stay`: the items that stay after a round: for each list those put that nobody took, and then
--- those that were not put.
+-- Loop invariants of `stay`: of the lanes read so far, what stays is in the list, lane by lane: first the items that
+-- were put and that nobody took, and then those of the lane's list that were not put.
 use Rattle.std.specs.Prelude.{◌≡◌, take}
 use Rattle.mb_mailbox.specs.Worked.{lists_in}
 use Rattle.mb_rounds.specs.Round.{staying}

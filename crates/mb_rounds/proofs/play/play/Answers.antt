@@ -1,4 +1,4 @@
--- Proof of `play`: lets workers put these lists into a mailbox of this setup and take from it.
+-- Proof of `play`: it lets workers put these lists into a mailbox of this setup and take from it.
 use Rattle.std.proofs.Common.{◌≡◌, ◌∙◌, ap, arith, length, map, rules, sym}
 use Rattle.std.proofs.lemmas.Result.{IfOk-at_ok}
 use Rattle.mb_mailbox.specs.Worked.{lists_in}
@@ -9,7 +9,7 @@ use Rattle.mb_rounds.proofs.Cutting.{count_lists}
 use Rattle.mb_rounds.proofs.Played.{asks_enough, of_value, played}
 use Rattle.mb_rounds.proofs.play.play.Goals as goal
 
--- a new mailbox has enough numbers for the lists and for the sources, and the budget is not 0
+-- a new mailbox has a lane for each list and a number for each source
 pub report_after-requires-clause-numbers : goal.report_after-requires-clause-numbers
 report_after-requires-clause-numbers g c =
     λ is. asks_enough (plan_in c.args.setup.now) c.in_ok-mailbox.mailbox c.in_ok-mailbox.hub _ _
@@ -24,7 +24,7 @@ report_after-requires-clause-budget g c =
     let some = c.requires.budget in
     omega (arith, none, some)
 
--- what the mailbox's calls promise is what a played round asks for
+-- the promises of the calls `new`, `work` and `report_after` together say that the round was played
 pub returns-clause-played : goal.returns-clause-played
 returns-clause-played g c =
     let items = c.args.lists.items in

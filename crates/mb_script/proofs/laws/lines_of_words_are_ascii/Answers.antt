@@ -1,4 +1,4 @@
--- Proof of `laws::lines_of_words_are_ascii`: a text whose lines are spelled as words is ASCII.
+-- Proof of `laws::lines_of_words_are_ascii`: a text whose lines are joined words, as `IsWordLine` says, is ASCII.
 use Rattle.std.proofs.Common.{◌≡◌, sym, subst, true}
 use Rattle.std.specs.Char.{is_ascii}
 use Rattle.std.specs.List.{AllByRecursion, list_all}

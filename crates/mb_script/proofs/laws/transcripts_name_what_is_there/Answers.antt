@@ -1,4 +1,4 @@
--- Proof of `laws::transcripts_name_what_is_there`: in the transcript of a script no lane and no consumer is missing.
+-- Proof of `laws::transcripts_name_what_is_there`: no answer in a transcript says that a lane or consumer is not there.
 use Rattle.mb_script.proofs.KnownAnswers.{answers_known}
 use Rattle.mb_script.proofs.laws.transcripts_name_what_is_there.Goals as goal
 

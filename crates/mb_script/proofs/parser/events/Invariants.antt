@@ -1,4 +1,4 @@
--- Loop invariants of `events`: the events of the lines after the first, or the first fault there.
+-- Loop invariants of `events`, which returns the events of the lines after the first, or the first fault there.
 use Rattle.std.proofs.Common.{◌≡◌, ◌+◌, ◌≤◌, length}
 use denote.Text.{Utf8}
 use denote.Shadow.{shadow}
@@ -18,6 +18,6 @@ invariant-loop-line g l = record {
       ≡ events_of (plan_in l.fn.setup) 2 (lines_of l.fn.text);
 }
 
--- each turn leaves less of the text
+-- each pass of the loop leaves less of the text
 abbrev pub decreases-loop-line : goal.decreases-loop-line
 decreases-loop-line g l = length l.rest

@@ -1,4 +1,4 @@
--- Proof of `parse`: the script that the bytes spell, or their first fault.
+-- Proof of `parse`, which returns the script that the bytes spell, or their first fault.
 use Rattle.std.proofs.Common.{subst}
 use Rattle.mb_script.specs.Faults.{Gives}
 use Rattle.mb_script.specs.Scripts.{view}

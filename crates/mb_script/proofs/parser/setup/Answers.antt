@@ -1,4 +1,4 @@
--- Proof of `setup`: the setup that the first line says, or what is wrong with it.
+-- Proof of `setup`, which returns the setup that the first line says, or what is wrong with it.
 use Rattle.std.proofs.Common.{rules, codes, ◌≡◌, sym, ◌∙◌}
 use Rattle.std.proofs.lemmas.Slice.Eq.{bytes_eq-Decides}
 use Rattle.std.proofs.lemmas.Bool.{not-false}

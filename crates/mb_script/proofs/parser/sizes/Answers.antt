@@ -1,4 +1,4 @@
--- Proof of `sizes`: the setup that the words after `setup` say, or what is wrong with them.
+-- Proof of `sizes`, which returns the setup that the words after `setup` say, or what is wrong with them.
 use Rattle.std.proofs.Common.{rules, ◌<◌, ℕ, subst, sym}
 use Rattle.std.proofs.lemmas.List.{length-map}
 use Rattle.mb_script.proofs.Lined.{short_setup}

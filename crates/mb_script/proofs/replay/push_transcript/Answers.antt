@@ -1,4 +1,4 @@
--- Proof of `push_transcript`: applies the events in their order, and appends the line of each with its answer.
+-- Proof of `push_transcript`: it applies the events in their order, and appends the line of each with its answer.
 use Rattle.std.proofs.Common.{◌∙◌}
 use Rattle.std.proofs.lemmas.List.{take_more}
 use Rattle.mb_script.proofs.Replays.{IsTranscribed-more}

@@ -1,4 +1,4 @@
--- Proof of `replay_text`: the transcript of the events in a new world, and then the report of that world.
+-- Proof of `replay_text`, which returns the transcript of the events in a new world, and then the report of that world.
 use Rattle.std.proofs.Common.{[], ◌∙◌}
 use Rattle.mb_script.proofs.Replays.{IsReplayText-made}
 use Rattle.mb_script.proofs.replay.replay_text.Goals as goal

@@ -1,4 +1,4 @@
--- Proof of `answer_script`: reads a script to its end, and writes its answer and nothing else.
+-- Proof of `answer_script`: it reads a script to its end, and writes its answer and nothing else.
 use Rattle.std.proofs.Common.{ℕ, List, Some, ◌≡◌, arith}
 use Rattle.std.proofs.lemmas.Grind.{common_steps}
 use Rattle.mb_script.specs.Devices.{Had}

@@ -1,4 +1,4 @@
--- Proof of `ascii_text`: the bytes as a text, or `None` if one of them is not ASCII.
+-- Proof of `ascii_text`, which returns the bytes as a text, or `None` if one of them is not ASCII.
 use Rattle.std.proofs.lemmas.Str.{IsUtf8-from_ascii}
 use Rattle.mb_script.proofs.Ascii.{all_ascii}
 use Rattle.mb_script.proofs.text.ascii_text.Goals as goal

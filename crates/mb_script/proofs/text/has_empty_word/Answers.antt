@@ -1,4 +1,4 @@
--- Proof of `has_empty_word`: whether some word of the line is empty, which makes it a bad line.
+-- Proof of `has_empty_word`, which returns whether some word of the line is empty.
 use Rattle.std.proofs.Common.{rules, tests, lit<, length, nat_eq}
 use Rattle.std.proofs.lemmas.Iterator.Search.{any_from_yields_List}
 use Rattle.std.proofs.lemmas.Iterator.Splits.{YieldsList-from_str_split}

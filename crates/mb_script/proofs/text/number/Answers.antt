@@ -1,5 +1,5 @@
--- Proof of `number`: the number that a word spells, if it spells one: `0`, or digits that do not begin with 0, up to
--- 2^64 - 1.
+-- Proof of `number`, which returns the number that a word spells, if it spells one: `0`, or digits that do not begin
+-- with 0, up to 2^64 - 1.
 use Rattle.std.proofs.Common.{arith, ◌<◌, ℕ, List, length, get_or, ap, ◌∙◌}
 use Rattle.mb_script.proofs.Numerals.{number_led}
 use Rattle.mb_script.proofs.text.number.Goals as goal

@@ -1,4 +1,4 @@
--- Proof of `numbers`: the numbers that these words spell, or `None` if some word spells none.
+-- Proof of `numbers`, which returns the numbers that these words spell, or `None` if some word spells none.
 use Rattle.std.proofs.Common.{◌∙◌, sym}
 use Rattle.mb_script.proofs.Cuts.{number_fails, number_works, numbers_end}
 use Rattle.mb_script.proofs.text.numbers.Goals as goal

@@ -1,4 +1,4 @@
--- Proof of `split_line`: the first line and the text after it, or `None` if there is no line.
+-- Proof of `split_line`, which returns the first line and the text after it, or `None` if there is no line.
 use Rattle.std.proofs.Common.{lit<, arith, tests}
 use Rattle.mb_script.proofs.Lines.{line_taken}
 use Rattle.mb_script.proofs.text.split_line.Goals as goal

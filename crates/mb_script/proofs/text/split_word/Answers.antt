@@ -1,4 +1,4 @@
--- Proof of `split_word`: the first word of a line, which may be empty, and the words after it, if there are any.
+-- Proof of `split_word`, which returns the first word of a line, perhaps an empty one, and the words after it, if any.
 use Rattle.std.proofs.Common.{◌≡◌, ◌+◌, ℕ, List, ◌∷◌, lit<, arith, length, length-drop, ap, ◌∙◌}
 use Rattle.std.specs.List.{position_or_len}
 use Rattle.mb_script.specs.Text.{words_in_line}

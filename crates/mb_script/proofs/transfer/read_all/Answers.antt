@@ -1,4 +1,4 @@
--- Proof of `read_all`: reads to the end, but stops after the first byte past the limit, `MAX_SCRIPT_LEN`.
+-- Proof of `read_all`: it reads to the end, but stops after the first byte past the limit, `MAX_SCRIPT_LEN`.
 use Rattle.std.proofs.Common.{arith, ◌+◌, ◌++◌, length, take, refl}
 use Rattle.std.proofs.lemmas.Grind.{common_steps}
 use Rattle.std.proofs.KnownBytes.{Consumes-kept, Consumes-trans}
@@ -34,7 +34,7 @@ returns-in_default-clause-given_failed g c e = (
   rw (c.in_default.ensures.gives_none refl) c.loop-piece.invariant.given,
 )
 
--- the read that failed is the first one that did
+-- no read before the failed one failed, so the failures are one more than at first
 pub returns-in_default-clause-fault : goal.returns-in_default-clause-fault
 returns-in_default-clause-fault g c e =
     rw c.loop-piece.invariant.works at (c.in_default.ensures.fails refl)

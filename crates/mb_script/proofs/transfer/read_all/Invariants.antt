@@ -1,4 +1,4 @@
--- Loop invariants of `read_all`: reads to the end, but stops after the first byte past the limit, `MAX_SCRIPT_LEN`.
+-- Loop invariants of `read_all`: it reads to the end, but stops after the first byte past the limit, `MAX_SCRIPT_LEN`.
 use Rattle.std.proofs.Common.{◌≡◌, ◌≤◌, ◌+◌, ◌-◌, length}
 use Rattle.std.specs.Io.KnownBytes.{Consumes}
 use Rattle.mb_script.specs.declared.transfer.TheConstants.{MAX_SCRIPT_LEN}
@@ -14,6 +14,6 @@ invariant-loop-piece g l = record {
   works : g.R.CountedRead.failures l.reader ≡ g.R.CountedRead.failures l.fn.reader;
 }
 
--- each turn leaves less room up to one byte past the limit
+-- each pass of the loop leaves less room up to one byte past the limit
 abbrev pub decreases-loop-piece : goal.decreases-loop-piece
 decreases-loop-piece g l = MAX_SCRIPT_LEN + 1 - length l.text.items

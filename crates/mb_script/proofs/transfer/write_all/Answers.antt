@@ -1,4 +1,4 @@
--- Proof of `write_all`: writes the whole text.
+-- Proof of `write_all`: it writes the whole text.
 use Rattle.std.proofs.Common.{arith, ◌∙◌}
 use Rattle.std.proofs.lemmas.Grind.{common_steps}
 use Rattle.mb_script.proofs.KnownBytes.{Appends-more, take-rest}

@@ -1,4 +1,4 @@
--- Loop invariants of `write_all`: writes the whole text.
+-- Loop invariants of `write_all`: it writes the whole text.
 use Rattle.std.proofs.Common.{◌≡◌, ◌≤◌, ◌-◌, length, take}
 use Rattle.std.specs.Io.KnownBytes.{Appends}
 use Rattle.mb_script.proofs.transfer.write_all.Given as goal
@@ -11,6 +11,6 @@ invariant-loop-at g l = record {
   works : g.W.CountedWrite.failures l.writer ≡ g.W.CountedWrite.failures l.fn.writer;
 }
 
--- each turn leaves less of the text
+-- each pass of the loop leaves less of the text
 abbrev pub decreases-loop-at : goal.decreases-loop-at
 decreases-loop-at g l = length l.text - l.at

@@ -1,9 +1,9 @@
--- Proof of `Rounds::next`: what the next round gives out, and what is carried after it.
+-- Proof of `Rounds::next`, which returns what the next round gives out, and what is carried after it.
 use Rattle.std.proofs.Common.{rules}
 use Rattle.mb_mailbox.specs.Worked.{lists_in}
 use Rattle.mb_rounds.proofs.rounds.Rounds.next.Goals as goal
 
--- the lists dealt are those that were copied for the mailbox
+-- the lists that were dealt are those whose copies went into the mailbox
 pub returns-clause-round : goal.returns-clause-round
 returns-clause-round g c = record {
   lists = lists_in c.in_ok-lists.lists.items;

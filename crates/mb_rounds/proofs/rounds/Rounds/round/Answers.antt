@@ -1,5 +1,5 @@
--- Proof of `Rounds::round`: runs one round over a mailbox of its own, with a thread for each producer of the setup and
--- for each source of random words.
+-- Proof of `Rounds::round`: it runs one round over a mailbox of its own, with a thread for each producer of the setup
+-- and for each source of random words.
 use Rattle.std.proofs.Common.{◌≡◌, ◌∙◌, ◌≤◌, length, rules, subst, sym, vec_len}
 use Rattle.mb_world.specs.Plan.{consumers_of}
 use Rattle.mb_world.specs.Setups.{plan_in}
@@ -9,12 +9,12 @@ use Rattle.mb_rounds.proofs.Played.{count_sources}
 use Rattle.mb_rounds.proofs.Whole.{round_adds_up}
 use Rattle.mb_rounds.proofs.rounds.Rounds.round.Goals as goal
 
--- the round that was run gives out, and lets stay, what was carried
+-- what the round gives out, and what is carried after it, are the items that were carried before it
 pub returns-clause-same_items : goal.returns-clause-same_items
 returns-clause-same_items g c =
     round_adds_up _ c.args.self.now.carried _ _ _ _ c.in_ok-round.ensures.round
 
--- there are no more sources than consumers. So if no worker was stopped, each that has a source has noted all
+-- no more sources than consumers are given, so if no worker was stopped, each with a source has a note at each item
 pub returns-clause-noted : goal.returns-clause-noted
 returns-clause-noted g c = λ none.
     let rngs = c.args.sources.items in

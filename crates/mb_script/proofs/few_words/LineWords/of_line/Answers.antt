@@ -1,5 +1,5 @@
--- Proof of `LineWords::of_line`: the words of a line, or `None` if some word is empty or there are more than
--- `MAX_WORDS`.
+-- Proof of `LineWords::of_line`, which returns the words of a line, or `None` if some word is empty or there are more
+-- than `MAX_WORDS`.
 use Rattle.std.proofs.Common.{rules, arith, lit<, ◌≡◌, ℕ, ◌<◌, List, [], ◌∷◌, ◌++◌, length, map, take, ap, sym, ◌∙◌}
 use Rattle.std.proofs.lemmas.List.{length-set}
 use Rattle.std.proofs.lemmas.Grind.{common_steps}

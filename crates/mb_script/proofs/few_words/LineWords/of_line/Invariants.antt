@@ -1,5 +1,5 @@
--- Loop invariants of `LineWords::of_line`: the words of a line, or `None` if some word is empty or there are more than
--- `MAX_WORDS`.
+-- Loop invariants of `LineWords::of_line`, which returns the words of a line, or `None` if some word is empty or there
+-- are more than `MAX_WORDS`.
 use Rattle.std.proofs.Common.{◌≡◌, ◌++◌, ◌<◌, map, take, length, false}
 use denote.Text.{Utf8}
 use denote.Shadow.{shadow}
@@ -16,6 +16,6 @@ invariant-loop-word l = record {
   full : has_empty (map (λ w. w.now) (take l.count l.words)) ≡ false;
 }
 
--- each turn leaves less of the line
+-- each pass of the loop leaves less of the line
 abbrev pub decreases-loop-word : goal.decreases-loop-word
 decreases-loop-word l = length l.rest
