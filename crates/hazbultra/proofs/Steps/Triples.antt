@@ -1,4 +1,4 @@
--- The names of what a function means, of its contract, and of steps on boxes, from the kit's libraries.
+-- Names from the kit's libraries: for the meaning of a function, its contract, and steps on boxes.
 pub use denote.Exit.{no, yes}
 pub use denote.Param.{bounded}
 pub use denote.RattleType.{RattleType, Valss}
