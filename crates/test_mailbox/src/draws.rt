@@ -20,7 +20,7 @@ impl Gate for AllBut {
     fn leave(&self, _who: Who, _call: u64) {}
 }
 
-/// A row has the consumer that is stopped, the report, and how many words the two sources gave.
+/// Each case has the consumer that is stopped, the report, and how many words the two sources gave.
 const DRAWN: &[(u32, &str, (u64, u64))] = &[
     (
         1,

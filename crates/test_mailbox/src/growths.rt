@@ -131,7 +131,7 @@ const CALLS: &[(&str, Call, u64)] = &[
     ("new", Call::New, 5),
     // At least the list of the producer's items.
     ("producer", OPEN_LANE, 1),
-    // The marks and the words of the consumer's notes.
+    // Two lists for the consumer's notes: their marks, and their words.
     ("consumer", Call::Consumer, 2),
     // The list of lanes and that of diaries, and the list of the consumer's note.
     ("gather", Call::Gather(ONE_TAKEN), 3),
