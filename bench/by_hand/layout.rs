@@ -102,7 +102,7 @@ impl Layout {
             ratifiers,
             ratifier_words,
             cell_words: ratifiers as usize * ratifier_words + pairs as usize + usize::from(last),
-            // At most s + 3 on a conciliator; on a ratifier its registers and twice the proposal; one on the last object.
+            // A conciliator's s + 3, a ratifier's registers and twice its proposal, and one on the last object.
             most_on_pair: u64::from(width) + 4 + u64::from(registers) + 2 + 1,
             write,
             read,

@@ -1,4 +1,4 @@
-//! A mailbox that threads can share, used by one thread: a producer fills it, and then each consumer polls it to its end.
+//! A mailbox for threads, used by one thread: a producer fills it, and then each consumer polls it to its end.
 
 use crate::claim::{Claim, Stage};
 use crate::exchange::{Take, Taker};

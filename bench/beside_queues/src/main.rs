@@ -1,5 +1,5 @@
-//! One run of items through a mailbox of the crate `hazbultra`, or through another queue. It prints how many nanoseconds
-//! the work took, without the making. `bench/queues.py` and `bench/boundary.py` run it.
+//! One run of items through a mailbox of the crate `hazbultra`, or through another queue. It prints how long the work
+//! took in nanoseconds, without the making. `bench/queues.py` and `bench/boundary.py` run it.
 //!
 //! The words are WHAT WAY PRODUCERS CONSUMERS ITEMS CELLS.
 mod queues;
