@@ -1,4 +1,4 @@
--- Names from the kit's libraries, for the proofs here that run through a function's body step by step.
+-- Names from the kit's libraries, for the proofs here that go through a function's body statement by statement.
 pub use mathlib.Core.Path.{◌≡◌, refl, sym, subst, ap, ◌∙◌}
 pub use mathlib.Core.List.{List, [], ◌∷◌, ◌++◌}
 pub use lib.Dec.{T}

@@ -42,8 +42,8 @@ pub fn sample_setups()
         ≡ shaped_plan (record { fast = false; last = true }) 3 4 8 5 Middle }
     ensures let_in { refusal_of (asked 2 0 false true) ≡ None }
 
-    // No pairs are too few with a fast path, or without a last object (36). But a number that names no table is refused
-    // first (32).
+    // With a fast path, or without a last object, 0 pairs are too few (36). A number that names no table is refused
+    // before that (32).
     ensures no_pairs { refusal_of (asked 2 0 true true) ≡ Some 36 }
     ensures no_object { refusal_of (asked 2 0 false false) ≡ Some 36 }
     ensures no_table { refusal_of (asked 3 0 true true) ≡ Some 32 }

@@ -1,4 +1,4 @@
--- Names from the kit's libraries: for the end of such a run through a body, and for a function that lends.
+-- Names from the kit's libraries: for the end of a function's body, and for a function that lends.
 pub use base.Fml.{Fml, GName}
 pub use base.Fraction.{full_share}
 pub use base.Logic.{sep}

@@ -1,4 +1,4 @@
--- Names from the kit's libraries: for the meaning of a function, its contract, and steps on boxes.
+-- Names from the kit's libraries: for a function's meaning and contract, and for boxes taken apart and made again.
 pub use denote.Exit.{no, yes}
 pub use denote.Param.{bounded}
 pub use denote.RattleType.{RattleType, Valss}
