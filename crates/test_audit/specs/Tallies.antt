@@ -14,7 +14,7 @@ abbrev pub both : Tally → Tally → Tally
 both a b = counts ((a.put + b.put) % 2 ^ 64) ((a.took + b.took) % 2 ^ 64) ((a.left + b.left) % 2 ^ 64)
     ((a.lost + b.lost) % 2 ^ 64) ((a.undecided + b.undecided) % 2 ^ 64) ((a.under_way + b.under_way) % 2 ^ 64)
 
--- a tally counts the items put on a lane, and those left. All others are taken
+-- a tally counts the items put on a lane, and those left. It counts the others as taken
 pub record IsLaneCount (lane : LaneView) (t : Tally) : Type 0 where
   pub put : t.put ≡ length lane.put
   pub left : t.left ≡ length lane.left

@@ -255,7 +255,7 @@ struct Bookmark {
     cursor: Cursor,
     /// The item that should come next. The items of the lane are numbers that rise by one.
     next: u64,
-    /// Whether the end mark was met.
+    /// Whether the end mark was loaded.
     ended: bool,
     /// Whether an item came that should not come next.
     wrong: bool,

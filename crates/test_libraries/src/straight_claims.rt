@@ -1,4 +1,4 @@
-//! A claim that goes straight makes the same accesses as step by step: the same words, values and random words.
+//! A claim that goes straight makes the same accesses as one by steps: the same words, values and random words.
 ghost use Rattle.std.specs.Prelude.{◌≡◌, ◌<◌, ◌≤◌, length};
 ghost use Rattle.mb_claim.specs.Vocabulary.{FitsLayout, consumer_count, kinds_of};
 ghost use Rattle.mb_claim.specs.declared.access.Stage.TheVariants.{Going};

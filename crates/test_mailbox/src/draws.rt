@@ -36,7 +36,7 @@ const DRAWN: &[(u32, &str, (u64, u64))] = &[
 
 #[test]
 fn each_consumer_draws_from_its_own_source(rt: HostRuntime) {
-    // The claim of the other consumer meets no other claim. It makes seven accesses, three to the conciliator and four
+    // Only the other consumer makes a claim. That makes seven accesses, three to the conciliator and four
     // to the ratifier, and draws a word for each.
     for &(stopped, report, drawn) in DRAWN {
         let given = [AtomicU64::new(0), AtomicU64::new(0)];

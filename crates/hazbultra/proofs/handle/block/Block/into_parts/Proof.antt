@@ -63,7 +63,7 @@ module _ {M : Type 1} {𝓤 : Ura M} (𝓛 : Logic 𝓤) (heap : Memory → SPro
       says ! found.1 $
       nothing ! $ nothing ! $ fjoin ! $ join ! $ nothing ! $ join ! $ done !)))))
 
--- so the compiled function meets its statement
+-- so the compiled function keeps its contract
 pub into_parts_spec : {M : Type 1} → statement M
 unfolding tables_of
 into_parts_spec 𝓤 𝓛 𝓜 𝓡 wired =

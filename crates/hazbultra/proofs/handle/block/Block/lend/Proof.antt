@@ -76,7 +76,7 @@ module _ {M : Type 1} {𝓤 : Ura M} (𝓛 : Logic 𝓤) (heap : Memory → SPro
       rewrite ! 0 (λ (t : Option Thing.Denot). ‵ (Block.own_val (record it { thing = t }) vs)) found.1 refl $
       use1 𝓛 (‵ ((B thing_box).own_val (boxed it x) vs)) (id⊢ 𝓤 _) $
       box_out thing_box ! (boxed it x) vs (λ b o hv is_block is_word fits.
-      -- held now, in order: the thing, the right to free it, the allocator, the block's memory, the borrow and its ghosts
+      -- held now, in order: the thing, the right to free it, the allocator, the block's memory, the borrow, its ghosts
       move ! (1 ∷ 2 ∷ []) $ fjoin ! $ move ! (1 ∷ []) $
       rewrite ! 2 (λ (us : List Val). ‵ (cell_at full_share Block.mir us rb ro)) is_word refl $
       first ! $ blocks ! $
@@ -101,7 +101,7 @@ module _ {M : Type 1} {𝓤 : Ura M} (𝓛 : Logic 𝓤) (heap : Memory → SPro
       nothing ! $ nothing ! $ fjoin ! $ join ! $ nothing ! $ move ! (2 ∷ 0 ∷ []) $ join ! $ join ! $
       frame ! $ says ! found.1 $ done !)))))
 
--- so the compiled function meets its statement
+-- so the compiled function keeps its contract
 pub lend_spec : {M : Type 1} → statement M
 unfolding tables_of
 lend_spec 𝓤 𝓛 𝓜 𝓡 wired =

@@ -61,7 +61,7 @@ module _ {M : Type 1} {𝓤 : Ura M} (𝓛 : Logic 𝓤) (heap : Memory → SPro
       use1 𝓛 (‵ (Block.own_val made (w ∷ []))) (id⊢ 𝓤 _) $
       nothing ! $ nothing ! $ fjoin ! $ join ! $ nothing ! $ join ! $ done !))))
 
--- so the compiled function meets its statement
+-- so the compiled function keeps its contract
 pub none_spec : {M : Type 1} → statement M
 unfolding tables_of
 none_spec 𝓤 𝓛 𝓜 𝓡 wired =

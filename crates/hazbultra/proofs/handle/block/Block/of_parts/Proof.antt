@@ -56,7 +56,7 @@ module _ {M : Type 1} {𝓤 : Ura M} (𝓛 : Logic 𝓤) (heap : Memory → SPro
       says ! refl $
       nothing ! $ nothing ! $ fjoin ! $ join ! $ nothing ! $ join ! $ done !))))
 
--- so the compiled function meets its statement
+-- so the compiled function keeps its contract
 pub of_parts_spec : {M : Type 1} → statement M
 unfolding tables_of
 of_parts_spec 𝓤 𝓛 𝓜 𝓡 wired =

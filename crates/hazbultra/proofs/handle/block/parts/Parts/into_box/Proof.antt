@@ -120,7 +120,7 @@ module _ (E : Bx) where
         says ! same $
         nothing ! $ nothing ! $ fjoin ! $ join ! $ move ! (1 ∷ 0 ∷ []) $ join ! $ done !)))))))))
 
--- so the compiled function meets its statement
+-- so the compiled function keeps its contract
 pub into_box_spec : {M : Type 1} → statement M
 unfolding tables_of
 into_box_spec 𝓤 𝓛 𝓜 𝓡 wired X Z X-laws Z-laws g d drops allocator met_d =

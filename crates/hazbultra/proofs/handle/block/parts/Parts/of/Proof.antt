@@ -123,7 +123,7 @@ module _ (E : Bx) (drop_x : Dict) where
         nothing ! $ nothing ! $ fjoin ! $ join ! $ move ! (1 ∷ 0 ∷ []) $ join ! $
         done !)))))))))))))
 
--- so the compiled function meets its statement
+-- so the compiled function keeps its contract
 pub of_spec : {M : Type 1} → statement M
 unfolding tables_of
 of_spec 𝓤 𝓛 𝓜 𝓡 wired X Z X-laws Z-laws g d drops drop_x allocator met_d met_drop =
