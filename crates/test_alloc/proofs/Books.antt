@@ -1,4 +1,4 @@
--- Calls of `refuses`, `gives` and `takes_back` of a book: what each needs, and what its caller then has, in any `Logic`.
+-- Calls of a book's `refuses`, `gives` and `takes_back`: what each needs, and what its caller then has, in any `Logic`.
 use Rattle.std.proofs.Common.{◌≡◌, ℕ, List, [], ◌∷◌, refl, ap, Bool}
 use seplogic.Ra.Ura.{Ura}
 use mir.Val.{Val, vbool, vunit, vptr}

@@ -125,7 +125,7 @@ diary 1 1 begun
 ",
 );
 
-/// Each call with its name, and the least number of its allocations.
+/// Each call with its name, and the least number of its allocations. The line before it names them.
 const CALLS: &[(&str, Call, u64)] = &[
     // The lists of what is returned, the words of the cells, the zeros and the words of the claims.
     ("new", Call::New, 5),

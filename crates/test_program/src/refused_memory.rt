@@ -89,7 +89,7 @@ const BAD_PRODUCERS: Failed = Failed::Replay(Fault::BadSetup(1, SetupFault::BadP
 
 const BAD_CELLS: Failed = Failed::Run(RunFault::BadSetup(SetupFault::BadCells));
 
-/// Each call with its name, and the least number of its allocations.
+/// Each call with its name, and the least number of its allocations. The lines before it name them.
 const CALLS: &[(&str, Call, u64)] = &[
     // The script's bytes, the inputs, the turns, the ratifier's processes, entries and outputs, and the text.
     ("ratify", Call::Ratify(LATE_INPUT), 7),
