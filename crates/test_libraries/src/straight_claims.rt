@@ -163,7 +163,7 @@ fn seen(claim: &Claim) -> (Stage, Option<Claim>) {
     (claim.stage(), all)
 }
 
-/// What is seen of the claim at the end of straight accesses.
+/// What `seen` would return for the claim at the end of straight accesses.
 fn seen_at(layout: &Layout, consumer: u32, end: &Stretch) -> (Stage, Option<Claim>)
     requires object { end.now.stage ≡ Going → end.now.object < length (kinds_of layout.now) }
     requires value { end.now.value < consumer_count layout.now }
