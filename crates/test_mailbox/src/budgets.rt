@@ -1,5 +1,5 @@
 //! Random mailboxes that are played twice with the same random words: by polls and takes of any budget, and by as many
-//! polls of budget 1. Both come to the same.
+//! polls of budget 1. Both have the same results and reports.
 
 use crate::compare::{same, same_at};
 use crate::trial::Trial;

@@ -167,7 +167,7 @@ fn a_budget_of_0_is_refused(rt: HostRuntime) {
     let mut trial = new_trial(&rt, rt.alloc(), 1, 1, 2);
     let worked = works(&rt, &mut trial, &[&[1, 2]], 0, 1, &OpenGate);
     same(&rt, &worked, &Err(WorkFault::BadBudget));
-    // No number was issued: both are left.
+    // No number was issued yet, so one producer and one consumer still can be.
     let alloc = rt.alloc();
     play(&rt, &mut trial, alloc, "producer: given\nconsumer: given\n");
     let report = "lane 0 open put\nleft 0\ndiary 0 0\n";
