@@ -41,7 +41,7 @@ def main():
     if not options.keep:
         build()
     counted = {name: measuring.by_item(*COUNTED, lambda items: measuring.instructions(way(items))) for name, way in WAYS.items()}
-    # (both sizes of all ways in each round)
+    # (each round makes both runs of each way)
     runs = {(name, items): lambda way=way, items=items: measuring.used(way(items))[0] for name, way in WAYS.items() for items in TIMED}
     took = measuring.medians(options.rounds, runs)
     rows = [(name, counted[name], measuring.by_item(*TIMED, lambda items: took[name, items])) for name in WAYS]

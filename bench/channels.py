@@ -23,7 +23,7 @@ def told(*words):
 
 
 def counts(what, form):
-    """Instructions of a value that is received before the next is sent, and of one of many that wait."""
+    """The instructions of a value that is received before the next is sent, and of one of many that are sent before."""
     for way in ("relay", "turns"):
         yield measuring.by_item(*COUNTED, lambda values: measuring.instructions((PROGRAM, what, form, way, 1, 1, values)))
 

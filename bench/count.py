@@ -19,9 +19,9 @@ import measuring
 
 BY_HAND = measuring.ROOM / "by_hand"
 UNITS = {"mailbox": "an item", "polled": "an item", "puts": "a put", "chacha": "an item", "taken": "an item", "passed": "an item"}
-# This is a loop above, counted without the making of its mailbox and producer.
+# `polled` is the loop `mailbox`, counted without the making of its mailbox and producer.
 SAME = {"polled": "mailbox"}
-# How often a loop is done at either size.
+# A count is the difference of two runs. So often each of them does the loop.
 SIZES = (2, 6)
 
 

@@ -74,7 +74,7 @@ def used(words):
 
 
 def by_item(few, many, told):
-    """What an item more takes: `told` says what so many items take, and all else falls out."""
+    """What one more item takes: `told` says what so many items take, and the difference leaves out what does not grow."""
     return (told(many) - told(few)) / (many - few)
 
 

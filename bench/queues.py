@@ -20,13 +20,13 @@ SHAPES = ("plain", "fast", "last", "fastlast")
 THREADS = ((1, 1), (2, 2), (2, 4), (4, 16))
 CONSUMERS = (1, 2, 4, 16)
 STORED = ((1, 1), (2, 4), (4, 16))
-# Of two runs whose memory is compared, how many items. All keep more than this script, whose own memory a child begins with.
+# How many items two runs have whose memory is compared. Both take more memory than this script, with whose memory a child begins.
 KEPT, KEPT_IN_QUEUES = (1 << 17, 1 << 18), (1 << 21, 1 << 22)
 COUNTED = (1000, 5000)
-# Of a loop in Rattle, how often it is done in two runs that are compared, each time with a mailbox of so many cells.
+# How often two runs that are compared do a loop in Rattle, each time with a mailbox of so many cells.
 TIMES, COUNTED_TIMES, CELLS = (100, 1100), (2, 6), 256
 MAILBOXES = (*SHAPES, "exchange", "boxes", "exchange_boxes")
-# Consumers and producers that are as many.
+# Numbers of producers, with as many consumers.
 PAIRED = (2, 4, 8)
 
 
@@ -113,7 +113,7 @@ def build():
 
 
 def times(rounds, items):
-    """The medians of all timed runs, by way and by what it is a column of."""
+    """The medians of all timed runs, by way and by the column of the table."""
     runs = {}
     for way in WAYS:
         runs[way.name, "alone"] = lambda way=way: way.alone(items)

@@ -22,7 +22,7 @@ SERVED_IN_A_ROW = 50  # so many runs are served in a row before a sweep ends
 ONE_CONSUMER = ["run", "--producers", "1", "--consumers", "1", "--items", "2", "--pairs", "1"]
 FOUR_CONSUMERS = ["run", "--producers", "4", "--consumers", "4", "--items", "4"]
 HELP = ["run", "--help"]
-# How many words of a line are the same in each run; of a lane all.
+# How many first words of a line are the same in each run, by the line's first word. Of a `lane` all are.
 FIXED = {"lane": None, "left": 2, "diary": 3}
 LIBRARY = """
 #define _GNU_SOURCE
@@ -63,7 +63,7 @@ int pthread_create(pthread_t *thread, const pthread_attr_t *attr, void *(*run)(v
 
 
 def built(folder):
-    """The library's path."""
+    """Builds the small library, and returns its path."""
     with open(f"{folder}/refuse.c", "w", encoding="utf-8") as file:
         file.write(LIBRARY)
     subprocess.run(["cc", "-O1", "-shared", "-fPIC", "-o", f"{folder}/refuse.so", f"{folder}/refuse.c", "-ldl"], check=True)
@@ -71,7 +71,7 @@ def built(folder):
 
 
 def fixed_part(text):
-    """The report without who takes what, which differs from run to run if there are more consumers."""
+    """The report without the words that say who took what: with more consumers than one they differ from run to run."""
     return [words[:FIXED[words[0]]] for words in map(str.split, text.splitlines())]
 
 

@@ -11,7 +11,7 @@ import re
 import sys
 
 TOP = os.path.dirname(os.path.dirname(os.path.abspath(__file__)))
-# (what a pointer leads to that nobody else looks at are bytes)
+# (a pointer to `void` counts as one to bytes)
 NUMBERS = {"uint64_t": "u64", "uint32_t": "u32", "uint8_t": "u8", "size_t": "usize", "void": "u8", "c_void": "u8"}
 C_CALL = re.compile(r"^(\w+) (hz_\w+)\(([^;]*)\);", re.M)
 C_STRUCT = re.compile(r"typedef struct \{(.*?)\} hz_(\w+);", re.S)
@@ -25,7 +25,7 @@ def plain(name):
 
 
 def parts(text, mark=","):
-    """What stands between the commas of a list, but for those within brackets."""
+    """The parts of a list, cut at each comma that is not within brackets."""
     return [" ".join(it.split()) for it in re.split(rf"{mark}(?![^<\[(]*[>\])])", text) if it.strip()]
 
 
@@ -60,13 +60,13 @@ def of_rust(text):
     typed = lambda fields: [(name, it) for name, kind in pairs(fields) if "ghost" not in name for it in in_rust(kind)]
     calls = {name: ([it[1] for it in typed(parts(given))], back or plain("void")) for name, given, back in RUST_CALL.findall(text)}
     structs = {plain(name): typed(parts(body)) for name, body in RUST_STRUCT.findall(text)}
-    # A struct in a struct is its fields.
+    # A struct within a struct counts as its fields.
     structs = {name: [it for one in fields for it in structs.get(one[1], [one])] for name, fields in structs.items()}
     return calls, structs, dict(re.findall(r"\bconst (\w+): u32 = (\d+);", text))
 
 
 def told_of(header, what, text):
-    """What a text of Rust declares otherwise than the header. It may have structs of its own, and lack codes."""
+    """What a text of Rust declares otherwise than the header. It may have structs of its own, and need not have each code."""
     for number, (wanted, found) in enumerate(zip(header, of_rust(text))):
         for name in sorted({*wanted, *found}):
             is_own, is_lacking = number == 1 and name not in wanted, number == 2 and name not in found

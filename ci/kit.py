@@ -26,7 +26,7 @@ def load():
 
 
 def lacking(crate, is_proved):
-    """The libraries below the crate that have to be built. Right after rt ci none has: it leaves them without their stamps."""
+    """The libraries below the crate that have to be built. Right after `rt ci`, which leaves no stamps, those that are not there."""
     return [it for it in crate.below() if not (os.path.isdir(it.rlib) if is_proved else it.is_built())]
 
 
@@ -48,5 +48,5 @@ if __name__ == "__main__":
     if "--archive" in sys.argv:
         sys.exit(archive(kit, crates["hazbultra"]))
     most = lanes(kit, MEMORY)
-    # With RT_JOBS rt starts so many checks, whatever it guesses of their memory. On two processors it does well without.
+    # With RT_JOBS rt starts so many checks, whatever memory it expects them to take. With two processors RT_JOBS is not needed.
     print(most if most > 2 and most == len(os.sched_getaffinity(0)) else "")

@@ -14,7 +14,7 @@ rows=$(awk -F'|' '/^\| [0-9]/ {
     total += sum
 }' docs/MAP.md | sort)
 needed=$(find crates/*/specs -name '*.antt' -exec awk '
-# counts the definition that this name of the module leads to, through all that bring it in, and what that needs
+# counts the definition that this name of a module stands for, through the modules that import it, and all that it needs
 function need(module, name, i, path, each) {
     while (!((module, name) in words) && (module, name) in brought) {
         path = brought[module, name]; name = path; sub(/.*[.]/, "", name)

@@ -16,7 +16,7 @@ tell() {
     faults=$((faults + 1))
 }
 
-# What holds of a file of a crate, as lines of its text. The kit compiles for x86-64-v2, and links a program with glibc.
+# Prints the lines of the text beside a built file. The kit compiles for x86-64-v2, and links a program with glibc.
 facts() {
     libc=$(grep -aoE 'GLIBC_[0-9]+\.[0-9]+' "$1" | sort -V | tail -n 1 | sed 's/GLIBC_\(.*\)/glibc \1, /')
     echo "sha256: $(sha256sum <"$1" | cut -d' ' -f1)"
@@ -24,7 +24,7 @@ facts() {
     echo "needs: x86_64 Linux, ${libc}x86-64-v2"
 }
 
-# look FILE TEXT CRATE BUILT FOLDER COMMAND..: the command builds it there
+# look FILE TEXT CRATE BUILT FOLDER COMMAND..: COMMAND, run in FOLDER, builds the file anew, as BUILT
 look() {
     file=$1 text=$2 crate=$3 built=$4 folder=$5
     shift 5

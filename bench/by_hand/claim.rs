@@ -4,7 +4,7 @@ use crate::layout::Layout;
 use std::sync::atomic::AtomicU64;
 use std::sync::atomic::Ordering::SeqCst;
 
-/// Stores the value in an empty word, and returns what stood there before.
+/// Stores the value if the word is empty, and returns what the word held before.
 #[inline]
 pub fn exchange(word: &AtomicU64, value: u64) -> u64 {
     word.compare_exchange(0, value, SeqCst, SeqCst).unwrap_or_else(|found| found)
@@ -23,15 +23,15 @@ pub enum Stage {
 /// last object one word.
 #[derive(Clone, Copy, PartialEq, Eq)]
 pub enum Place {
-    /// It looks into the conciliator's word, and stores there where a random word is below the limit.
+    /// It loads the conciliator's word, and stores there if a random word is below the limit.
     Look { limit: u64 },
     Write,
     Again,
-    /// It announces its value in these registers.
+    /// It announces its value: these registers are still to be set.
     Announce { left: u64 },
     Propose,
     SetProposal,
-    /// It looks for other values in these registers.
+    /// It looks for other values: these registers are still to be loaded.
     Check { left: u64, preference: u32 },
     /// It stores its value in the last object's word, if that is empty.
     Exchange,
@@ -65,7 +65,7 @@ impl Claim {
         self.stage
     }
 
-    /// One access, with its random word. By `inline` alone the loops would call it, and take a quarter more.
+    /// Makes one access, with its random word. By `inline` alone the loops would call it, and take a quarter more.
     #[inline(always)]
     pub fn step(&mut self, layout: &Layout, words: &[AtomicU64], word: u64) -> Stage {
         let base = self.base;
@@ -121,7 +121,7 @@ impl Claim {
         self.stage
     }
 
-    /// On from the conciliator to the ratifier after it, with this value.
+    /// Goes on from the conciliator to the ratifier after it, with this value.
     #[inline]
     fn ratify(&mut self, layout: &Layout, value: u32) {
         self.base += 1;
@@ -129,7 +129,7 @@ impl Claim {
         self.place = announcing(layout, value)
     }
 
-    /// On to these registers, or decided where there is none.
+    /// Goes on to load these registers. If there is none, the claim is decided.
     #[inline]
     fn check(&mut self, left: u64, preference: u32) {
         if left != 0 {
@@ -145,7 +145,7 @@ impl Claim {
         self.stage = if value == self.consumer { Stage::Won } else { Stage::Lost(value) }
     }
 
-    /// On from a ratifier to the object after it, with this value, or undecided if there is none.
+    /// Goes on from a ratifier to the object after it, with this value. If there is none, the claim is undecided.
     #[inline]
     fn pass(&mut self, layout: &Layout, value: u32) {
         self.base += layout.ratifier_words;

@@ -4,7 +4,7 @@ use crate::layout::CELLS;
 use crate::mailbox::{END, LANES, Mailbox};
 use std::sync::atomic::Ordering::SeqCst;
 
-/// The note on an item that the consumer took. That on one that it lost is the winner's number.
+/// The note on an item that the consumer took. The note on one that it lost is the winner's number.
 const TOOK: u8 = 255;
 
 /// What a take comes to.
@@ -35,7 +35,7 @@ impl Taker {
         Taker { number, lanes: (0..LANES).map(|_| lane()).collect() }
     }
 
-    /// Goes on past the items that it loses, until it takes one, nothing more is linked, or it has made `most` accesses.
+    /// Goes on past the items that it loses, until it takes one, no cell is linked next, or `most` accesses were made.
     #[inline(never)]
     pub fn take(&mut self, mailbox: &Mailbox, p: usize, most: u64) -> Take {
         let Lane { at, notes, noted, items } = &mut self.lanes[p];

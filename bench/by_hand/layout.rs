@@ -68,13 +68,13 @@ pub struct Layout {
     pub consumers: u32,
     pub fast: bool,
     pub last: bool,
-    /// A conciliator goes on where a random word, modulo this, is below its limit.
+    /// A process stores to a conciliator if a random word, modulo this, is below the limit.
     pub modulus: u64,
     /// How many ratifiers a cell has.
     pub ratifiers: u32,
     pub ratifier_words: usize,
     pub cell_words: usize,
-    /// The most accesses on a pair, or on a ratifier, with the last object after it.
+    /// The most accesses on a pair, or on a ratifier of the fast path, and on the last object after it.
     pub most_on_pair: u64,
     pub write: [u64; MAX_CONSUMERS],
     pub read: [u64; MAX_CONSUMERS],
@@ -102,7 +102,7 @@ impl Layout {
             ratifiers,
             ratifier_words,
             cell_words: ratifiers as usize * ratifier_words + pairs as usize + usize::from(last),
-            // Of a conciliator s + 3, of a ratifier its registers and twice the proposal, and the last object's one.
+            // A conciliator's s + 3, a ratifier's registers and twice its proposal, and one on the last object.
             most_on_pair: u64::from(width) + 4 + u64::from(registers) + 2 + 1,
             write,
             read,

@@ -1,4 +1,4 @@
-//! A mailbox that threads can share, under one thread: a producer fills it, and then each consumer polls it to its end.
+//! A mailbox for threads, used by one thread: a producer fills it, and then each consumer polls it to its end.
 
 use crate::claim::{Claim, Stage};
 use crate::exchange::{Take, Taker};
@@ -51,7 +51,7 @@ impl Mailbox<'_> {
         }
     }
 
-    /// The word that tells what comes after this cell, or at the head of the lane.
+    /// The word of the link after this cell, or of the lane's head.
     #[inline]
     fn link(&self, lane: usize, last: Option<usize>) -> &AtomicU64 {
         match last {
@@ -131,8 +131,8 @@ enum Poll {
     NoLane,
 }
 
-/// Where a consumer stands on a lane: before the link of the last cell that it met, or at a cell, with a claim that is
-/// going there or one that it has won.
+/// Where a consumer stands on a lane: before the link of the last cell that it met, or at a cell, with a claim there
+/// that goes on or is won.
 #[derive(Clone, Copy)]
 enum Place {
     Before(Option<usize>),
@@ -173,8 +173,8 @@ impl Consumer {
         Consumer { number, lanes: (0..LANES).map(|_| lane()).collect() }
     }
 
-    /// Makes accesses on a lane until one has an answer, or as many were made as the budget allows. It goes on straight
-    /// as long as that has room for a pair, and then by steps.
+    /// Makes accesses on a lane until one has a result, or as many were made as the budget allows. It goes on straight
+    /// as long as the budget has room for a pair, and then by steps.
     fn poll(&mut self, mailbox: &Mailbox, p: usize, budget: u64, source: &mut Source) -> Poll {
         let Some(lane) = self.lanes.get_mut(p) else {
             return Poll::NoLane;
@@ -218,7 +218,7 @@ impl Consumer {
     }
 }
 
-/// So many mailboxes, one after the other, each filled and then polled to its end by each consumer.
+/// Makes `times` mailboxes, one after the other. Each is filled, and then polled to its end by each consumer.
 pub fn mailboxes(layout: &Layout, times: u64) -> Post {
     let mut source = Source::new();
     let mut post = Post::default();
@@ -232,7 +232,7 @@ pub fn mailboxes(layout: &Layout, times: u64) -> Post {
     post
 }
 
-/// So many mailboxes, one after the other, each filled. Then each consumer takes from it to its end.
+/// Makes `times` mailboxes, one after the other. Each is filled, and then each consumer takes from it to its end.
 pub fn taken(layout: &Layout, times: u64) -> Post {
     let mut post = Post::default();
     for time in 0..times {
@@ -245,7 +245,7 @@ pub fn taken(layout: &Layout, times: u64) -> Post {
     post
 }
 
-/// So many mailboxes, in each of which a producer puts an item in each cell. After each put each consumer takes once.
+/// Makes `times` mailboxes, and puts an item in each cell. After each put each consumer takes once.
 pub fn passed(layout: &Layout, times: u64) -> Post {
     let mut post = Post::default();
     for time in 0..times {
@@ -275,7 +275,7 @@ fn take_all(mailbox: &Mailbox, taker: &mut Taker, post: &mut Post) {
     }
 }
 
-/// So many mailboxes and their producers alone.
+/// Makes `times` mailboxes with their producers, and nothing else.
 pub fn mailboxes_alone(layout: &Layout, times: u64) -> Post {
     for _ in 0..times {
         black_box((Mailbox::new(layout), Producer::new(0)));
@@ -283,7 +283,7 @@ pub fn mailboxes_alone(layout: &Layout, times: u64) -> Post {
     Post::default()
 }
 
-/// So many mailboxes, in each of which a producer puts an item in each cell, and no more.
+/// Makes `times` mailboxes, in each of which a producer puts an item in each cell, and no more.
 pub fn puts(layout: &Layout, times: u64) -> Post {
     let mut post = Post::default();
     for time in 0..times {
@@ -293,7 +293,7 @@ pub fn puts(layout: &Layout, times: u64) -> Post {
     post
 }
 
-/// Puts an item in each cell, numbered from `first`, and ends the lane. The answer is the number of items.
+/// Puts an item in each cell, numbered from `first`, and ends the lane. Returns the number of items.
 fn fill(mailbox: &Mailbox, first: u64) -> u64 {
     let mut producer = Producer::new(0);
     let linked = put_all(mailbox, &mut producer, first);
@@ -301,7 +301,7 @@ fn fill(mailbox: &Mailbox, first: u64) -> u64 {
     linked
 }
 
-/// Puts an item in each cell, numbered from `first`. The answer is the number of items that were linked.
+/// Puts an item in each cell, numbered from `first`. Returns how many items were linked.
 fn put_all(mailbox: &Mailbox, producer: &mut Producer, first: u64) -> u64 {
     let mut linked = 0;
     for number in 0..CELLS as u64 {

@@ -35,9 +35,9 @@ impl Turns<'_> {
 }
 
 impl Claim {
-    /// Goes on from the first access of a pair, or of a ratifier of the fast path, pair by pair, as long as the budget has
-    /// room for all that one may take and an access more. The answer is what is left of the budget. A claim that stands
-    /// elsewhere does not move.
+    /// Goes on from the first access of a pair, or of a ratifier of the fast path, pair by pair, as long as the budget
+    /// has room for all that one may take and one access more. Returns what is left of the budget. A claim at any other
+    /// place does not move.
     #[inline(always)]
     pub fn run(&mut self, layout: &Layout, words: &[AtomicU64], source: &mut Source, budget: u64) -> u64 {
         if self.place != first(layout, self.value, self.passed) {
@@ -80,7 +80,7 @@ fn fast_ratifiers(layout: &Layout) -> u32 {
     if layout.fast { 2 } else { 0 }
 }
 
-/// The first place on a pair, or on a ratifier of the fast path, with this value.
+/// The first place of a pair, or of a ratifier of the fast path, with this value.
 #[inline(always)]
 fn first(layout: &Layout, value: u32, passed: u32) -> Place {
     if passed < fast_ratifiers(layout) { announcing(layout, value) } else { Place::Look { limit: 1 } }
@@ -92,7 +92,7 @@ fn ended(consumer: u32, value: u32) -> Stage {
     if value == consumer { Stage::Won } else { Stage::Lost(value) }
 }
 
-/// A conciliator with this word and this input: its output.
+/// Goes through a conciliator with this word and this input, and returns its output.
 #[inline(always)]
 fn conciliate(layout: &Layout, turns: &mut Turns, base: usize, input: u32) -> u32 {
     let mut limit = 1;
@@ -110,7 +110,7 @@ fn conciliate(layout: &Layout, turns: &mut Turns, base: usize, input: u32) -> u3
     }
 }
 
-/// A ratifier whose words begin there, with this input: whether it decided, and its output.
+/// Goes through a ratifier whose words begin there, with this input. Returns whether it decided, and its output.
 #[inline(always)]
 fn ratify(layout: &Layout, turns: &mut Turns, base: usize, input: u32) -> (bool, u32) {
     let mut left = layout.write[input as usize];
@@ -135,7 +135,7 @@ fn ratify(layout: &Layout, turns: &mut Turns, base: usize, input: u32) -> (bool,
     (true, preference)
 }
 
-/// A last object with this word and this input: its output.
+/// Goes through a last object with this word and this input, and returns its output.
 #[inline(always)]
 fn exchange(turns: &mut Turns, base: usize, input: u32) -> u32 {
     turns.draw();

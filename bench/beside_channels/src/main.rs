@@ -1,5 +1,5 @@
-//! One run of values through this repository's channel or one of others. `bench/channels.py` runs it. It prints how many
-//! nanoseconds the work took, without the making, and how many a value was on its way, of 99 in 100 at most.
+//! One run of values through this repository's channel or through another. `bench/channels.py` runs it. It prints how
+//! many nanoseconds the work took, without the making of the channel, and within how many 99 of 100 values arrived.
 //!
 //! The words are CHANNEL u64|box threads|relay|turns PRODUCERS CONSUMERS VALUES.
 use std::env;
@@ -70,15 +70,15 @@ struct Plan {
     values: u64,
 }
 
-/// A number goes through a channel as a `T`.
+/// How a value of type `T` is made from a number, and the number is read from it again.
 #[derive(Clone, Copy)]
 struct Form<T> {
     pack: fn(u64) -> T,
     unpack: fn(T) -> u64,
 }
 
-/// Each producer and consumer is a thread. Each value is the time of its send. It returns how long it took, and how long each
-/// value was on its way.
+/// Each producer and consumer is a thread. Each value is the time of its send. Returns how long all took, and how long
+/// each value was on its way.
 fn threads<T, S: Sending<T>, R: Receiving<T>>(
     (sender, receiver): (S, R),
     plan: Plan,
@@ -113,7 +113,7 @@ fn threads<T, S: Sending<T>, R: Receiving<T>>(
     })
 }
 
-/// One thread sends so many values at a time, and then receives them.
+/// One thread sends `at_a_time` values, then receives them, and so on. Returns how long that took.
 fn alone<T, S: Sending<T>, R: Receiving<T>>(
     (sender, receiver): (S, R),
     plan: Plan,

@@ -1,5 +1,5 @@
-//! One run of items through a mailbox of the crate `hazbultra`, or through a queue of others. It prints how many
-//! nanoseconds the work took, without the making. `bench/queues.py` and `bench/boundary.py` run it.
+//! One run of items through a mailbox of the crate `hazbultra`, or through another queue. It prints how long the work
+//! took in nanoseconds, without the making. `bench/queues.py` and `bench/boundary.py` run it.
 //!
 //! The words are WHAT WAY PRODUCERS CONSUMERS ITEMS CELLS.
 mod queues;
@@ -23,7 +23,7 @@ fn shaped(shape: Shape) -> Builder<u64> {
     Mailbox::numbers().shape(shape)
 }
 
-/// The same with a box for each item.
+/// A mailbox of this shape that has a box for each item.
 fn boxed(shape: Shape) -> Builder<u64> {
     Mailbox::builder().shape(shape)
 }

@@ -1,4 +1,4 @@
-//! The queues of others, behind one trait.
+//! The queues that mailboxes are compared with, as one trait.
 use crossbeam_queue::{ArrayQueue, SegQueue};
 use std::collections::VecDeque;
 use std::sync::mpsc::{channel, Receiver, Sender};
@@ -44,7 +44,7 @@ impl<T: Send> Queue<T> for Mutex<VecDeque<T>> {
     }
 }
 
-/// The channel of the standard library. Its receiver is behind a lock, since it is for one thread.
+/// The channel of the standard library. Its receiver is for one thread, so it has a lock round it.
 pub struct Channel<T> {
     sender: Sender<T>,
     receiver: Mutex<Receiver<T>>,

@@ -7,14 +7,14 @@ use std::sync::atomic::{AtomicUsize, Ordering};
 use std::thread;
 use std::time::{Duration, Instant};
 
-/// How the threads and the items stand to each other.
+/// Which threads there are, and which consumer takes from which producer.
 #[derive(Clone, Copy)]
 pub enum Way {
     /// A thread for each producer and consumer. All consumers take from all producers.
     Threads,
-    /// The same, but consumer `c` takes from producer `c` alone: it polls that lane, and no other.
+    /// A thread for each, too, but consumer `c` takes from producer `c` alone: it polls that lane, and no other.
     Lanes,
-    /// The same, with a mailbox or a queue for each such two.
+    /// As `Lanes`, with a mailbox or a queue of its own for each such pair of a producer and a consumer.
     Apart,
     /// One thread puts all items. Then each consumer takes in turn, until nothing is left for it.
     Turns,
@@ -22,7 +22,7 @@ pub enum Way {
     Relay,
 }
 
-/// How many of each there are.
+/// How many producers, consumers, items and cells there are, and the way.
 #[derive(Clone, Copy)]
 pub struct Plan {
     pub way: Way,
@@ -78,7 +78,7 @@ fn crew<T: Send>(builder: Builder<T>, plan: Plan) -> Crew<T> {
     }
 }
 
-/// Through mailboxes of this builder.
+/// Does the work through mailboxes of this builder.
 pub fn mailbox<T: Send>(builder: fn() -> Builder<T>, plan: Plan, value: fn(u64) -> T) -> Duration {
     let parts = match plan.way {
         Way::Apart => (0..plan.producers)
@@ -119,7 +119,7 @@ fn threads<T: Send>(mut parts: Vec<Crew<T>>, plan: Plan, value: fn(u64) -> T) ->
     began.elapsed()
 }
 
-/// One lane up to its end.
+/// Takes from one lane up to its end.
 fn take_lane<T>(consumer: &mut Consumer<T>, lane: usize) {
     loop {
         match consumer.take(lane) {
@@ -143,7 +143,7 @@ fn turns<T: Send>(mut parts: Vec<Crew<T>>, plan: Plan, value: fn(u64) -> T) -> D
     without_report(began.elapsed(), parts)
 }
 
-/// The same time. The mailboxes are forgotten: their drop may make a report, whose instructions would count.
+/// Returns this time, and forgets the mailboxes: their drop may make a report, whose instructions would count.
 fn without_report<T>(took: Duration, parts: Vec<Crew<T>>) -> Duration {
     mem::forget(parts);
     took
@@ -160,7 +160,7 @@ fn relay<T: Send>(mut parts: Vec<Crew<T>>, plan: Plan, value: fn(u64) -> T) -> D
     without_report(began.elapsed(), parts)
 }
 
-/// Through queues that this makes.
+/// Does the work through queues that `make` makes.
 pub fn queue<T: Send, Q: Queue<T>>(
     make: fn(usize) -> Q,
     plan: Plan,
@@ -207,7 +207,7 @@ pub fn queue<T: Send, Q: Queue<T>>(
     began.elapsed()
 }
 
-/// Takes until no producer is at it any more, and then what is left.
+/// Takes until no producer puts any more, and then takes what is left.
 fn take_all<T, Q: Queue<T>>(queue: &Q, open: &AtomicUsize) {
     loop {
         let is_last = open.load(Ordering::SeqCst) == 0;

@@ -159,7 +159,7 @@ fn first_of(plan: &Plan, producer: u64) -> u64 {
     items.checked_div(plan.producers).unwrap_or(0)
 }
 
-/// The lists of the producers: the items 0, 1, 2, .., cut into one part for each.
+/// The lists of the producers: the items 0, 1, 2 and so on, cut into one list for each producer.
 fn lists_of(alloc: Global, plan: &Plan) -> Result<Vec<Vec<u64>>, AllocError> {
     let mut lists = Vec::new(alloc);
     for p in 0..plan.producers {

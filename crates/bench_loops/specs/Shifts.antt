@@ -10,7 +10,7 @@ with_upper k x = bit_xor x (x * 2 ^ k % 2 ^ 64)
 abbrev pub with_lower : ℕ → ℕ → ℕ
 with_lower k x = bit_xor x (x / 2 ^ k)
 
--- the next word, and the state after it
+-- the word after this one, and the state after it, which is the same word
 abbrev pub word_after : ℕ → ℕ × ℕ
 word_after x =
     let word = with_upper 17 (with_lower 7 (with_upper 13 x)) in

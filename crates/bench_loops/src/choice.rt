@@ -77,7 +77,7 @@ pub struct Choice {
 
 impl Choice {
     /// The choice in the words after the program's name: a loop, a table, the consumers and the times. Then may come
-    /// the shape of the cells (else plain), and their number (else `MAX_CELLS`). There is none if the words are not so.
+    /// the shape of the cells (else plain), and their number (else `MAX_CELLS`). Other words give no choice.
     pub fn of(words: &[String]) -> Option<Choice> {
         let [what, table, consumers, times, more @ ..] = words else {
             return None;
@@ -118,7 +118,7 @@ fn setup_of(consumers: u64, cells: u64, table: TableName, shape: Option<Shape>) 
     }
 }
 
-/// What has this name, if there is one.
+/// The value beside this name, if there is one.
 fn named<T: Copy>(all: &[(&str, T)], name: &str) -> Option<T> {
     for (its, it) in all {
         if *its == name {

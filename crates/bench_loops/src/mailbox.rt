@@ -57,8 +57,8 @@ pub fn puts<A: Allocator + Copy + Drop>(
     Ok(post)
 }
 
-/// Makes and fills `choice.times` mailboxes, one after the other. Each consumer reads each of them to its end, by takes if
-/// the choice is that.
+/// Makes and fills `choice.times` mailboxes, one after the other. Each consumer reads each mailbox to its end, by takes
+/// or by polls, as the choice says.
 pub fn mailboxes<A: Allocator + Copy + Drop, R: Rng>(
     alloc: A,
     choice: &Choice,
@@ -103,7 +103,7 @@ fn fill<A: Allocator + Copy + Drop>(
     }
 }
 
-/// Puts this many items. Their numbers go on after those of the mailboxes before. Returns how many were linked.
+/// Puts this many items: numbers that go on after those of the mailboxes before. Returns how many were linked.
 #[inline(always)]
 fn put_all<A: Allocator + Drop>(
     mailbox: &Mailbox<A>,
@@ -167,7 +167,7 @@ fn read<A: Allocator + Drop, R: Rng>(
     }
 }
 
-/// A consumer takes until nothing more comes, and its answers with an item are counted.
+/// A consumer takes until nothing more comes, and its results that have an item are counted.
 fn take<A: Allocator + Drop, R: Rng>(
     mailbox: &Mailbox<A>,
     consumer: &mut Consumer<A>,

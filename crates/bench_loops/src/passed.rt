@@ -20,8 +20,8 @@ pub fn passed<A: Allocator + Copy + Drop, R: Rng>(
     Ok(post)
 }
 
-/// A new producer puts this many items, and after each put each new consumer takes once. Their numbers go on after those
-/// of the mailboxes before.
+/// A new producer puts this many items, and after each put each new consumer takes once. The items are numbers, and go
+/// on after those of the mailboxes before.
 fn pass_all<A: Allocator + Copy + Drop, R: Rng>(
     alloc: A,
     mut hub: BoundHub<A>,

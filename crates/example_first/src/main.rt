@@ -31,7 +31,7 @@ fn main(rt: HostRuntime) -> Result<()> {
     tell(&rt, put, first, second, &report)
 }
 
-/// Prints the answers of the put and the polls, and the report.
+/// Prints the results of the put and the polls, and the report.
 fn tell<R: AllocGlobal + Print>(
     rt: &R,
     put: Put,

@@ -1,4 +1,4 @@
--- Whose producers and consumers the members of a crew have.
+-- The producers and consumers of a crew's members are of one mailbox.
 use Rattle.mb_mailbox.specs.Consumers.{IsConsumerOf}
 use Rattle.mb_mailbox.specs.Mailboxes.{MailboxView}
 use Rattle.mb_mailbox.specs.Producers.{IsProducerOf}

@@ -57,7 +57,7 @@ impl Board {
         let Some(runs) = self.runs.get(number as usize) else {
             return;
         };
-        // The sum would wrap only for a job past 2^32, and there are few.
+        // The sum would wrap only for a job past 2^32, and there are at most 2^24 jobs.
         let mut sum = 0u64;
         for n in 0..number {
             sum = sum.wrapping_add(n + 1);

@@ -15,7 +15,7 @@ pub struct Board {
     once: AtomicU64,
     /// How often a job was run that had been run before.
     again: AtomicU64,
-    /// The sum that all runs added.
+    /// The sum of what all runs added.
     total: AtomicU64,
 }
 

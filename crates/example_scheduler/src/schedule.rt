@@ -46,7 +46,7 @@ fn begin(alloc: Global, options: &Options) -> Result<(Rounds<Global>, Vec<Worker
 }
 
 /// Hands in the first jobs of further chains, as long as the next round has room. `first` is the first job of the first
-/// chain that is not begun. Returns that job for the chains after these.
+/// chain that is not begun. Returns the first job of the first chain that is not begun then.
 fn begin_chains(rounds: &mut Rounds<Global>, options: &Options, first: u64) -> Result<u64> {
     let mut next = first;
     for _ in rounds.carried().len() as u64..options.cells {

@@ -1,4 +1,4 @@
--- A box of a thing, its parts, and a block that may lead to it, as the walks of this crate take them.
+-- A box of a thing, its parts, and a block that may lead to it, in the form that the proofs in `handle` need.
 use mathlib.Core.List.{[]}
 use mathlib.Core.Path.{◌≡◌, refl}
 use mir.Syntax.{impl, tnil, dnil}
@@ -29,20 +29,20 @@ thing_box = record {
   };
 }
 
--- the parts of a box of a thing, as the walks take them
+-- the type of the parts of a box of a thing, as a parameter of a function
 abbrev pub parts_slot : Slot 0
 parts_slot = plain (λ _. parts.the_row thing.the_row heap_row.the_row ghosts)
 
--- a block that may lead to a thing, as the walks take it
+-- the type of a block that may lead to a thing, as a parameter of a function
 abbrev pub block_slot : Slot 0
 block_slot = plain (λ _. block.the_row)
 
--- a value that is there
+-- an option that is not `None` has a value, and is `Some` of that value
 pub the_some : {X : Type 0} (o : Option X) → IsSome o → (x : X) × (o ≡ Some x)
 the_some None nothing = absurd (cc)
 the_some (Some x) _ = (x, refl)
 
--- what holds, holds beside true
+-- if b is true, `b && true` is true
 pub and_true : (b : Bool) → T b → T (b && true)
 and_true true holds = holds
 and_true false never = elim never [ ]

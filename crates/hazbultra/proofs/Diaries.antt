@@ -7,13 +7,13 @@ use Rattle.std.specs.Option.{unwrap_or}
 use Rattle.mb_world.specs.Theorem.{ReportView}
 use Rattle.hazbultra.specs.Reports.{HasConsumers}
 
--- if the count is not 0, the share is there, and it is the quotient
+-- if `count` is not 0, `share` is a number, and that is the quotient of `all` by `count`
 share_of : (share : Option ℕ) (all count : ℕ) → 0 < count → SomeIff share (0 < count) (all / count)
     → unwrap_or share 0 ≡ all / count
 share_of None all count some is = absurd (is some)
 share_of (Some s) all count some is = is.1
 
--- the number of diaries divided by that of lanes is the number of consumers
+-- the number of diaries divided by the number of lanes is the number of consumers
 pub consumers_told : (n : ℕ) (r : ReportView) (share : Option ℕ) (all count : ℕ) → HasConsumers n r
     → all ≡ length r.diaries → count ≡ length r.lanes
     → SomeIff share (0 < count) (all / count) → unwrap_or share 0 ≡ n

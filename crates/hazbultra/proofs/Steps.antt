@@ -1,4 +1,4 @@
--- The names that the walks of this crate use, from the kit's libraries.
+-- Names from the kit's libraries, for the proofs here that go through a function's body statement by statement.
 pub use mathlib.Core.Path.{◌≡◌, refl, sym, subst, ap, ◌∙◌}
 pub use mathlib.Core.List.{List, [], ◌∷◌, ◌++◌}
 pub use lib.Dec.{T}

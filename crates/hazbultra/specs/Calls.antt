@@ -59,19 +59,19 @@ ConsumerWent R (Some (OfConsumer c)) (Some (OfConsumer d)) =
     (d.consumer.id ≡ c.consumer.id) × (d.consumer.mailbox ≡ c.consumer.mailbox) × R c d
 ConsumerWent R _ _ = ⊥
 
--- the one handle led to a hub before and the other leads to a producer after, and R holds of the two
+-- the first handle led to a hub before and the second leads to a producer after, and R holds of the two
 abbrev pub HubGave
     : (BoundHubView → BoundProducerView → Type 0) → Option Thing → Option Thing → Type 0
 HubGave R (Some (OfHub h)) (Some (OfProducer p)) = R h p
 HubGave R _ _ = ⊥
 
--- the one handle led to a hub before and the other leads to a consumer after, and R holds of the two
+-- the first handle led to a hub before and the second leads to a consumer after, and R holds of the two
 abbrev pub HubGaveConsumer
     : (BoundHubView → SeededConsumer → Type 0) → Option Thing → Option Thing → Type 0
 HubGaveConsumer R (Some (OfHub h)) (Some (OfConsumer c)) = R h c
 HubGaveConsumer R _ _ = ⊥
 
--- the one handle led to a hub before and the other leads to a report after, and R holds of the two
+-- the first handle led to a hub before and the second leads to a report after, and R holds of the two
 abbrev pub HubTold : (BoundHubView → ReportView → Type 0) → Option Thing → Option Thing → Type 0
 HubTold R (Some (OfHub h)) (Some (OfReport r)) = R h r
 HubTold R _ _ = ⊥
@@ -96,7 +96,7 @@ abbrev pub ReportHas : (ReportView → Type 0) → Option Thing → Type 0
 ReportHas R (Some (OfReport r)) = R r
 ReportHas R _ = ⊥
 
--- hub h has become hub k by taking back what a handle led to: a producer or consumer of its mailbox that was out
+-- hub h has become hub k by taking back what a handle led to: a producer or consumer of its mailbox, not yet returned
 abbrev pub HasTakenBack : BoundHubView → Option Thing → BoundHubView → Type 0
 HasTakenBack h (Some (OfProducer p)) k =
     (h.id ≡ p.id) × (slice_get h.hub.puts p.producer.seat.lane ≡ Some None)
@@ -108,13 +108,13 @@ HasTakenBack h (Some (OfConsumer c)) k =
 HasTakenBack h _ k = ⊥
 
 -- ---- random words
--- the words that a consumer draws from now on: those of its generator of eight rounds, if it has one
+-- the random words that a consumer draws from now on: those of its ChaCha8 generator, or zeros if it has none
 abbrev pub words_of : Option ChaCha → Stream
 words_of None = zeros
 words_of (Some rng) = stream_of (steps_u32 (next_word 4)) rng
 
--- the source of the consumer of this number: ChaCha8 from this seed, of the stream of that number. If a claim makes one
--- access at most, that is an exchange, which looks at no word. Then there is none
+-- the source of random words of the consumer of this number: ChaCha8 from this seed, with the number as its stream. It
+-- is `None` if a claim makes one access at most, as that is an exchange, which looks at no random word
 abbrev pub source_of : Layout → List ℕ → ℕ → Option ChaCha
 source_of layout seed number = if nat_eq (most_accesses layout) 1 then None
     else Some (record (of_seed seed) { stream = number })
@@ -128,7 +128,7 @@ table_numbered n =
     else if nat_eq n 2 then Some Middle
     else None
 
--- the answer of a poll that C is told by this code and this value, if the code is one of an answer
+-- the result of a poll that this code and this value tell C, if the code is one of a result
 abbrev pub answer_told : ℕ → ℕ → Option Poll
 answer_told n x =
     if nat_eq n 1 then Some (poll.Took x)

@@ -1,5 +1,5 @@
--- Mailboxes as plain Rust makes them by default and by `FastLast`, but for their numbers of producers, consumers and
--- cells.
+-- The plans of mailboxes as plain Rust makes them, by default and by `FastLast`, for any number of producers, consumers
+-- and cells.
 use Rattle.std.specs.Prelude.{ℕ, false, true}
 use Rattle.mb_quorum.specs.declared.table.TableName.TheVariants.{Bits}
 use Rattle.mb_world.specs.Vocabulary.{Plan, shaped_plan}
@@ -10,7 +10,7 @@ abbrev pub by_default : ℕ → ℕ → ℕ → Plan
 by_default producers consumers cells =
     shaped_plan (record { fast = false; last = true }) producers consumers cells 0 Bits
 
--- the same with the shape `FastLast`: a fast path and a last object, four pairs, and the quorum table of bits
+-- what it makes if it is asked for the shape `FastLast`: a fast path, a last object, four pairs and the bit table
 abbrev pub by_fast_last : ℕ → ℕ → ℕ → Plan
 by_fast_last producers consumers cells =
     shaped_plan (record { fast = true; last = true }) producers consumers cells 4 Bits

@@ -1,4 +1,4 @@
--- What a block and a handle end as, once what they lend comes back.
+-- What a block or a handle leads to once the borrow that it lent has ended.
 use base.Fml.{Fml}
 use mathlib.Core.Path.{refl}
 use Rattle.std.specs.Prelude.{Option, Some, true}
@@ -10,18 +10,18 @@ use Rattle.hazbultra.specs.contracts.handle.Handle.{the_row as handle_row}
 use Rattle.hazbultra.specs.contracts.handle.block.Block.{the_row as block_row}
 use Rattle.hazbultra.specs.contracts.thing.Thing.{the_row as thing_row}
 
--- the block, leading to this thing
+-- this block, but leading to this thing
 abbrev pub leading_to : Block → Thing → Block
 leading_to b x = record { at = b.at; alloc = b.alloc; thing = Some x }
 
--- the handle, leading to this thing
+-- this handle, but leading to this thing
 abbrev pub handle_to : Handle → Thing → Handle
 handle_to h x = record { full = true; alloc = h.alloc; block = leading_to h.block x; agrees = refl }
 
--- the block ends leading to the last value behind r
+-- once borrow r has ended, block b leads to the last value of r
 abbrev pub BlockLends : MutBor Block → MutBor Thing → Fml
 BlockLends b r = Lends block_row thing_row b r (leading_to b.now)
 
--- the handle ends leading to the last value behind r, or as it was
+-- once borrow r has ended, handle h leads to the last value of r. If nothing was lent, h is as it was
 abbrev pub HandleLends : MutBor Handle → Option (MutBor Thing) → Fml
 HandleLends h r = LendsIf handle_row thing_row h r (handle_to h.now) h.now

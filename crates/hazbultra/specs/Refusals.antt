@@ -13,11 +13,11 @@ use Rattle.hazbultra.specs.declared.thing.Thing.{Thing}
 use Rattle.hazbultra.specs.declared.thing.Thing.TheVariants.{OfConsumer, OfProducer}
 
 -- ---- the setup that C asks for
--- C asks for cells that have a last object alone, so that each claim is one exchange
+-- whether C asks for cells that have a last object alone, so that each claim is one exchange
 abbrev pub asks_exchanges : SetupIn → Bool
 asks_exchanges s = nat_eq s.pairs 0 && s.last && not s.fast
 
--- the plan that C asks for, if it names this table. One whose claims are exchanges alone is that of the bit table
+-- the plan that C asks for with the table of this name. If each claim is one exchange, the plan has the bit table
 abbrev pub plan_asked : SetupIn → TableName → Plan
 plan_asked s name = shaped_plan (record { fast = s.fast; last = s.last }) s.producers s.consumers s.cells s.pairs
     (if asks_exchanges s then Bits else name)
@@ -30,7 +30,7 @@ setup_code setup.BadConsumers = 34
 setup_code setup.BadCells = 35
 setup_code setup.BadRounds = 36
 
--- the code of the first reason, if there is one: that the table number names no table, or else this fault of the setup
+-- the code of the refusal, if there is one: 32 if the table's number names no table, else the code of this fault
 abbrev pub first_refusal : Option TableName → Option SetupFault → Option ℕ
 first_refusal None why = Some 32
 first_refusal (Some name) None = None

@@ -5,17 +5,17 @@ use Rattle.mb_world.specs.declared.report.Note.{Note}
 use Rattle.mb_world.specs.declared.report.Note.TheVariants as note
 use Rattle.hazbultra.specs.declared.boundary.NoteOut.{NoteOut}
 
--- the report has lanes, and as many diaries as that number of consumers has on all of them
+-- the report has lanes, and the number of its diaries is this number of consumers times the number of lanes
 pub record HasConsumers (consumers : ℕ) (r : ReportView) : Type 0 where
   pub some : 0 < length r.lanes
   pub diaries : length r.diaries ≡ consumers * length r.lanes
 
--- the items of a lane that C asks for: those left, or those put
+-- the items of a lane that C asks for: with true those left, with false those put
 abbrev pub items_asked : Bool → LaneView → List ℕ
 items_asked true l = l.left
 items_asked false l = l.put
 
--- a note as C has it: its kind, and the item, or the consumer to which it is lost, or 0
+-- a note as C has it: its kind, and the item taken, the consumer to which it is lost, or 0 if undecided
 abbrev pub note_out : Note → NoteOut
 note_out (note.Took x) = record { value = x; kind = 1 }
 note_out (note.Lost w) = record { value = w; kind = 2 }

@@ -90,7 +90,7 @@ pub extern "C" fn hz_finish(producer: &mut Handle) -> u32
 /// to no consumer.
 #[unsafe(no_mangle)]
 pub extern "C" fn hz_poll(consumer: &mut Handle, lane: u64, budget: u64, value: &mut u64) -> u32
-    // The answer is that of the poll, with the next words of the consumer's source.
+    // What the code and `value` tell is the result of a poll with the next random words of the consumer's source.
     ensures polled { (answer : Poll) → answer_told result value.new ≡ Some answer
         → answer ≢ NoLane
         → ConsumerWent (λ c d. IsPollOf lane budget answer (words_of c.source)
@@ -138,7 +138,7 @@ pub extern "C" fn hz_poll(consumer: &mut Handle, lane: u64, budget: u64, value: 
 /// It is never `LOST`.
 #[unsafe(no_mangle)]
 pub extern "C" fn hz_take(consumer: &mut Handle, lane: u64, most: u64, value: &mut u64) -> u32
-    // The answer is that of the take, with the next words of the consumer's source.
+    // What the code and `value` tell is the result of a take with the next random words of the consumer's source.
     ensures taken { (answer : Poll) → answer_told result value.new ≡ Some answer
         → answer ≢ NoLane
         → ConsumerWent (λ c d. IsTakeOf lane most answer (words_of c.source) (words_of d.source)
@@ -181,7 +181,7 @@ pub extern "C" fn hz_take(consumer: &mut Handle, lane: u64, most: u64, value: &m
     }
 }
 
-/// Writes the value of an answer, if it has one, and returns its code.
+/// Writes the value of a poll's result, if it has one, and returns the result's code.
 fn tell(answer: Poll, value: &mut u64) -> u32
     ensures told { answer_told result value.new ≡ Some answer }
     ensures kept { result ≢ TOOK → result ≢ LOST → value.new ≡ value.old }

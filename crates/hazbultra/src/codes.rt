@@ -77,7 +77,7 @@ pub(crate) fn code_of_setup(why: SetupFault) -> u32
     }
 }
 
-/// The code of a hub that issued nothing.
+/// The code of the reason for which a hub issued nothing.
 pub(crate) fn code_of_hub(why: HubFault) -> u32
     ensures all_given { (result ≡ ALL_GIVEN) ↔ (why ≡ hub.AllGiven) }
     ensures codes { (result ≡ ALL_GIVEN) ⊎ (result ≡ NO_MEMORY) }

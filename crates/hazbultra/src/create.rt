@@ -23,8 +23,8 @@ use rand_chacha::ChaCha8Rng;
 use rand_core::SeedableRng;
 use std::alloc::Global;
 
-/// The setup that C asks for, or the code of its refusal. (Inlined, its setups would stand on the stack of the call that
-/// makes the mailbox.)
+/// The setup that C asks for, or the code of its refusal. (If this were inlined, its setups would lie on the stack of
+/// the call that makes the mailbox.)
 #[inline(never)]
 fn setup_of(wanted: &SetupIn) -> Result<Setup, u32>
     ensures made { IfOk result (λ setup. (name : TableName)
@@ -51,7 +51,7 @@ fn setup_of(wanted: &SetupIn) -> Result<Setup, u32>
     }
 }
 
-/// The setup of exchanges alone of these numbers, or the code of its refusal. It has a stack of its own, too.
+/// The setup of exchanges alone for these numbers, or the code of its refusal. (Not inlined, as [`setup_of`] is not.)
 #[inline(never)]
 fn exchanges_of(producers: u64, consumers: u64, cells: u64) -> Result<Setup, u32>
     ensures made { IfOk result (λ setup. plan_in setup
@@ -142,8 +142,8 @@ pub extern "C" fn hz_producer_new(
     }
 }
 
-/// What [`hz_producer_new`] does, for an opened hub. The box is made first, so that no number is lost if memory runs
-/// out.
+/// What [`hz_producer_new`] does, for an opened hub. The box is made first, so if memory runs out, the hub has issued
+/// no number.
 fn give_producer(
     alloc: Global,
     hub: &mut BoundHub<Global>,
@@ -226,8 +226,8 @@ pub extern "C" fn hz_consumer_new(
     }
 }
 
-/// What [`hz_consumer_new`] does, for an opened hub. The box is made first, so that no number is lost if memory runs
-/// out.
+/// What [`hz_consumer_new`] does, for an opened hub. The box is made first, so if memory runs out, the hub has issued
+/// no number.
 fn give_consumer(
     alloc: Global,
     hub: &mut BoundHub<Global>,
@@ -270,7 +270,8 @@ fn give_consumer(
     }
 }
 
-/// The source of words for the consumer of this number, if its claims look at any.
+/// The source of random words for the consumer of this number. If a claim makes one access alone, which is an exchange,
+/// there is none: it looks at no random word.
 fn source_for(hub: &BoundHub<Global>, seed: &[u8; 32], number: u32) -> Option<ChaCha8Rng>
     ensures { result ≡ source_of hub.now.mailbox.claims.layout seed.now number }
 {

@@ -1,5 +1,4 @@
-//! The calls that take producers and consumers back, end a mailbox, and free what a handle leads
-//! to.
+//! The calls that take producers and consumers back, end a mailbox, and free what a handle leads to.
 ghost use Rattle.std.specs.Prelude.{◌≡◌, ◌≢◌, ◌↔◌, ◌⊎◌, ◌+◌, ◌<◌, None};
 ghost use Rattle.mb_mailbox.specs.Imports.{consumer_count};
 ghost use Rattle.mb_mailbox.specs.Gathering.{FullTakesAll, IsGathered, IsReportIn};

@@ -28,7 +28,7 @@ pub fn whole_items_take_few_accesses()
     ensures most { (m : MailboxView) (p k : ℕ) → plan_at m ≡ by_fast_last p 64 k
         → most_accesses m.claims.layout + 2 ≡ 127 }
 
-    // By default a last object alone stands in each cell. Else two ratifiers and four pairs come before it.
+    // By default each cell has a last object alone. By `FastLast` two ratifiers and four pairs come before it.
     ensures alone { (p n k : ℕ) → length (by_default p n k).claims.kinds ≡ 1 }
     ensures objects { (p n k : ℕ) → length (by_fast_last p n k).claims.kinds ≡ 11 }
 {}
@@ -42,15 +42,15 @@ pub fn sample_setups()
         ≡ shaped_plan (record { fast = false; last = true }) 3 4 8 5 Middle }
     ensures let_in { refusal_of (asked 2 0 false true) ≡ None }
 
-    // With a fast path, or without a last object, no pairs are too few (36). A number that names no table comes first
-    // (32).
+    // With a fast path, or without a last object, 0 pairs are too few (36). A number that names no table is refused
+    // before that (32).
     ensures no_pairs { refusal_of (asked 2 0 true true) ≡ Some 36 }
     ensures no_object { refusal_of (asked 2 0 false false) ≡ Some 36 }
     ensures no_table { refusal_of (asked 3 0 true true) ≡ Some 32 }
 {}
 
-/// Where a consumer's words come from: samples. If a claim makes up to six accesses, it is a generator. If a claim makes
-/// one, there is none: then all words are 0, and no word is 1.
+/// What random words a consumer draws: samples. If a claim makes up to six accesses, they come from a generator. If a
+/// claim makes one, there is no generator: all words are 0, and no word is 1.
 pub fn sample_sources()
     ensures drawn { (layout : Layout) (seed : List ℕ) → most_accesses layout ≡ 6
         → source_of layout seed 3 ≡ Some (record (of_seed seed) { stream = 3 }) }
@@ -60,7 +60,7 @@ pub fn sample_sources()
     ensures not_one { zeros.u64_after [] ≡ 1 → ⊥ }
 {}
 
-/// What a handle leads to once what it lent comes back, by samples: to what was left there last, at the same address.
+/// Samples of what a handle leads to once its borrow has ended: what was left there last, at the same address.
 pub fn sample_handles()
     ensures last { (b : Block) (x y : Thing) → (leading_to (leading_to b x) y).thing ≡ Some y }
     ensures address { (b : Block) (x : Thing) → (leading_to b x).at ≡ b.at }

@@ -1,7 +1,7 @@
 //! The mailbox for C, and for languages that can call C. `bindings/c/hazbultra.h` says what each call does and what its
 //! caller has to keep to.
 //!
-//! Each call is an export over `mb_bound`. A handle is the address of a box, and leads to a hub, a
+//! Each call is exported, and uses `mb_bound`. A handle is the address of a box, and leads to a hub, a
 //! producer, a consumer, a report or nothing. It lends to a call what it leads to, so no call loses
 //! that.
 //!

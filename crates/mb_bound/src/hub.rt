@@ -232,7 +232,7 @@ impl<A: Allocator + Clone + Drop> BoundHub<A> {
         match mailbox.draft(alloc, hub) {
             Ok(draft) => match Arc::try_unwrap(mailbox) {
                 Ok(mailbox) => Ok(mailbox.gather_with(draft)),
-                // (this does not come: all were taken back, so nobody else holds the mailbox)
+                // (This never happens: all were taken back, so nobody else holds the mailbox.)
                 Err(mailbox) => {
                     let hub = draft.undone();
                     Err((GatherFault::NoMemory, BoundHub { id, mailbox, hub }))

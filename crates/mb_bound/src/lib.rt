@@ -1,5 +1,5 @@
-//! The hub, the producers and the consumers of a mailbox, each kept together with its mailbox. So no caller can mix
-//! those of two mailboxes, and a put, a finish, a poll and a gather have no `requires`.
+//! The hub, the producers and the consumers of a mailbox, each kept together with its mailbox. So no caller can use one
+//! with another mailbox, and a put, a finish, a poll and a gather have no `requires`.
 //!
 //! The three types have what those of `mb_mailbox` have, and the mailbox in an [`Arc`](std::sync::Arc). An invariant of
 //! each type says that it belongs to its mailbox. The clauses are those of `mb_mailbox`, without their premises. The

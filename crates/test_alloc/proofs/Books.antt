@@ -1,4 +1,4 @@
--- `refuses`, `gives` and `takes_back` at a call: what each is handed, and what its caller has then. Assumes `Logic`.
+-- Calls of a book's `refuses`, `gives` and `takes_back`: what each needs, and what its caller then has, in any `Logic`.
 use Rattle.std.proofs.Common.{◌≡◌, ℕ, List, [], ◌∷◌, refl, ap, Bool}
 use seplogic.Ra.Ura.{Ura}
 use mir.Val.{Val, vbool, vunit, vptr}
@@ -20,7 +20,7 @@ use Rattle.test_alloc.specs.contracts.counters.Counters.gives as giving
 use Rattle.test_alloc.specs.contracts.counters.Counters.refuses as refusing
 use Rattle.test_alloc.specs.contracts.counters.Counters.takes_back as taking
 
--- a `&` to a book at the place p
+-- a `&` at the address p to a book, whose counters are b
 abbrev pub seen_book : Lft → ℕ × ℕ → Counters → Fml
 seen_book κ p b = hidden_shr row.the_row κ b p.0 p.1
 
@@ -36,7 +36,7 @@ module _ {M : Type 1} {𝓤 : Ura M} (𝓛 : Logic 𝓤) (at_mem : Memory → SP
   TakesBack = triple_of 𝓛 taking.signature (taking.spec 𝓛 at_mem run)
 
   module _ (κ : Lft) (q : Share) (p : ℕ × ℕ) (b : Counters) where
-    -- each contract at a call on this book
+    -- the ghost values of each contract at a call on this book
     abbrev pub at_refuses : Refuses.Ghost
     at_refuses = (((κ, tt), (q, tt), tt, (record { ref_ptr = p; now = b }, tt), (vptr p.0 p.1 ∷ [], tt)), tt)
 
@@ -48,7 +48,7 @@ module _ {M : Type 1} {𝓤 : Ura M} (𝓛 : Logic 𝓤) (at_mem : Memory → SP
 
     open 𝓛 use {H, A}
 
-    -- who sees the book may call each of the three
+    -- a caller that has a `&` to the book, and its lifetime, has what each of the three calls needs
     pub Refuses-goes : ent 𝓤 (sep 𝓤 (sem 𝓛 (seen_book κ p b)) (A.lft κ q)) (Refuses.pre at_refuses)
     Refuses-goes =
         qed 𝓛 (‵ (seen_book κ p b) ∷ ‵ (flft κ q) ∷ []) ∵ feq_i ! (List Val) (vptr p.0 p.1 ∷ [])

@@ -1,4 +1,4 @@
--- The names of the kit for the steps of a walk through a body.
+-- Names of the kit for proofs that go through a body statement by statement.
 pub use types.Kit.{Item, ‵, raw, ◌⊛◌, some, later, given, at_ret, any_q, Post as After}
 pub use types.Kit.{◌$◌, ◌∵◌, !, qed, by, move, keep, use0, use1, use2, split, split3, join, pick, learn, fsplit, fjoin, feq_i, suffices, await, done}
 pub use types.Match.{vrt}

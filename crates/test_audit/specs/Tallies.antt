@@ -4,17 +4,17 @@ use Rattle.std.specs.List.{All, sum_by}
 use Rattle.mb_world.specs.Theorem.{LaneView, ReportView}
 use Rattle.test_audit.specs.declared.rules.Tally.{Tally}
 
--- a tally of these numbers
+-- the tally with these counts, in this order: put, took, left, lost, undecided, under way
 abbrev pub counts : ℕ → ℕ → ℕ → ℕ → ℕ → ℕ → Tally
 counts put took left lost undecided under_way =
     record { put = put; took = took; left = left; lost = lost; undecided = undecided; under_way = under_way }
 
--- two tallies together: number by number, modulo 2^64
+-- the sum of two tallies, count by count, modulo 2^64
 abbrev pub both : Tally → Tally → Tally
 both a b = counts ((a.put + b.put) % 2 ^ 64) ((a.took + b.took) % 2 ^ 64) ((a.left + b.left) % 2 ^ 64)
     ((a.lost + b.lost) % 2 ^ 64) ((a.undecided + b.undecided) % 2 ^ 64) ((a.under_way + b.under_way) % 2 ^ 64)
 
--- a tally counts the items put on a lane, and those left. All others are taken
+-- a tally counts the items put on a lane, and those left. It counts the others as taken
 pub record IsLaneCount (lane : LaneView) (t : Tally) : Type 0 where
   pub put : t.put ≡ length lane.put
   pub left : t.left ≡ length lane.left

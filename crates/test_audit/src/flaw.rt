@@ -11,7 +11,7 @@ pub enum Flaw {
     TooManyNotes,
     /// Two consumers took one item.
     TwoTakers,
-    /// A consumer took a value that was not put there.
+    /// A consumer took a value other than the item that was put there.
     OtherItem,
     /// A loser names itself, a consumer that did not compete, or another winner than the taker or than another loser.
     OtherWinner,

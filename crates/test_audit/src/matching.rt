@@ -32,7 +32,7 @@ pub(crate) struct Meetings {
     pub(crate) under_way: u64,
 }
 
-/// The diary of a consumer on a lane, by its place in the report.
+/// The diary of a consumer on a lane, by its position in the report.
 pub(crate) fn diary_of<A: Allocator + Drop>(
     report: &Report<A>,
     consumer: usize,
@@ -42,7 +42,7 @@ pub(crate) fn diary_of<A: Allocator + Drop>(
     report.diaries.get(before.wrapping_add(lane))
 }
 
-/// What a diary says of the item at place `j` of its lane.
+/// What a diary says of the item at position `j` of its lane.
 fn said_of<A: Allocator + Drop>(diary: &Diary<A>, j: usize) -> Meeting {
     match diary.notes.get(j) {
         Some(note) => Meeting::Noted(*note),
@@ -106,7 +106,7 @@ fn may_have_won<A: Allocator + Drop>(
     competed && (met.taker.is_none() || met.taker == Some(winner))
 }
 
-/// What all diaries of a lane say of the item at place `j`, or the first flaw. There is no flaw if these rules are
+/// What all diaries of a lane say of the item at position `j`, or the first flaw. There is no flaw if these rules are
 /// kept. At most one consumer took the item, and it took what was put. All losers name one winner, which competed and
 /// is the taker, if there is one. A consumer that is undecided is not alone. So if nobody took the item though somebody
 /// competed, one of those has not finished: they cannot all have lost to one of them.

@@ -3,7 +3,7 @@ use Rattle.std.specs.Prelude.{ℕ, ◌-◌, ◌<◌}
 use Rattle.std.proofs.Common.{ap, arith}
 use Rattle.mb_quorum.specs.Quorum.{QuorumTable, IsQuorumTable}
 
--- with m values, v has the quorums of m - 1 - v in the other table
+-- if there are m values, the quorums of v are those of m - 1 - v in the other table
 abbrev pub mirrored : QuorumTable → QuorumTable
 mirrored t =
     record {

@@ -1,4 +1,4 @@
-//! Short words for events and their answers.
+//! Short names for events of a world, and for the answers: the results of these events.
 
 use crate::compare::same;
 use mb_cells::{Look, Offer, Push};

@@ -45,8 +45,8 @@ fn comes_to<R: Abort + AllocGlobal>(
     same(rt, &audit(&report, asked.0, asked.1).err(), &flaw);
 }
 
-/// Checks the report in which three consumers have these notes on the only item, 5, which is left or not. It has this
-/// flaw, or none.
+/// Checks that the report in which three consumers have these notes on the only item, 5, has this flaw, or none. The
+/// item is left or not.
 fn three_come_to<R: Abort + AllocGlobal>(
     rt: &R,
     is_left: bool,
@@ -62,7 +62,7 @@ fn three_come_to<R: Abort + AllocGlobal>(
     comes_to(rt, (1, 3), &[(&[5], false, left)], &diaries, flaw);
 }
 
-/// The flaw that losers name another winner.
+/// The flaw that a consumer lost the item to one that cannot have won it.
 const OTHER_WINNER: Option<Flaw> = Some(Flaw::OtherWinner);
 
 /// Whether the item is left, the notes of the three consumers, and the flaw.
@@ -71,16 +71,16 @@ static WINNERS: [(bool, [&[Note]; 3], Option<Flaw>); 11] = [
     (true, [&[Lost(2)], &[Lost(2)], &[Undecided]], None),
     (false, [&[Took(5)], &[Took(5)], &[]], Some(Flaw::TwoTakers)),
     (false, [&[], &[Took(6)], &[]], Some(Flaw::OtherItem)),
-    // A loser does not name itself.
+    // (breaks the rule that a consumer does not lose to itself)
     (true, [&[], &[Lost(1)], &[]], OTHER_WINNER),
-    // Losers name one winner.
+    // (breaks the rule that all losers name one winner)
     (true, [&[Lost(1)], &[Lost(2)], &[Undecided]], OTHER_WINNER),
-    // The winner that losers name competed. In the first row it did not. In the second there is no such consumer.
+    // (both break the rule that the winner named has competed: consumer 1 has not, and there is no consumer 3)
     (true, [&[Lost(1)], &[], &[]], OTHER_WINNER),
     (true, [&[Lost(3)], &[], &[]], OTHER_WINNER),
-    // If the item was taken, the winner that losers name is the taker.
+    // (breaks the rule that losers name the consumer that took the item)
     (false, [&[Took(5)], &[Lost(2)], &[Undecided]], OTHER_WINNER),
-    // A consumer that is alone decides.
+    // (the first breaks the rule that a consumer is not undecided if nobody else competed, and the second keeps it)
     (true, [&[], &[], &[Undecided]], Some(Flaw::UndecidedAlone)),
     (true, [&[], &[Undecided], &[Undecided]], None),
 ];
@@ -92,16 +92,16 @@ fn an_item_has_one_winner(rt: HostRuntime) {
     }
 }
 
-/// The flaw that other items are left.
+/// The flaw that the items left are not those that nobody took, in their order.
 const OTHER_LEFT: Option<Flaw> = Some(Flaw::OtherLeft);
 
-/// What is left of the items 5, 6 and 7 if 5 was taken, and the flaw.
+/// What the report names as left of the items 5, 6 and 7 if 5 was taken, and the flaw.
 static LEFT: [(&[u64], Option<Flaw>); 8] = [
     (&[6, 7], None),
-    // The items left are items of the lane, in their order.
+    // (both break the rule that the items left are items of the lane, in its order)
     (&[7, 6], OTHER_LEFT),
     (&[6, 8], OTHER_LEFT),
-    // They are all items that nobody took, and no more.
+    // (these break the rule that the items left are all those that nobody took, and no others)
     (&[], OTHER_LEFT),
     (&[6], OTHER_LEFT),
     (&[7], OTHER_LEFT),
@@ -120,7 +120,7 @@ fn what_is_left_is_what_nobody_took(rt: HostRuntime) {
 /// Two lanes, of which the second has one item.
 static TWO_LANES: [LaneTold<'static>; 2] = [(&[5, 6], false, &[6]), (&[8], false, &[])];
 
-/// The notes of consumer 1 on the second lane, whether it has a claim under way there, and the flaw.
+/// The notes of consumer 1 on the second lane, whether a claim after them is begun, and the flaw.
 static NOTES: [(&[Note], bool, Option<Flaw>); 3] = [
     (&[Took(8)], false, None),
     (&[Took(8)], true, Some(Flaw::TooManyNotes)),
@@ -143,7 +143,7 @@ fn notes_are_on_items(rt: HostRuntime) {
 /// A lane without items.
 const LANE: LaneTold<'static> = (&[], false, &[]);
 
-/// The diaries of two consumers of two lanes, in their order.
+/// The diaries of two consumers on two lanes, without notes, in the order that a report has them.
 const FIRST: DiaryTold<'static> = (0, 0, &[], false);
 
 const SECOND: DiaryTold<'static> = (0, 1, &[], false);
@@ -152,7 +152,7 @@ const THIRD: DiaryTold<'static> = (1, 0, &[], false);
 
 const FOURTH: DiaryTold<'static> = (1, 1, &[], false);
 
-/// The flaw that there are other lanes, and that there are other diaries.
+/// The flaws that the report has too few or too many lanes, and that it has not one diary for each consumer and lane.
 const LANES: Option<Flaw> = Some(Flaw::OtherLanes);
 
 const DIARIES: Option<Flaw> = Some(Flaw::OtherDiary);
@@ -173,7 +173,7 @@ static SIZES: [(
     (1, &[LANE; 2], &[], DIARIES),
     (2, &[LANE; 2], &[FIRST, SECOND], DIARIES),
     (1, &[LANE; 2], &[FIRST, SECOND, THIRD, FOURTH], DIARIES),
-    // Each diary has the consumer and the lane of its place.
+    // (these break the rule that each diary has the consumer and the lane of its position)
     (1, &[LANE; 2], &[THIRD, FOURTH], DIARIES),
     (1, &[LANE; 2], &[SECOND, FIRST], DIARIES),
     (2, &[LANE; 2], &[FIRST, THIRD, SECOND, FOURTH], DIARIES),

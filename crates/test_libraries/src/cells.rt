@@ -42,7 +42,7 @@ fn new_pool<R: Abort + AllocGlobal>(rt: &R, lanes: u32, cells: u32) -> Calls<Glo
     Calls::new(rt.alloc(), lanes, cells).expect(rt, "no pool")
 }
 
-/// Checks that a new pool gives these answers.
+/// Makes these calls of a new pool, and checks their results.
 fn answers<R: Abort + AllocGlobal>(rt: &R, lanes: u32, cells: u32, calls: &[PoolCall]) {
     new_pool(rt, lanes, cells).make(rt, calls);
 }
@@ -56,7 +56,7 @@ fn put(p: u32, x: u64, cell: u32) -> [PoolCall; 3] {
     ]
 }
 
-/// Puts an item and ends its lane. These calls with their answers may follow any list of calls that led to the pool.
+/// Puts an item and ends its lane. The clause adds these four calls and their results to any list that led to the pool.
 fn put_and_end<A: Allocator + Drop>(
     pool: &mut Pool<A>,
     p: u32,
@@ -108,7 +108,7 @@ fn two_lanes_draw_from_one_pool(rt: HostRuntime) {
     );
 }
 
-// Lane 1 finds no cell. It returns Full again and again, and may still end. Lane 0 may not, since its item is not put.
+// Lane 1 finds no cell. It returns `Full` each time, and may still end. Lane 0 may not, since its item is not put.
 #[test]
 fn full_comes_with_one_access(rt: HostRuntime) {
     answers(
@@ -163,7 +163,7 @@ fn refusals_in_their_order(rt: HostRuntime) {
     );
 }
 
-/// The calls of lane `p` if no cell is left. The lane ends, and its first cell is cell `p`.
+/// The calls of lane `p` once no cell is left. The lane ends, and a reader finds that its first cell is cell `p`.
 fn full_and_ended(p: u32) -> [PoolCall; 3] {
     [
         Offers(p, 7, Offer::Full),

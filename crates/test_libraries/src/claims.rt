@@ -25,7 +25,7 @@ pub(crate) fn stored(consumer: u32, object: u32, reg: Reg, value: u64) -> ClaimE
     }
 }
 
-/// The steps in which consumer 0 wins before consumer 1 comes. At the end consumer 0 is asked once more.
+/// The steps in which consumer 0 wins before consumer 1 comes. The last turn is one of consumer 0, without an access.
 pub(crate) const WON_AND_LOST: [(u64, u64); 12] = [
     (0, 0),
     (0, 0),
@@ -41,8 +41,8 @@ pub(crate) const WON_AND_LOST: [(u64, u64); 12] = [
     (0, 0),
 ];
 
-/// Claims on one cell that make these steps have these stages, and these entries from this place on. Returns whether
-/// the allocator serves their run.
+/// Checks that claims on one cell have these stages after these steps, and these entries from the given position on.
+/// Returns whether the allocator serves the run.
 pub(crate) fn is_played<A: Allocator + Copy + Drop>(
     rt: &impl Abort,
     alloc: A,
@@ -67,7 +67,7 @@ pub(crate) fn is_played<A: Allocator + Copy + Drop>(
     }
 }
 
-/// Checks that claims on one cell that make these steps have these stages, and these entries from this place on.
+/// Checks that claims on one cell have these stages after these steps, and these entries from the given position on.
 pub(crate) fn plays<R: Abort + AllocGlobal>(
     rt: &R,
     layout: &Layout,
@@ -211,7 +211,7 @@ fn the_first_random_word_does_not_store(rt: HostRuntime) {
     plays(&rt, &layout, &steps, (0, &entries), &[Stage::Won]);
 }
 
-// A step of a consumer past the second among those of `WON_AND_LOST` refuses them all. The first such place is returned.
+// If a step is of a consumer other than the two, the run is refused. The fault has the position of the first such step.
 #[test]
 fn a_step_of_no_consumer(rt: HostRuntime) {
     let layout = one_pair(&rt, 2);

@@ -1,4 +1,4 @@
-//! Worlds: the answers of their events, and the report then. The worked scripts are examples of the program.
+//! Events of worlds, their results, and the report after them. Other worked scripts are examples of the program.
 
 use crate::answers::{
     cell, finish, found, item, link, loads, make, offer, push, step, stores, took,
@@ -47,7 +47,7 @@ fn lose_five() -> [(Event, Answer); 16] {
     ]
 }
 
-// Events of no lane or of no consumer change nothing. If both are missing, the answer names the lane.
+// An event whose lane or consumer does not exist changes nothing. If neither exists, the result names the lane.
 #[test]
 fn a_lane_is_looked_for_before_a_consumer(rt: HostRuntime) {
     let mut world = one_pair(&rt, 1, 2, 1);
@@ -69,7 +69,7 @@ fn a_lane_is_looked_for_before_a_consumer(rt: HostRuntime) {
     );
 }
 
-/// The events by which two producers put an item each, and two consumers come to both. Consumer 0 takes the item of
+/// The events by which two producers put an item each, and two consumers compete for both. Consumer 0 takes the item of
 /// lane 0, and consumer 1 loses it. Consumer 1 takes the item of lane 1, and consumer 0 has begun a claim on it. Lane 1
 /// has ended.
 pub(crate) fn share_two() -> [(Event, Answer); 34] {

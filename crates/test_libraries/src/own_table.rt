@@ -37,7 +37,7 @@ impl Process {
         Process { q, place: None }
     }
 
-    /// The next access, and the output that it gives after finding this value.
+    /// The next access, and the output after it, if it finds this value.
     fn access(&mut self, seen: u64) -> Option<(Op, Option<Out>)> {
         let place = self.place?;
         let op = place.next(&self.q);
@@ -54,8 +54,8 @@ impl Process {
     }
 }
 
-/// Checks that a process with this input makes these accesses, each with the value that it finds and the output that it
-/// gives.
+/// Checks that a process with this input makes these accesses, each with the value that it finds and the output after
+/// it, if it has one.
 fn makes(rt: &impl Abort, q: Mirrored, input: u32, accesses: &[(Op, u64, Option<Out>)]) {
     let mut process = Process::new(q, input);
     for (op, seen, out) in accesses {

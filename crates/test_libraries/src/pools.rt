@@ -6,7 +6,7 @@ use std::alloc::Allocator;
 use std::marker::Model;
 use std::process::Abort;
 
-/// A call of a pool, with its lane, cell or cursor, and its answer.
+/// A call of a pool: its lane, cell or cursor, and the result that it should have.
 #[derive(Clone, Copy)]
 pub(crate) enum PoolCall {
     /// This item is offered on a lane.
@@ -14,7 +14,7 @@ pub(crate) enum PoolCall {
     Push(u32, Push),
     Finish(u32, Finish),
     Look(Cursor, Look),
-    /// The item of a cell.
+    /// The item of this cell is loaded.
     Item(u32, u64),
 }
 
@@ -46,14 +46,14 @@ impl<A: Allocator + Clone + Drop> Calls<A> {
 }
 
 impl<A: Allocator + Drop> Calls<A> {
-    /// Makes these calls, and compares each answer.
+    /// Makes these calls, and checks the result of each.
     pub(crate) fn make(&mut self, rt: &impl Abort, calls: &[PoolCall]) {
         for (place, call) in calls.iter().enumerate() {
             same_at(rt, &self.answers(*call), &true, &place);
         }
     }
 
-    /// Makes this call, and returns whether it is answered so.
+    /// Makes this call, and returns whether it has the result that it should have.
     fn answers(&mut self, call: PoolCall) -> bool {
         match call {
             PoolCall::Offer(p, x, answer) => self.offer(p, x, answer),
@@ -64,8 +64,8 @@ impl<A: Allocator + Drop> Calls<A> {
         }
     }
 
-    // Each of these calls returns whether it is answered so. It returns `false`, and makes no call, if its lane, cell or
-    // cursor is not one of the pool.
+    // Each of these calls returns whether its result is the one given. It returns `false`, and makes no call, if its
+    // lane, cell or cursor is not one of the pool.
     fn offer(&mut self, p: u32, x: u64, answer: Offer) -> bool {
         p < self.lanes && self.pool.offer(p, x) == answer
     }

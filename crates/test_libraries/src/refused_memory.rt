@@ -1,4 +1,4 @@
-//! Calls that run out of memory: each allocation is refused in turn, and at last the same call has memory.
+//! Calls that run out of memory: each allocation of a call is refused in turn, and in the end none is.
 
 use crate::answers::make;
 use crate::claims::{WON_AND_LOST, is_played, one_pair, won_and_lost};
@@ -57,7 +57,7 @@ fn tells_seven<'a>(rt: &impl Abort, report: &Report<Alloc<'a>>, ample: Alloc<'a>
     );
 }
 
-/// Whether the allocator serves the report of that world. If not, another allocator serves it.
+/// Whether the allocator serves the report of a world in which item 7 was taken. If not, another allocator serves it.
 fn report_is_served<'a>(
     rt: &impl Abort,
     world: &World<Alloc<'a>>,
@@ -124,23 +124,23 @@ fn is_served<'a>(rt: &impl Abort, alloc: Alloc<'a>, ample: Alloc<'a>, call: Trie
 /// No call here makes this many allocations.
 const MANY: u64 = 100;
 
-/// The calls, each with the fewest and the most allocations that it may make.
+/// The calls, each with the fewest and the most allocations that it may make. The lines before it name the fewest.
 static CALLS: [(Tried, u64, u64); 10] = [
-    // The processes, the entries and the outputs.
+    // A list for the processes, one for the entries, and one for the outputs.
     (Tried::Ratify, 3, MANY),
     (Tried::Conciliate, 3, MANY),
-    // The words, the claims, the entries and the stages.
+    // A list for the words, one for the claims, one for the entries, and one for the stages.
     (Tried::Play, 4, MANY),
     // The world allocates the four lists of the pool, the words of the claims, the seats and the notes. The report
     // allocates the lane and its item, the diary and its note, and the cells of the lane that is read.
     (Tried::World, 12, MANY),
-    // The heads, the links, the items and the lanes.
+    // A list for the heads, one for the links, one for the items, and one for the lanes.
     (Tried::Pool, 4, MANY),
-    // The words as they are at first, and the table's own.
+    // A list of the words as they are at first, and the words of the table.
     (Tried::SharedCells, 2, MANY),
-    // The zeros, and the words.
+    // A list of zeros, and the words of the table.
     (Tried::SharedClaims, 2, MANY),
-    // The list of events grows twice.
+    // The list of events is made longer twice.
     (
         Tried::Script(
             "setup 1 1 0 1 bits\npush 0\npush 0\npush 0\npush 0\npush 0\n",

@@ -1,4 +1,4 @@
-//! The allocator that refuses chosen requests: which requests it refuses, and how many blocks are out.
+//! The allocator that refuses chosen requests: which it refuses, and how many blocks are out (granted and not freed).
 
 use crate::compare::same;
 use std::alloc::Allocator;

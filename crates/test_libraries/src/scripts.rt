@@ -247,7 +247,7 @@ pub(crate) fn is_read<A: Allocator + Clone + Drop>(
     true
 }
 
-/// Texts with their first line and what is behind it, if the line has an end.
+/// Texts, each with its first line and the text after that line, if the line has an end.
 static LINES: [(&str, Option<(&str, &str)>); 4] = [
     ("", None),
     ("\n", Some(("", ""))),
@@ -262,7 +262,7 @@ fn lines_are_cut_off(rt: HostRuntime) {
     }
 }
 
-/// Whether exactly these words are cut off a line.
+/// Whether a line is cut into exactly these words.
 fn has_words(line: &str, want: &[&str]) -> bool {
     let mut rest = Some(line);
     for word in want {
@@ -332,7 +332,7 @@ fn numbers_are_decimal(rt: HostRuntime) {
     }
 }
 
-/// Whether the numbers of these words are these.
+/// Whether these words are read as these numbers, or, if `want` is `None`, as no numbers.
 fn has_numbers<R: Abort + AllocGlobal>(rt: &R, words: Option<&str>, want: Option<&[u64]>) -> bool {
     let read = numbers(rt.alloc(), words).expect(rt, "no list");
     match (&read, want) {

@@ -91,7 +91,7 @@ fn one_consumer_takes_the_fast_path(rt: HostRuntime) {
     plays(&rt, &layout, &steps, (0, &entries), &[Stage::Won]);
 }
 
-// The second consumer announced its own number, so object 0 passes it on to object 1 with the winner's.
+// Consumer 1 begins after consumer 0 has won. So object 0 returns 0 to it undecided, and object 1 decides 0 for it.
 #[test]
 fn one_after_the_other_on_a_fast_path(rt: HostRuntime) {
     let layout = one_pair(&rt, 2).shaped(BOTH);

@@ -26,7 +26,7 @@ fn new_table<A: Allocator + Clone + Drop>(
     }
 }
 
-/// The next lane of a table.
+/// The hub issues the seat of the next lane.
 fn new_lane<A: Allocator + Drop>(
     rt: &impl Abort,
     table: &SharedCells<A>,
@@ -77,7 +77,7 @@ fn link_one_item<A: Allocator + Drop>(
     );
 }
 
-/// Puts and reads that item, from the first look to the end mark.
+/// Puts and reads the item 8, from the first look to the end mark.
 fn put_one_item<A: Allocator + Drop>(
     rt: &impl Abort,
     table: &SharedCells<A>,
@@ -253,11 +253,11 @@ fn put_hundred<A: Allocator + Drop>(
 #[derive(Clone, Copy)]
 struct Bookmark {
     cursor: Cursor,
-    /// The item that comes next. The lane's items are numbers in their order.
+    /// The item that should come next. The items of the lane are numbers that rise by one.
     next: u64,
-    /// Whether the end mark was met.
+    /// Whether the end mark was loaded.
     ended: bool,
-    /// Whether another item came than the next.
+    /// Whether an item came that should not come next.
     wrong: bool,
 }
 
@@ -385,7 +385,7 @@ fn put_and_read_beside<R: Abort + AllocGlobal + Threads + Sync>(rt: &R) -> bool 
     are_whole(of_one, of_other)
 }
 
-/// One thread puts a hundred items, from the bookmark's on, while another reads them.
+/// One thread puts a hundred items, from the bookmark's next item on, while another reads them.
 fn put_beside<R: Threads + Sync, A: Allocator + Drop + Send + Sync>(
     rt: &R,
     table: &SharedCells<A>,

@@ -1,4 +1,4 @@
-//! Claims on words that threads share: the worked examples, and threads that step their claims at one time.
+//! Claims on words that threads share: the worked examples, and threads that step their claims at the same time.
 ghost use Rattle.std.specs.Prelude.{◌≡◌, ◌≢◌, ◌<◌, ◌≤◌, ◌++◌, ◌∷◌, ℕ, [], All, None, length};
 ghost use Rattle.mb_claim.specs.declared.access.Stage.TheVariants.{Going};
 ghost use Rattle.mb_claim.specs.Vocabulary.{IsClaimIn, claim_stage, consumer_of, part_on};
@@ -40,7 +40,7 @@ pub(crate) fn new_table<A: Allocator + Clone + Drop>(
     }
 }
 
-/// The next seat at a table.
+/// The hub issues the next seat.
 pub(crate) fn new_seat<A: Allocator + Drop>(
     rt: &impl Abort,
     table: &SharedClaims<A>,
@@ -184,7 +184,7 @@ fn claimed_by_two<R: Abort + AllocGlobal + Threads + Sync>(
     (mine, theirs)
 }
 
-/// The seats of all numbers that are left.
+/// Issues the seats of all numbers that were not issued yet.
 fn all_seats<A: Allocator + Drop, B: Allocator + Drop>(
     rt: &impl Abort,
     table: &SharedClaims<A>,
@@ -269,7 +269,7 @@ fn numbers_and_ends(rt: HostRuntime) {
     assert!(rt; one_wins(&rt, rt.alloc()));
 }
 
-/// After `steps` steps a claim on cell 0 is going, and announces consumer 0 in the ratifier next.
+/// Makes `steps` steps of a claim on cell 0. Checks that it goes on, and announces consumer 0 in the ratifier next.
 fn comes_to_announce<A: Allocator + Drop>(
     rt: &impl Abort,
     table: &SharedClaims<A>,
@@ -292,7 +292,7 @@ fn comes_to_announce<A: Allocator + Drop>(
 }
 
 // Consumer 0 stops before it announces itself. Consumer 1 begins then, and comes to announce consumer 0, too. The hub
-// takes both seats in with their claims unfinished.
+// takes both seats back with their claims unfinished.
 #[test]
 fn another_goes_on_where_one_stopped(rt: HostRuntime) {
     let (table, mut hub) = new_table(&rt, rt.alloc(), one_pair(&rt, 2), 1);
@@ -333,7 +333,7 @@ fn is_won_once(shape: Shape, ends: &[Stage]) -> bool {
     name_one_winner(ends) && (!shape.last || is_decided)
 }
 
-// Plain cells, and cells with a fast path and a last object. With a last object no claim is undecided.
+// Claims on plain cells, and on cells with a fast path and a last object. With the latter no claim is undecided.
 #[test]
 fn two_threads_claim_a_hundred_cells_of_each_kind(rt: HostRuntime) {
     for shape in &[Shape::PLAIN, BOTH] {
@@ -345,7 +345,7 @@ fn two_threads_claim_a_hundred_cells_of_each_kind(rt: HostRuntime) {
     }
 }
 
-// Plain cells, and cells with a fast path and a last object. With a last object no claim is undecided.
+// Claims on plain cells, and on cells with a fast path and a last object. With the latter no claim is undecided.
 #[test]
 fn sixteen_threads_claim_one_cell_of_each_kind(rt: HostRuntime) {
     for shape in &[Shape::PLAIN, BOTH] {

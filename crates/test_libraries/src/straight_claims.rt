@@ -1,4 +1,4 @@
-//! A claim that goes straight makes the same accesses as step by step: the same words, values and random words.
+//! A claim that goes straight makes the same accesses as one by steps: the same words, values and random words.
 ghost use Rattle.std.specs.Prelude.{◌≡◌, ◌<◌, ◌≤◌, length};
 ghost use Rattle.mb_claim.specs.Vocabulary.{FitsLayout, consumer_count, kinds_of};
 ghost use Rattle.mb_claim.specs.declared.access.Stage.TheVariants.{Going};
@@ -18,7 +18,7 @@ const OBJECTS: usize = 19;
 /// How many layouts are played.
 const ROUNDS: u64 = 1000;
 
-/// How often each consumer calls after its straight accesses.
+/// How many calls each consumer makes after its straight accesses.
 const CALLS: u64 = 8;
 
 /// All budgets are below this.
@@ -35,7 +35,7 @@ struct Recorder {
 }
 
 impl Recorder {
-    /// Words that are all 0, of objects that begin there in their layout, and the source that begins with this state.
+    /// A recorder whose words are all 0. Its objects begin at `begins` in their cell, and its source at `state`.
     fn new(begins: [usize; OBJECTS], state: u64) -> Recorder {
         Recorder {
             words: [0; OBJECT * OBJECTS],
@@ -154,7 +154,7 @@ fn by_steps(claim: &mut Claim, layout: &Layout, memory: &mut Recorder, most: u64
     most
 }
 
-/// What callers see of a claim, and all of it while it goes on. The place of an ended claim does not count.
+/// A claim's stage, and the whole claim if it goes on. The place of a claim that has ended does not matter.
 fn seen(claim: &Claim) -> (Stage, Option<Claim>) {
     let all = match claim.stage() {
         Stage::Going => Some(*claim),
@@ -163,7 +163,7 @@ fn seen(claim: &Claim) -> (Stage, Option<Claim>) {
     (claim.stage(), all)
 }
 
-/// What is seen of the claim at the end of straight accesses.
+/// What `seen` would return for the claim at the end of straight accesses.
 fn seen_at(layout: &Layout, consumer: u32, end: &Stretch) -> (Stage, Option<Claim>)
     requires object { end.now.stage ≡ Going → end.now.object < length (kinds_of layout.now) }
     requires value { end.now.value < consumer_count layout.now }
@@ -175,8 +175,8 @@ fn seen_at(layout: &Layout, consumer: u32, end: &Stretch) -> (Stage, Option<Clai
     (end.stage, all)
 }
 
-/// Plays a consumer's new claim twice: straight, and by single steps. Then goes on by single steps with random budgets
-/// on both words. Now and then a word changes between two calls, as if somebody else had stored there.
+/// Plays a consumer's new claim twice: straight, and by single steps. Then both go on by single steps with random
+/// budgets, each on its own words. Now and then a word changes in both, as if somebody else had stored there.
 fn claim_twice(
     rt: &impl Abort,
     layout: &Layout,

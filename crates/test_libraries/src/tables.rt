@@ -15,7 +15,7 @@ fn quorums<Q: Quorums>(table: &Q, v: u32) -> Option<(u64, u64)> {
 /// How many registers and values a table has, and the quorums of one value.
 type Shape = (u32, u32, Option<(u64, u64)>);
 
-/// The last register of 64.
+/// The mask of the last of 64 registers.
 const LAST: u64 = 1 << 63;
 
 /// The shape of a table, with the quorums of this value.
@@ -87,7 +87,7 @@ fn middle_tables(rt: HostRuntime) {
     }
 }
 
-// A table has the fewest registers that are enough. These numbers of values lie at the steps, where it gets one more.
+// A middle table has the fewest registers that are enough. These are the fewest and the most values for each number.
 #[test]
 fn registers_of_middle_tables(rt: HostRuntime) {
     for (m, registers) in &[

@@ -63,7 +63,7 @@ static SETUPS: [(SetupFault, &str); 4] = [
     (SetupFault::BadRounds, "the number of pairs is out of range"),
 ];
 
-// Bad values, numbers that were all issued, faults of schedules, layouts, runs and setups.
+// Texts for bad values, for numbers that were all issued, and for refused schedules, layouts, runs and setups.
 #[test]
 fn texts_of_refusals(rt: HostRuntime) -> Result<(), Fail> {
     check_display(&rt, &BadValues, "the number of values is out of range")?;

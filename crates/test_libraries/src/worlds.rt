@@ -83,7 +83,7 @@ fn a_large_setup_tells_its_numbers(rt: HostRuntime) {
     same(&rt, &told, &(64, MOST, BOTH));
 }
 
-// There are no pairs to look at.
+// A setup of exchanges has no pairs, so no number of pairs is looked at.
 #[test]
 fn an_exchange_is_refused_in_the_same_order(rt: HostRuntime) {
     for (p, c, m, want) in &[
@@ -104,7 +104,7 @@ fn an_exchange_tells_its_numbers(rt: HostRuntime) {
         let told = (setup.producers(), setup.consumers(), setup.cells());
         same(&rt, &told, &(*p, *c, *m));
         same(&rt, &setup.layout().max_steps(), &1);
-        // Another shape leaves the last object.
+        // Another shape changes nothing: the cells still have a last object alone.
         let shape = setup.shaped(Shape::PLAIN).layout().shape();
         same(&rt, &shape, &Shape::LAST);
     }

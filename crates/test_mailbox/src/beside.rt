@@ -1,4 +1,4 @@
-//! Threads that put and poll at one time, over one mailbox behind a `&`.
+//! Threads that put and poll at the same time, over one mailbox behind a `&`.
 ghost use Rattle.std.specs.Prelude.{◌<◌};
 ghost use Rattle.mb_mailbox.specs.Consumers.{IsConsumerOf};
 ghost use Rattle.mb_mailbox.specs.Hubs.{IsHubOf};
@@ -36,7 +36,7 @@ const ITEMS: u64 = 32;
 /// The most polls of a consumer.
 const POLLS: u64 = 1_000_000_000;
 
-/// Puts an item in another thread. Returns the producer and the answer of the put.
+/// Puts an item in another thread. Returns the producer and the result of the put.
 fn put_elsewhere<R: Threads + Sync>(
     rt: &R,
     mailbox: &Mailbox<Global>,
@@ -57,7 +57,7 @@ fn put_elsewhere<R: Threads + Sync>(
     put
 }
 
-/// Puts an item in this thread. Returns the producer and the answer of the put.
+/// Puts an item in this thread. Returns the producer and the result of the put.
 fn put_one(
     mailbox: &Mailbox<Global>,
     mut producer: Producer<Global>,
@@ -112,7 +112,7 @@ fn is_read_back<R: Threads + Sync + Abort>(
     producer
 }
 
-/// Puts four items and reads each back before the next. Then the hub takes the producer and the consumer in.
+/// Puts four items and reads each back before the next. Then the hub takes the producer and the consumer back.
 fn read_back_four<R: Abort + Threads + Sync>(
     rt: &R,
     alloc: Global,
@@ -157,7 +157,7 @@ fn put_all(
     producer
 }
 
-/// Polls both lanes in turn until the consumer has met both ends, or `POLLS` times.
+/// Polls both lanes in turn until the consumer has loaded both end marks, or `POLLS` times.
 fn poll_all(
     mailbox: &Mailbox<Global>,
     mut consumer: Consumer<Global>,

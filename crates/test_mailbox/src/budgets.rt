@@ -1,5 +1,5 @@
 //! Random mailboxes that are played twice with the same random words: by polls and takes of any budget, and by as many
-//! polls of budget 1. Both come to the same.
+//! polls of budget 1. Both have the same results and reports.
 
 use crate::compare::{same, same_at};
 use crate::trial::Trial;
@@ -48,12 +48,12 @@ impl<A: Allocator + Copy + Drop> Play<A> {
         }
     }
 
-    /// One poll.
+    /// Makes one poll, with the next words of the source.
     fn poll(&mut self, place: usize, lane: u64, budget: u64) -> Option<Poll> {
         self.trial.poll(place, lane, budget, &mut self.words)
     }
 
-    /// As many polls of budget 1, or fewer if one is not spent. Returns the last answer.
+    /// Makes `budget` polls of budget 1, `ONES` at most, and none after one that is not spent. Returns the last result.
     fn poll_by_ones(&mut self, place: usize, lane: u64, budget: u64) -> Option<Poll> {
         for _ in 1..budget.min(ONES) {
             let told = self.poll(place, lane, 1);
@@ -64,13 +64,13 @@ impl<A: Allocator + Copy + Drop> Play<A> {
         self.poll(place, lane, 1)
     }
 
-    /// One take.
+    /// Makes one take, with the next words of the source.
     fn take(&mut self, place: usize, lane: u64, most: u64) -> Option<Poll> {
         self.trial.take(place, lane, most, &mut self.words)
     }
 
-    /// As many polls of budget 1, or fewer if one is neither spent nor lost. Returns the last answer. If each is spent or
-    /// lost, that is the answer of a poll with nothing left.
+    /// Makes `most` polls of budget 1 (`ONES` at most), and none after one that is neither spent nor lost. Returns the
+    /// last result, and if each was spent or lost, that of a poll of budget 0.
     fn take_by_ones(&mut self, place: usize, lane: u64, most: u64) -> Option<Poll> {
         for _ in 0..most.min(ONES) {
             match self.poll(place, lane, 1) {
@@ -81,8 +81,8 @@ impl<A: Allocator + Copy + Drop> Play<A> {
         self.poll(place, lane, 0)
     }
 
-    /// Takes the consumer at this place in, also in the midst of a claim. The next one comes in its place, if one is
-    /// left.
+    /// The hub takes the consumer at this position back, also in the midst of a claim. It issues the next consumer, if
+    /// one is left.
     fn change(&mut self, alloc: A, place: usize) -> bool {
         self.trial.take_consumer(place);
         self.trial.consumer(alloc).is_ok()
@@ -124,7 +124,7 @@ fn any_budget(dice: &mut ChaCha8Rng) -> u64 {
     }
 }
 
-/// Makes a random poll or take of the one mailbox, and as many polls of budget 1 of the other. Checks that the answer is
+/// Makes a random poll or take of one mailbox, and as many polls of budget 1 of the other. Checks that the results are
 /// the same.
 fn poll_both<A: Allocator + Copy + Drop>(
     rt: &impl Abort,
@@ -146,7 +146,7 @@ fn poll_both<A: Allocator + Copy + Drop>(
     }
 }
 
-/// Makes a random call of both mailboxes. Checks that the answer is the same.
+/// Makes a random call of both mailboxes. Checks that the results are the same.
 fn call_both<A: Allocator + Copy + Drop>(
     rt: &impl Abort,
     alloc: A,

@@ -20,7 +20,7 @@ impl Gate for AllBut {
     fn leave(&self, _who: Who, _call: u64) {}
 }
 
-/// A row has the consumer that is stopped, the report, and how many words the two sources gave.
+/// Each case has the consumer that is stopped, the report, and how many words the two sources gave.
 const DRAWN: &[(u32, &str, (u64, u64))] = &[
     (
         1,
@@ -36,7 +36,7 @@ const DRAWN: &[(u32, &str, (u64, u64))] = &[
 
 #[test]
 fn each_consumer_draws_from_its_own_source(rt: HostRuntime) {
-    // The claim of the other consumer meets no other claim. It makes seven accesses, three to the conciliator and four
+    // Only the other consumer makes a claim. That makes seven accesses, three to the conciliator and four
     // to the ratifier, and draws a word for each.
     for &(stopped, report, drawn) in DRAWN {
         let given = [AtomicU64::new(0), AtomicU64::new(0)];

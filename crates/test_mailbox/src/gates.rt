@@ -1,4 +1,4 @@
-//! The calls of a gate show that workers run at one time, make their calls in order, and poll the lanes in turn.
+//! The calls of a gate show that workers run at the same time, make their calls in order, and poll lane after lane.
 
 use crate::compare::{same, same_at};
 use crate::trials::tally_of;
@@ -46,8 +46,8 @@ impl Gate for AllCome {
     fn leave(&self, _who: Who, _call: u64) {}
 }
 
-/// Lets a producer and `consumers` consumers come to the gate at one time, where none is stopped. Then it audits the
-/// report: all four items were put, and an only consumer took them all.
+/// A producer and `consumers` consumers come to the gate at the same time, and none is stopped. Then the report is
+/// audited: all four items were put, and an only consumer took them all.
 fn come_and_put<R: Abort + AllocGlobal + Threads + Wait + Sync>(rt: &R, consumers: u64) {
     let gate = AllCome {
         come: AtomicU64::new(0),

@@ -125,13 +125,13 @@ diary 1 1 begun
 ",
 );
 
-/// Each call with its name, and the least number of its allocations.
+/// Each call with its name, and the least number of its allocations. The line before it names them.
 const CALLS: &[(&str, Call, u64)] = &[
     // The lists of what is returned, the words of the cells, the zeros and the words of the claims.
     ("new", Call::New, 5),
     // At least the list of the producer's items.
     ("producer", OPEN_LANE, 1),
-    // The marks and the words of the consumer's notes.
+    // Two lists for the consumer's notes: their marks, and their words.
     ("consumer", Call::Consumer, 2),
     // The list of lanes and that of diaries, and the list of the consumer's note.
     ("gather", Call::Gather(ONE_TAKEN), 3),

@@ -1,4 +1,4 @@
-//! Polls that settle their items: each cell has a last object, and each poll has a budget for a whole claim.
+//! Polls that take or lose their items: each cell has a last object, and each poll has a budget for a whole claim.
 ghost use Rattle.std.specs.Prelude.{All};
 ghost use Rattle.mb_mailbox.specs.Consumers.{IsConsumerOf};
 ghost use Rattle.mb_mailbox.specs.Hubs.{IsHubOf};
@@ -31,7 +31,7 @@ const MAILBOXES: u64 = 32;
 /// The most looks of a consumer that waits until all have come.
 const TURNS: u64 = 10_000_000;
 
-/// A consumer, its source of random words, and the counts of its answers.
+/// A consumer, its source of random words, and the counts of its results.
 #[derive(Drop)]
 struct Settler {
     consumer: Consumer<Global>,
@@ -112,7 +112,7 @@ fn put_all(rt: &impl Abort, mailbox: &Mailbox<Global>, producer: &mut Producer<G
     producer.finish(mailbox);
 }
 
-/// Checks that each poll settled its item, and that one poll found the end. The hub takes all consumers in.
+/// Checks that each poll took or lost its item, and that one poll found the end. The hub takes all consumers back.
 fn take_in(
     rt: &impl Abort,
     mailbox: &Mailbox<Global>,
@@ -129,7 +129,7 @@ fn take_in(
     }
 }
 
-/// All consumers poll at one time, each in a thread of its own, and are returned.
+/// All consumers poll at the same time, each in a thread of its own, and are returned.
 fn settle_all<R: Abort + AllocGlobal + Threads + Sync>(
     rt: &R,
     mailbox: &Mailbox<Global>,
@@ -154,8 +154,8 @@ fn settle_all<R: Abort + AllocGlobal + Threads + Sync>(
     take_in(rt, mailbox, hub, settlers);
 }
 
-/// All consumers settle all items of a mailbox with a last object on each cell, by polls of this budget. Checks that
-/// the report tells that each item was taken.
+/// All consumers take or lose all items of a mailbox with a last object on each cell, by polls of this budget. Checks
+/// that by the report each item was taken.
 fn are_all_taken<R: Abort + AllocGlobal + Threads + Sync>(
     rt: &R,
     setup: Setup,

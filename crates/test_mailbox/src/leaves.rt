@@ -8,7 +8,7 @@ use std::slice;
 use std::sync::atomic::{AtomicBool, AtomicU64, Ordering};
 use std::thread::yield_now;
 
-/// A gate by which the only consumer polls once, while the only producer leaves after its put. Neither waits for ever.
+/// A gate at which the producer, leaving after its put, waits until the consumer has polled once. No wait is endless.
 #[derive(Drop)]
 struct PollInALeave {
     /// Whether the put has left the gate.

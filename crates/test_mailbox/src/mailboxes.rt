@@ -1,4 +1,4 @@
-//! Mailboxes in one thread: the answers of their calls, and the report at the end.
+//! Mailboxes in one thread: the results of their calls, and the report at the end.
 
 use crate::compare::same;
 use crate::scenes::{play, plays, plays_in};
@@ -10,7 +10,7 @@ use mb_world::Setup;
 use std::alloc::Allocator;
 use std::process::Abort;
 
-/// How many producers, consumers and cells a mailbox has, the calls with their answers, and the report.
+/// How many producers, consumers and cells a mailbox has, the calls with their results, and the report.
 pub(crate) type Scene = ([u64; 3], &'static str, &'static str);
 
 /// A put, a finish and a poll each come to their end with nobody else there.
@@ -124,7 +124,7 @@ fn scenes_of_one_thread(rt: HostRuntime) {
     }
 }
 
-/// The trial as it comes back from a `gather` that finds this many producers and consumers out.
+/// The trial that a refused `gather` gives back. The fault says how many producers and consumers are not returned.
 fn back_from_gather<A: Allocator + Clone + Drop>(
     rt: &impl Abort,
     alloc: A,

@@ -1,4 +1,4 @@
-//! Polls of one thread: their answers with small budgets, and how many words they draw.
+//! Polls of one thread: their results with small budgets, and how many words they draw.
 
 use crate::mailboxes::Scene;
 use crate::scenes::{plays, plays_in};
@@ -9,10 +9,10 @@ use mb_world::Setup;
 /// The report after the only consumer took the only item.
 const SEVEN_TAKEN: &str = "lane 0 open put 7\nleft 0\ndiary 0 0 took 7\n";
 
-/// The same with another consumer, which has not polled.
+/// The report after that, if there is another consumer, which has not polled.
 const OTHER_IDLE: &str = "lane 0 open put 7\nleft 0\ndiary 0 0 took 7\ndiary 1 0\n";
 
-/// All polls of a row have one budget. The first ones are spent, if any, and the last one takes the item. The claim
+/// In each case all polls have one budget. The first ones are spent, if any, and the last one takes the item. The claim
 /// makes five accesses.
 const SHORT_POLLS: &[Scene] = &[
     (
@@ -72,7 +72,7 @@ fn a_budget_cuts_polls_short(rt: HostRuntime) {
     }
 }
 
-/// Eight polls are spent in all, before another consumer is issued or after it. The claim has seven accesses.
+/// Eight polls are spent in all, before or after another consumer is issued. The claim has seven accesses.
 const PARTED_POLLS: &[Scene] = &[
     (
         [1, 2, 1],

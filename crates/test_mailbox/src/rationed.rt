@@ -152,7 +152,7 @@ pub(crate) fn four_are_served<'r, R: Abort + Threads + Wait + Sync>(
     let two_are_left = one_is_left && has_lane(&mut trial, ample);
     if served {
         same(rt, &one_is_left, &false);
-        // Both lanes have their items and have ended, and each consumer has a note on each item.
+        // Both lanes have their items and have ended, and there are four diaries, with two notes each.
         let report = gathered(rt, ample, trial);
         drop(tells_all(rt, report, &[&[1, 2], &[3, 4]], 4, 2));
     } else {

@@ -49,7 +49,7 @@ pub(crate) fn round_is_served<'r, R: Abort + Threads + Wait + Sync>(
     }
 }
 
-// With no consumer a round is made, and gives out nothing. All 2^20 items are carried on in their order.
+// With no consumer a round is made, and gives out nothing. All 2^20 items are carried in their order.
 #[test]
 fn a_round_without_sources_carries_a_million_items_on(rt: HostRuntime) {
     let alloc = rt.alloc();

@@ -1,4 +1,4 @@
-//! Scenes: calls of a mailbox in one thread, a line for each, with its answer. No call gets what it could wait with.
+//! Scenes: calls of a mailbox in one thread, a line for each, with its result. No call gets what it could wait with.
 
 use crate::compare::same_at;
 use crate::trial::Trial;
@@ -12,19 +12,19 @@ use std::alloc::Allocator;
 use std::process::Abort;
 use test_support::Zeros;
 
-/// The answer of a call: a word, and the number after it.
+/// The result of a call: a word, and the number after it.
 type Answered<'a> = (&'a str, Option<u64>);
 
-/// Makes the calls of these lines. Checks that each has the answer that its line has after the colon.
+/// Makes the calls of these lines. Checks that each has the result that its line has after the colon.
 ///
 /// | Call | What is called |
 /// |---|---|
 /// | `producer`, `consumer` | the hub issues one |
-/// | `put PLACE ITEM`, `finish PLACE` | the producer at this place |
-/// | `poll PLACE LANE BUDGET`, `take PLACE LANE MOST` | the consumer at this place |
-/// | `spend PLACE BUDGET TIMES` | polls lane 0 so often: how many polls are spent |
+/// | `put PLACE ITEM`, `finish PLACE` | the producer at position PLACE of the trial |
+/// | `poll PLACE LANE BUDGET`, `take PLACE LANE MOST` | the consumer at position PLACE of the trial |
+/// | `spend PLACE BUDGET TIMES` | its polls of lane 0, TIMES in all: how many are spent |
 /// | `drawn` | how many words the polls of these lines have drawn, all of them 0 |
-/// | `take_producer PLACE` | the hub takes it back |
+/// | `take_producer PLACE` | the hub takes that producer back |
 pub(crate) fn play<A: Allocator + Copy + Drop>(
     rt: &impl Abort,
     trial: &mut Trial<A>,
@@ -85,7 +85,7 @@ fn three_numbers(rest: Option<&str>) -> (usize, u64, u64) {
     (first as usize, second, next_number(rest).0)
 }
 
-/// Makes the call that stands in a line before its colon, and returns the answer.
+/// Makes the call that stands in a line before its colon, and returns its result.
 fn make<'a, A: Allocator + Copy + Drop>(
     trial: &mut Trial<A>,
     alloc: A,
@@ -108,7 +108,7 @@ fn make<'a, A: Allocator + Copy + Drop>(
     }
 }
 
-/// The word for the answer of a hub that was asked for a producer or a consumer. Those below are for other calls.
+/// The word for the result of a hub that was asked for a producer or a consumer. Those below are for other calls.
 fn given<'a>(told: Result<(), HubFault>) -> Answered<'a> {
     let word = match told {
         Ok(()) => "given",

@@ -1,5 +1,5 @@
-//! Takes of one thread, on cells with a last object alone. An item that is lost takes two accesses there, and one that is
-//! taken three.
+//! Takes of one thread, on cells with a last object alone. There a lost item costs two accesses, and one that is taken
+//! costs three.
 
 use crate::scenes::plays_in;
 use mb_world::Setup;
@@ -8,7 +8,7 @@ use mb_world::Setup;
 const BOTH_TAKEN: &str =
     "lane 0 open put 70 71\nleft 0\ndiary 0 0 took 70\ndiary 1 0 lost 0 took 71\n";
 
-/// The same if the lane has ended, and consumer 0 has read it to its end.
+/// The report after that, if the lane has ended, and consumer 0 has read it to its end.
 const BOTH_READ: &str =
     "lane 0 ended put 70 71\nleft 0\ndiary 0 0 took 70 lost 1\ndiary 1 0 lost 0 took 71\n";
 

@@ -1,4 +1,4 @@
-//! A mailbox together with its producers and consumers, so that a test calls them by their places.
+//! A mailbox together with its producers and consumers, so that a test calls them by their positions, 0 and 1.
 ghost use Rattle.std.specs.Prelude.{IfSome};
 ghost use Rattle.mb_mailbox.specs.Consumers.{IsConsumerOf};
 ghost use Rattle.mb_mailbox.specs.Producers.{IsProducerOf};
@@ -57,8 +57,8 @@ impl<A: Allocator + Clone + Drop> Trial<A> {
         })
     }
 
-    /// Has the hub issue a producer, which goes to the first empty place, or else to place 1, where it drops the one
-    /// before.
+    /// Has the hub issue a producer. It goes to the first empty position, or else to position 1, where it replaces the
+    /// one before.
     pub(crate) fn producer(&mut self, alloc: A) -> Result<(), HubFault> {
         let producer = self.hub.producer(alloc, &self.mailbox)?;
         if self.first_producer.is_none() {
@@ -69,8 +69,8 @@ impl<A: Allocator + Clone + Drop> Trial<A> {
         Ok(())
     }
 
-    /// Has the hub issue a consumer, which goes to the first empty place, or else to place 1, where it drops the one
-    /// before.
+    /// Has the hub issue a consumer. It goes to the first empty position, or else to position 1, where it replaces the
+    /// one before.
     pub(crate) fn consumer(&mut self, alloc: A) -> Result<(), HubFault> {
         let consumer = self.hub.consumer(alloc, &self.mailbox)?;
         if self.first_consumer.is_none() {
@@ -81,7 +81,7 @@ impl<A: Allocator + Clone + Drop> Trial<A> {
         Ok(())
     }
 
-    /// The answer of a put by the producer at this place, if there is one.
+    /// The result of a put by the producer at this position, if there is one.
     pub(crate) fn put(&mut self, place: usize, x: u64) -> Option<Put> {
         match place {
             0 => put_by(&mut self.first_producer, &self.mailbox, x),
@@ -90,7 +90,7 @@ impl<A: Allocator + Clone + Drop> Trial<A> {
         }
     }
 
-    /// The answer of a finish by the producer at this place, if there is one.
+    /// The result of a finish by the producer at this position, if there is one.
     pub(crate) fn finish(&mut self, place: usize) -> Option<Finish> {
         match place {
             0 => finish_by(&mut self.first_producer, &self.mailbox),
@@ -99,7 +99,7 @@ impl<A: Allocator + Clone + Drop> Trial<A> {
         }
     }
 
-    /// The answer of a poll by the consumer at this place, if there is one.
+    /// The result of a poll by the consumer at this position, if there is one.
     pub(crate) fn poll<R: Rng>(
         &mut self,
         place: usize,
@@ -120,7 +120,7 @@ impl<A: Allocator + Clone + Drop> Trial<A> {
         }
     }
 
-    /// The answer of a take by the consumer at this place, if there is one.
+    /// The result of a take by the consumer at this position, if there is one.
     pub(crate) fn take<R: Rng>(
         &mut self,
         place: usize,
@@ -135,7 +135,7 @@ impl<A: Allocator + Clone + Drop> Trial<A> {
         }
     }
 
-    /// Takes the producer at this place in. Returns whether there was one.
+    /// The hub takes the producer at this position back. Returns whether there was one.
     pub(crate) fn take_producer(&mut self, place: usize) -> bool {
         let producer = match place {
             0 => self.first_producer.take(),
@@ -151,7 +151,7 @@ impl<A: Allocator + Clone + Drop> Trial<A> {
         }
     }
 
-    /// Takes the consumer at this place in. Returns whether there was one.
+    /// The hub takes the consumer at this position back. Returns whether there was one.
     pub(crate) fn take_consumer(&mut self, place: usize) -> bool {
         let consumer = match place {
             0 => self.first_consumer.take(),
@@ -167,7 +167,7 @@ impl<A: Allocator + Clone + Drop> Trial<A> {
         }
     }
 
-    /// The report, or the fault with all as it was: producers and consumers that are out keep their places.
+    /// The report, or the fault with all as it was: producers and consumers that are not returned keep their positions.
     pub(crate) fn gather(self, alloc: A) -> Result<Report<A>, (GatherFault, Trial<A>)> {
         let Trial {
             mailbox,
@@ -222,7 +222,7 @@ impl<A: Allocator + Clone + Drop + Send + Sync> Trial<A> {
     }
 }
 
-/// The answer of a put by this producer, if there is one.
+/// The result of a put by this producer, if there is one.
 fn put_by<A: Allocator + Drop>(
     producer: &mut Option<Producer<A>>,
     mailbox: &Mailbox<A>,
@@ -237,7 +237,7 @@ fn put_by<A: Allocator + Drop>(
     }
 }
 
-/// The answer of a finish by this producer, if there is one.
+/// The result of a finish by this producer, if there is one.
 fn finish_by<A: Allocator + Drop>(
     producer: &mut Option<Producer<A>>,
     mailbox: &Mailbox<A>,
@@ -251,7 +251,7 @@ fn finish_by<A: Allocator + Drop>(
     }
 }
 
-/// The answer of a poll by this consumer, if there is one.
+/// The result of a poll by this consumer, if there is one.
 fn poll_by<A: Allocator + Drop, R: Rng>(
     consumer: &mut Option<Consumer<A>>,
     mailbox: &Mailbox<A>,
@@ -268,7 +268,7 @@ fn poll_by<A: Allocator + Drop, R: Rng>(
     }
 }
 
-/// The answer of a take by this consumer, if there is one.
+/// The result of a take by this consumer, if there is one.
 fn take_by<A: Allocator + Drop, R: Rng>(
     consumer: &mut Option<Consumer<A>>,
     mailbox: &Mailbox<A>,

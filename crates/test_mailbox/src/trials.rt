@@ -21,7 +21,7 @@ pub(crate) fn new_trial<A: Allocator + Clone + Drop>(
     Trial::new(alloc, setup).expect(rt, "no mailbox")
 }
 
-/// Takes in all producers and consumers that are out.
+/// Takes back all producers and consumers that are not returned.
 pub(crate) fn take_all<A: Allocator + Clone + Drop>(trial: &mut Trial<A>) {
     trial.take_producer(0);
     trial.take_consumer(0);
@@ -85,7 +85,7 @@ pub(crate) fn tells_all<A: Allocator + Drop>(
     report
 }
 
-/// Takes in all that are out. Then checks that the report has this text.
+/// Takes back all producers and consumers. Then checks that the report has this text.
 pub(crate) fn ends<A: Allocator + Copy + Drop>(
     rt: &impl Abort,
     alloc: A,

@@ -97,7 +97,7 @@ pub(crate) fn work_once<R: Abort + AllocGlobal + Threads + Wait + Sync, G: Gate>
 }
 
 /// In a new mailbox of this setup a worker puts the items of each of these lists, and `consumers` others poll with this
-/// budget. Checks that all is done. Returns the report.
+/// budget. Checks that each item was put and nobody was stopped. Returns the report.
 pub(crate) fn all_done<R: Abort + AllocGlobal + Threads + Wait + Sync, G: Gate>(
     rt: &R,
     setup: Setup,
@@ -167,7 +167,7 @@ fn a_budget_of_0_is_refused(rt: HostRuntime) {
     let mut trial = new_trial(&rt, rt.alloc(), 1, 1, 2);
     let worked = works(&rt, &mut trial, &[&[1, 2]], 0, 1, &OpenGate);
     same(&rt, &worked, &Err(WorkFault::BadBudget));
-    // No number was issued: both are left.
+    // No number was issued yet, so one producer and one consumer still can be.
     let alloc = rt.alloc();
     play(&rt, &mut trial, alloc, "producer: given\nconsumer: given\n");
     let report = "lane 0 open put\nleft 0\ndiary 0 0\n";
@@ -190,7 +190,7 @@ fn nobody_comes_through_a_closed_gate(rt: HostRuntime) {
     );
 }
 
-/// Calls on one mailbox of one producer and one consumer. A row has the lists of items, the budget, the number of
+/// Calls on one mailbox of one producer and one consumer. Each case has the lists of items, the budget, the number of
 /// consumers, and the result.
 const CALLS: &[(&[&[u64]], u64, usize, Result<Worked, WorkFault>)] = &[
     (&[&[1, 2]], 5, 1, Ok(ALL_DONE)),
@@ -262,6 +262,6 @@ fn four_producers_and_four_consumers_share_64_cells(rt: HostRuntime) {
     let setup = Setup::new(4, 4, 64, 4, TableName::Bits).expect(&rt, "no setup");
     let report = all_done(&rt, setup, ITEMS_OF_FOUR, 3, 4, &OpenGate);
     let report = tells_all(&rt, report, ITEMS_OF_FOUR, 16, 16);
-    // Among others: no item has two who took it.
+    // An audit also checks that no two consumers took one item.
     same(&rt, &tally_of(&rt, report, 4, 4).put, &64);
 }

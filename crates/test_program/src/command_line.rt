@@ -34,7 +34,7 @@ fn run_has_defaults(rt: HostRuntime) {
     chooses(&rt, &["mailbox", "run"], Choice::Run(options));
 }
 
-// A row has the words, and the options that they give. Each other option has its default.
+// A case has the words, and the options that they give. Each other option has its default.
 #[test]
 fn options_are_read(rt: HostRuntime) {
     let most = u64::MAX;
@@ -87,7 +87,7 @@ fn options_are_read(rt: HostRuntime) {
     }
 }
 
-/// A row has the word, and whether the shape has a fast path and a last object.
+/// A case has the word, and whether the shape has a fast path and a last object.
 const SHAPES: &[(&str, bool, bool)] = &[
     ("plain", false, false),
     ("fast", true, false),
@@ -126,13 +126,13 @@ fn refusal(kind: ErrorKind) -> (u8, u8) {
     (status_of_ending(&printed), status_of_ending(&unprinted))
 }
 
-/// The statuses of a text that is asked for, printed and not printed.
+/// The exit statuses if a text was asked for: if it is printed, and if it cannot be.
 const PRINTED: (u8, u8) = (0, 3);
 
-/// The statuses of words that are not read.
+/// The exit statuses if the words are refused: if the refusal is printed, and if it cannot be.
 const NOT_READ: (u8, u8) = (2, 2);
 
-/// A row has the words, why clap refuses them, and the statuses of a refusal that is printed and of one that cannot be.
+/// A case has the words, why clap refuses them, and the statuses of a refusal that is printed and of one that is not.
 const REFUSED: &[(&[&str], ErrorKind, (u8, u8))] = &[
     (&["mailbox", "--help"], ErrorKind::DisplayHelp, PRINTED),
     (
@@ -215,7 +215,7 @@ fn lines_are_refused(rt: HostRuntime) {
     }
 }
 
-/// A row has how the program ended, and the exit status.
+/// A case has how the program ended, and the exit status.
 const ENDINGS: &[(ProgramExit, u8)] = &[
     (ProgramExit::Done, 0),
     (

@@ -5,7 +5,7 @@ use mb_program::{Failed, RatifyFault, RunFault, explanation};
 use mb_script::Fault;
 use mb_world::SetupFault;
 
-/// A row has the failure, and the text that explains it.
+/// A case has the failure, and the text that explains it.
 const EXPLANATIONS: &[(Failed, &str)] = &[
     (
         Failed::Ratify(RatifyFault::TooLong),

@@ -5,7 +5,7 @@ use mb_program::{Failed, RatifyFault, RunFault, fault_text, status_of};
 use mb_script::Fault;
 use mb_world::SetupFault;
 
-/// A row has the failure, the line that tells it, and the exit status.
+/// A case has the failure, the line that tells it, and the exit status.
 const FAULTS: &[(Failed, &str, u8)] = &[
     (Failed::Ratify(RatifyFault::TooLong), "fault 1 TooLong\n", 2),
     (

@@ -45,7 +45,7 @@ fn push_turns(script: &mut String) -> Result<(), AllocError> {
     script.push_str("\n")
 }
 
-// Appends what is written for that script. Each process makes three accesses, and is done in its other turns.
+// Appends what is written for that script. Each process makes three accesses, and none in its other turns.
 fn push_answers(want: &mut String) -> Result<(), AllocError> {
     for answer in [" store q0 1\n", " load p 0\n", " store p 1 out 1 0\n"] {
         push_each(want, "", answer)?;
@@ -166,7 +166,7 @@ fn answered(
     (result, writer.device.taken)
 }
 
-/// A row of `DEVICES`. `None` stands for the script of the example, or for what the example writes.
+/// A case of `DEVICES`. `None` is the script of the example, or what the example writes.
 type DeviceRow = (
     Option<&'static str>,
     bool,
@@ -176,7 +176,7 @@ type DeviceRow = (
     Option<&'static str>,
 );
 
-/// A row has the script, whether the reader fails at its end, the room of the writer, whether the writer then fails, the
+/// A case has the script, whether the reader fails at its end, the writer's room, whether the writer then fails, the
 /// result, and what was written.
 const DEVICES: &[DeviceRow] = &[
     (None, false, 1000, false, Ok(()), None),
@@ -233,7 +233,7 @@ fn devices_fail(rt: HostRuntime) {
     }
 }
 
-/// A row has how many letters the reader gives, whether it then fails, and the fault. At most one byte past the limit
+/// A case has how many letters the reader gives, whether it then fails, and the fault. At most one byte past the limit
 /// is read.
 const LENGTHS: &[(usize, bool, RatifyFault)] = &[
     (1_048_576, false, RatifyFault::BadLine(1)),

@@ -89,14 +89,14 @@ const BAD_PRODUCERS: Failed = Failed::Replay(Fault::BadSetup(1, SetupFault::BadP
 
 const BAD_CELLS: Failed = Failed::Run(RunFault::BadSetup(SetupFault::BadCells));
 
-/// Each call with its name, and the least number of its allocations.
+/// Each call with its name, and the least number of its allocations. The lines before it name them.
 const CALLS: &[(&str, Call, u64)] = &[
     // The script's bytes, the inputs, the turns, the ratifier's processes, entries and outputs, and the text.
     ("ratify", Call::Ratify(LATE_INPUT), 7),
     // The script's bytes and its events, seven lists of the world, four of its report, and the text. The cells of the
     // lane are listed once for the lane and once for each diary.
     ("replay of an item taken", Call::Replay(ITEM_TAKEN), 16),
-    // The same, with five lists of the report.
+    // As in the case before, but with five lists of the report, and the cells of the lane listed three times.
     ("replay where one loses", Call::Replay(ONE_LOSES), 18),
     // The items and their list, the sources, two lists of the hub and two of each table's words, nine allocations of
     // `work`, four lists of the report, and the text.

@@ -18,7 +18,7 @@ pub(crate) fn replayed<R: AllocGlobal, A: Allocator + Copy>(
     replayed_bytes(rt, alloc, script.as_bytes())
 }
 
-// The same of a script's bytes.
+// Replays the script of these bytes, as `replayed` does that of a text.
 fn replayed_bytes<R: AllocGlobal, A: Allocator + Copy>(
     rt: &R,
     alloc: A,
@@ -30,8 +30,8 @@ fn replayed_bytes<R: AllocGlobal, A: Allocator + Copy>(
     (result, writer.device)
 }
 
-/// Scripts with their first fault, for which nothing is written, even if a script begins with good lines. More rows
-/// stand where scripts are read.
+/// Scripts with their first fault, for which nothing is written, even if a script begins with good lines. More such
+/// scripts are in `test_libraries`.
 const REFUSED: &[(&str, Fault)] = &[
     ("", Fault::NoSetup),
     ("\n", Fault::NoSetup),
@@ -66,7 +66,7 @@ const REFUSED: &[(&str, Fault)] = &[
     ("setup 1 1 0 1 bits\npush 00\n", Fault::BadNumber(2)),
     ("setup 1 16 0 1 bits\nstep 16 0 0\n", Fault::NoConsumer(2)),
     ("setup 1 16 0 1 bits\nstep 16 1 0\n", Fault::NoLane(2)),
-    // A shape is a seventh word, and is known before any number is read.
+    // A shape is a seventh word. It is checked before any number is read.
     ("setup x 1 1 1 bits other\n", Fault::BadLine(1)),
     ("setup 1 1 1 1 bits plain\n", Fault::BadLine(1)),
     ("setup 1 1 1 1 bits fast last\n", Fault::BadLine(1)),
@@ -81,7 +81,7 @@ fn a_fault_leaves_nothing_written(rt: HostRuntime) {
     }
 }
 
-// The least byte that is not ASCII comes after a bad line, and decides.
+// The least byte that is not ASCII comes after a bad line. The fault is that byte, and not the line.
 #[test]
 fn a_byte_128_is_not_ascii(rt: HostRuntime) {
     let mut script = Vec::new(rt.alloc());
@@ -114,7 +114,7 @@ fn pushes<R: Abort + AllocGlobal>(rt: &R, first: &str, count: usize, last: &str)
     repeated(rt.alloc(), first, "push 0\n", count, last).expect(rt, "no script")
 }
 
-// What is written for a script of `count` such pushes: their results, and the report.
+// What is written for such a script of `count` pushes: their results, and the report.
 fn answers<R: Abort + AllocGlobal>(rt: &R, count: usize) -> String {
     let report = "lane 0 open put\nleft 0\ndiary 0 0\n";
     repeated(rt.alloc(), "", "push 0 idle\n", count, report).expect(rt, "no answer")
@@ -130,7 +130,7 @@ fn many_events_are_replayed(rt: HostRuntime) {
     }
 }
 
-// A line past the last event that is allowed is one too many, whatever it says. A bad line before it decides.
+// A line after as many events as are allowed is one too many, whatever it says. A bad line before it is the fault.
 #[test]
 fn a_script_has_a_limit_of_events(rt: HostRuntime) {
     for (first, count, want) in &[
@@ -186,7 +186,7 @@ fn a_report_has_its_text(rt: HostRuntime) {
     same(&rt, &is_made, &true);
 }
 
-/// A row of `DEVICES`. `None` stands for the script of the example, or for what the example writes.
+/// A case of `DEVICES`. `None` is the script of the example, or what the example writes.
 type DeviceRow = (
     Option<&'static str>,
     bool,
@@ -196,7 +196,7 @@ type DeviceRow = (
     Option<&'static str>,
 );
 
-/// A row has the script, whether the reader fails at its end, the room of the writer, whether the writer then fails, the
+/// A case has the script, whether the reader fails at its end, the writer's room, whether the writer then fails, the
 /// result, and what was written.
 const DEVICES: &[DeviceRow] = &[
     (None, false, 1000, false, Ok(()), None),
@@ -254,7 +254,7 @@ fn devices_fail(rt: HostRuntime) {
     }
 }
 
-/// A row has how many letters the reader gives, whether it then fails, and the fault. At most one byte past the limit
+/// A case has how many letters the reader gives, whether it then fails, and the fault. At most one byte past the limit
 /// is read.
 const LENGTHS: &[(usize, bool, Fault)] = &[
     (1_048_576, false, Fault::NoSetup),

@@ -42,7 +42,7 @@ pub(crate) fn reported<
     (result, writer.device)
 }
 
-/// A row has the producers, the consumers, the items of each producer, the pairs of each cell, the budget and the seed.
+/// A case has the producers, the consumers, the items of each producer, the pairs of each cell, the budget, the seed.
 /// Then comes what is written, or none for what the example with two items writes. None of these reports depends on the
 /// order of the threads.
 const REPORTS: &[(u64, u64, u64, u64, u64, u64, Option<&str>)] = &[
@@ -125,7 +125,7 @@ fn items_are_put(rt: HostRuntime) {
     );
 }
 
-/// A row has the producers, the consumers, the items of each producer, the pairs of each cell, and the fault.
+/// A case has the producers, the consumers, the items of each producer, the pairs of each cell, and the fault.
 const REFUSED: &[(u64, u64, u64, u64, SetupFault)] = &[
     (0, 1, 2, 1, SetupFault::BadProducers),
     (17, 0, 257, 0, SetupFault::BadProducers),
@@ -157,7 +157,7 @@ fn setups_are_refused(rt: HostRuntime) {
     }
 }
 
-/// One writer takes all bytes, one takes 10 and then fails, one takes 10 and then none, and one takes none at all. A row
+/// One writer takes all bytes, one takes 10 and then fails, one takes 10 and then none, and one takes none. A case
 /// has the room, whether the writer then fails, the result, and what is written, or none for all of the report.
 const WRITERS: &[(usize, bool, Result<(), RunFault>, Option<&str>)] = &[
     (1000, false, Ok(()), None),

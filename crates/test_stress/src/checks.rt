@@ -51,7 +51,7 @@ fn comes_to<R: Abort + AllocGlobal>(
     Ok(())
 }
 
-// A row has the plan, the lane, the diary, how many items found no cell, how many workers were stopped, and the fault.
+// A case has the plan, the lane, the diary, how many items found no cell, how many workers were stopped, and the fault.
 #[test]
 fn each_fault_of_a_report_is_found(rt: HostRuntime) -> Result<(), Fail> {
     let open = plan_of(1, 1, 4, Stops::Nobody);
@@ -146,7 +146,7 @@ fn each_fault_after_a_refusal_is_found(rt: HostRuntime) -> Result<(), Fail> {
     Ok(())
 }
 
-// A row has the shape, whether each poll had a budget for a whole item, two diaries, and the fault. Each row is tried
+// A case has the shape, whether each poll had a budget for a whole item, two diaries, and the fault. Each is tried
 // on both lanes.
 #[test]
 fn each_fault_of_an_item_that_is_not_settled_is_found(rt: HostRuntime) -> Result<(), Fail> {

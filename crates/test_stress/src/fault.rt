@@ -22,13 +22,13 @@ pub enum Fault {
     NotEnded,
     /// A lane's items are not the first ones of its list.
     OtherItems,
-    /// The number of items that found no cell does not fit what the lanes lack.
+    /// More items found no cell than the lanes lack, or, though nobody was stopped, fewer.
     OtherFull,
     /// An item found no cell, but there are cells without an item.
     FullTooEarly,
     /// A worker was stopped, though the plan's gate stops nobody.
     Stopped,
-    /// Nobody was stopped, but a consumer has no note on some item, or a claim under way.
+    /// Nobody was stopped, but a consumer has no note on some item, or has a claim under way.
     NotMet,
     /// A claim is under way, though each poll had a budget for a whole item.
     Spent,

@@ -25,7 +25,7 @@ impl RandomGate {
 }
 
 impl Gate for RandomGate {
-    // A consumer's number is drawn with 1000 more, so that no producer has the same draws.
+    // To draw, 1000 is added to a consumer's number, so that no producer has the same draws.
     fn enter(&self, who: Who, call: u64) -> bool {
         match (self.stops, who) {
             (Stops::Nobody, _) => true,

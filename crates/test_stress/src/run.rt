@@ -98,7 +98,7 @@ pub fn check(plan: &Plan, report: &Report<Global>, worked: &Worked) -> Result<To
 }
 
 /// Runs workers with these sources of random words on a new mailbox, and checks the report. If `work` is refused,
-/// checks what the mailbox is left with.
+/// checks the mailbox by `check_refused`.
 fn run_with<W: Threads + Wait + Sync, R: Rng + Send + Drop>(
     rt: &W,
     alloc: Global,

@@ -1,4 +1,4 @@
--- The names of how a walk ends, and of one that lends, from the kit's libraries.
+-- Names from the kit's libraries: for the end of a function's body, and for a function that lends.
 pub use base.Fml.{Fml, GName}
 pub use base.Fraction.{full_share}
 pub use base.Logic.{sep}

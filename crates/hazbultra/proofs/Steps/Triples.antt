@@ -1,4 +1,4 @@
--- The names of what a function means, of its contract, and of steps on boxes, from the kit's libraries.
+-- Names from the kit's libraries: for a function's meaning and contract, and for boxes taken apart and made again.
 pub use denote.Exit.{no, yes}
 pub use denote.Param.{bounded}
 pub use denote.RattleType.{RattleType, Valss}

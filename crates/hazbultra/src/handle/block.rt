@@ -65,7 +65,7 @@ impl Block {
         unsafe { &mut *(self.at as *mut Thing) }
     }
 
-    /// A block that leads to the thing of which these are the parts of a box.
+    /// A block that leads to the thing whose box has these parts.
     fn of_parts(parts: Parts<Thing, Global>) -> Block
         ensures { result.thing ≡ Some parts.value }
     {
@@ -76,7 +76,7 @@ impl Block {
         }
     }
 
-    /// The parts of a box of the thing to which the block leads.
+    /// The parts of the box of the thing to which the block leads.
     fn into_parts(self) -> Parts<Thing, Global>
         requires { IsSome self.thing }
         ensures { self.thing ≡ Some result.value }

@@ -1,4 +1,4 @@
-//! Replays with the answers that producers and readers of lanes get.
+//! Replays with the results that producers and readers of lanes get.
 
 use super::entry::Example;
 

@@ -1,6 +1,6 @@
 use Rattle.mb_mailbox.specs.Consumers.{IsConsumerOf}
 use Rattle.bench_loops.proofs.mailbox.take.Given as goal
 
--- the consumer is one of the mailbox
+-- after each take the consumer is still one of the mailbox
 abbrev pub invariant-loop : goal.invariant-loop
 invariant-loop g l = IsConsumerOf l.mailbox l.consumer

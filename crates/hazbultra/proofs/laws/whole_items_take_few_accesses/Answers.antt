@@ -1,4 +1,4 @@
--- Proof of `laws::whole_items_take_few_accesses`: the most accesses of a claim, and two loads.
+-- Proof of `laws::whole_items_take_few_accesses`: a claim's most accesses and two loads, by default and by `FastLast`.
 use Rattle.std.proofs.Common.{◌≡◌, ◌+◌, ◌∙◌, ℕ, refl, sym, ap, arith, false, true}
 use Rattle.mb_quorum.specs.Tables.{table_of}
 use Rattle.mb_quorum.specs.declared.table.TableName.TheVariants.{Bits}
@@ -9,7 +9,7 @@ use Rattle.mb_world.specs.Vocabulary.{Plan}
 use Rattle.hazbultra.specs.Defaults.{by_default, by_fast_last}
 use Rattle.hazbultra.proofs.laws.whole_items_take_few_accesses.Goals as goal
 
--- the most accesses follow from the objects of a cell, and these from the number of consumers
+-- by `FastLast` and with n consumers a claim makes at most the accesses that `shaped_steps` counts
 by_number : (n : ℕ) (m : MailboxView) (p k : ℕ) → plan_at m ≡ by_fast_last p n k
     → most_accesses m.claims.layout + 2 ≡ shaped_steps (table_of Bits n) (record { fast = true; last = true }) 4 + 2
 by_number n m p k is =
@@ -18,7 +18,7 @@ by_number n m p k is =
     ∙ ap (λ (plan : Plan). most_on_objects plan.claims.table plan.claims.kinds) is
     ∙ row_steps (table_of Bits n) (record { fast = true; last = true }) 4)
 
--- a last object alone takes one access
+-- by default a cell has a last object alone, on which a claim makes one access
 pub returns-clause-exchange : goal.returns-clause-exchange
 unfolding lib.Count.ones
 returns-clause-exchange c = λ m p n k is.

@@ -6,7 +6,7 @@ use Rattle.hazbultra.specs.declared.thing.Thing.TheVariants.{OfReport}
 use Rattle.hazbultra.proofs.Diaries.{consumers_told}
 use Rattle.hazbultra.proofs.reports.hz_report_size.Goals as goal
 
--- the number that is written is the quotient of the counts, and so that of the consumers
+-- the number written is the quotient of the counts of diaries and lanes, which is the number of consumers
 pub returns-in-OfReport-clause-consumers : goal.returns-in-OfReport-clause-consumers
 returns-in-OfReport-clause-consumers c = λ done.
     let r = c.in-OfReport.told in

@@ -3,7 +3,7 @@ use Rattle.std.specs.Prelude.{◌≡◌, ◌≤◌, ℕ, []}
 use Rattle.mb_claim.specs.Vocabulary.{part_on}
 use Rattle.test_libraries.proofs.shared_claims.claim_each.Given as goal
 
--- the seat is still its consumer's at the table, which has done nothing on the cells still to come
+-- the seat is still at its table and of its consumer, which has done nothing on the cells from this one on
 abbrev pub invariant-loop-cell : goal.invariant-loop-cell
 invariant-loop-cell g l = record {
   table : l.seat.table ≡ l.initial.seat.table;

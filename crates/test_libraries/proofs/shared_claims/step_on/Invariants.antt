@@ -3,8 +3,8 @@ use Rattle.std.specs.Prelude.{◌≡◌, ◌≢◌, ℕ}
 use Rattle.mb_claim.specs.Vocabulary.{IsClaimIn, consumer_of, part_on}
 use Rattle.test_libraries.proofs.shared_claims.step_on.Given as goal
 
--- the seat and the claim are still the consumer's, and the claim has made all that the consumer has done on the cell.
--- What it did on other cells is as at first
+-- the seat and the claim are still of the consumer, and its part on the cell is that of the claim. Its parts on other
+-- cells are as they were at first
 abbrev pub invariant-loop-turn : goal.invariant-loop-turn
 invariant-loop-turn g l = record {
   table : l.seat.table ≡ l.initial.seat.table;

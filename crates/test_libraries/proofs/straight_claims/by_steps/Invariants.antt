@@ -2,6 +2,6 @@
 use Rattle.mb_claim.specs.Vocabulary.{FitsLayout}
 use Rattle.test_libraries.proofs.straight_claims.by_steps.Given as goal
 
--- the claim fits its layout
+-- if the claim goes on, it stands on an object of the layout
 abbrev pub invariant-loop-made : goal.invariant-loop-made
 invariant-loop-made l = record { fits : FitsLayout l.layout l.claim }

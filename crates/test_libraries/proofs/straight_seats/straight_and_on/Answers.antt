@@ -7,14 +7,14 @@ use Rattle.mb_claim.specs.Vocabulary.{IsClaimIn, IsStanding, kinds_of, part_on, 
 use Rattle.mb_shared_claims.specs.Vocabulary.{AreSeatSteps, SeatView}
 use Rattle.test_libraries.proofs.straight_seats.straight_and_on.Goals as goal
 
--- claims that are given by the kind of one object are one
+-- if an object has a kind, and two claims are both what `f` gives for that kind, they are one claim
 by_kind :
     (kind : Option Kind) (f : Kind → Claim) (a b : Claim) → MatchOption kind ⊥ (λ k. a ≡ f k)
     → MatchOption kind ⊥ (λ k. b ≡ f k) → a ≡ b
 by_kind None f a b is also = absurd is
 by_kind (Some k) f a b is also = is ∙ sym also
 
--- claims of a consumer that stand before one object with one input are one
+-- two claims of a consumer that are about to use the same object with the same input are one claim
 one_claim :
     (layout : Layout) (c o v : ℕ) (a b : Claim) → IsStanding layout c o v a → IsStanding layout c o v b → a ≡ b
 one_claim layout c o v = by_kind (slice_get (kinds_of layout) o) (standing layout c o v)
@@ -30,16 +30,16 @@ steps_keep layout cell claim seat s (suc n) at now t (was, before, u, word, olde
     let p = steps_keep layout cell claim seat s n was before u older in
     (ap (λ (v : SeatView). v.table) step.adds ∙ p.0, ap (λ (v : SeatView). v.consumer) step.adds ∙ p.1)
 
--- what holds of a layout and a consumer holds of those that they are
+-- if two layouts are equal, and two numbers are equal, what holds of the first of each holds of the second of each
 moved :
     (P : Layout → ℕ → Type 0) (d layout : Layout) (k own : ℕ) → d ≡ layout → k ≡ own → P d k → P layout own
 moved P d layout k own e f is = subst (λ x. P x own) e (subst (P d) f is)
 
--- the seat has made no access
+-- the seat has made no access, so its consumer has done nothing on cell 0
 pub straight-end-requires-clause-fresh : goal.straight-end-requires-clause-fresh
 straight-end-requires-clause-fresh g c = ap (λ xs. part_on c.args.seat.now.consumer 0 xs) c.requires.table.1
 
--- the claim where the straight accesses ended is the one that goes on
+-- the claim that goes on by steps is the one at which the straight accesses ended
 pub step_on-made-requires-clause-standing : goal.step_on-made-requires-clause-standing
 step_on-made-requires-clause-standing g c =
     let layout = c.args.table.now.layout in

@@ -7,7 +7,7 @@ use Rattle.mb_mailbox.specs.Mailboxes.{MailboxView}
 use Rattle.mb_bound.specs.Bound.{BoundHubView}
 use Rattle.mb_bound.proofs.hub.BoundHub.gather.Goals as goal
 
--- each clause is that of `Mailbox::gather_with`, as its mailbox and its hub are those of this call
+-- each clause follows from the same clause of `Mailbox::gather_with`, which this call makes with its mailbox and hub
 pub returns-in-Ok-try_unwrap-clause-lists : goal.returns-in-Ok-try_unwrap-clause-lists
 returns-in-Ok-try_unwrap-clause-lists g c =
     let m : c.in-Ok-try_unwrap.mailbox ≡ c.args.self.mailbox = c.in-Ok-try_unwrap.ensures.ok

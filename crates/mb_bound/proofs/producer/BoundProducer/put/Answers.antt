@@ -5,7 +5,7 @@ use Rattle.mb_mailbox.specs.Producers.{IsPutInto}
 use Rattle.mb_bound.specs.Bound.{BoundProducerView}
 use Rattle.mb_bound.proofs.producer.BoundProducer.put.Goals as goal
 
--- the clause is that of `Producer::put`, as its producer is that of this call
+-- the clause follows from the same clause of `Producer::put`, which this call makes with its own producer
 pub returns-clause-linked : goal.returns-clause-linked
 returns-clause-linked g c =
     subst (λ (p : BoundProducerView). c.put.result ≡ Linked

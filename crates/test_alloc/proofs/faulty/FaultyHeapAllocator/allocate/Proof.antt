@@ -1,5 +1,5 @@
--- `allocate` of a faulty heap returns `Err` if the book refuses. Else it returns what the inner allocator returns, and
--- counts a block if there is one. Assumes `Logic`.
+-- `allocate` of a faulty heap returns `Err` if its book (the counters) refuses. Else it returns what the inner one
+-- returns, and counts a block if there is one. This holds in any `Logic` of the kit.
 use Rattle.std.proofs.Common.{◌≡◌, ℕ, ◌+◌, ◌^◌, ◌<◌, Bool, true, false, List, [], ◌∷◌, Ok, Err, refl, sym, subst, w64, Bor}
 use contract.Running.{tables, tables_of}
 use Rattle.std.proofs.alloc.Calls.{Al, α, seen, Answer, answer_val, Answer-typed, Answer-Ok, Answer-err, takes_key, Takes, at_takes, Answered, Takes-goes, Takes-gives, answers}
@@ -73,7 +73,7 @@ module _ (Z : Al) {M : Type 1} {𝓤 : Ura M} (𝓛 : Logic 𝓤) (at_mem : Memo
     abbrev vs : List Val
     vs = vptr r.ref_ptr.0 r.ref_ptr.1 ∷ vint w64 n ∷ vint w64 a ∷ []
 
-    -- the answer `Err` keeps the contract
+    -- to return `Err` keeps the contract
     answers_err : ent 𝓤 (sep 𝓤 (A.lft κ₁ q₁) (sep 𝓤 (A.lft κ₂ q₂) (sem 𝓛 ftrue))) (Post (answer_val false 0 0))
     answers_err =
         qed 𝓛 (‵ (flft κ₁ q₁) ∷ (‵ (flft κ₂ q₂) ⊛ ‵ ftrue) ∷ []) ∵ nothing ! $
@@ -83,7 +83,7 @@ module _ (Z : Al) {M : Type 1} {𝓤 : Ura M} (𝓛 : Logic 𝓤) (at_mem : Memo
         nothing ! $ nothing ! $ fjoin ! $ nothing ! $ fjoin ! $ nothing ! $ fjoin ! $ join ! $
         move ! (2 ∷ 3 ∷ []) $ join ! $ join ! $ done !
 
-    -- the walk through the body, from entry to end: the book refuses, or the inner allocator returns a block or `Err`
+    -- if what the contract requires holds at entry, what it ensures holds at the end
     walk : n < 2 ^ 64 → a < 2 ^ 64 → ent 𝓤 ((walk_of 𝓛 (ended Z) (stayed Z) held).pre bound)
         (WpFn 𝓤 H 𝓣.C 𝓣.Λ (here Z) vs Post)
     walk fn fa =

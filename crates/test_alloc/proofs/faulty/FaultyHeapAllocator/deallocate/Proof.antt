@@ -1,4 +1,4 @@
--- `deallocate` of a faulty heap counts a block as given back, and gives it to the inner allocator. Assumes `Logic`.
+-- `deallocate` of a faulty heap counts a block as given back, and gives it to the inner allocator, in any `Logic`.
 use Rattle.std.proofs.Common.{◌≡◌, ℕ, ◌+◌, ◌^◌, ◌<◌, List, [], ◌∷◌, refl, w64, Bor}
 use contract.Running.{tables, tables_of}
 use Rattle.std.proofs.alloc.Calls.{Al, α, seen, token, gives_key, Gives, at_gives, Gives-goes, Gives-Gives}
@@ -78,7 +78,7 @@ module _ (Z : Al) {M : Type 1} {𝓤 : Ura M} (𝓛 : Logic 𝓤) (at_mem : Memo
     abbrev Said : Type 0
     Said = (capped (size τ) ≡ n) × (capped (align τ) ≡ a)
 
-    -- the walk through the body, from entry to end: no block is at the null pointer, and any other goes back
+    -- if what the contract requires holds at entry, what it ensures holds at the end
     walk : n < 2 ^ 64 → a < 2 ^ 64 → (x : Ptr)
         → ent 𝓤 ((walk_of 𝓛 (ended Z) (stayed Z) held).pre (bound x))
         (WpFn 𝓤 H 𝓣.C 𝓣.Λ (here Z) (vs x) (Post x))

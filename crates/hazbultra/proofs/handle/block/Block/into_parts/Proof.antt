@@ -1,4 +1,4 @@
--- `into_parts`: the address and the allocator go over, and what the block owns goes with them.
+-- Proof of `into_parts`: the parts have the block's address and allocator, and own what the block owned.
 use Rattle.hazbultra.proofs.Steps.{refl, sym, subst, List, [], ◌∷◌, ◌++◌, Ura, Val, SProp, ent, id⊢}
 use Rattle.hazbultra.proofs.Steps.{fsep, ftrue, Fun, fact, tables, tables_of, Memory, Routine}
 use Rattle.hazbultra.proofs.Steps.{Tables, WpFn, WpFn-mono, Logic, Item, ⋆, ‵, raw, ◌⊛◌, ◌$◌, ◌∵◌}
@@ -25,7 +25,7 @@ module _ {M : Type 1} {𝓤 : Ura M} (𝓛 : Logic 𝓤) (heap : Memory → SPro
     (𝓣 : Tables 𝓤 𝓛.H) where
   open 𝓛 use {H}
 
-  -- the walk through the body comes from what the clauses ask to what they promise
+  -- if what the clauses require holds before the body, what they ensure holds after it
   walk : (z : (walk_of 𝓛 f.ended stayed (f.clauses 𝓛 heap run)).Ghost)
       → ent 𝓤 ((walk_of 𝓛 f.ended stayed (f.clauses 𝓛 heap run)).pre z)
       (WpFn 𝓤 H 𝓣.C 𝓣.Λ code.function (z.0.4.0 ++ [])
@@ -40,7 +40,7 @@ module _ {M : Type 1} {𝓤 : Ura M} (𝓛 : Logic 𝓤) (heap : Memory → SPro
       let whole_box : D thing_box = record { ptr = it.at; alloc = it.alloc; value = found.0 } in
       let made : Parts.Denot = record { ptr = it.at; alloc = it.alloc; value = found.0 } in
       split ! $ drop ! $ fsplit ! $
-      -- the block of what is there, so a box of it, and so the parts
+      -- the block leads to a thing, so it owns what a box of the thing owns, and the parts own that
       rewrite ! 0 (λ (o : Option Thing.Denot). ‵ (Block.own_val (record it { thing = o }) us))
       found.1 refl $
       use1 𝓛 (‵ ((B thing_box).own_val whole_box us)) (id⊢ 𝓤 _) $
@@ -63,7 +63,7 @@ module _ {M : Type 1} {𝓤 : Ura M} (𝓛 : Logic 𝓤) (heap : Memory → SPro
       says ! found.1 $
       nothing ! $ nothing ! $ fjoin ! $ join ! $ nothing ! $ join ! $ done !)))))
 
--- so the compiled function meets its statement
+-- so the compiled function keeps its contract
 pub into_parts_spec : {M : Type 1} → statement M
 unfolding tables_of
 into_parts_spec 𝓤 𝓛 𝓜 𝓡 wired =

@@ -1,4 +1,4 @@
--- `lend`: what the block owns is that of a box, so the thing is lent, and the rest of the box stays behind.
+-- Proof of `lend`: the block owns what a box of a thing owns. It lends the thing, and keeps the rest of what it owns.
 use Rattle.hazbultra.proofs.Steps.{◌≡◌, refl, List, [], ◌∷◌, Ura, Val, SProp, ent, id⊢, vptr, flft, fsep, ftrue, Fun}
 use Rattle.hazbultra.proofs.Steps.{fact, tables, tables_of, Memory, Routine, bare, Tables, WpFn, WpFn-mono, Logic}
 use Rattle.hazbultra.proofs.Steps.{sem, ‵, raw, ◌⊛◌, some, later, at_ret, ◌$◌, ◌∵◌, !, qed, move, drop, use1, join}
@@ -23,17 +23,17 @@ use Rattle.hazbultra.proofs.handle.block.Block.lend.Code as code
 abbrev stayed : Stays f.ended.signature.params f.ended.kept
 stayed = (stay_dropped (mut_ref_to (0 ∷ []) tt (plain (λ _. Block))) no, tt)
 
--- the box that a block would make with this thing
+-- the box that has this thing, with the address and the allocator of this block
 abbrev boxed : Block.Denot → Thing.Denot → D thing_box
 boxed it x = record { ptr = it.at; alloc = it.alloc; value = x }
 
 module _ {M : Type 1} {𝓤 : Ura M} (𝓛 : Logic 𝓤) (it : Block.Denot) (b o : ℕ) (hv : Val) (rb ro : ℕ) where
-  -- all of the block but the thing
+  -- what a block owns beside the thing, and the memory of the block itself
   abbrev Rest : Fml
   Rest = fsep (fsep (token thing_box.al it.alloc (bare (τ thing_box)) (block_ptr b o)) (handle thing_box it.alloc hv))
       (cell_at full_share Block.mir (word thing_box hv b o ∷ []) rb ro)
 
-  -- with any thing there, the rest makes a block that leads to it
+  -- a thing at the block's address and the rest make a block that leads to this thing
   back : it.at ≡ block_ptr b o → (y : Thing.Denot)
       → ent 𝓤 (sep 𝓤 (sem 𝓛 ((mem Thing).own_at y b o)) (sem 𝓛 Rest))
       (sem 𝓛 ((mem Block).own_at (leading_to it y) rb ro))
@@ -50,12 +50,12 @@ module _ {M : Type 1} {𝓤 : Ura M} (𝓛 : Logic 𝓤) (heap : Memory → SPro
     (𝓣 : Tables 𝓤 𝓛.H) where
   open 𝓛 use {H}
 
-  -- what the walk picks, with the machine values of the reference
+  -- the same ghost values, with the machine values of the reference in place of those given
   abbrev at : (walk_of 𝓛 f.ended stayed (f.clauses 𝓛 heap run)).Ghost
       → (walk_of 𝓛 f.ended stayed (f.clauses 𝓛 heap run)).Ghost
   at z = ((z.0.0, z.0.1, z.0.2, z.0.3, (mut_vals z.0.3.0, tt)), z.1)
 
-  -- the walk through the body comes from what the clauses ask to what they promise
+  -- if what the clauses require holds before the body, what they ensure holds after it
   walk : (z : (walk_of 𝓛 f.ended stayed (f.clauses 𝓛 heap run)).Ghost)
       → ent 𝓤 ((walk_of 𝓛 f.ended stayed (f.clauses 𝓛 heap run)).pre (at z))
       (WpFn 𝓤 H 𝓣.C 𝓣.Λ code.function (mut_vals z.0.3.0)
@@ -76,7 +76,7 @@ module _ {M : Type 1} {𝓤 : Ura M} (𝓛 : Logic 𝓤) (heap : Memory → SPro
       rewrite ! 0 (λ (t : Option Thing.Denot). ‵ (Block.own_val (record it { thing = t }) vs)) found.1 refl $
       use1 𝓛 (‵ ((B thing_box).own_val (boxed it x) vs)) (id⊢ 𝓤 _) $
       box_out thing_box ! (boxed it x) vs (λ b o hv is_block is_word fits.
-      -- [the thing; the token; the handle; the word; the open borrow; obs; auth]
+      -- held now, in order: the thing, the right to free it, the allocator, the block's memory, the borrow, its ghosts
       move ! (1 ∷ 2 ∷ []) $ fjoin ! $ move ! (1 ∷ []) $
       rewrite ! 2 (λ (us : List Val). ‵ (cell_at full_share Block.mir us rb ro)) is_word refl $
       first ! $ blocks ! $
@@ -101,7 +101,7 @@ module _ {M : Type 1} {𝓤 : Ura M} (𝓛 : Logic 𝓤) (heap : Memory → SPro
       nothing ! $ nothing ! $ fjoin ! $ join ! $ nothing ! $ move ! (2 ∷ 0 ∷ []) $ join ! $ join ! $
       frame ! $ says ! found.1 $ done !)))))
 
--- so the compiled function meets its statement
+-- so the compiled function keeps its contract
 pub lend_spec : {M : Type 1} → statement M
 unfolding tables_of
 lend_spec 𝓤 𝓛 𝓜 𝓡 wired =

@@ -1,4 +1,4 @@
--- `none`: the null pointer beside the allocator. It owns the allocator alone.
+-- Proof of `none`: the block is the null pointer and the allocator, and owns the allocator alone.
 use Rattle.hazbultra.proofs.Steps.{refl, sym, subst, List, [], ◌∷◌, ◌++◌, Ura, w64, Val, vcons}
 use Rattle.hazbultra.proofs.Steps.{vint, vnil, vstruct, SProp, emp, ent, id⊢, fsep, ftrue, Fun}
 use Rattle.hazbultra.proofs.Steps.{tables, tables_of, Memory, Routine, Tables, WpFn, WpFn-mono}
@@ -25,7 +25,7 @@ module _ {M : Type 1} {𝓤 : Ura M} (𝓛 : Logic 𝓤) (heap : Memory → SPro
     (𝓣 : Tables 𝓤 𝓛.H) where
   open 𝓛 use {H}
 
-  -- the walk through the body comes from what the clauses ask to what they promise
+  -- if what the clauses require holds before the body, what they ensure holds after it
   walk : (z : (walk_of 𝓛 f.ended stayed (f.clauses 𝓛 heap run)).Ghost)
       → ent 𝓤 ((walk_of 𝓛 f.ended stayed (f.clauses 𝓛 heap run)).pre z)
       (WpFn 𝓤 H 𝓣.C 𝓣.Λ code.function (z.0.4.0 ++ [])
@@ -50,7 +50,7 @@ module _ {M : Type 1} {𝓤 : Ura M} (𝓛 : Logic 𝓤) (heap : Memory → SPro
       returns ! (look_at ! 0 refl) $ free_all ! refl $
       suffices ! _ (ends_at 𝓛 f.ended stayed (f.clauses 𝓛 heap run) z w made (tt, tt) (tt, tt)) $
       says ! refl $
-      -- the two fields, beside nothing
+      -- the block's two fields are the null pointer and the allocator, and it owns nothing more
       nothing ! $ move ! (1 ∷ 0 ∷ []) $ fjoin ! $
       feq_i ! (List Val) (vint w64 0 ∷ []) (ptr_val null_ptr ∷ []) refl $ fjoin ! $
       feq_i ! (List Val) (w ∷ []) (w ∷ []) refl $ fjoin ! $
@@ -61,7 +61,7 @@ module _ {M : Type 1} {𝓤 : Ura M} (𝓛 : Logic 𝓤) (heap : Memory → SPro
       use1 𝓛 (‵ (Block.own_val made (w ∷ []))) (id⊢ 𝓤 _) $
       nothing ! $ nothing ! $ fjoin ! $ join ! $ nothing ! $ join ! $ done !))))
 
--- so the compiled function meets its statement
+-- so the compiled function keeps its contract
 pub none_spec : {M : Type 1} → statement M
 unfolding tables_of
 none_spec 𝓤 𝓛 𝓜 𝓡 wired =

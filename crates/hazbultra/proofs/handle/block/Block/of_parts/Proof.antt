@@ -1,4 +1,4 @@
--- `of_parts`: the address and the allocator go over, and what the parts own goes with them.
+-- Proof of `of_parts`: the block has the address and the allocator of the parts, and owns what they owned.
 use Rattle.hazbultra.proofs.Steps.{refl, sym, subst, List, [], ◌∷◌, ◌++◌, Ura, Val, SProp, emp, ent}
 use Rattle.hazbultra.proofs.Steps.{id⊢, fsep, ftrue, Fun, tables, tables_of, Memory, Routine}
 use Rattle.hazbultra.proofs.Steps.{Tables, WpFn, WpFn-mono, Logic, Item, ⋆, ‵, raw, ◌⊛◌, ◌$◌, ◌∵◌}
@@ -23,7 +23,7 @@ module _ {M : Type 1} {𝓤 : Ura M} (𝓛 : Logic 𝓤) (heap : Memory → SPro
     (𝓣 : Tables 𝓤 𝓛.H) where
   open 𝓛 use {H}
 
-  -- the walk through the body comes from what the clauses ask to what they promise
+  -- if what the clauses require holds before the body, what they ensure holds after it
   walk : (z : (walk_of 𝓛 f.ended stayed (f.clauses 𝓛 heap run)).Ghost)
       → ent 𝓤 ((walk_of 𝓛 f.ended stayed (f.clauses 𝓛 heap run)).pre z)
       (WpFn 𝓤 H 𝓣.C 𝓣.Λ code.function (z.0.4.0 ++ [])
@@ -36,7 +36,7 @@ module _ {M : Type 1} {𝓤 : Ura M} (𝓛 : Logic 𝓤) (heap : Memory → SPro
       let made : Block.Denot = record { at = it.ptr; alloc = it.alloc; thing = Some it.value } in
       qed 𝓛 ((‵ ftrue ⊛ ‵ (fsep ((B thing_box).own_val whole_box us) ftrue)) ∷ raw (emp 𝓤) ∷ []) ∵
       split ! $ drop ! $ fsplit ! $
-      -- a box of the thing, and so the block
+      -- the parts own what a box of the thing owns, and the block owns that
       box_out thing_box ! whole_box us
       (λ b o hv is_block is_word fits. box_in thing_box ! whole_box b o it.value is_block refl $
       let w = word thing_box hv b o in
@@ -56,7 +56,7 @@ module _ {M : Type 1} {𝓤 : Ura M} (𝓛 : Logic 𝓤) (heap : Memory → SPro
       says ! refl $
       nothing ! $ nothing ! $ fjoin ! $ join ! $ nothing ! $ join ! $ done !))))
 
--- so the compiled function meets its statement
+-- so the compiled function keeps its contract
 pub of_parts_spec : {M : Type 1} → statement M
 unfolding tables_of
 of_parts_spec 𝓤 𝓛 𝓜 𝓡 wired =

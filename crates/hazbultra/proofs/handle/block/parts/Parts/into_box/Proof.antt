@@ -1,4 +1,4 @@
--- `into_box`: what the parts own is what `from_raw` asks for, and its box is the result.
+-- Proof of `into_box`: the parts own what `from_raw` asks for, and the box that it returns is the result.
 use Rattle.hazbultra.proofs.Steps.{◌≡◌, refl, sym, subst, ap, List, [], ◌∷◌, ◌++◌, T, Ura, Body, Fn, assign, copy}
 use Rattle.hazbultra.proofs.Steps.{place, return, rv_opd, seq, inst_fn, Val, WT, has_ty, vptr, SProp, ent, id⊢, flft}
 use Rattle.hazbultra.proofs.Steps.{fsep, ftrue, ◌⊑◌, Fun, fact, tables, tables_of, Memory, Routine, Tables, WpFn}
@@ -19,7 +19,7 @@ use Rattle.std_alloc.specs.contracts.boxed.Box.from_raw as raw_box
 use Rattle.std_alloc.proofs.boxed.Box.from_raw.Symbol as raw_box_symbol
 use Rattle.std_alloc.proofs.boxed.Box.from_raw.Met as raw_box_met
 
--- after the call: the box goes into the result
+-- what the body does after the call: it moves the box into the result
 abbrev after_call : Body
 after_call = seq (assign (place 0 []) (rv_opd (copy (place 4 [])))) return
 
@@ -53,7 +53,7 @@ module _ (E : Bx) where
     callee = triple_of 𝓛 (raw_box.signature E.row E.al.row E.al.g E.al.d E.al.drops)
         (raw_box.spec E.row E.al.row E.al.g E.al.d E.al.drops 𝓛 heap run)
 
-    -- the walk through the body comes from what the clauses ask to what they promise, if `from_raw` keeps its contract
+    -- if `from_raw` keeps its contract, what the clauses require before the body gives what they ensure after it
     walk : Triple 𝓤 (𝓣.C (raw_box_symbol.name (args E))) callee
         → (z : (walk_of 𝓛 over stayed promised).Ghost)
         → ent 𝓤 ((walk_of 𝓛 over stayed promised).pre z)
@@ -68,8 +68,8 @@ module _ (E : Bx) where
         qed 𝓛 ((tokens ⊛ ‵ (fsep ((B E).own_val whole_box us) ftrue)) ∷ outlive ∷ []) ∵
         split ! $ move ! (1 ∷ []) $ fsplit ! $
         box_out E ! whole_box us (λ b o hv is_block is_word fits. fjoin ! $
-        -- [the value with the right to free it; the allocator; nothing; the tokens; what outlives
-        -- them]
+        -- held now, in order: the value with the right to free it; the allocator; nothing; the lifetime tokens; what
+        -- outlives the lifetimes
         let w = word E hv b o in
         let owned : Item 𝓤 = ‵ (box_owns (token E.al it.alloc) (R E) (block_ptr b o) it.value) in
         let held : List (Item 𝓤) = owned ∷ ‵ ((P E).own_val it.alloc (hv ∷ [])) ∷ ‵ ftrue ∷ tokens ∷
@@ -91,7 +91,7 @@ module _ (E : Bx) where
         -- let Parts { ptr, alloc } = self
         sets ! (of_opd ! (get_in ! (fld ! refl (stop !)) (sub ! 0 refl (whole !)))) refl (tt, tt) $
         sets ! (of_opd ! (get_in ! (fld ! refl (stop !)) (sub ! 1 refl (whole !)))) refl fits $
-        -- the argument of the call, and what the call asks for
+        -- the argument of the call of `from_raw`, and what that call asks for
         first ! $ blocks ! $ sets ! (of_opd ! (get ! refl)) refl fits $
         move ! (4 ∷ []) $ split3 ! $ move ! (2 ∷ []) $ drop ! $ move ! (1 ∷ 2 ∷ []) $ join ! $
         move ! (1 ∷ 0 ∷ []) $ join ! $
@@ -106,7 +106,7 @@ module _ (E : Bx) where
         raw (fact 𝓤 (made.alloc ≡ it.alloc))))))) (id⊢ 𝓤 _) $
         await ! tt $ pick ! (λ made. split ! $ move ! (1 ∷ []) $ pick ! (λ _. split3 ! $ drop ! $
         heard ! (made.value ≡ it.value) (λ same. drop ! $ split ! $ move ! (1 ∷ []) $
-        -- [the box made; the tokens]
+        -- held now, in order: the box made; the lifetime tokens
         box_out E ! made (u ∷ []) (λ b' o' hv' is_block' is_word' fits'. box_in E ! made b' o'
         made.value is_block' refl $
         rewrite ! 0 (λ (vs : List Val). ‵ ((B E).own_val made vs)) (sym is_word') refl $
@@ -120,7 +120,7 @@ module _ (E : Bx) where
         says ! same $
         nothing ! $ nothing ! $ fjoin ! $ join ! $ move ! (1 ∷ 0 ∷ []) $ join ! $ done !)))))))))
 
--- so the compiled function meets its statement
+-- so the compiled function keeps its contract
 pub into_box_spec : {M : Type 1} → statement M
 unfolding tables_of
 into_box_spec 𝓤 𝓛 𝓜 𝓡 wired X Z X-laws Z-laws g d drops allocator met_d =

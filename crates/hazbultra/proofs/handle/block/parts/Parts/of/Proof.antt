@@ -1,5 +1,4 @@
--- `of`: `into_raw_with_allocator` gives the pointer, the allocator and what the box owned, and the
--- parts own it.
+-- Proof of `of`: `into_raw_with_allocator` returns the pointer and the allocator. The parts own what the box owned.
 use Rattle.hazbultra.proofs.Steps.{◌≡◌, refl, sym, subst, ap, ◌∙◌, List, [], ◌∷◌, ◌++◌, Ura, Args, Dict, Fn, a_type}
 use Rattle.hazbultra.proofs.Steps.{dcons, dnil, inst_fn, bare, Val, of_list, vstruct, SProp, ent, fst∗, id⊢, never}
 use Rattle.hazbultra.proofs.Steps.{flft, fsep, ftrue, ◌⊑◌, Fun, fact, tables, tables_of, Memory, Routine, Tables, WpFn}
@@ -55,8 +54,8 @@ module _ (E : Bx) (drop_x : Dict) where
     callee = triple_of 𝓛 (raw_parts.signature E.row E.al.row E.al.g E.al.d E.al.drops drop_x)
         (raw_parts.spec E.row E.al.row E.al.g E.al.d E.al.drops drop_x 𝓛 heap run)
 
-    -- the walk through the body comes from what the clauses ask to what they promise, if the called function keeps its
-    -- contract
+    -- if the called function keeps its contract, what the clauses require before the body gives what they ensure after
+    -- it
     walk : Triple 𝓤 (𝓣.C (raw_parts_symbol.name passed)) callee
         → (z : (walk_of 𝓛 over stayed promised).Ghost)
         → ent 𝓤 ((walk_of 𝓛 over stayed promised).pre z)
@@ -72,7 +71,7 @@ module _ (E : Bx) (drop_x : Dict) where
         split ! $ move ! (1 ∷ []) $ fsplit ! $
         box_out E ! it us (λ b o hv is_block is_word fits. box_in E ! it b o it.value is_block
         refl $
-        -- [the box; nothing; the tokens; what outlives them]
+        -- held now, in order: the box; nothing; the lifetime tokens; what outlives the lifetimes
         let w = word E hv b o in
         let held : List (Item 𝓤) = ‵ ((B E).own_val it (w ∷ [])) ∷ ‵ ftrue ∷ tokens ∷ outlive ∷
         [] in
@@ -81,7 +80,7 @@ module _ (E : Bx) (drop_x : Dict) where
         (sym is_word)
         (qed 𝓛 held ∵ enter ! 𝓣.C 𝓣.Λ body_at (w ∷ []) _ $
         alloc_all ! (λ ls. pass_all ! refl (box_typed E hv b o fits, tt) $
-        -- the call
+        -- the call of `into_raw_with_allocator`
         sets ! (of_opd ! (get ! refl)) refl (box_typed E hv b o fits) $
         fjoin ! $ move ! (1 ∷ 0 ∷ []) $ join ! $ join ! $ use1 𝓛 (raw (callee.pre y)) (id⊢ 𝓤 _) $
         calls_at ! (fm_of 𝓤 H 𝓛.laws 𝓣) callee known y (and_then ! (get ! refl) (no_more !)) (λ u.
@@ -92,8 +91,8 @@ module _ (E : Bx) (drop_x : Dict) where
         (raw (fact 𝓤 (pair.1 ≡ it.alloc)) ⊛ ‵ (owned pair.0)))))) (id⊢ 𝓤 _) $
         await ! tt $ pick ! (λ pair. split ! $ move ! (1 ∷ []) $ pick ! (λ _. split3 ! $ drop ! $
         heard ! (pair.1 ≡ it.alloc) (λ same.
-        -- what is owned lies in a block, so the pointer is one into it; and the pair's second word
-        -- is the allocator's
+        -- what the box owned lies in a block of memory, so the pointer leads into that block. The second word of the
+        -- pair is the allocator
         in_a_block ! pair.0 owned (fst∗ 𝓤 (never 𝓤)
         (sem 𝓛 (token E.al it.alloc (bare (τ E)) null_ptr))) (λ b' o' is_block'.
         move ! (1 ∷ []) $ split ! $ move ! (1 ∷ []) $ fpick ! (λ vss. fsplit ! $
@@ -116,7 +115,7 @@ module _ (E : Bx) (drop_x : Dict) where
         sets ! (of_opd ! (get ! refl)) refl fits' $
         sets ! (agg ! (and_then ! (get ! refl) (and_then ! (get ! refl) (no_more !)))) refl
         (box_typed E hv' b' o' fits') $ returns ! (look_at ! 0 refl) $ free_all ! refl $
-        -- [the allocator; nothing; the tokens; the value with the right to free it]
+        -- held now, in order: the allocator; nothing; the lifetime tokens; the value with the right to free it
         move ! (3 ∷ []) $ fsplit ! $ box_in E ! again b' o' it.value refl refl $
         use1 𝓛 (‵ (given.own_val made (w' ∷ []))) (id⊢ 𝓤 _) $ move ! (1 ∷ []) $ drop ! $
         suffices ! _ (ends_at 𝓛 over stayed promised z w' made ((tt, (tt, tt)), tt) (tt, tt)) $
@@ -124,7 +123,7 @@ module _ (E : Bx) (drop_x : Dict) where
         nothing ! $ nothing ! $ fjoin ! $ join ! $ move ! (1 ∷ 0 ∷ []) $ join ! $
         done !)))))))))))))
 
--- so the compiled function meets its statement
+-- so the compiled function keeps its contract
 pub of_spec : {M : Type 1} → statement M
 unfolding tables_of
 of_spec 𝓤 𝓛 𝓜 𝓡 wired X Z X-laws Z-laws g d drops drop_x allocator met_d met_drop =
