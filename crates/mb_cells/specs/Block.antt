@@ -17,7 +17,7 @@ address_of size (Head p) = 1 + p
 address_of size (Link k) = 1 + size.lanes + k
 address_of size (Item k) = 1 + size.lanes + size.cells + k
 
--- the words at their addresses are those that a lawful history leaves. Other words may follow
+-- the words at their addresses are those that a lawful history leaves. Other words may follow them
 pub record IsMemoryOf (size : PoolSize) (words : List ℕ) (h : History) : Type 0 where
   pub lawful : IsPoolLawful size h
   pub room : pool_words size ≤ length words

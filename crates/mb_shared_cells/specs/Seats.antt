@@ -103,7 +103,7 @@ reader_shown id me = record {
 }
 
 -- ---- which accesses a seat can make
--- the seat is a reader's, which may load the word
+-- the seat is a reader's, and that reader may load the word
 pub record CanLoad (size : PoolSize) (word : Word) (me : SeatState) : Type 0 where
   pub reader : ℕ
   pub known : PartList
@@ -112,7 +112,7 @@ pub record CanLoad (size : PoolSize) (word : Word) (me : SeatState) : Type 0 whe
   pub may : MayRead size.lanes word done
   pub within : IsLaneWord size word
 
--- the seat is a lane's, whose path goes on with the store
+-- the seat is a lane's, and its producer's path goes on with this store
 pub record CanStore (size : PoolSize) (word : Word) (value : ℕ) (me : SeatState) : Type 0 where
   pub lane : ℕ
   pub done : History
@@ -120,7 +120,7 @@ pub record CanStore (size : PoolSize) (word : Word) (value : ℕ) (me : SeatStat
   pub path : IsLanePrefix size.cells lane (store lane word value ∷ done)
   pub within : IsLaneWord size word
 
--- the seat is a lane's, whose path goes on with a fetch-add, whatever number that finds
+-- the seat is a lane's, and its producer's path goes on with a fetch-add, whatever number that finds
 pub record CanFetch (size : PoolSize) (item : ℕ) (me : SeatState) : Type 0 where
   pub lane : ℕ
   pub done : History
