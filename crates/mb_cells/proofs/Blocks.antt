@@ -1,4 +1,4 @@
--- The words of a pool in one block.
+-- How each access changes the words of a pool, which lie in one block.
 use Rattle.std.proofs.Common.{List, [], ap, arith, get_or-set_other, get_or-set_same, inl, inr, length, length-set, refl, slice_index, slice_set, subst, sym, ℕ, ◌<◌, ◌∙◌, ◌∷◌, ◌≡◌, ◌≤◌}
 use Rattle.std.specs.Prelude.{unwrap_or}
 use Rattle.mb_cells.specs.{Counter, END, Head, History, IsMemoryOf, IsPoolLawful, IsPoolWord, IsStateOf, Item, Link, PoolAccess, PoolSize, Process, Word}
@@ -80,7 +80,7 @@ state_empty size words few room empty = record {
   same = λ who. refl;
 }
 
--- a second block that has equal words of the pool is left by the same history: words past the pool's do not count
+-- if two blocks have the same words of the pool, the same history leaves both: words past the pool's do not count
 pub state_more : (size : PoolSize) (words more : List ℕ) (parts : Process → History) (h : History)
     → IsStateOf size words parts h
     → ((i : ℕ) → i < pool_words size → slice_index more i ≡ slice_index words i)

@@ -37,7 +37,7 @@ told_nothing cells = record {
   stages = λ p lane at. ap (λ (l : Lane). l.stage) (same_lane cells p lane new_lane [] at (start_lane cells p));
 }
 
--- after an access of producer p the calls still say the stage of each other producer's lane
+-- if calls agree with a history, after an access of producer p they still say the stage of each other producer's lane
 stage_other : (cells : ℕ) (calls : List Call) (h : History) (a : PoolAccess) (p q : ℕ) (lane : Lane)
     → Tells cells calls h → a.process ≡ Producer p → q ≢ p
     → IsLaneAfter cells q lane (part (Producer q) (a ∷ h)) → lane.stage ≡ stage_by q calls
@@ -56,7 +56,7 @@ stage_own cells h a p lane now who next at =
     (same_lane cells p lane now (a ∷ part (Producer p) h)
     (subst (IsLaneAfter cells p lane) (part-own (Producer p) a h own) at) next)
 
--- after an access of producer p that leads to place `now`: p's stage is that of `now`, each other is as the calls say
+-- after an access of producer p each other stage is as the calls say, and p's is `z p`, the stage of its place `now`
 stages_after : (cells : ℕ) (calls : List Call) (h : History) (a : PoolAccess) (p : ℕ) (now : Lane) (z : ℕ → LaneStage)
     → Tells cells calls h → a.process ≡ Producer p
     → IsLaneAfter cells p now (a ∷ part (Producer p) h) → now.stage ≡ z p
@@ -89,7 +89,7 @@ stages_kept cells calls h p f keeps t q lane at =
           rw not_own (t.stages q lane at)
     ]
 
--- calls still agree after an offer without access, if its answer gives no cell, counts no fetch-add and keeps the stage
+-- calls still agree after an offer whose answer gives no cell, counts no fetch-add and keeps the stage
 told_no_offer : (cells : ℕ) (calls : List Call) (h : History) (p x : ℕ) (r : Offer)
     → ((k y : ℕ) → item_by_offer k x r y ≡ y) → fetch_adds_by_offer r (stage_by p calls) ≡ 0
     → stage_by_offer x r (stage_by p calls) ≡ stage_by p calls → Tells cells calls h

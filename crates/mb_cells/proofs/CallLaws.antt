@@ -33,7 +33,7 @@ last_word : (h : History) (s : PoolState) (p : ℕ) (ks : List ℕ) → IsAfter 
 last_word h s p [] after lt low = after.words (Head p) lt
 last_word h s p (k ∷ ks) after lt low = after.words (Link k) (low k (inl refl))
 
--- looks along a lane of a state give the put list of each history that leaves the state, and then the lane's end
+-- looks along a lane of a state give the put list of any history that leaves the state, and then the lane's end
 pub state_reads : (h : History) (s : PoolState) (p : ℕ) → IsAfter h s → p < lane_count s
     → Reads (λ at. look_in at s) (λ k. item_in k s) (cursor.Head p) (put_list p h) (lane_end p h)
 state_reads h s p after lt =

@@ -1,4 +1,4 @@
--- The numbers that a list of calls handed out.
+-- Which cells the offers in a list of calls returned, and when an offer returns Full.
 use Rattle.std.proofs.Common.{List, None, Some, [], ap, arith, inl, inr, refl, subst, sym, ℕ, ◌<◌, ◌∙◌, ◌∷◌, ◌≡◌, ◌≤◌}
 use Rattle.std.specs.Prelude.{nat_lt, slice_index_or, unwrap_or}
 use Rattle.std.proofs.lemmas.Bool.{cases_Bool, ltb-false, ltb-true}

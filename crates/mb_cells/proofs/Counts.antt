@@ -17,7 +17,7 @@ abbrev pub refused_act : ℕ → PoolAct → Bool
 refused_act cells (FetchAdd x n) = nat_le cells n
 refused_act cells _ = false
 
--- whether producer p was refused a cell
+-- whether producer p was refused a cell: one of its fetch-adds found none
 abbrev pub has_refused : ℕ → ℕ → History → Bool
 has_refused p cells [] = false
 has_refused p cells (a ∷ h) = cond (is_same_process (Producer p) a.process)

@@ -220,7 +220,7 @@ pub cells_at : (size : PoolSize) (p : ℕ) (h : History) (es : List Entry) (phas
 cells_at size p h es phase c at =
     linked_cells-part p h ∙ ap (linked_cells p) at.is ∙ linked_cells-part_at p size.cells es phase c at.below
 
--- the word past the cells `ks` leads to a cell of the pool, which is the next one of the entries' cells after `ks`
+-- the word past the cells `ks` leads to the cell that comes next among the entries' cells, and it is one of the pool
 pub record IsFollowed (m : Word → ℕ) (p cells : ℕ) (es : List Entry) (ks : List ℕ) : Type 0 where
   pub cell : ℕ
   pub below : cell < cells

@@ -1,4 +1,4 @@
--- The cells linked into lanes, and the items that their item words hold.
+-- The cells that a lawful history links into lanes, and the items that their item words hold.
 use Rattle.std.proofs.Common.{List, None, Option, Some, [], ap, arith, eq-eqb, false, inl, inr, ne_eqb, refl, subst, sym, ℕ, ◌+◌, ◌-◌, ◌<◌, ◌∙◌, ◌∷◌, ◌≡◌}
 use Rattle.std.specs.Prelude.{map, nat_eq, reverse}
 use Rattle.std.proofs.lemmas.Bool.{cases_Bool, cond_both}

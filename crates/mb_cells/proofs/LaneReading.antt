@@ -1,4 +1,4 @@
--- Reading a lane from its head on, and what loads along it give.
+-- Reading a lane of a lawful history from its head on, and what loads along it give.
 use Rattle.std.proofs.Common.{Bool, List, [], ap, arith, cond, false, inl, inr, map, ne_eqb, refl, subst, sym, true, ℕ, ◌++◌, ◌+◌, ◌-◌, ◌<◌, ◌∙◌, ◌∷◌, ◌≡◌, ◌⊎◌}
 use Rattle.std.specs.Prelude.{if◌then◌else◌, nat_eq, ◌≢◌}
 use Rattle.std.proofs.lemmas.Bool.{cases_Bool}
@@ -72,14 +72,14 @@ lead-at : (m : Word → ℕ) (p k : ℕ) (later ks : List ℕ) → LeadThrough m
 lead-at m p k [] ks h = h.0
 lead-at m p k (x ∷ later) ks h = lead-at m p k later ks h.1
 
--- the word after the first cells of a lane holds the next cell
+-- the word past the first cells of a lane holds the number of the next cell, plus one
 pub next_cell : (size : PoolSize) (h : History) (p k : ℕ) (later ks : List ℕ) → IsPoolLawful size h
     → later ++ k ∷ ks ≡ linked_cells p h → value_in (place_past p ks) h ≡ k + 1
 next_cell size h p k later ks l is =
     lead-at (λ w. value_in w h) p k later ks
     (subst (LeadThrough (λ w. value_in w h) p) (sym is) (lead_through size h p l))
 
--- a load of the word after the first cells of a lane gives 0 or the next cell
+-- a load of the word past the first cells of a lane gives 0, or the number of the next cell plus one
 pub next_load : (size : PoolSize) (h : History) (r p k v : ℕ) (later ks : List ℕ) → IsPoolLawful size h
     → later ++ k ∷ ks ≡ linked_cells p h → HasLoaded r (place_past p ks) v h → (v ≡ 0) ⊎ (v ≡ k + 1)
 next_load size h r p k v later ks l is has =

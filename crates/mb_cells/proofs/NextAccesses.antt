@@ -34,7 +34,7 @@ fetches_only cells p lane done e x prefix =
     let n = steps_only cells p x.entries x.phase (fetch p e) done x.at prefix in
     ap stage_offer_refusal x.stage ∙ fetch_step cells p x.entries n.entries x.phase n.then (fetch p e) e refl n.step
 
--- v in w is the store that a push makes at this place, or the one that a finish makes
+-- the store of v in w is the one that a push makes at this place, or the one that a finish makes
 abbrev pub IsStoreAt : ℕ → List Entry → Phase → Word → ℕ → Type 0
 IsStoreAt p es was w v =
     (stage_push_store (place_after p es) (stage_of was) ≡ Some (w, v))

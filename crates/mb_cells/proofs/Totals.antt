@@ -1,4 +1,4 @@
--- How many cells and items the lanes have.
+-- How many cells and items the lanes of a lawful history have.
 use Rattle.std.proofs.Common.{List, None, Some, [], ap, arith, cond, eq-eqb, eqb-true, inl, inr, length, length-append, refl, subst, suc, sym, zero, ℕ}
 use Rattle.std.proofs.Common.{⊎_elim, ◌++◌, ◌+◌, ◌<◌, ◌∙◌, ◌∷◌, ◌≡◌, ◌≢◌, ◌≤◌, ◌⊎◌}
 use Rattle.std.specs.Prelude.{map, nat_eq}

@@ -65,8 +65,8 @@ impl<A: Allocator + Drop> SharedCells<A> {
         }
     }
 
-    /// Takes a lane's seat back, at any time. The hub then has its part as it is. The call makes one load of the table's
-    /// first word, which is in no history.
+    /// Takes a lane's seat back, at any time. The hub then has its part as it is. The call loads the table's first word
+    /// once, which is in no history.
     pub fn take_lane(&self, hub: &mut CellHub, seat: LaneSeat)
         requires hub { hub.old.table ≡ self.now }
         requires seat { seat.table ≡ self.now }
