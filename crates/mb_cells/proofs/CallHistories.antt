@@ -227,7 +227,7 @@ linked_cells-end : (p q : ℕ) (last : Option ℕ) (h : History)
 linked_cells-end p q None h = same_twice (nat_eq q p) (linked_cells q h)
 linked_cells-end p q (Some j) h = same_twice (nat_eq q p) (linked_cells q h)
 
--- a store of the end mark ends its lane
+-- a store of the end mark ends its producer's lane, and no other
 has_ended-end : (p q : ℕ) (last : Option ℕ) (h : History)
     → has_ended q (store p (link_after p last) END ∷ h) ≡ cond (nat_eq q p) true (has_ended q h)
 has_ended-end p q None h = refl

@@ -132,7 +132,7 @@ add_in p (x ∷ es) e (inr (inl is)) = absurd (no_store p x.value (Item x.cell) 
 add_in p (x ∷ es) e (inr (inr (inl is))) = inl (same_cell p x e is)
 add_in p (x ∷ es) e (inr (inr (inr has))) = inr (add_in p es e has)
 
--- the last fetch-add gave n, and its item is not linked: n is past the cells, or it is a cell that is pending
+-- n may be the number of a fetch-add after the last link: a cell's if an item is pending, past the cells if none is
 abbrev IsLast : ℕ → Phase → ℕ → Type 0
 IsLast cells Open n = ⊥
 IsLast cells (Offered x) n = n < cells
@@ -140,7 +140,7 @@ IsLast cells (Stored x) n = n < cells
 IsLast cells (Full x) n = cells ≤ n
 IsLast cells (Ended r) n = cells ≤ n
 
--- each fetch-add of a producer gave the cell of a linked entry, or is the last one, of an item that is not linked
+-- each fetch-add of a producer gave the cell of a linked entry, or a number that `IsLast` allows
 add_at : (cells p : ℕ) (es : List Entry) (phase : Phase) (d : History) → LaneIsAt cells p es phase d → (e : Entry)
     → Has (part_at p es phase) (fetch p e) → Has (cells_of es) e.cell ⊎ IsLast cells phase e.cell
 add_at cells p es Open d at e has = inl (add_in p es e has)
@@ -168,7 +168,7 @@ module _ (size : PoolSize) (h : History) (p : ℕ) (lawful : IsPoolLawful size h
     made : (e : Entry) → Has (part_at p es phase) (fetch p e) → IsMade e
     made e has = Has-of_part (Producer p) h (fetch p e) (subst (λ d. Has d (fetch p e)) (sym at.is) has)
 
-    -- the cell of each fetch-add of the producer is linked, or that fetch-add is the last one, as `IsLast` says
+    -- each fetch-add of the producer gave a cell that is linked, or a number that `IsLast` allows
     add_of : (e : Entry) → IsMade e → Has (linked_cells p h) e.cell ⊎ IsLast size.cells phase e.cell
     add_of e has =
         elim (add_at size.cells p es phase (part (Producer p) h) at e
@@ -210,7 +210,7 @@ module _ (size : PoolSize) (h : History) (p : ℕ) (lawful : IsPoolLawful size h
   pending_at es (Full x) at e = absurd (cc)
   pending_at es (Ended r) at e = absurd (cc)
 
-  -- if the last fetch-add gave a cell, the phase has its item pending
+  -- if `IsLast` allows n, and n is a cell's number, the phase has an item pending
   last_pending : (phase : Phase) (n : ℕ) → n < size.cells → IsLast size.cells phase n → is_pending phase ≡ true
   last_pending Open n got last = absurd last
   last_pending (Offered x) n got last = refl
@@ -236,7 +236,7 @@ module _ (size : PoolSize) (h : History) (p : ℕ) (lawful : IsPoolLawful size h
       (refl, record { entry = x; offered = made es (Full x) at x (inl refl); past = at.fits })
   none_at es (Ended r) at e = absurd (cc)
 
-  -- if the last fetch-add gave no cell, and the lane has not ended, the phase says so
+  -- if `IsLast` allows n past the cells, and the lane has not ended, the phase says that a fetch-add found no cell
   last_none : (phase : Phase) (n : ℕ) → size.cells ≤ n → is_ended phase ≡ false → IsLast size.cells phase n
       → found_none phase ≡ true
   last_none Open n past still last = absurd last
@@ -259,7 +259,7 @@ module _ (size : PoolSize) (h : History) (p : ℕ) (lawful : IsPoolLawful size h
     ended : has_ended p h ≡ is_ended here.phase
     ended = ended_is size.cells p h here.entries here.phase lawful.sized here.at
 
-    -- the phase says how an offer, a finish and a push are refused
+    -- the lane's stage refuses an offer, a finish and a push just as the phase does
     offers : offer_refusal lane ≡ stage_offer_refusal (stage_of here.phase)
     offers = ap stage_offer_refusal here.stage
 

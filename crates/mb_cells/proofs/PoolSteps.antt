@@ -176,7 +176,7 @@ offer_made s p x lane lt read going fits small h other was at =
           (fetch_after h s p x there was lt fits small moved),
     )
 
--- a head, link or item of the pool's size is among the pool's words
+-- a head, link or item within the pool's size is among the pool's words
 pub word_here : (s : PoolState) (w : Word) → PoolIsSound s → IsLaneWord (size_of s) w → HasWord w s.words
 word_here s Counter sound within = tt
 word_here s (Head p) sound within = omega (arith, sound.heads)
@@ -242,7 +242,7 @@ pub cursor_word : (s : PoolState) (at : Cursor) → PoolIsSound s → IsWithin a
 cursor_word s (cursor.Head p) sound within = omega (arith, sound.heads)
 cursor_word s (cursor.Past k) sound within = omega (arith, sound.links)
 
--- what a head or link leads to is a cell of the pool
+-- if a head or link holds neither 0 nor the end mark, it leads to a cell of the pool
 pub link_bound : (s : PoolState) (at : Cursor) (v : ℕ) → PoolIsSound s → IsWithin at s
     → word_in (word_of at) s.words ≡ v
     → v ≢ 0 → v ≢ END → v - 1 < cell_count s

@@ -82,7 +82,7 @@ at_least (suc m) ks all =
     let short = shorter_without m ks (all m (omega arith)) in
     omega arith
 
--- a put list has an item for each cell
+-- a lane's put list is as long as the list of its linked cells
 length_put : (p : ℕ) (h : History) → length (put_list p h) ≡ length (linked_cells p h)
 length_put p h =
     length-reverse (map (λ k. entry_at k h) (linked_cells p h)) ∙ length-map (linked_cells p h) (λ k. entry_at k h)

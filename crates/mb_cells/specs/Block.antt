@@ -23,7 +23,7 @@ pub record IsMemoryOf (size : PoolSize) (words : List ℕ) (h : History) : Type 
   pub room : pool_words size ≤ length words
   pub left : (w : Word) → IsPoolWord size w → slice_index words (address_of size w) ≡ value_in w h
 
--- the words are those of a lawful history, and each process has done its part of that history
+-- a lawful history leaves the words, and `parts` are the parts of its processes
 pub record IsStateOf (size : PoolSize) (words : List ℕ) (parts : Process → History)
     (h : History) : Type 0 where
   pub memory : IsMemoryOf size words h

@@ -100,7 +100,7 @@ stage_push_answer stage.Open = push.Idle
 abbrev pub push_answer : Lane → Push
 push_answer lane = stage_push_answer lane.stage
 
--- the cell that was linked last, after a push
+-- which cell was linked last after a push at this stage, if it was `last` before
 abbrev pub last_after_push : Option ℕ → LaneStage → Option ℕ
 last_after_push last (stage.Offered cell item) = last
 last_after_push last (stage.Stored cell) = Some cell
@@ -151,16 +151,16 @@ abbrev pub lane_after_finish : Lane → Lane
 lane_after_finish lane = record { last = lane.last; stage = stage.Ended (is_full lane.stage) }
 
 -- ---- the history after each call
--- the history, or the part, after an offer of x whose fetch-add finds n
+-- the history, or the part, after an offer of x whose fetch-add finds n. A refused offer leaves it as it was
 abbrev pub history_after_offer : ℕ → ℕ → ℕ → Lane → History → History
 history_after_offer p x n lane h =
     if is_some (offer_refusal lane) then h else (fetch p (record { cell = n; value = x }) ∷ h)
 
--- the history, or the part, after a push
+-- the history, or the part, after a push: with the push's store in front, if it makes one
 abbrev pub history_after_push : ℕ → Lane → History → History
 history_after_push p lane h = option_map_or (λ s. store p s.0 s.1 ∷ h) (push_store p lane) h
 
--- the history, or the part, after a finish
+-- the history, or the part, after a finish: with the end mark's store in front, if it is not refused
 abbrev pub history_after_finish : ℕ → Lane → History → History
 history_after_finish p lane h =
     if is_some (finish_refusal lane) then h else (store p (next_link p lane) END ∷ h)

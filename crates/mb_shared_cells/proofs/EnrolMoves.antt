@@ -36,17 +36,17 @@ known_by : Process → Roll → PartList
 known_by (Producer p) roll = []
 known_by (Reader r) roll = roll.lanes
 
--- how many lanes are issued with this process, if n were before
+-- how many lanes are issued once this process is issued, if n were before
 lanes_after : Process → ℕ → ℕ
 lanes_after (Producer p) n = n + 1
 lanes_after (Reader r) n = n
 
--- how many readers are issued with this process, if n were before
+-- how many readers are issued once this process is issued, if n were before
 readers_after : Process → ℕ → ℕ
 readers_after (Producer p) n = n
 readers_after (Reader r) n = n + 1
 
--- the seating with this process issued, at seat `to`
+-- the seating once this process is issued, at seat `to`
 seating_after : Process → ℕ → Seating → Seating
 seating_after who to t = record {
   history = t.history;

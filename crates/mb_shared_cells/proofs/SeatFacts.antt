@@ -1,4 +1,4 @@
--- What is kept in the hub and in each seat, after their steps.
+-- The invariants of the hub and of each seat hold after their steps.
 use Rattle.std.proofs.Common.{[], ap, length, refl, subst, sym, ℕ, ◌∙◌, ◌∷◌, ◌≡◌}
 use Rattle.std.specs.Prelude.{Some}
 use Rattle.atomic_table.specs.Seated.{TableId}
@@ -16,7 +16,7 @@ use Rattle.mb_shared_cells.specs.Views.{IsAccessAfter, IsRollOf, MakesAccess, Pa
 use Rattle.mb_shared_cells.specs.declared.views.Roll.{Roll}
 use Rattle.mb_shared_cells.specs.declared.views.View.TheVariants.{Hub}
 
--- what is kept in the hub (`IsHubSeat`) follows from its view, its count and the history of its roll
+-- the invariant of the hub (`IsHubSeat`) follows from its view, its count and the history of its roll
 pub hub_is : (me : SeatState) (size : PoolSize) (roll : Roll) (given : ℕ) → me ≡ (Hub size roll, [])
     → given ≡ length roll.lanes → (h : History) × IsRollOf size roll h → IsHubSeat me given
 hub_is me size roll given is count history =
@@ -34,7 +34,7 @@ history_then law size who known done word act after =
     let a = access_by who word act in
     (a ∷ after.older, after.lawful, law after.older a ∙ ap (λ l. a ∷ l) after.own)
 
--- after an access a lane's seat still has what is kept in it (`IsLaneSeat`), with place `now`
+-- after an access the invariant of a lane's seat (`IsLaneSeat`) holds, with its new place `now`
 pub lane_then : OwnLaw → (me new : SeatState) (number : ℕ) (was now : Lane) (word : Word) (act : PoolAct)
     → IsLaneSeat me number was → MakesAccess word act me new
     → IsLaneAfter (size_in me.0).cells number now (access_by (Producer number) word act ∷ done_in me.0)
@@ -51,7 +51,7 @@ lane_then law me new number was now word act s m stands =
       history = history_then law size (Producer number) [] done word act m'.0;
     })
 
--- after an access a reader's seat still has what is kept in it (`IsReaderSeat`)
+-- after an access the invariant of a reader's seat (`IsReaderSeat`) still holds
 pub reader_then : OwnLaw → (me new : SeatState) (word : Word) (act : PoolAct) → IsReaderSeat me
     → MakesAccess word act me new → IsReaderSeat new
 reader_then law me new word act s m =

@@ -1,4 +1,4 @@
--- The rule of the table: its words and views are those of one lawful history of the pool.
+-- The rule of the table: its words and views agree with one lawful history of the pool.
 use Rattle.std.specs.Prelude.{List, None, Some, [], length, slice_get, slice_index, ℕ, ◌+◌, ◌<◌, ◌≡◌, ◌≢◌, ◌≤◌, ◌⊎◌}
 use mathlib.Core.Option.{some}
 use lib.ListN.{get_elem?}

@@ -12,7 +12,7 @@ use Rattle.mb_cells.proofs.NextAccesses.{fetches_only, stores_only}
 abbrev pub taken_lane : Lane
 taken_lane = record { last = None; stage = stage.Offered 0 8 }
 
--- after `one_taken` the producer stands at that place, if the pool has a cell
+-- after `one_taken` the producer stands at `taken_lane`, if the pool has a cell
 taken_at : (cells : ℕ) → 0 < cells → IsLaneAfter cells 0 taken_lane one_taken
 taken_at cells b =
     record {
@@ -45,7 +45,7 @@ put_at_one =
       stage = refl;
     }
 
--- after the end mark the producer's lane has ended
+-- once producer 0 has stored the end mark after `one_put`, it is at the stage Ended
 ended_at : IsLaneAfter 1 0 (record { last = Some 0; stage = stage.Ended false }) (store 0 (Link 0) END ∷ one_put)
 ended_at =
     record {
@@ -56,7 +56,7 @@ ended_at =
       stage = refl;
     }
 
--- None is no store
+-- an option without a store is not equal to one with a store
 not_none : (s : Word × ℕ) → None ≡ Some s → ⊥
 not_none s e = cc
 
