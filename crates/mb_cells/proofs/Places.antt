@@ -31,7 +31,7 @@ in_refusal cells p es (Some e) [] done b f h =
     record { entries = es; phase = Full e; at = record { below = b; fits = f; is = h } }
 in_refusal cells p es (Some e) (x ∷ later) done b f h = in_groups cells p es later done b (cc)
 
--- a producer stands at some place if later accesses make it groups, perhaps a fetch-add without a cell, perhaps the end
+-- a producer stands at some place if later accesses make what it did groups, perhaps a refusal, perhaps an end mark
 in_ending : (cells p : ℕ) (es : List Entry) (r : Option Entry) (ended : Bool) (later done : History)
     → AllCellsBelow cells es → FindsNoCell cells r
     → later ++ done ≡ ending p (place_after p es) ended (refusal p r (groups p es)) → IsSomewhere cells p done

@@ -20,7 +20,7 @@ use Rattle.mb_cells.proofs.NextAccesses.{link_within, push_value, push_within}
 use Rattle.mb_cells.proofs.OneStep.{empty_lawful, producer_step}
 use Rattle.mb_cells.proofs.Parts.{part-other, part-own}
 
--- the lane in a state is its producer's place, by the producer's part of each history that leaves the state
+-- lane p in a state is producer p's place, by its part of each history that leaves the state
 pub lane_here : (h : History) (s : PoolState) (p : ℕ) (lane : Lane) → p < lane_count s → IsAfter h s
     → lane ≡ slice_index_or s.lanes p lane → IsLaneAfter (cell_count s) p lane (part (Producer p) h)
 lane_here h s p lane lt after is =

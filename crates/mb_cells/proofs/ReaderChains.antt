@@ -14,7 +14,7 @@ HasMet-more r p h k (c ∷ ks) more met = (
   HasMet-more r p h k ks more met.2,
 )
 
--- if a reader's part has a link to cell k (`Gave`), the reader met k on some lane, past the cells `ks` there
+-- if a reader's part has a load of a link to cell k (`Gave`), the reader met k on some lane, past the cells `ks` there
 pub met-of : (lanes r : ℕ) (d : History) (k : ℕ) → ((a : PoolAccess) → Has d a → a.process ≡ Reader r)
     → IsReaderPath lanes d → Gave k d → (p : ℕ) × ((ks : List ℕ) × HasMet r p (k ∷ ks) d)
 met-of lanes r [] k mine path gave = absurd gave

@@ -55,7 +55,7 @@ has_cell-true [] k has = absurd has
 has_cell-true (j ∷ js) k (inl is) = let same : nat_eq j k ≡ true = eq-eqb j k is in rw same refl
 has_cell-true (j ∷ js) k (inr has) = rw (has_cell-true js k has) (or-true (nat_eq j k))
   where
-    -- 'b or true' is true
+    -- `b || true` is true
     or-true : (b : Bool) → (b || true) ≡ true
     or-true true = refl
     or-true false = refl
@@ -262,7 +262,7 @@ one_rest (x ∷ later) (y ∷ other) ks js k once is =
     tails : (ls ms : List ℕ) (x y : ℕ) → x ∷ ls ≡ y ∷ ms → ls ≡ ms
     tails ls ms x y is = cc
 
--- the cells that a reader met on a lane before cell k are always the same
+-- two lists of the cells that a reader met on a lane before cell k are equal
 pub one_way : (size : PoolSize) (h : History) (r p k : ℕ) (ks js : List ℕ) → IsPoolLawful size h
     → HasMet r p (k ∷ ks) h → HasMet r p (k ∷ js) h → ks ≡ js
 one_way size h r p k ks js l met also =

@@ -64,7 +64,7 @@ once_without m (k ∷ ks) once =
     cond_both (nat_eq k m) ks (k ∷ without m ks) IsOnceEach (λ _. once.1)
     (λ _. ((λ h. once.0 (has_without m ks k once.1 h).0), once_without m ks once.1))
 
--- different numbers below m are no more than m
+-- a list of different numbers below m has at most m elements
 at_most : (m : ℕ) (ks : List ℕ) → IsOnceEach ks → ((k : ℕ) → Has ks k → k < m) → length ks ≤ m
 at_most zero [] once low = omega arith
 at_most zero (k ∷ ks) once low = let l = low k (inl refl) in absurd (omega arith)
@@ -74,7 +74,7 @@ at_most (suc m) ks once low =
     let long = length_without m ks in
     omega arith
 
--- a list that has all numbers below m has no fewer than m
+-- a list that has all numbers below m has at least m elements
 at_least : (m : ℕ) (ks : List ℕ) → ((k : ℕ) → k < m → Has ks k) → m ≤ length ks
 at_least zero ks all = omega arith
 at_least (suc m) ks all =

@@ -35,7 +35,7 @@ GoesOn size who done word act f =
     → n ≡ value_in word h → n < 2 ^ 64
     → IsPoolLawful size (access_by who word (act n) ∷ h) × (f n ≡ unwrap_or (stored_by (act n)) n)
 
--- if words and views keep the rule, they keep it with one access more of a lane's or a reader's seat
+-- words and views still keep the rule after an access of a lane's or reader's seat, if the history with it is lawful
 pub kept_by_access : AccessLaws → (size : PoolSize) (words : List ℕ) (views : List View) (id : ℕ) (own : PoolSize)
     (who : Process) (known : PartList) (done : History) (word : Word) (act : PoolAct) (n : ℕ)
     (h : IsCellsState size words views) → get_elem? views id ≡ some (Member own who known done)

@@ -131,7 +131,7 @@ cell_within laws size r known done at v after some no_end =
     let there = laws.put size h r (v - 1) after.lawful gave in
     (laws.within size h there.0 (v - 1) after.lawful there.1).1
 
--- the laws of `mb_cells` by which a load on a known lane finds what that lane's part left there
+-- the laws of `mb_cells` by which a load on a lane whose part is known finds what that part left there
 pub record KnownLaws : Type 0 where
   pub older : (size : PoolSize) (later older : History) → IsPoolLawful size (later ++ older) → IsPoolLawful size older
   pub head : (size : PoolSize) (h : History) (p : ℕ) → IsPoolLawful size h

@@ -56,7 +56,7 @@ seating_after who to t = record {
   seat_of = moved who to t.seat_of;
 }
 
--- a process that was issued still is after `who` is issued
+-- each process issued by seating t is issued too once `who` is issued
 still_enrolled : (who : Process) (to : ℕ) (t : Seating) (x : Process) → IsEnrolled t x
     → IsEnrolled (seating_after who to t) x
 unfolding lanes_after readers_after seating_after
@@ -65,7 +65,7 @@ still_enrolled (Producer p) to t (Reader q) e = e
 still_enrolled (Reader p) to t (Producer q) e = e
 still_enrolled (Reader p) to t (Reader q) e = omega arith
 
--- a process that is issued next is issued in the seating after that
+-- the process issued next is issued by the seating after that
 next_enrolled : (size : PoolSize) (seat : ℕ) (own : PoolSize) (roll : Roll) (who : Process) (to : ℕ) (t : Seating)
     → IsHub size t seat own roll → IsNext who roll → IsEnrolled (seating_after who to t) who
 unfolding lanes_after readers_after seating_after IsNext
@@ -123,7 +123,7 @@ unfolding before grown
 before_keeps (Producer p) own roll x h = (h.0, with_lane-has roll x (Some h.0) h.1)
 before_keeps (Reader p) own roll x h = (h.0, with_reader-has roll x (Some h.0) h.1)
 
--- if the hub's view before the split is true of its seat, that seat is the hub's, and the roster counts the new lane
+-- if the hub's view before the split is true of its seat, that is the hub's, and the roster holds what `lanes_after` says
 before_fits : (size : PoolSize) (t : Seating) (roster seat : ℕ) (who : Process) (own : PoolSize) (roll : Roll)
     → FitsView size t roster seat (before who own roll)
     → IsHub size t seat own roll × (roster ≡ lanes_after who t.lanes)

@@ -29,7 +29,7 @@ pub data Found (p : ℕ) (theirs : History) (ks : List ℕ) (v : ℕ) : Type 0 w
   the_end : v ≡ END → ks ≡ linked_cells p theirs → has_ended p theirs ≡ true → Found p theirs ks v
   no_cell : v ≡ 0 → ks ≡ linked_cells p theirs → has_ended p theirs ≡ false → Found p theirs ks v
 
--- a list with an element has a last one
+-- a list with a first element x has a last element too
 last_of : (x : ℕ) (xs : List ℕ) → (l : List ℕ) × ((k : ℕ) × (l ++ k ∷ [] ≡ x ∷ xs))
 last_of x [] = ([], (x, refl))
 last_of x (y ∷ ys) = let t = last_of y ys in (x ∷ t.0, (t.1.0, ap (λ l. x ∷ l) t.1.1))

@@ -16,7 +16,7 @@ pool_word size (Head p) x = x
 pool_word size (Link k) x = x
 pool_word size (Item k) x = x
 
--- a law of `mb_cells`: a history stays lawful with an access that goes on with its producer's path
+-- a law of `mb_cells`: a history stays lawful with an access in range, true to memory, that its producer's path allows
 abbrev pub ProducerLaw : Type 0
 ProducerLaw =
     (size : PoolSize) (h : History) (a : PoolAccess) (p : ℕ) → IsPoolLawful size h → a.process ≡ Producer p

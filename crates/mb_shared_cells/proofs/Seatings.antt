@@ -1,4 +1,4 @@
--- A process *stands* at the seat whose view has its part. What a step leaves of this for seats that did not make it.
+-- A process *stands* at the seat whose view has its part. A step leaves this as it was for the seats that it spares.
 use Rattle.std.proofs.Common.{List, [], ap, arith, inl, inr, length, length-set, refl, slice_set, subst, sym, ℕ, ⊎_elim, ◌++◌, ◌∙◌, ◌∷◌, ◌≡◌, ◌≢◌, ◌≤◌, ◌⊎◌}
 use Rattle.std.specs.Prelude.{None, Option, Some}
 use Rattle.std.proofs.lemmas.Bool.{cases_eq}
@@ -24,7 +24,7 @@ use Rattle.mb_shared_cells.proofs.ViewLists.{at_within, longer_has, out_or_in, s
 pub moved : Process → ℕ → (Process → ℕ) → Process → ℕ
 moved who to seats x = ⊎_elim (λ _. to) (λ _. seats x) (cases_process who x)
 
--- after that move process `who` stands at seat `to`
+-- by `moved`, process `who` stands at seat `to`
 pub moved-here : (who : Process) (to : ℕ) (seats : Process → ℕ) → moved who to seats who ≡ to
 unfolding moved
 moved-here who to seats = here (cases_process who who)
@@ -33,7 +33,7 @@ moved-here who to seats = here (cases_process who who)
     here (inl e) = refl
     here (inr other) = absurd (other refl)
 
--- after that move each other process stands where it stood
+-- by `moved`, each other process stands where it stood
 pub moved-else : (who : Process) (to : ℕ) (seats : Process → ℕ) (x : Process) → who ≢ x
     → moved who to seats x ≡ seats x
 unfolding moved
@@ -43,7 +43,7 @@ moved-else who to seats x apart = there (cases_process who x)
     there (inl e) = absurd (apart e)
     there (inr other) = refl
 
--- a process that stood at seat `to` before that move stands there still
+-- by `moved`, a process that stood at seat `to` before stands there still
 pub moved-to : (who : Process) (to : ℕ) (seats : Process → ℕ) (x : Process) → seats x ≡ to
     → moved who to seats x ≡ to
 unfolding moved
@@ -77,7 +77,7 @@ pub enrolled_out : (size : PoolSize) (t : Seating) (seat : ℕ) (own : PoolSize)
 enrolled_out size t seat own roll (Producer p) h low = let is = h.lanes in out_or_in roll.lanes p (omega arith)
 enrolled_out size t seat own roll (Reader r) h low = let is = h.readers in out_or_in roll.readers r (omega arith)
 
--- if a step spares a seat, the lanes' parts that the seat knows are still true
+-- if a step spares a seat, each list of lanes' parts that was true before the step is true after it
 knows_still : (t u : Seating) (roster more seat : ℕ) → Spares t u roster more seat → (known : PartList)
     → KnowsTaken t known → KnowsTaken u known
 knows_still t u roster more seat s known h p theirs at =
@@ -134,7 +134,7 @@ fits_still size t u roster more seat s (Member own who known done) h = (
 )
 fits_still size t u roster more seat s Empty h = tt
 
--- a process that stands at a seat stands there still after a view is replaced, if the new view has a part of it too
+-- a process stands at its seat still after a view is replaced, if the new view has a part of it whenever the old one had
 pub stands_then : (views : List View) (at : ℕ) (was new : View) (seat : ℕ) (who : Process)
     → get_elem? views at ≡ some was → (HasProcess was who → HasProcess new who)
     → StandsAt views seat who → StandsAt (slice_set views at new) seat who
