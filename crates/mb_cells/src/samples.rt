@@ -36,7 +36,7 @@ pub fn producers_keep_their_order()
     ensures after_end { IsLanePrefix 1 0 (fetch 0 nine ∷ store 0 (Link 0) END ∷ one_put) → ⊥ }
 {}
 
-/// A reader loads only what its own loads led it to. The end mark leads to no cell.
+/// A reader loads a cell's words only if its own loads led to the cell. The end mark leads to no cell.
 pub fn readers_go_where_they_are_led()
     // A reader may not load an item of a cell that none of its loads led to, or the head of a lane that is not there.
     ensures not_given { IsReaderPath 1 (load 5 (Item 0) 8 ∷ load 5 (Head 0) 0 ∷ []) → ⊥ }

@@ -123,7 +123,7 @@ unfolding before grown
 before_keeps (Producer p) own roll x h = (h.0, with_lane-has roll x (Some h.0) h.1)
 before_keeps (Reader p) own roll x h = (h.0, with_reader-has roll x (Some h.0) h.1)
 
--- if the hub's view before the split is true of its seat, that is the hub's, and the roster holds what `lanes_after` says
+-- if the hub's view before the split is true of its seat, that is the hub's. The roster holds what `lanes_after` says
 before_fits : (size : PoolSize) (t : Seating) (roster seat : ℕ) (who : Process) (own : PoolSize) (roll : Roll)
     → FitsView size t roster seat (before who own roll)
     → IsHub size t seat own roll × (roster ≡ lanes_after who t.lanes)

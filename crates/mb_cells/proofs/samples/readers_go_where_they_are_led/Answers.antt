@@ -1,4 +1,4 @@
--- Proof of `samples::readers_go_where_they_are_led`: a reader loads only what its own loads led it to.
+-- Proof of `samples::readers_go_where_they_are_led`: a reader loads a cell's words only after it loaded a link to it.
 use Rattle.std.proofs.Common.{ap, arith, inl, inr, refl, ℕ, ◌+◌, ◌<◌, ◌≡◌}
 use Rattle.mb_cells.proofs.samples.readers_go_where_they_are_led.Goals as goal
 use Rattle.mb_cells.specs.{Load, PoolAccess}
