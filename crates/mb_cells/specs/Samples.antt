@@ -1,4 +1,4 @@
--- Samples: lawful histories of one lane and one cell.
+-- For samples: three entries, and three lawful histories of a pool of one lane and one cell.
 use Rattle.std.specs.Prelude.{[], ◌^◌, ◌∷◌}
 use Rattle.mb_cells.specs.Types.{END, Head, Item, Link}
 use Rattle.mb_cells.specs.Memory.{History}

@@ -17,7 +17,7 @@ ghost use Rattle.mb_cells.specs.declared.answer.Finish.TheVariants as finish;
 ghost use Rattle.mb_cells.specs.declared.answer.Offer.TheVariants as offer;
 ghost use Rattle.mb_cells.specs.declared.answer.Look.TheVariants as look;
 
-/// The cells that a reader has met on a lane are the first ones of the lane, in the order of linking.
+/// The cells that a reader has met on a lane are the first cells of that lane, in the order of linking.
 pub fn readers_follow_lanes()
     ensures met { (size : PoolSize) (h : History) (r p : ℕ) (ks : List ℕ) → IsPoolLawful size h
         → HasMet r p ks h → IsStart ks (linked_cells p h) }
