@@ -1,4 +1,4 @@
--- The words of a pool in one block.
+-- How each access changes the words of a pool, which lie in one block.
 use Rattle.std.proofs.Common.{List, [], ap, arith, get_or-set_other, get_or-set_same, inl, inr, length, length-set, refl, slice_index, slice_set, subst, sym, ℕ, ◌<◌, ◌∙◌, ◌∷◌, ◌≡◌, ◌≤◌}
 use Rattle.std.specs.Prelude.{unwrap_or}
 use Rattle.mb_cells.specs.{Counter, END, Head, History, IsMemoryOf, IsPoolLawful, IsPoolWord, IsStateOf, Item, Link, PoolAccess, PoolSize, Process, Word}
@@ -27,19 +27,19 @@ address-apart size (Item p) (Head q) a b e = absurd (omega (arith, e, b))
 address-apart size (Item p) (Link q) a b e = absurd (omega (arith, e, b))
 address-apart size (Item p) (Item q) a b e = ap Item (omega (arith, e))
 
--- each word of the pool lies in the block
+-- the address of each word of the pool is below the number of the pool's words
 pub address-within : (size : PoolSize) (w : Word) → IsPoolWord size w → address_of size w < pool_words size
 address-within size Counter b = omega arith
 address-within size (Head p) b = omega (arith, b)
 address-within size (Link k) b = omega (arith, b)
 address-within size (Item k) b = omega (arith, b)
 
--- an access leaves in its word what it stores, or else what was there
+-- after an access its word holds what the access stores, or if it stores nothing, what was there before
 pub value_in-here : (a : PoolAccess) (h : History)
     → value_in a.word (a ∷ h) ≡ unwrap_or (stored_by a.act) (value_in a.word h)
 value_in-here a h = rw (is_same_word-refl a.word) refl
 
--- after an access that may follow, the block holds what the longer history leaves
+-- if the history stays lawful with one access more, the block after that access holds what the longer history leaves
 pub memory_after : (size : PoolSize) (words : List ℕ) (h : History) (a : PoolAccess) → IsMemoryOf size words h
     → IsPoolLawful size (a ∷ h) → IsMemoryOf size (block_after size a words) (a ∷ h)
 memory_after size words h a m l =
@@ -62,7 +62,7 @@ memory_after size words h a m l =
       ];
     }
 
--- after an access that may follow, the words and the parts are those of the longer history
+-- if the history stays lawful with one access more, words and parts after that access are those of the longer history
 pub state_after : (size : PoolSize) (words : List ℕ) (parts : Process → History) (h : History) (a : PoolAccess)
     → IsStateOf size words parts h → IsPoolLawful size (a ∷ h)
     → IsStateOf size (block_after size a words) (parts_after a parts) (a ∷ h)
@@ -71,7 +71,7 @@ state_after size words parts h a s l = record {
   same = λ who. rw (s.same who) refl;
 }
 
--- words that hold 0 are those of the empty history
+-- a block in which all words of the pool hold 0 is what the empty history leaves
 pub state_empty : (size : PoolSize) (words : List ℕ) → size.cells < END → pool_words size ≤ length words
     → ((w : Word) → IsPoolWord size w → slice_index words (address_of size w) ≡ 0)
     → IsStateOf size words (λ who. []) []
@@ -80,7 +80,7 @@ state_empty size words few room empty = record {
   same = λ who. refl;
 }
 
--- what words past those of the pool hold makes no difference
+-- if two blocks have the same words of the pool, the same history leaves both: words past the pool's do not count
 pub state_more : (size : PoolSize) (words more : List ℕ) (parts : Process → History) (h : History)
     → IsStateOf size words parts h
     → ((i : ℕ) → i < pool_words size → slice_index more i ≡ slice_index words i)

@@ -1,4 +1,4 @@
--- What a list of calls says is what the history of its accesses says. A call is *told* if this still holds with it.
+-- Calls with their answers *agree* with the history of their accesses (`Tells`), and still do so after one call more.
 use Rattle.std.proofs.Common.{List, None, Option, Some, [], ap, arith, cond, eq-eqb, false, inl, inr, ne_eqb, refl, subst, sym, true, ℕ, ◌+◌, ◌-◌, ◌<◌, ◌∙◌, ◌∷◌, ◌≡◌, ◌≢◌, ◌≤◌}
 use Rattle.std.specs.Prelude.{if◌then◌else◌, is_some, nat_eq, nat_lt, unwrap_or}
 use Rattle.std.proofs.lemmas.Bool.{cases_Bool, cases_eq, ltb-false}
@@ -19,7 +19,7 @@ use Rattle.mb_cells.proofs.LaneSteps.{finished_lane, offered_lane, pushed_lane, 
 use Rattle.mb_cells.proofs.Names.{own_process, same_twice}
 use Rattle.mb_cells.proofs.Parts.{part-other, part-own}
 
--- the calls say of counter, items, linked cells, ends and stages what the history says
+-- calls agree with a history: they say the same of counter, items, linked cells, ends and stages
 pub record Tells (cells : ℕ) (calls : List Call) (h : History) : Type 0 where
   pub adds : value_in Counter h ≡ fetch_adds_by calls
   pub items : (k : ℕ) → k < cells → item_of k h ≡ item_by k calls
@@ -27,7 +27,7 @@ pub record Tells (cells : ℕ) (calls : List Call) (h : History) : Type 0 where
   pub ends : (p : ℕ) → has_ended p h ≡ has_ended_by p calls
   pub stages : (p : ℕ) (lane : Lane) → IsLaneAfter cells p lane (part (Producer p) h) → lane.stage ≡ stage_by p calls
 
--- no calls say what the empty history says
+-- the empty list of calls agrees with the empty history
 pub told_nothing : (cells : ℕ) → Tells cells [] []
 told_nothing cells = record {
   adds = refl;
@@ -37,7 +37,7 @@ told_nothing cells = record {
   stages = λ p lane at. ap (λ (l : Lane). l.stage) (same_lane cells p lane new_lane [] at (start_lane cells p));
 }
 
--- an access of producer p leaves the stages of other producers
+-- if calls agree with a history, after an access of producer p they still say the stage of each other producer's lane
 stage_other : (cells : ℕ) (calls : List Call) (h : History) (a : PoolAccess) (p q : ℕ) (lane : Lane)
     → Tells cells calls h → a.process ≡ Producer p → q ≢ p
     → IsLaneAfter cells q lane (part (Producer q) (a ∷ h)) → lane.stage ≡ stage_by q calls
@@ -46,7 +46,7 @@ stage_other cells calls h a p q lane t who ne at =
     subst (λ x. is_same_process (Producer q) x ≡ false) (sym who) (ne_eqb q p ne) in
     t.stages q lane (subst (IsLaneAfter cells q lane) (part-other (Producer q) a h not_own) at)
 
--- the stage of the producer's lane is that to which its access leads
+-- the stage of p's lane after an access is that of `now`, the place that p's part with the access leads to
 stage_own : (cells : ℕ) (h : History) (a : PoolAccess) (p : ℕ) (lane now : Lane) → a.process ≡ Producer p
     → IsLaneAfter cells p now (a ∷ part (Producer p) h)
     → IsLaneAfter cells p lane (part (Producer p) (a ∷ h)) → lane.stage ≡ now.stage
@@ -56,7 +56,7 @@ stage_own cells h a p lane now who next at =
     (same_lane cells p lane now (a ∷ part (Producer p) h)
     (subst (IsLaneAfter cells p lane) (part-own (Producer p) a h own) at) next)
 
--- the stages after an access of producer p
+-- after an access of producer p each other stage is as the calls say, and p's is `z p`, the stage of its place `now`
 stages_after : (cells : ℕ) (calls : List Call) (h : History) (a : PoolAccess) (p : ℕ) (now : Lane) (z : ℕ → LaneStage)
     → Tells cells calls h → a.process ≡ Producer p
     → IsLaneAfter cells p now (a ∷ part (Producer p) h) → now.stage ≡ z p
@@ -74,7 +74,7 @@ stages_after cells calls h a p now z t who next is q lane at =
           rw not_own (stage_other cells calls h a p q lane t who other at)
     ]
 
--- a call without an access leaves all stages, if its answer leaves that of its lane
+-- if f keeps the stage of lane p, the calls still say each lane's stage with f applied to that of lane p
 stages_kept : (cells : ℕ) (calls : List Call) (h : History) (p : ℕ) (f : LaneStage → LaneStage)
     → f (stage_by p calls) ≡ stage_by p calls → Tells cells calls h
     → (q : ℕ) (lane : Lane) → IsLaneAfter cells q lane (part (Producer q) h)
@@ -89,7 +89,7 @@ stages_kept cells calls h p f keeps t q lane at =
           rw not_own (t.stages q lane at)
     ]
 
--- an offer whose answer gives no cell, counts no fetch-add and leaves the stage is told
+-- calls still agree after an offer whose answer gives no cell, counts no fetch-add and keeps the stage
 told_no_offer : (cells : ℕ) (calls : List Call) (h : History) (p x : ℕ) (r : Offer)
     → ((k y : ℕ) → item_by_offer k x r y ≡ y) → fetch_adds_by_offer r (stage_by p calls) ≡ 0
     → stage_by_offer x r (stage_by p calls) ≡ stage_by p calls → Tells cells calls h
@@ -102,7 +102,7 @@ told_no_offer cells calls h p x r gives adds keeps t = record {
   stages = stages_kept cells calls h p (stage_by_offer x r) keeps t;
 }
 
--- an offer without an access is told
+-- if calls agree with a history, they still agree after an offer that was refused, so made no access
 told_refusal : (cells : ℕ) (calls : List Call) (h : History) (p x : ℕ) (lane : Lane) (r : Offer)
     → Tells cells calls h → IsLaneAfter cells p lane (part (Producer p) h)
     → stage_offer_refusal lane.stage ≡ Some r → Tells cells (Offered p x r ∷ calls) h
@@ -130,7 +130,7 @@ told_refusal cells calls h p x lane r t here is =
         (sym full) t)
     by stage.Open e n = absurd (cc)
 
--- only at the stage Open an offer is not refused
+-- if a stage refuses no offer, it is Open
 open_stage : (z : LaneStage) → stage_offer_refusal z ≡ None → z ≡ stage.Open
 open_stage (stage.Ended full) n = absurd (cc)
 open_stage (stage.Offered cell item) n = absurd (cc)
@@ -138,7 +138,7 @@ open_stage (stage.Stored cell) n = absurd (cc)
 open_stage stage.Full n = absurd (cc)
 open_stage stage.Open n = refl
 
--- an offer that makes a fetch-add is told
+-- if calls agree with a history, they still agree after an offer that makes a fetch-add
 told_fetch : (cells : ℕ) (calls : List Call) (h : History) (p x : ℕ) (lane : Lane) → Tells cells calls h
     → IsLaneAfter cells p lane (part (Producer p) h) → offer_refusal lane ≡ None
     → Tells cells (Offered p x (offer_by_found cells (value_in Counter h)) ∷ calls)
@@ -177,7 +177,7 @@ told_fetch cells calls h p x lane t here going =
           })
     ]
 
--- every offer is told
+-- if calls agree with a history, they still agree after any offer
 pub told_offer : (cells : ℕ) (calls : List Call) (h : History) (p x : ℕ) (lane : Lane) → Tells cells calls h
     → IsLaneAfter cells p lane (part (Producer p) h)
     → Tells cells (Offered p x (offer_answer cells (value_in Counter h) lane) ∷ calls)
@@ -191,19 +191,19 @@ told_offer cells calls h p x lane t here =
     by None is = rw is (told_fetch cells calls h p x lane t here is)
     by (Some r) is = rw is (told_refusal cells calls h p x lane r t here is)
 
--- a store to a head or link leaves the counter
+-- a store to a head or link leaves the counter's value as it is
 value_in-link : (p : ℕ) (last : Option ℕ) (v : ℕ) (h : History)
     → value_in Counter (store p (link_after p last) v ∷ h) ≡ value_in Counter h
 value_in-link p None v h = refl
 value_in-link p (Some k) v h = refl
 
--- a store to a head or link leaves the items
+-- a store to a head or link leaves the items that were offered for cells as they are
 item_of-link : (p : ℕ) (last : Option ℕ) (v k : ℕ) (h : History)
     → item_of k (store p (link_after p last) v ∷ h) ≡ item_of k h
 item_of-link p None v k h = refl
 item_of-link p (Some j) v k h = refl
 
--- a link store links its cell
+-- a store of k + 1, which is not the end mark, to a head or link adds cell k to its producer's lane, and to no other
 linked_cells-link : (p q : ℕ) (last : Option ℕ) (k : ℕ) (h : History) → k + 1 ≢ END
     → linked_cells q (store p (link_after p last) (k + 1) ∷ h) ≡ cond (nat_eq q p) (k ∷ linked_cells q h)
     (linked_cells q h)
@@ -213,7 +213,7 @@ linked_cells-link p q (Some j) k h ne =
     let no_end : nat_eq (k + 1) END ≡ false = ne_eqb (k + 1) END ne in let m : (k + 1) - 1 ≡ k = omega arith in
     rw (no_end, m) refl
 
--- a link store ends no lane
+-- a store of k + 1 to a head or link ends no lane, if k + 1 is not the end mark
 has_ended-link : (p q : ℕ) (last : Option ℕ) (k : ℕ) (h : History) → k + 1 ≢ END
     → has_ended q (store p (link_after p last) (k + 1) ∷ h) ≡ has_ended q h
 has_ended-link p q None k h ne = let no_end : nat_eq (k + 1) END ≡ false = ne_eqb (k + 1) END ne in
@@ -227,13 +227,13 @@ linked_cells-end : (p q : ℕ) (last : Option ℕ) (h : History)
 linked_cells-end p q None h = same_twice (nat_eq q p) (linked_cells q h)
 linked_cells-end p q (Some j) h = same_twice (nat_eq q p) (linked_cells q h)
 
--- a store of the end mark ends its lane
+-- a store of the end mark ends its producer's lane, and no other
 has_ended-end : (p q : ℕ) (last : Option ℕ) (h : History)
     → has_ended q (store p (link_after p last) END ∷ h) ≡ cond (nat_eq q p) true (has_ended q h)
 has_ended-end p q None h = refl
 has_ended-end p q (Some j) h = refl
 
--- the cell that is to be linked is one of the pool
+-- at the stage Stored the cell that is to be linked is one of the pool
 stored_below : (cells p : ℕ) (lane : Lane) (done : History) (cell : ℕ) (phase : Phase) → PhaseFits cells phase
     → lane.stage ≡ stage_of phase → lane.stage ≡ stage.Stored cell → cell < cells
 stored_below cells p lane done cell phase.Open f x y = absurd (let e = sym x ∙ y in cc)
@@ -246,7 +246,7 @@ stored_below cells p lane done cell (phase.Full e) f x y = absurd (let z = sym x
 stored_below cells p lane done cell (phase.Ended None) f x y = absurd (let z = sym x ∙ y in cc)
 stored_below cells p lane done cell (phase.Ended (Some e)) f x y = absurd (let z = sym x ∙ y in cc)
 
--- a push that stores the item is told
+-- if calls agree with a history, they still agree after a push that stores the item
 told_item : (cells : ℕ) (calls : List Call) (h : History) (p : ℕ) (lane : Lane) (cell item : ℕ) → Tells cells calls h
     → IsLaneAfter cells p lane (part (Producer p) h) → lane.stage ≡ stage.Offered cell item
     → Tells cells (Pushed p (push.Item cell) ∷ calls) (store p (Item cell) item ∷ h)
@@ -263,7 +263,7 @@ told_item cells calls h p lane cell item t here is =
           (λ q. stage.Stored cell) t refl next (ap stage_after_push is);
     }
 
--- a push that stores the link is told
+-- if calls agree with a history, they still agree after a push that stores the link
 told_link : (cells : ℕ) (calls : List Call) (h : History) (p : ℕ) (lane : Lane) (cell : ℕ) → cells < END
     → Tells cells calls h → IsLaneAfter cells p lane (part (Producer p) h) → lane.stage ≡ stage.Stored cell
     → Tells cells (Pushed p (push.Link cell) ∷ calls) (store p (next_link p lane) (cell + 1) ∷ h)
@@ -283,7 +283,7 @@ told_link cells calls h p lane cell sized t here is =
           (λ q. stage.Open) t refl next (ap stage_after_push is);
     }
 
--- a push that makes no store is told
+-- if calls agree with a history, they still agree after a push that makes no store
 told_idle : (cells : ℕ) (calls : List Call) (h : History) (p : ℕ) → Tells cells calls h
     → Tells cells (Pushed p push.Idle ∷ calls) h
 told_idle cells calls h p t = record {
@@ -294,7 +294,7 @@ told_idle cells calls h p t = record {
   stages = stages_kept cells calls h p (stage_by_push push.Idle) refl t;
 }
 
--- every push is told
+-- if calls agree with a history, they still agree after any push
 pub told_push : (cells : ℕ) (calls : List Call) (h : History) (p : ℕ) (lane : Lane) → cells < END
     → Tells cells calls h → IsLaneAfter cells p lane (part (Producer p) h)
     → Tells cells (Pushed p (push_answer lane) ∷ calls) (history_after_push p lane h)
@@ -310,7 +310,7 @@ told_push cells calls h p lane sized t here =
     by stage.Full is = rw is (told_idle cells calls h p t)
     by stage.Open is = rw is (told_idle cells calls h p t)
 
--- a finish that makes no access is told
+-- calls still agree after a finish that makes no access, if its answer is not Ended and keeps the stage
 told_no_finish : (cells : ℕ) (calls : List Call) (h : History) (p : ℕ) (r : Finish) → is_end r ≡ false
     → stage_by_finish r (stage_by p calls) ≡ stage_by p calls
     → Tells cells calls h → Tells cells (Finished p r ∷ calls) h
@@ -322,7 +322,7 @@ told_no_finish cells calls h p r no_end keeps t = record {
   stages = stages_kept cells calls h p (stage_by_finish r) keeps t;
 }
 
--- a finish that stores the end mark is told
+-- if calls agree with a history, they still agree after a finish that stores the end mark
 told_end : (cells : ℕ) (calls : List Call) (h : History) (p : ℕ) (lane : Lane) → Tells cells calls h
     → IsLaneAfter cells p lane (part (Producer p) h) → finish_refusal lane ≡ None
     → Tells cells (Finished p finish.Ended ∷ calls) (store p (next_link p lane) END ∷ h)
@@ -338,7 +338,7 @@ told_end cells calls h p lane t here going =
           (ap (λ z. stage.Ended (is_full z)) (t.stages p lane here));
     }
 
--- every finish is told
+-- if calls agree with a history, they still agree after any finish
 pub told_finish : (cells : ℕ) (calls : List Call) (h : History) (p : ℕ) (lane : Lane) → Tells cells calls h
     → IsLaneAfter cells p lane (part (Producer p) h)
     → Tells cells (Finished p (finish_answer lane) ∷ calls) (history_after_finish p lane h)

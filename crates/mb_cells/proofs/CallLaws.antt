@@ -1,4 +1,4 @@
--- A pool after a list of calls.
+-- What a list of calls with their answers says of the pool after them.
 use Rattle.std.proofs.Common.{List, [], ap, arith, inl, inr, refl, subst, sym, ℕ, ◌<◌, ◌∙◌, ◌∷◌, ◌≡◌}
 use Rattle.std.specs.Prelude.{if◌then◌else◌, map, reverse, slice_index_or, unwrap_or}
 use Rattle.mb_cells.specs.declared.answer.Finish.TheVariants as finish
@@ -14,7 +14,7 @@ use Rattle.mb_cells.proofs.EndMarks.{end_word}
 use Rattle.mb_cells.proofs.Items.{LeadThrough, cell_within, item_held, lead_through, once_each, one_lane, same_map}
 use Rattle.mb_cells.proofs.LaneReading.{cursor_past, end_look, reads_back}
 
--- the words of a state lead through a lane as its history's words do
+-- if the words that a history leaves lead through these cells, so do the words of each state that it leaves
 lead_words : (h : History) (s : PoolState) (p : ℕ) (ks : List ℕ) → IsAfter h s → p < lane_count s
     → ((k : ℕ) → Has ks k → k < cell_count s)
     → LeadThrough (λ w. value_in w h) p ks → LeadThrough (λ w. word_in w s.words) p ks
@@ -26,14 +26,14 @@ lead_words h s p (k ∷ j ∷ ks) after lt low lead = (
   lead_words h s p (j ∷ ks) after lt (λ i has. low i (inr has)) lead.1,
 )
 
--- the word past a lane's last cell is as its history has it
+-- the word past these cells holds in the state what the history leaves in it
 last_word : (h : History) (s : PoolState) (p : ℕ) (ks : List ℕ) → IsAfter h s → p < lane_count s
     → ((k : ℕ) → Has ks k → k < cell_count s)
     → word_in (word_of (cursor_past p ks)) s.words ≡ value_in (place_past p ks) h
 last_word h s p [] after lt low = after.words (Head p) lt
 last_word h s p (k ∷ ks) after lt low = after.words (Link k) (low k (inl refl))
 
--- in every state a lane reads as the put list and the end of each history that leaves the state
+-- looks along a lane of a state give the put list of any history that leaves the state, and then the lane's end
 pub state_reads : (h : History) (s : PoolState) (p : ℕ) → IsAfter h s → p < lane_count s
     → Reads (λ at. look_in at s) (λ k. item_in k s) (cursor.Head p) (put_list p h) (lane_end p h)
 state_reads h s p after lt =
@@ -47,7 +47,7 @@ state_reads h s p after lt =
     (ap look_of (last_word h s p (linked_cells p h) after lt low ∙ end_word (size_of s) h p l)
     ∙ end_look (has_ended p h))
 
--- the state after a list of calls, with a history that leaves it
+-- the state has the pool's size, and some history that leaves it agrees with the calls
 pub record Stands (size : PoolSize) (calls : List Call) (s : PoolState) : Type 0 where
   pub lanes_are : lane_count s ≡ size.lanes
   pub cells_are : cell_count s ≡ size.cells
@@ -55,7 +55,7 @@ pub record Stands (size : PoolSize) (calls : List Call) (s : PoolState) : Type 0
   pub after : IsAfter history s
   pub tells : Tells (cell_count s) calls history
 
--- a list of calls leaves a state with its history
+-- the state after a list of calls is one that `Stands` describes
 pub made_stands : (size : PoolSize) (calls : List Call) (s : PoolState) → HasMade size calls s → Stands size calls s
 made_stands size [] s made = record {
   lanes_are = made.0;
@@ -111,7 +111,7 @@ made_stands size (Finished p r ∷ older) s (was, (made, (lt, meets, same))) =
           (sym m.0) told);
     }
 
--- after a list of calls a lane reads as the calls say
+-- after a list of calls, looks along a lane give the put list and the end that the calls alone say
 pub calls_read : (size : PoolSize) (p : ℕ) (calls : List Call) (s : PoolState) → HasMade size calls s → p < size.lanes
     → Reads (λ at. look_in at s) (λ k. item_in k s) (cursor.Head p) (put_list_by p calls) (lane_end_by p calls)
 calls_read size p calls s made lt =
@@ -128,7 +128,7 @@ calls_read size p calls s made lt =
     (if z then look.Ended else look.Nothing)) (b.tells.ends p)
     (state_reads b.history s p b.after here))
 
--- the answer of each call is the one that the calls before it ask for
+-- each call returns what follows from the calls before it (`IsAnswerBy`)
 pub calls_answer : (size : PoolSize) (c : Call) (older : List Call) (s : PoolState) → HasMade size (c ∷ older) s
     → IsAnswerBy size.cells c older
 calls_answer size (Offered p x r) older s (was, (made, (lt, meets, same))) =
@@ -153,7 +153,7 @@ calls_answer size (Finished p r) older s (was, (made, (lt, meets, same))) =
     m.0 ∙ ap (λ z. unwrap_or (stage_finish_refusal z) finish.Ended)
     (b.tells.stages p (slice_index_or was.lanes p new_lane) here)
 
--- a cell is linked by one lane at most
+-- no cell is linked into two lanes
 pub calls_once : (size : PoolSize) (p q k : ℕ) (calls : List Call) (s : PoolState) → HasMade size calls s
     → Has (linked_cells_by p calls) k → Has (linked_cells_by q calls) k → p ≡ q
 calls_once size p q k calls s made x y =
@@ -161,7 +161,7 @@ calls_once size p q k calls s made x y =
     one_lane (size_of s) b.history p q k b.after.lawful
     (subst (λ z. Has z k) (sym (b.tells.cells_linked p)) x) (subst (λ z. Has z k) (sym (b.tells.cells_linked q)) y)
 
--- a cell stands once in its lane
+-- no cell is linked into a lane twice
 pub calls_once_each : (size : PoolSize) (p : ℕ) (calls : List Call) (s : PoolState) → HasMade size calls s
     → IsOnceEach (linked_cells_by p calls)
 calls_once_each size p calls s made =

@@ -1,4 +1,4 @@
--- The numbers that a list of calls handed out.
+-- Which cells the offers in a list of calls returned, and when an offer returns Full.
 use Rattle.std.proofs.Common.{List, None, Some, [], ap, arith, inl, inr, refl, subst, sym, ℕ, ◌<◌, ◌∙◌, ◌∷◌, ◌≡◌, ◌≤◌}
 use Rattle.std.specs.Prelude.{nat_lt, slice_index_or, unwrap_or}
 use Rattle.std.proofs.lemmas.Bool.{cases_Bool, ltb-false, ltb-true}
@@ -13,7 +13,7 @@ use Rattle.mb_cells.proofs.Counter.{IsCounted, fetch-below}
 use Rattle.mb_cells.proofs.Histories.{lawful-counted}
 use Rattle.mb_cells.proofs.Parts.{Has-of_part}
 
--- if an offer returns a cell, it is the one that the fetch-add gave, and one of the pool
+-- if an offer whose fetch-add gives n returns cell k, then k is n, and one of the pool's cells
 given_cell : (cells n k : ℕ) (z : LaneStage) → offer.Cell k ≡ unwrap_or (stage_offer_refusal z) (offer_by_found cells n)
     → (k ≡ n) × (k < cells)
 given_cell cells n k (stage.Ended full) is = absurd (cc)
@@ -29,14 +29,14 @@ given_cell cells n k stage.Open is =
       | inr high ↦ absurd (let full : offer.Cell k ≡ offer.Full = is ∙ rw high refl in cc)
     ]
 
--- the number of a cell is the number of earlier fetch-adds
+-- an offer returns the cell whose number is the number of fetch-adds before it, and that is one of the pool's cells
 pub calls_cell : (size : PoolSize) (p x k : ℕ) (older : List Call) (s : PoolState)
     → HasMade size (Offered p x (offer.Cell k) ∷ older) s → (k ≡ fetch_adds_by older) × (k < size.cells)
 calls_cell size p x k older s made =
     given_cell size.cells (fetch_adds_by older) k (stage_by p older)
     (calls_answer size (Offered p x (offer.Cell k)) older s made)
 
--- after a fetch-add that found no cell all cells were handed out
+-- if a producer is at the stage Full, its fetch-add found no cell, so the counter is above the number of cells
 full_at : (cells p : ℕ) (lane : Lane) (h : History) → IsCounted h → IsLaneAfter cells p lane (part (Producer p) h)
     → lane.stage ≡ stage.Full → cells < value_in Counter h
 full_at cells p lane h counted x is =
@@ -53,7 +53,7 @@ full_at cells p lane h counted x is =
     by (phase.Ended None) at e = absurd (cc)
     by (phase.Ended (Some f)) at e = absurd (cc)
 
--- Full comes from a fetch-add past the cells, or after one
+-- if an offer returns Full while the counter holds n, all cells have numbers below n
 given_full : (cells n : ℕ) (z : LaneStage) → (z ≡ stage.Full → cells < n)
     → offer.Full ≡ unwrap_or (stage_offer_refusal z) (offer_by_found cells n) → cells ≤ n
 given_full cells n (stage.Ended full) past is = absurd (cc)
@@ -66,7 +66,7 @@ given_full cells n stage.Open past is =
       | inr high ↦ ltb-false n cells high
     ]
 
--- Full comes only if the fetch-adds before it handed out all cells
+-- if an offer returns Full, the fetch-adds before it were at least as many as the pool has cells
 pub calls_full : (size : PoolSize) (p x : ℕ) (older : List Call) (s : PoolState)
     → HasMade size (Offered p x offer.Full ∷ older) s → size.cells ≤ fetch_adds_by older
 calls_full size p x older s (was, (made, (lt, meets, same))) =
@@ -80,7 +80,7 @@ calls_full size p x older s (was, (made, (lt, meets, same))) =
     given_full size.cells (fetch_adds_by older) (stage_by p older) past
     (calls_answer size (Offered p x offer.Full) older s (was, (made, (lt, meets, same))))
 
--- each cell below the number of fetch-adds was handed out
+-- each cell whose number is below the number of fetch-adds was returned by an offer
 pub calls_given : (size : PoolSize) (k : ℕ) (calls : List Call) (s : PoolState) → HasMade size calls s
     → k < fetch_adds_by calls → k < size.cells → WasGivenBy k calls
 calls_given size k [] s made few low = absurd (omega (arith, few))
@@ -101,7 +101,7 @@ calls_given size k (Offered p x offer.Closed ∷ older) s (was, (made, leads)) f
 calls_given size k (Pushed p r ∷ older) s (was, (made, leads)) few low = calls_given size k older was made few low
 calls_given size k (Finished p r ∷ older) s (was, (made, leads)) few low = calls_given size k older was made few low
 
--- Full comes only if each cell was handed out
+-- if an offer returns Full, each cell was returned by an earlier offer
 pub calls_handed_out : (size : PoolSize) (p x k : ℕ) (older : List Call) (s : PoolState)
     → HasMade size (Offered p x offer.Full ∷ older) s → k < size.cells → WasGivenBy k older
 calls_handed_out size p x k older s (was, (made, leads)) low =

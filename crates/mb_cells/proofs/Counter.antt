@@ -6,17 +6,17 @@ use Rattle.mb_cells.specs.{is_fetch_add, is_same_process, is_same_word, part, st
 use Rattle.mb_cells.proofs.Names.{is_same_word-eq, stores_or_not, value_in-kept, value_in-other, value_in-stored}
 use Rattle.mb_cells.proofs.Parts.{Has-of_part}
 
--- the memory is true, and the counter is only added to
+-- the history is true to memory, and only fetch-adds store to the counter
 pub record IsCounted (h : History) : Type 0 where
   pub memory : IsMemoryTrue h
   pub adds : (a : PoolAccess) (v : ℕ) → Has h a → a.word ≡ Counter → stored_by a.act ≡ Some v
       → is_fetch_add a.act ≡ true
 
--- without its newest access a history that is true to memory, and only adds to the counter, is so still
+-- if `IsCounted` holds of a history, it holds of it without its newest access too
 pub counted-tail : (a : PoolAccess) (h : History) → IsCounted (a ∷ h) → IsCounted h
 counted-tail a h c = record { memory = c.memory.1; adds = λ b v has. c.adds b v (inr has) }
 
--- the access leaves the counter, and is no fetch-add of it
+-- the access leaves the counter's value, and the number of fetch-adds of the counter, as they were
 pub record IsNoAdd (a : PoolAccess) (h : History) : Type 0 where
   pub value : value_in Counter (a ∷ h) ≡ value_in Counter h
   pub adds : fetch_adds_on Counter (a ∷ h) ≡ fetch_adds_on Counter h
@@ -35,12 +35,12 @@ pub record IsFetchAdd (act : PoolAct) : Type 0 where
   pub found : ℕ
   pub is : act ≡ FetchAdd item found
 
--- an act that passes the test is a fetch-add
+-- if `is_fetch_add` is true of an act, the act is a fetch-add
 pub fetch-add : (act : PoolAct) → is_fetch_add act ≡ true → IsFetchAdd act
 fetch-add (FetchAdd x n) is = record { item = x; found = n; is = refl }
 fetch-add _ is = absurd (false≢true is)
 
--- each access leaves the counter or adds to it
+-- each access leaves the counter as it was, or is a fetch-add that raises it by one
 pub counter_step : (a : PoolAccess) (h : History) → IsCounted (a ∷ h) → IsNoAdd a h ⊎ IsAdd a h
 counter_step a h c =
     elim (cases_Bool (is_same_word a.word Counter)) [
@@ -88,7 +88,7 @@ counter_count (a ∷ h) c =
       | inr adds ↦ adds.value ∙ ap (λ z. z + 1) rest ∙ sym adds.adds
     ]
 
--- no access takes from the counter
+-- no access lowers the counter
 pub counter-grows : (a : PoolAccess) (h : History) → IsCounted (a ∷ h) → value_in Counter h ≤ value_in Counter (a ∷ h)
 counter-grows a h c =
     elim (counter_step a h c) [
@@ -96,7 +96,7 @@ counter-grows a h c =
       | inr adds ↦ omega (arith, adds.value)
     ]
 
--- a fetch-add finds what the counter holds
+-- the number that a fetch-add found is what the counter held before it
 pub fetch-found : (a : PoolAccess) (h : History) (p : ℕ) (e : Entry) → IsCounted (a ∷ h) → a ≡ fetch p e
     → e.cell ≡ value_in Counter h
 fetch-found a h p e c is =
@@ -116,7 +116,7 @@ fetch-below (b ∷ h) p e c (inr has) =
     let rest = fetch-below h p e (counted-tail b h c) has in
     omega (arith, rest, counter-grows b h c)
 
--- fetch-adds that gave one number are one access
+-- two fetch-adds that gave the same number are the same access
 pub fetch-one : (h : History) (p q : ℕ) (e f : Entry) → IsCounted h → Has h (fetch p e) → Has h (fetch q f)
     → e.cell ≡ f.cell → fetch p e ≡ fetch q f
 fetch-one [] p q e f c x y s = absurd x
@@ -131,12 +131,12 @@ fetch-one (b ∷ h) p q e f c (inr x) (inl y) s =
     absurd (omega (arith, found, low))
 fetch-one (b ∷ h) p q e f c (inr x) (inr y) s = fetch-one h p q e f (counted-tail b h c) x y s
 
--- the cells given by fetch-adds rise
+-- each fetch-add gave a greater number than all older ones
 abbrev pub AreRising : History → Type 0
 AreRising [] = Unit {0}
 AreRising (a ∷ h) = ((p q : ℕ) (e f : Entry) → a ≡ fetch p e → Has h (fetch q f) → f.cell < e.cell) × AreRising h
 
--- in a memory-true history the numbers given rise
+-- if only fetch-adds store to the counter, each gave a greater number than all older ones
 pub rising : (h : History) → IsCounted h → AreRising h
 rising [] c = tt
 rising (a ∷ h) c = (
@@ -147,7 +147,7 @@ rising (a ∷ h) c = (
   rising h (counted-tail a h c),
 )
 
--- in each part, too, the numbers rise
+-- if the numbers given rise in a history, they rise in each process's part of it
 pub rising-part : (who : Process) (h : History) → AreRising h → AreRising (part who h)
 rising-part who [] r = tt
 rising-part who (a ∷ h) r =

@@ -1,4 +1,4 @@
--- The counter: it is at most the cells and the producers refused, and each number below it was handed out.
+-- The counter is at most the number of cells and of producers refused together. Each number below it was handed out.
 use Rattle.std.proofs.Common.{Bool, List, [], ap, arith, cond, eq-eqb, false, inl, inr, le-leb, refl, subst, suc, sym, true, zero, ℕ, ◌++◌, ◌+◌, ◌<◌, ◌||◌, ◌∙◌, ◌∷◌, ◌≡◌, ◌≤◌}
 use Rattle.std.specs.Prelude.{nat_le}
 use Rattle.std.proofs.lemmas.Bool.{cases_Bool, cases_eq, cases_lt, cond_both, lt-leb}
@@ -12,12 +12,12 @@ use Rattle.mb_cells.proofs.OneStep.{older_lawful}
 use Rattle.mb_cells.proofs.Parts.{part-own}
 use Rattle.mb_cells.proofs.Places.{came_from}
 
--- whether the act is a fetch-add past the cells
+-- whether the act is a fetch-add that found no cell, in a pool of `cells` cells
 abbrev pub refused_act : ℕ → PoolAct → Bool
 refused_act cells (FetchAdd x n) = nat_le cells n
 refused_act cells _ = false
 
--- whether producer p was refused a cell
+-- whether producer p was refused a cell: one of its fetch-adds found none
 abbrev pub has_refused : ℕ → ℕ → History → Bool
 has_refused p cells [] = false
 has_refused p cells (a ∷ h) = cond (is_same_process (Producer p) a.process)
@@ -35,7 +35,7 @@ refusals-bound cells (suc n) h =
     cond_both (has_refused n cells h) 1 0 (λ z. z + refusals cells n h ≤ suc n)
     (λ _. omega (arith, refusals-bound cells n h)) (λ _. omega (arith, refusals-bound cells n h))
 
--- a producer with a fetch-add that found no cell has one after a further access, too
+-- a producer that was refused a cell still counts as refused after a further access
 refused-more : (p cells : ℕ) (a : PoolAccess) (h : History) → has_refused p cells h ≡ true
     → has_refused p cells (a ∷ h) ≡ true
 refused-more p cells a h is =
@@ -43,12 +43,12 @@ refused-more p cells a h is =
     (has_refused p cells h) (λ z. z ≡ true)
     (λ _. rw is (elim (refused_act cells a.act) as (λ z. (z || true) ≡ true) [ true ↦ refl | false ↦ refl ])) (λ _. is)
 
--- a test that turns true counts one more
+-- if c is true whenever b is, c counts (1 if true, else 0) at least as much as b
 one-more : (b c : Bool) → (b ≡ true → c ≡ true) → cond {A = ℕ} b 1 0 ≤ cond {A = ℕ} c 1 0
 one-more true c h = rw (h refl) (omega arith)
 one-more false c h = omega arith
 
--- the count of producers refused does not fall
+-- a further access does not lower the number of producers refused
 refusals-more : (cells n : ℕ) (a : PoolAccess) (h : History) → refusals cells n h ≤ refusals cells n (a ∷ h)
 refusals-more cells zero a h = omega arith
 refusals-more cells (suc n) a h =
@@ -58,7 +58,7 @@ refusals-more cells (suc n) a h =
       one-more (has_refused n cells h) (has_refused n cells (a ∷ h)) (refused-more n cells a h),
     )
 
--- the count rises with a producer that is refused for the first time
+-- the number of producers refused rises if an access is the first with which producer p was refused
 refusals-new : (cells n p : ℕ) (a : PoolAccess) (h : History) → p < n → has_refused p cells h ≡ false
     → has_refused p cells (a ∷ h) ≡ true → refusals cells n h + 1 ≤ refusals cells n (a ∷ h)
 refusals-new cells zero p a h lt before now = absurd (omega arith)
@@ -75,7 +75,7 @@ refusals-new cells (suc n) p a h lt before now =
           omega (arith, refusals-new cells n p a h (omega arith) before now, more)
     ]
 
--- whether a producer was refused is told by its own part
+-- whether a producer was refused a cell is the same in its own part as in the whole history
 refused-part : (p cells : ℕ) (h : History) → has_refused p cells h ≡ has_refused p cells (part (Producer p) h)
 refused-part p cells [] = refl
 refused-part p cells (a ∷ h) =
@@ -91,7 +91,7 @@ none-groups p cells (e ∷ es) b =
     let low : nat_le cells e.cell ≡ false = lt-leb cells e.cell b.0 in
     rw (eq-eqb p p refl, low) (none-groups p cells es b.1)
 
--- a fetch-add past the cells is its producer's first
+-- a fetch-add that finds no cell is the first of its producer that finds none
 first_refusal : (p cells : ℕ) (es fs : List Entry) (was now : Phase) (a : PoolAccess) (d : History) (x n : ℕ)
     → Steps cells p es was a fs now → LaneIsAt cells p es was d
     → a.act ≡ FetchAdd x n → cells ≤ n → has_refused p cells d ≡ false
@@ -104,7 +104,7 @@ first_refusal p cells es fs was now a d x n (links_cell _ e) at is high = absurd
 first_refusal p cells es fs was now a d x n (ends_lane _) at is high = absurd (cc)
 first_refusal p cells es fs was now a d x n (ends_refused _ e) at is high = absurd (cc)
 
--- a fetch-add past the cells raises the count
+-- a fetch-add that finds no cell raises the number of producers refused
 new-refusal : (size : PoolSize) (a : PoolAccess) (h : History) (x n : ℕ) → IsPoolLawful size (a ∷ h)
     → a.act ≡ FetchAdd x n → size.cells ≤ n
     → refusals size.cells size.lanes h + 1 ≤ refusals size.cells size.lanes (a ∷ h)
@@ -135,7 +135,7 @@ new-refusal size a h x n l is high =
     ] in
     by a.process refl
 
--- the counter is at most the cells and the refusals
+-- the counter is at most the number of cells plus the number of producers refused
 counted : (size : PoolSize) (h : History) → IsPoolLawful size h
     → value_in Counter h ≤ size.cells + refusals size.cells size.lanes h
 counted size [] l = omega arith
@@ -154,7 +154,7 @@ counted size (a ∷ h) l =
           ]
     ]
 
--- the counter is at most the cells and the lanes together
+-- the counter is at most the number of cells plus the number of lanes
 pub counter_bound : (size : PoolSize) (h : History) → IsPoolLawful size h → value_in Counter h ≤ size.cells + size.lanes
 counter_bound size h l = omega (arith, counted size h l, refusals-bound size.cells size.lanes h)
 
@@ -174,7 +174,7 @@ handed_out (a ∷ h) k c lt =
           ]
     ]
 
--- a fetch-add past the cells comes when all cells were handed out
+-- when a fetch-add finds no cell, all cells were handed out
 pub all_handed_out : (size : PoolSize) (h : History) (p k : ℕ) (e : Entry) → IsPoolLawful size h
     → Has h (fetch p e) → size.cells ≤ e.cell → k < size.cells → WasHandedOut k h
 all_handed_out size h p k e l has high lt =

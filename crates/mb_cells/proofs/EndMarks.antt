@@ -1,4 +1,4 @@
--- The end mark: nothing follows it, it stands past the last cell, and who loaded it was told that the lane has ended.
+-- In a lawful history an end mark is its producer's last access, past the last cell. A lane that shows it has ended.
 use Rattle.std.proofs.Common.{Bool, List, [], ap, arith, cond, eq-eqb, false, inl, inr, ne_eqb, refl, subst, sym, true, ℕ, ◌++◌, ◌+◌, ◌<◌, ◌||◌, ◌∙◌, ◌∷◌, ◌≡◌}
 use Rattle.std.specs.Prelude.{nat_eq}
 use Rattle.std.proofs.lemmas.Bool.{cases_Bool, false≢true}
@@ -11,7 +11,7 @@ use Rattle.mb_cells.proofs.Parts.{part-other, part-own}
 use Rattle.mb_cells.proofs.Places.{steps_only}
 use Rattle.mb_cells.proofs.ProducerWords.{end_value}
 
--- the part of two joined histories is their parts joined
+-- a process's part of two histories joined is its parts of both, joined
 part-append : (who : Process) (x y : History) → part who (x ++ y) ≡ part who x ++ part who y
 part-append who [] y = refl
 part-append who (a ∷ x) y =
@@ -20,7 +20,7 @@ part-append who (a ∷ x) y =
       | inr other ↦ rw other (part-append who x y)
     ]
 
--- whether the producer has stored its end mark, by the phase
+-- whether a producer in this phase has stored its end mark
 abbrev pub is_ended : Phase → Bool
 is_ended Open = false
 is_ended (Offered _) = false
@@ -28,7 +28,7 @@ is_ended (Stored _) = false
 is_ended (Full _) = false
 is_ended (Ended _) = true
 
--- no step leads on from the end
+-- a producer makes a step only from a phase in which it has not stored its end mark
 steps_open : (cells p : ℕ) (es fs : List Entry) (was now : Phase) (a : PoolAccess) → Steps cells p es was a fs now
     → is_ended was ≡ false
 steps_open cells p es fs was now a (takes_cell _ e b) = refl
@@ -38,7 +38,7 @@ steps_open cells p es fs was now a (links_cell _ e) = refl
 steps_open cells p es fs was now a (ends_lane _) = refl
 steps_open cells p es fs was now a (ends_refused _ e) = refl
 
--- a producer's own part tells whether its lane has ended
+-- whether a lane has ended is the same in its producer's part as in the whole history
 pub has_ended-part : (p : ℕ) (h : History) → has_ended p h ≡ has_ended p (part (Producer p) h)
 has_ended-part p [] = refl
 has_ended-part p (a ∷ h) =
@@ -47,19 +47,19 @@ has_ended-part p (a ∷ h) =
       | inr other ↦ rw other (has_ended-part p h)
     ]
 
--- a store to the next link marks the end if it is the end mark
+-- a store of v to the word past a lane's last entry stores the end mark exactly if v is the end mark
 marks-link : (p : ℕ) (es : List Entry) (v : ℕ) → marks_end (place_after p es) (Store v) ≡ nat_eq v END
 marks-link p [] v = refl
 marks-link p (e ∷ es) v = refl
 
--- the groups of a producer do not end its lane
+-- a producer that has made groups alone has not ended its lane
 open-groups : (p cells : ℕ) (es : List Entry) → cells < END → AllCellsBelow cells es → has_ended p (groups p es) ≡ false
 open-groups p cells [] c b = refl
 open-groups p cells (e ∷ es) c b =
     let ne : nat_eq (e.cell + 1) END ≡ false = ne_eqb (e.cell + 1) END (λ x. absurd (omega (arith, b.0))) in
     rw (eq-eqb p p refl, marks-link p es (e.cell + 1), ne) (open-groups p cells es c b.1)
 
--- what was done ends the lane in the last phase alone
+-- a producer that has linked these entries and is in this phase has ended its lane exactly if the phase is Ended
 has_ended-part_at : (p cells : ℕ) (es : List Entry) (phase : Phase) → cells < END → AllCellsBelow cells es
     → has_ended p (part_at p es phase) ≡ is_ended phase
 has_ended-part_at p cells es Open c b = open-groups p cells es c b
@@ -68,7 +68,7 @@ has_ended-part_at p cells es (Stored e) c b = rw (eq-eqb p p refl) (open-groups 
 has_ended-part_at p cells es (Full e) c b = rw (eq-eqb p p refl) (open-groups p cells es c b)
 has_ended-part_at p cells es (Ended r) c b = rw (eq-eqb p p refl, marks-link p es END) refl
 
--- a lane has ended if its producer stands at the end
+-- if producer p is at this place in a history, its lane has ended exactly if the phase is Ended
 pub ended_is : (cells p : ℕ) (h : History) (es : List Entry) (phase : Phase) → cells < END
     → LaneIsAt cells p es phase (part (Producer p) h) → has_ended p h ≡ is_ended phase
 ended_is cells p h es phase c at =
@@ -99,12 +99,12 @@ after_end size (a ∷ later) older p l ended =
       | inr other ↦ part-other (Producer p) a later other ∙ none
     ]
 
--- the word past the cells is the word past their entries
+-- the word past the cells of a list of entries is the word past the entries themselves
 place_cells : (p : ℕ) (es : List Entry) → place_past p (cells_of es) ≡ place_after p es
 place_cells p [] = refl
 place_cells p (e ∷ es) = refl
 
--- what the word past the last cell holds, by whether the phase is the end
+-- the value of the word past the last cell (`end_value`) is the end mark if the phase is Ended, else 0
 ended-value : (phase : Phase) → end_value phase ≡ cond (is_ended phase) END 0
 ended-value Open = refl
 ended-value (Offered _) = refl
@@ -122,7 +122,7 @@ end_word size h p l =
     ∙ next_is size p h place.entries place.phase l place.at ∙ ended-value place.phase
     ∙ ap (λ x. cond x END 0) (sym (ended_is size.cells p h place.entries place.phase l.sized place.at))
 
--- a reader that loaded the end mark was told that the lane has ended
+-- if a reader loaded the end mark past the cells of lane p that it met, lane p has ended
 pub end_told : (size : PoolSize) (h : History) (r p : ℕ) (ks : List ℕ) → IsPoolLawful size h → HasMet r p ks h
     → HasLoaded r (place_past p ks) END h → has_ended p h ≡ true
 end_told size h r p ks l met loaded =

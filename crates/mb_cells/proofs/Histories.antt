@@ -1,4 +1,4 @@
--- What holds of every lawful history.
+-- Facts of every lawful history: who stores to which word, how lanes link their cells, and what readers meet of them.
 use Rattle.std.proofs.Common.{List, None, Some, [], ap, append_assoc, arith, eq-eqb, false, inl, inr, ne_eqb, refl, subst, sym, ℕ, ◌++◌, ◌+◌, ◌-◌, ◌<◌, ◌∙◌, ◌∷◌, ◌≡◌, ◌⊎◌}
 use Rattle.std.specs.Prelude.{nat_eq}
 use Rattle.std.proofs.lemmas.Bool.{cases_Bool, cases_eq, cond_both}
@@ -37,18 +37,18 @@ lawful-tail size a h l = record {
       (λ _ x. x.2) (λ _ x. x) (l.readers r);
 }
 
--- a reader makes loads alone
+-- each access of a reader path is a load
 reader-loads : (lanes : ℕ) (h : History) (a : PoolAccess) → IsReaderPath lanes h → Has h a → IsLoad a.act
 reader-loads lanes [] a p m = absurd m
 reader-loads lanes (b ∷ h) a p (inl is) = subst (λ x. IsLoad x.act) is p.0
 reader-loads lanes (b ∷ h) a p (inr m) = reader-loads lanes h a p.2 m
 
--- equal fetch-adds are of one producer
+-- two fetch-adds that are equal were made by the same producer
 pub same-maker : (p q : ℕ) (e f : Entry) → fetch p e ≡ fetch q f → p ≡ q
 same-maker p q e f is =
     let e : Producer p ≡ Producer q = ap (λ (a : PoolAccess). a.process) is in cc
 
--- producer p stands at one place of its path
+-- in a lawful history each producer stands at some place of its path
 pub place_of : (size : PoolSize) (h : History) (p : ℕ) → IsPoolLawful size h
     → IsSomewhere size.cells p (part (Producer p) h)
 place_of size h p l = somewhere size.cells p (part (Producer p) h) (l.producers p)
@@ -58,15 +58,15 @@ load-stores : (act : PoolAct) → IsLoad act → stored_by act ≡ None
 load-stores (Load v) is = refl
 load-stores _ is = absurd is
 
--- the producer whose access stored the value, and how
+-- access a stored v: its producer, and whether it is a fetch-add or a store to a word of that producer's own
 pub record IsStorer (h : History) (a : PoolAccess) (v : ℕ) : Type 0 where
   pub maker : ℕ
   pub process : a.process ≡ Producer maker
-  -- a fetch-add of the counter, or a store in a word of the producer's own
+  -- a fetch-add of the counter, or a store to a word of the producer's own
   pub how :
       ((e : Entry) × (a ≡ fetch maker e)) ⊎ ((a.act ≡ Store v) × IsOwned maker h a.word)
 
--- each access that stores a value is a producer's
+-- each access that stores a value was made by a producer
 pub storer_of : (size : PoolSize) (h : History) (a : PoolAccess) (v : ℕ) → IsPoolLawful size h → Has h a
     → stored_by a.act ≡ Some v → IsStorer h a v
 storer_of size h a v l has stores =
@@ -97,7 +97,7 @@ storer_of size h a v l has stores =
         let load : IsLoad a.act = reader-loads size.lanes (part (Reader r) h) a (l.readers r) mine in
         absurd (let none : None ≡ Some v = sym (load-stores a.act load) ∙ stores in cc)
 
--- the counter of a lawful history is only added to
+-- in a lawful history only fetch-adds store to the counter
 pub lawful-counted : (size : PoolSize) (h : History) → IsPoolLawful size h → IsCounted h
 lawful-counted size h l = record {
   memory = l.memory;
@@ -109,20 +109,20 @@ lawful-counted size h l = record {
       ];
 }
 
--- a word has one owner
+-- no word is owned by two producers (`IsOwned`: a word that only its owner stores to)
 pub owned-one : (h : History) (p q : ℕ) (w : Word) → IsCounted h → IsOwned p h w → IsOwned q h w → p ≡ q
 owned-one h p q Counter m x y = absurd x
 owned-one h p q (Head k) m x y = x ∙ sym y
 owned-one h p q (Link k) m x y = same-maker p q x.0 y.0 (fetch-one h p q x.0 y.0 m x.1.1 y.1.1 (x.1.0 ∙ sym y.1.0))
 owned-one h p q (Item k) m x y = same-maker p q x.0 y.0 (fetch-one h p q x.0 y.0 m x.1.1 y.1.1 (x.1.0 ∙ sym y.1.0))
 
--- the cells that a producer got fall, from the newest to the oldest
+-- the numbers of the cells that a producer got fall, from its newest cell to its oldest
 pub falls : (size : PoolSize) (p : ℕ) (h : History) (es : List Entry) (phase : Phase) → IsPoolLawful size h
     → LaneIsAt size.cells p es phase (part (Producer p) h) → IsFallingAt es phase
 falls size p h es phase l at =
     falling_at p es phase (subst AreRising at.is (rising-part (Producer p) h (rising h (lawful-counted size h l))))
 
--- an owned word holds what its producer's part leaves there
+-- a word that producer p owns holds what p's part alone leaves in it
 pub local : (size : PoolSize) (h : History) (p : ℕ) (w : Word) → IsPoolLawful size h → IsOwned p h w
     → value_in w h ≡ value_in w (part (Producer p) h)
 local size h p w l o =
@@ -139,12 +139,12 @@ local size h p w l o =
           own_process (Producer p) a (s.process ∙ ap Producer same)
     ])
 
--- a word that a producer owns by its part it owns by the history
+-- a word that producer p owns by its part alone, it owns by the whole history
 owned_part : (p : ℕ) (h d : History) (w : Word) → part (Producer p) h ≡ d → IsOwned p d w → IsOwned p h w
 owned_part p h d w e o = owned-more p (part (Producer p) h) h w (Has-of_part (Producer p) h)
     (subst (λ x. IsOwned p x w) (sym e) o)
 
--- each lane is a chain in the words of the history
+-- in the words that a lawful history leaves, links lead through each lane's cells, and each cell holds its item
 pub chained : (size : PoolSize) (p : ℕ) (h : History) (es : List Entry) (phase : Phase) → IsPoolLawful size h
     → LaneIsAt size.cells p es phase (part (Producer p) h) → IsChained (λ w. value_in w h) p es
 chained size p h es phase l at =
@@ -154,7 +154,7 @@ chained size p h es phase l at =
     ∙ ap (λ x. value_in w x) at.is)
     (chained_at p es phase f)
 
--- the next link of a producer holds 0 or the end mark
+-- the word past a lane's last cell holds the end mark if the producer's phase is Ended, else 0
 pub next_is : (size : PoolSize) (p : ℕ) (h : History) (es : List Entry) (phase : Phase) → IsPoolLawful size h
     → LaneIsAt size.cells p es phase (part (Producer p) h) → value_in (place_after p es) h ≡ end_value phase
 next_is size p h es phase l at =
@@ -163,12 +163,12 @@ next_is size p h es phase l at =
     ∙ ap (λ x. value_in (place_after p es) x) at.is
     ∙ next_at p es phase (falls size p h es phase l at).0
 
--- the cells of the entries
+-- the cells of these entries
 abbrev pub cells_of : List Entry → List ℕ
 cells_of [] = []
 cells_of (e ∷ es) = e.cell ∷ cells_of es
 
--- a producer's own part tells which cells it linked
+-- the cells linked into a lane are the same in its producer's part as in the whole history
 pub linked_cells-part : (p : ℕ) (h : History) → linked_cells p h ≡ linked_cells p (part (Producer p) h)
 linked_cells-part p [] = refl
 linked_cells-part p (a ∷ h) =
@@ -177,7 +177,7 @@ linked_cells-part p (a ∷ h) =
       | inr other ↦ rw (other) (linked_cells-part p h)
     ]
 
--- a link store links its cell
+-- a store of k + 1 to the word past the entries links cell k
 link_of-cell : (p : ℕ) (es : List Entry) (k cells : ℕ) → cells < END → k < cells
     → link_of (place_after p es) (Store (k + 1)) ≡ Some k
 link_of-cell p [] k cells c b =
@@ -189,12 +189,12 @@ link_of-cell p (e ∷ es) k cells c b =
     let m : (k + 1) - 1 ≡ k = omega arith in
     rw (ne, m)
 
--- a store of the end mark links no cell
+-- a store of the end mark to the word past the entries links no cell
 link_of-end : (p : ℕ) (es : List Entry) → link_of (place_after p es) (Store END) ≡ None
 link_of-end p [] = refl
 link_of-end p (e ∷ es) = refl
 
--- groups link the cells of their entries
+-- the groups of these entries link exactly the cells of the entries
 linked_cells-groups : (p cells : ℕ) (es : List Entry) → cells < END → AllCellsBelow cells es
     → linked_cells p (groups p es) ≡ cells_of es
 linked_cells-groups p cells [] c b = refl
@@ -202,7 +202,7 @@ linked_cells-groups p cells (e ∷ es) c b =
     rw (eq-eqb p p refl, link_of-cell p es e.cell cells c b.0)
     (ap (λ l. e.cell ∷ l) (linked_cells-groups p cells es c b.1))
 
--- all that a producer has done links the cells of its entries
+-- at each place, what the producer has done links exactly the cells of its entries
 linked_cells-part_at : (p cells : ℕ) (es : List Entry) (phase : Phase) → cells < END → AllCellsBelow cells es
     → linked_cells p (part_at p es phase) ≡ cells_of es
 linked_cells-part_at p cells es Open c b = linked_cells-groups p cells es c b
@@ -214,13 +214,13 @@ linked_cells-part_at p cells es (Ended None) c b =
 linked_cells-part_at p cells es (Ended (Some e)) c b =
     rw (eq-eqb p p refl, link_of-end p es) (linked_cells-groups p cells es c b)
 
--- the cells linked are those of the entries at the place
+-- the cells linked into lane p are those of the entries at its producer's place
 pub cells_at : (size : PoolSize) (p : ℕ) (h : History) (es : List Entry) (phase : Phase) → size.cells < END
     → LaneIsAt size.cells p es phase (part (Producer p) h) → linked_cells p h ≡ cells_of es
 cells_at size p h es phase c at =
     linked_cells-part p h ∙ ap (linked_cells p) at.is ∙ linked_cells-part_at p size.cells es phase c at.below
 
--- a cell of the chain follows these first ones: the word past them leads to it
+-- the word past the cells `ks` leads to the cell that comes next among the entries' cells, and it is one of the pool
 pub record IsFollowed (m : Word → ℕ) (p cells : ℕ) (es : List Entry) (ks : List ℕ) : Type 0 where
   pub cell : ℕ
   pub below : cell < cells
@@ -228,7 +228,7 @@ pub record IsFollowed (m : Word → ℕ) (p cells : ℕ) (es : List Entry) (ks :
   pub later : List ℕ
   pub whole : later ++ cell ∷ ks ≡ cells_of es
 
--- the first cells of a chain are all of it, or a cell follows them
+-- if `ks` are the first cells of a chain, they are all its cells, or the word past them leads to the next one
 chain-next : (m : Word → ℕ) (p cells : ℕ) (es : List Entry) (later ks : List ℕ) → IsChained m p es
     → AllCellsBelow cells es → later ++ ks ≡ cells_of es
     → ((later ≡ []) × (place_past p ks ≡ place_after p es)) ⊎ IsFollowed m p cells es ks
@@ -256,7 +256,7 @@ chain-next m p cells (e ∷ es) (x ∷ later) ks ch b is =
       })
     ]
 
--- a step that stores to a head or link stores to the word past the entries, before the end mark is there
+-- a producer's step that stores to a head or link stores to the word past its entries, which holds 0 before
 link_step : (cells q : ℕ) (es fs : List Entry) (was now : Phase) (a : PoolAccess) (v : ℕ)
     → Steps cells q es was a fs now → a.act ≡ Store v → IsLinkWord a.word
     → (end_value was ≡ 0) × (a.word ≡ place_after q es)
@@ -267,7 +267,7 @@ link_step cells q es fs was now a v (links_cell _ e) is w = (refl, refl)
 link_step cells q es fs was now a v (ends_lane _) is w = (refl, refl)
 link_step cells q es fs was now a v (ends_refused _ e) is w = (refl, refl)
 
--- an access that stores to a head or link finds 0 there
+-- if an access stores to a head or link, that word held 0 before
 written_once : (size : PoolSize) (h : History) (a : PoolAccess) (v : ℕ) → IsPoolLawful size (a ∷ h)
     → stored_by a.act ≡ Some v → IsLinkWord a.word → value_in a.word h ≡ 0
 written_once size h a v l stores w =
@@ -315,12 +315,12 @@ pub link-place : (p : ℕ) (ks : List ℕ) → IsLinkWord (place_past p ks)
 link-place p [] = tt
 link-place p (k ∷ ks) = tt
 
--- a list with nothing joined at its end is itself
+-- a list joined with the empty list is itself
 append-nil : (ks : List ℕ) → ks ++ [] ≡ ks
 append-nil [] = refl
 append-nil (k ∷ ks) = ap (λ l. k ∷ l) (append-nil ks)
 
--- the word past the last cell holds 0 or the end mark
+-- the value of the word past the last cell is 0 or the end mark, whatever the phase
 end-or-zero : (phase : Phase) → (end_value phase ≡ 0) ⊎ (end_value phase ≡ END)
 end-or-zero Open = inl refl
 end-or-zero (Offered _) = inl refl
@@ -328,7 +328,7 @@ end-or-zero (Stored _) = inl refl
 end-or-zero (Full _) = inl refl
 end-or-zero (Ended _) = inr refl
 
--- the cells that a reader has met are the first ones of the lane
+-- the cells that a reader has met on a lane are the first cells of that lane
 pub met_start : (size : PoolSize) (h : History) (r p : ℕ) (ks : List ℕ) → IsPoolLawful size h → HasMet r p ks h
     → IsStart ks (linked_cells p h)
 met_start size h r p [] l met = (linked_cells p h, append-nil (linked_cells p h))
@@ -352,7 +352,7 @@ met_start size h r p (k ∷ ks) l met =
           (more.later, subst (λ x. more.later ++ x ∷ ks ≡ linked_cells p h) same (more.whole ∙ sym all))
     ]
 
--- a load of a head or link gives 0, or what the word holds from then on
+-- if a reader loaded v from a head or link, v is 0, or what the word holds after the history
 pub link_load : (size : PoolSize) (h : History) (r v : ℕ) (w : Word) → IsPoolLawful size h → IsLinkWord w
     → HasLoaded r w v h → (v ≡ 0) ⊎ (v ≡ value_in w h)
 link_load size h r v w l link has =
@@ -361,7 +361,7 @@ link_load size h r v w l link has =
       | inr ne ↦ inr (sym (stays size h r w v l link has ne))
     ]
 
--- a word that one producer alone stores to is as that producer's part leaves it
+-- a word that only producer p stores to holds what p's part alone leaves in it
 pub held_alone : (h : History) (p : ℕ) (w : Word)
     → ((a : PoolAccess) (v : ℕ) → Has h a → a.word ≡ w → stored_by a.act ≡ Some v → a.process ≡ Producer p)
     → value_in w h ≡ value_in w (part (Producer p) h)

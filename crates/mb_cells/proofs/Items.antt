@@ -1,4 +1,4 @@
--- Cells in lanes, and their items.
+-- The cells that a lawful history links into lanes, and the items that their item words hold.
 use Rattle.std.proofs.Common.{List, None, Option, Some, [], ap, arith, eq-eqb, false, inl, inr, ne_eqb, refl, subst, sym, ℕ, ◌+◌, ◌-◌, ◌<◌, ◌∙◌, ◌∷◌, ◌≡◌}
 use Rattle.std.specs.Prelude.{map, nat_eq, reverse}
 use Rattle.std.proofs.lemmas.Bool.{cases_Bool, cond_both}
@@ -12,14 +12,14 @@ use Rattle.mb_cells.proofs.Names.{access_is, is_same_word-eq, own_process, store
 use Rattle.mb_cells.proofs.Parts.{Has-of_part, part-own, part_by}
 use Rattle.mb_cells.proofs.ProducerWords.{AreFalling, IsChained, groups_in}
 
--- cell k has an entry among these, its fetch-add, and an item word that holds its item as a chain says
+-- some entry of `es` has cell k, its fetch-add is in the groups, and if `es` is a chain, the cell holds its item
 record IsEntryOf (p k : ℕ) (es : List Entry) : Type 0 where
   pub entry : Entry
   pub cell : entry.cell ≡ k
   pub fetched : Has (groups p es) (fetch p entry)
   pub holds : (m : Word → ℕ) → IsChained m p es → m (Item k) ≡ entry.value
 
--- each linked cell has an entry
+-- each cell of these entries has an entry as `IsEntryOf` describes it
 linked_entry : (p k : ℕ) (es : List Entry) → Has (cells_of es) k → IsEntryOf p k es
 linked_entry p k [] has = absurd has
 linked_entry p k (e ∷ es) (inl is) = record {
@@ -37,14 +37,14 @@ linked_entry p k (e ∷ es) (inr has) =
       holds = λ m ch. rest.holds m ch.2;
     }
 
--- cell k is linked in lane p, with the item of its fetch-add
+-- producer p made a fetch-add that gave cell k, and the item word of k holds that fetch-add's item
 pub record IsPutAt (h : History) (p k : ℕ) : Type 0 where
   pub entry : Entry
   pub cell : entry.cell ≡ k
   pub fetched : Has h (fetch p entry)
   pub holds : value_in (Item k) h ≡ entry.value
 
--- each linked cell was fetched, and holds its item
+-- each cell linked into lane p was given by a fetch-add of producer p, and holds that fetch-add's item
 pub is_put_at : (size : PoolSize) (h : History) (p k : ℕ) → IsPoolLawful size h → Has (linked_cells p h) k
     → IsPutAt h p k
 is_put_at size h p k l has =
@@ -61,7 +61,7 @@ is_put_at size h p k l has =
       holds = found.holds (λ w. value_in w h) (chained size p h place.entries place.phase l place.at);
     }
 
--- a cell is linked in one lane
+-- no cell is linked into two lanes
 pub one_lane : (size : PoolSize) (h : History) (p q k : ℕ) → IsPoolLawful size h → Has (linked_cells p h) k
     → Has (linked_cells q h) k → p ≡ q
 one_lane size h p q k l x y =
@@ -70,25 +70,25 @@ one_lane size h p q k l x y =
     let b = is_put_at size h q k l y in
     same-maker p q a.entry b.entry (fetch-one h p q a.entry b.entry c a.fetched b.fetched (a.cell ∙ sym b.cell))
 
--- cells of entries below n are below n
+-- if all entries have cells below n, and k is one of their cells, then k is below n
 pub lower : (n k : ℕ) (es : List Entry) → AllCellsBelow n es → Has (cells_of es) k → k < n
 lower n k [] b has = absurd has
 lower n k (e ∷ es) b (inl is) = subst (λ x. x < n) is b.0
 lower n k (e ∷ es) b (inr has) = lower n k es b.1 has
 
--- if the cells fall, none of them stands twice
+-- if the cells of the entries fall, none of them is in the list twice
 once : (es : List Entry) → AreFalling es → IsOnceEach (cells_of es)
 once [] f = tt
 once (e ∷ es) f = (λ has. let l : e.cell < e.cell = lower e.cell e.cell es f.0 has in absurd (omega arith), once es f.1)
 
--- each cell stands once in its lane
+-- no cell is linked into a lane twice
 pub once_each : (size : PoolSize) (h : History) (p : ℕ) → IsPoolLawful size h → IsOnceEach (linked_cells p h)
 once_each size h p l =
     let place = place_of size h p l in
     let f = falls size p h place.entries place.phase l place.at in
     subst IsOnceEach (sym (cells_at size p h place.entries place.phase l.sized place.at)) (once place.entries f.0)
 
--- an act on the counter leaves the item of a cell that was given before
+-- an act on the counter leaves the offered item of each cell that was handed out before it
 item_after-older : (k : ℕ) (act : PoolAct) (h : History) (x : ℕ) → k < value_in Counter h
     → ReadsLast Counter act h → item_after k act x ≡ x
 item_after-older k (FetchAdd y n) h x low told =
@@ -97,7 +97,7 @@ item_after-older k (FetchAdd y n) h x low told =
     rw other refl
 item_after-older k _ h x low told = refl
 
--- each access leaves the items of the cells that were handed out
+-- an access leaves the offered item of each cell that was handed out before it
 item_of-older : (k : ℕ) (b : PoolAccess) (h d : History) → k < value_in Counter h → ReadsLast b.word b.act h
     → item_of k (b ∷ d) ≡ item_of k d
 item_of-older k b h d low told =
@@ -108,7 +108,7 @@ item_of-older k b h d low told =
     item_after-older k b.act h was low (subst (λ w. ReadsLast w b.act h) on told))
     (λ _. refl)
 
--- the item of a cell is that of its one fetch-add
+-- the item of a cell is the item of the one fetch-add that gave the cell
 pub item_of-fetch : (h : History) (p : ℕ) (e : Entry) → IsCounted h → Has h (fetch p e) → item_of e.cell h ≡ e.value
 item_of-fetch [] p e m has = absurd has
 item_of-fetch (b ∷ h) p e m (inl is) =
@@ -124,7 +124,7 @@ record IsStored (h : History) (w : Word) (v : ℕ) : Type 0 where
   pub word : access.word ≡ w
   pub stores : stored_by access.act ≡ Some v
 
--- what a word holds was stored there, or it is 0
+-- if a word holds a value other than 0, some access stored that value there
 was_stored : (h : History) (w : Word) (v : ℕ) → value_in w h ≡ v → (v ≡ 0 → ⊥) → IsStored h w v
 was_stored [] w v is some = absurd (some (sym is))
 was_stored (b ∷ h) w v is some =
@@ -152,7 +152,7 @@ link_of-store (Link j) k l n = let ne : nat_eq (k + 1) END ≡ false = ne_eqb (k
     let m : (k + 1) - 1 ≡ k = omega arith in rw (ne, m)
 link_of-store (Item j) k l n = absurd l
 
--- with one cell more or none in front, the list has cell k still
+-- if a list has cell k, it still has k with one cell more in front, or none
 Has-push : (o : Option ℕ) (ks : List ℕ) (k : ℕ) → Has ks k → Has (push_if o ks) k
 Has-push None ks k has = has
 Has-push (Some j) ks k has = inr has
@@ -165,7 +165,7 @@ linked_cells-more p a h k has =
     (linked_cells p h) (λ x. Has x k)
     (λ _. Has-push (link_of a.word a.act) (linked_cells p h) k has) (λ _. has)
 
--- a cell whose link was stored is linked
+-- if producer q stored k + 1, which is not the end mark, in a head or link, cell k is linked into its lane
 stored_linked : (h : History) (a : PoolAccess) (q k : ℕ) → Has h a → a.process ≡ Producer q → IsLinkWord a.word
     → a.act ≡ Store (k + 1) → (k + 1 ≡ END → ⊥) → Has (linked_cells q h) k
 stored_linked [] a q k has who w is n = absurd has
@@ -177,7 +177,7 @@ stored_linked (b ∷ h) a q k (inl e) who w is n =
     rw (own, some) (inl refl)
 stored_linked (b ∷ h) a q k (inr has) who w is n = linked_cells-more q b h k (stored_linked h a q k has who w is n)
 
--- a cell that a head or link leads to is linked by some producer
+-- if a head or link holds k + 1, which is not the end mark, cell k is linked into some lane
 pub leads_to : (size : PoolSize) (h : History) (w : Word) (k : ℕ) → IsPoolLawful size h → IsLinkWord w
     → value_in w h ≡ k + 1 → (k + 1 ≡ END → ⊥) → (q : ℕ) × Has (linked_cells q h) k
 leads_to size h w k l link is n =
@@ -190,32 +190,32 @@ leads_to size h w k l link is n =
       | inr own ↦ (by.maker, stored_linked h a by.maker k s.has by.process at own.0 n)
     ]
 
--- a load of a head or link that leads to cell k
+-- the act is a load of k + 1, not the end mark, from a head or link: it leads to cell k
 pub record IsLeading (k : ℕ) (w : Word) (act : PoolAct) : Type 0 where
   pub link : IsLinkWord w
   pub loads : act ≡ Load (k + 1)
   pub no_end : k + 1 ≡ END → ⊥
 
--- a gift of cell k is a load that leads to it
+-- an act that gives cell k (`IsGift`) loads a link that leads to k
 pub gift-load : (k : ℕ) (w : Word) (act : PoolAct) → IsGift k w act → IsLeading k w act
 gift-load k (Head p) (Load v) g = record { link = tt; loads = ap Load g.0; no_end = λ e. g.1 (g.0 ∙ e) }
 gift-load k (Link p) (Load v) g = record { link = tt; loads = ap Load g.0; no_end = λ e. g.1 (g.0 ∙ e) }
 gift-load k _ _ g = absurd g
 
--- the access that gave a cell
+-- an access of the history whose load leads to cell k
 record IsGiver (h : History) (k : ℕ) : Type 0 where
   pub access : PoolAccess
   pub has : Has h access
   pub leads : IsLeading k access.word access.act
 
--- each cell that a reader was given has an access that gave it
+-- if accesses gave cell k (`Gave`), one of them is a load that leads to it
 gave-load : (h : History) (k : ℕ) → Gave k h → IsGiver h k
 gave-load [] k g = absurd g
 gave-load (a ∷ h) k (inl g) = record { access = a; has = inl refl; leads = gift-load k a.word a.act g }
 gave-load (a ∷ h) k (inr g) =
     let x = gave-load h k g in record { access = x.access; has = inr x.has; leads = x.leads }
 
--- a cell that a reader was given is linked
+-- if a reader loaded a link to cell k, cell k is linked into some lane
 pub given : (size : PoolSize) (h : History) (r k : ℕ) → IsPoolLawful size h → Gave k (part (Reader r) h)
     → (q : ℕ) × Has (linked_cells q h) k
 given size h r k l g =
@@ -228,7 +228,7 @@ given size h r k l g =
     let holds = stays size h r a.word (k + 1) l link has (λ e. absurd (omega arith)) in
     leads_to size h a.word k l link holds x.leads.no_end
 
--- cell k is linked, and v is the item of its entry
+-- cell k is linked into the lane of the producer whose fetch-add gave it, and v is that fetch-add's item
 pub record IsItemOf (h : History) (k v : ℕ) : Type 0 where
   pub lane : ℕ
   pub entry : Entry
@@ -237,7 +237,7 @@ pub record IsItemOf (h : History) (k v : ℕ) : Type 0 where
   pub fetched : Has h (fetch lane entry)
   pub is_put : Has (linked_cells lane h) k
 
--- a load of an item gives the item of its entry
+-- if a reader loaded v from the item word of cell k, then k is linked, and v is the item of its fetch-add
 pub item_load : (size : PoolSize) (h : History) (r k v : ℕ) → IsPoolLawful size h → HasLoaded r (Item k) v h
     → IsItemOf h k v
 item_load size [] r k v l has = absurd has
@@ -271,14 +271,14 @@ item_load size (a ∷ h) r k v l (inr has) =
       is_put = linked_cells-more x.lane a h k x.is_put;
     }
 
--- a loaded item is the item offered for its cell
+-- what a reader loaded from a cell's item word is the item offered for that cell
 pub item_value : (size : PoolSize) (h : History) (r k v : ℕ) → IsPoolLawful size h → HasLoaded r (Item k) v h
     → v ≡ item_of k h
 item_value size h r k v l has =
     let x = item_load size h r k v l has in
     x.value ∙ sym (item_of-fetch h x.lane x.entry (lawful-counted size h l) x.fetched) ∙ ap (λ k. item_of k h) x.cell
 
--- the cell of a loaded item is put
+-- a cell whose item word a reader loaded is linked into some lane
 pub item_put : (size : PoolSize) (h : History) (r k v : ℕ) → IsPoolLawful size h → HasLoaded r (Item k) v h
     → (p : ℕ) × Has (linked_cells p h) k
 item_put size h r k v l has = let x = item_load size h r k v l has in (x.lane, x.is_put)
@@ -288,13 +288,13 @@ abbrev pub LeadThrough : (Word → ℕ) → ℕ → List ℕ → Type 0
 LeadThrough m p [] = Unit {0}
 LeadThrough m p (k ∷ ks) = (m (place_past p ks) ≡ k + 1) × LeadThrough m p ks
 
--- a chain leads through its cells
+-- if the memory holds these entries as a chain, its words lead through their cells
 leads : (m : Word → ℕ) (p : ℕ) (es : List Entry) → IsChained m p es → LeadThrough m p (cells_of es)
 leads m p [] ch = tt
 leads m p (e ∷ []) ch = (ch.0, tt)
 leads m p (e ∷ d ∷ es) ch = (ch.0, leads m p (d ∷ es) ch.2)
 
--- the words of a lawful history lead through each lane
+-- the words that a lawful history leaves lead through all cells of each lane
 pub lead_through : (size : PoolSize) (h : History) (p : ℕ) → IsPoolLawful size h
     → LeadThrough (λ w. value_in w h) p (linked_cells p h)
 lead_through size h p l =
@@ -302,14 +302,14 @@ lead_through size h p l =
     subst (LeadThrough (λ w. value_in w h) p) (sym (cells_at size p h place.entries place.phase l.sized place.at))
     (leads (λ w. value_in w h) p place.entries (chained size p h place.entries place.phase l place.at))
 
--- the item of a linked cell is the one offered
+-- the item word of a linked cell holds the item that was offered for the cell
 pub item_held : (size : PoolSize) (h : History) (p k : ℕ) → IsPoolLawful size h → Has (linked_cells p h) k
     → value_in (Item k) h ≡ item_of k h
 item_held size h p k l has =
     let x = is_put_at size h p k l has in
     x.holds ∙ sym (item_of-fetch h p x.entry (lawful-counted size h l) x.fetched) ∙ ap (λ k. item_of k h) x.cell
 
--- the process of each access is in range
+-- if all accesses of a history are in range, the process of each one is in range
 all-fit : (lanes : ℕ) (h : History) (a : PoolAccess) → AllFit lanes h → Has h a → ProcessFits lanes a.process
 all-fit lanes [] a f has = absurd has
 all-fit lanes (b ∷ h) a f (inl is) = subst (λ (x : PoolAccess). ProcessFits lanes x.process) is f.1
@@ -326,7 +326,7 @@ cell_within size h p k l has =
       lower size.cells k place.entries place.at.below (subst (λ z. Has z k) is has),
     )
 
--- the producer's own part tells the item of a cell that it got
+-- in the producer's own part, too, the item of a cell that it got is the item of its fetch-add
 item_of-part : (h : History) (p : ℕ) (e : Entry) → IsCounted h → Has h (fetch p e)
     → item_of e.cell (part (Producer p) h) ≡ e.value
 item_of-part [] p e m has = absurd has
@@ -341,7 +341,7 @@ item_of-part (b ∷ h) p e m (inr has) =
     cond_both (is_same_process (Producer p) b.process) (b ∷ mine) mine (λ x. item_of e.cell x ≡ e.value)
     (λ _. item_of-older e.cell b h mine low m.memory.0 ∙ rest) (λ _. rest)
 
--- lists of entries with equal items are equal
+-- entries made of the same cells are equal if both functions give each of these cells the same item
 pub same_map : (f g : ℕ → ℕ) (ks : List ℕ) → ((k : ℕ) → Has ks k → f k ≡ g k)
     → map (entry_of f) ks ≡ map (entry_of g) ks
 same_map f g [] same = refl
@@ -350,7 +350,7 @@ same_map f g (k ∷ ks) same =
     let rest : map (entry_of f) ks ≡ map (entry_of g) ks = same_map f g ks (λ j i. same j (inr i)) in
     ap (λ e. e ∷ map (entry_of f) ks) here ∙ ap (λ es. entry_of g k ∷ es) rest
 
--- the put list is that of the producer's own part
+-- the put list of a lane is the same in its producer's part as in the whole history
 pub put_list-part : (size : PoolSize) (h : History) (p : ℕ) → IsPoolLawful size h
     → put_list p h ≡ put_list p (part (Producer p) h)
 put_list-part size h p l =

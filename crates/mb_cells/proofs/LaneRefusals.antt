@@ -14,7 +14,7 @@ use Rattle.mb_cells.proofs.Items.{lower}
 use Rattle.mb_cells.proofs.Names.{own_process}
 use Rattle.mb_cells.proofs.Parts.{Has-of_part, Has-part}
 
--- whether an item has a cell that is not linked
+-- whether in this phase an item has a cell that is not linked yet
 abbrev is_pending : Phase → Bool
 is_pending Open = false
 is_pending (Offered e) = true
@@ -22,7 +22,7 @@ is_pending (Stored e) = true
 is_pending (Full e) = false
 is_pending (Ended r) = false
 
--- whether the last fetch-add found no cell, and the lane has not ended
+-- whether in this phase the last fetch-add found no cell, and the lane has not ended
 abbrev found_none : Phase → Bool
 found_none Open = false
 found_none (Offered e) = false
@@ -58,7 +58,7 @@ full_at (Full x) = (λ e. refl, λ e. refl)
 full_at (Ended None) = (λ e. cc, λ e. cc)
 full_at (Ended (Some x)) = (λ e. cc, λ e. cc)
 
--- any other offer is not refused
+-- a phase that is not Ended, with no item pending and no refused fetch-add, refuses no offer
 free_at : (phase : Phase) → is_ended phase ≡ false → is_pending phase ≡ false → found_none phase ≡ false
     → stage_offer_refusal (stage_of phase) ≡ None
 free_at Open e f g = refl
@@ -94,7 +94,7 @@ held_at (Full x) = (λ e. cc, λ e. cc)
 held_at (Ended None) = (λ e. cc, λ e. cc)
 held_at (Ended (Some x)) = (λ e. cc, λ e. cc)
 
--- any other finish is not refused
+-- a phase that is not Ended, with no item pending, refuses no finish
 done_at : (phase : Phase) → is_ended phase ≡ false → is_pending phase ≡ false
     → stage_finish_refusal (stage_of phase) ≡ None
 done_at Open e f = refl
@@ -124,7 +124,7 @@ is_add (Load v) = false
 no_store : (p v : ℕ) (w : Word) (e : Entry) → store p w v ≡ fetch p e → ⊥
 no_store p v w e is = let f : false ≡ true = ap (λ (a : PoolAccess). is_add a.act) is in cc
 
--- the fetch-adds of the groups gave the cells of the entries
+-- a fetch-add in the groups gave the cell of one of the entries
 add_in : (p : ℕ) (es : List Entry) (e : Entry) → Has (groups p es) (fetch p e) → Has (cells_of es) e.cell
 add_in p [] e has = absurd has
 add_in p (x ∷ es) e (inl is) = absurd (no_store p (x.cell + 1) (place_after p es) e is)
@@ -132,7 +132,7 @@ add_in p (x ∷ es) e (inr (inl is)) = absurd (no_store p x.value (Item x.cell) 
 add_in p (x ∷ es) e (inr (inr (inl is))) = inl (same_cell p x e is)
 add_in p (x ∷ es) e (inr (inr (inr has))) = inr (add_in p es e has)
 
--- the last fetch-add gave n, and its item is not linked: n is past the cells, or it is a cell that is pending
+-- n may be the number of a fetch-add after the last link: a cell's if an item is pending, past the cells if none is
 abbrev IsLast : ℕ → Phase → ℕ → Type 0
 IsLast cells Open n = ⊥
 IsLast cells (Offered x) n = n < cells
@@ -140,7 +140,7 @@ IsLast cells (Stored x) n = n < cells
 IsLast cells (Full x) n = cells ≤ n
 IsLast cells (Ended r) n = cells ≤ n
 
--- each fetch-add of a producer gave the cell of a linked entry, or is the last one, of an item that is not linked
+-- each fetch-add of a producer gave the cell of a linked entry, or a number that `IsLast` allows
 add_at : (cells p : ℕ) (es : List Entry) (phase : Phase) (d : History) → LaneIsAt cells p es phase d → (e : Entry)
     → Has (part_at p es phase) (fetch p e) → Has (cells_of es) e.cell ⊎ IsLast cells phase e.cell
 add_at cells p es Open d at e has = inl (add_in p es e has)
@@ -164,11 +164,11 @@ module _ (size : PoolSize) (h : History) (p : ℕ) (lawful : IsPoolLawful size h
     abbrev IsMade : Entry → Type 0
     IsMade e = Has h (fetch p e)
 
-    -- each fetch-add in the producer's part was made
+    -- each fetch-add in the producer's part is in the history
     made : (e : Entry) → Has (part_at p es phase) (fetch p e) → IsMade e
     made e has = Has-of_part (Producer p) h (fetch p e) (subst (λ d. Has d (fetch p e)) (sym at.is) has)
 
-    -- the cell of each fetch-add is linked, or that fetch-add is the last
+    -- each fetch-add of the producer gave a cell that is linked, or a number that `IsLast` allows
     add_of : (e : Entry) → IsMade e → Has (linked_cells p h) e.cell ⊎ IsLast size.cells phase e.cell
     add_of e has =
         elim (add_at size.cells p es phase (part (Producer p) h) at e
@@ -178,7 +178,7 @@ module _ (size : PoolSize) (h : History) (p : ℕ) (lawful : IsPoolLawful size h
           | inr last ↦ inr last
         ]
 
-    -- a cell above all entries is not linked
+    -- a cell above the cells of all entries is not linked
     no_link : (x : Entry) → AllCellsBelow x.cell es → Has (linked_cells p h) x.cell → ⊥
     no_link x above has =
         let less : x.cell < x.cell =
@@ -210,7 +210,7 @@ module _ (size : PoolSize) (h : History) (p : ℕ) (lawful : IsPoolLawful size h
   pending_at es (Full x) at e = absurd (cc)
   pending_at es (Ended r) at e = absurd (cc)
 
-  -- if the last fetch-add gave a cell, the phase has its item pending
+  -- if `IsLast` allows n, and n is a cell's number, the phase has an item pending
   last_pending : (phase : Phase) (n : ℕ) → n < size.cells → IsLast size.cells phase n → is_pending phase ≡ true
   last_pending Open n got last = absurd last
   last_pending (Offered x) n got last = refl
@@ -226,7 +226,7 @@ module _ (size : PoolSize) (h : History) (p : ℕ) (lawful : IsPoolLawful size h
     | inr last ↦ last_pending phase pending.entry.cell pending.got last
   ]
 
-  -- if the phase has a fetch-add that found no cell, so has the history, and the lane has not ended
+  -- if the phase says that a fetch-add found no cell, so does the history, and the lane has not ended
   none_at : (es : List Entry) (phase : Phase) (at : LaneIsAt size.cells p es phase (part (Producer p) h))
       → found_none phase ≡ true → (is_ended phase ≡ false) × HasFoundNone size.cells p h
   none_at es Open at e = absurd (cc)
@@ -236,7 +236,7 @@ module _ (size : PoolSize) (h : History) (p : ℕ) (lawful : IsPoolLawful size h
       (refl, record { entry = x; offered = made es (Full x) at x (inl refl); past = at.fits })
   none_at es (Ended r) at e = absurd (cc)
 
-  -- if the last fetch-add gave no cell, and the lane has not ended, the phase has a fetch-add that found none
+  -- if `IsLast` allows n past the cells, and the lane has not ended, the phase says that a fetch-add found no cell
   last_none : (phase : Phase) (n : ℕ) → size.cells ≤ n → is_ended phase ≡ false → IsLast size.cells phase n
       → found_none phase ≡ true
   last_none Open n past still last = absurd last
@@ -245,7 +245,7 @@ module _ (size : PoolSize) (h : History) (p : ℕ) (lawful : IsPoolLawful size h
   last_none (Full x) n past still last = refl
   last_none (Ended r) n past still last = absurd (cc)
 
-  -- if the history has a fetch-add that found no cell, so has the phase, unless the lane has ended
+  -- if in the history a fetch-add found no cell, and the lane has not ended, the phase says so
   none_tells : (es : List Entry) (phase : Phase) → LaneIsAt size.cells p es phase (part (Producer p) h)
       → is_ended phase ≡ false → HasFoundNone size.cells p h → found_none phase ≡ true
   none_tells es phase at still none = elim (add_of es phase at none.entry none.offered) [
@@ -255,11 +255,11 @@ module _ (size : PoolSize) (h : History) (p : ℕ) (lawful : IsPoolLawful size h
 
   -- ---- when each call of a lane is refused, by the history
   module _ (lane : Lane) (here : IsLaneAfter size.cells p lane (part (Producer p) h)) where
-    -- the lane has ended if the phase has
+    -- the lane has ended exactly if the phase is Ended
     ended : has_ended p h ≡ is_ended here.phase
     ended = ended_is size.cells p h here.entries here.phase lawful.sized here.at
 
-    -- the phase says how an offer, a finish and a push are refused
+    -- the lane's stage refuses an offer, a finish and a push just as the phase does
     offers : offer_refusal lane ≡ stage_offer_refusal (stage_of here.phase)
     offers = ap stage_offer_refusal here.stage
 
@@ -276,7 +276,7 @@ module _ (size : PoolSize) (h : History) (p : ℕ) (lawful : IsPoolLawful size h
       | inr e ↦ e
     ]
 
-    -- if the lane has not ended, and the history has no fetch-add that found no cell, nor has the phase
+    -- if the lane has not ended, and each fetch-add in the history found a cell, the phase says so too
     not_none : (is_ended here.phase ≡ false) → (HasFoundNone size.cells p h → ⊥) → found_none here.phase ≡ false
     not_none still none = elim (cases_Bool (found_none here.phase)) [
       | inl e ↦ absurd (none (none_at here.entries here.phase here.at e).1)
@@ -308,7 +308,7 @@ module _ (size : PoolSize) (h : History) (p : ℕ) (lawful : IsPoolLawful size h
           ∙ (full_at here.phase).1 (none_tells here.entries here.phase here.at (sym ended ∙ none.0) none.1),
     )
 
-    -- any other offer is not refused
+    -- if the lane has not ended, no item is pending, and each fetch-add found a cell, an offer is not refused
     pub free : has_ended p h ≡ false → (HasPending size.cells p h → ⊥) → (HasFoundNone size.cells p h → ⊥)
         → offer_refusal lane ≡ None
     free still pending none =
@@ -339,6 +339,6 @@ module _ (size : PoolSize) (h : History) (p : ℕ) (lawful : IsPoolLawful size h
       λ pending. finishes ∙ (held_at here.phase).1 (pending_tells here.entries here.phase here.at pending),
     )
 
-    -- any other finish is not refused
+    -- if the lane has not ended, and no item is pending, a finish is not refused
     pub may_finish : has_ended p h ≡ false → (HasPending size.cells p h → ⊥) → finish_refusal lane ≡ None
     may_finish still pending = finishes ∙ done_at here.phase (sym ended ∙ still) (not_pending pending)

@@ -15,7 +15,7 @@ use Rattle.mb_cells.proofs.Places.{goes_on, one_place, prefix_at, somewhere}
 pub start_lane : (cells p : ℕ) → IsLaneAfter cells p new_lane []
 start_lane cells p = record { entries = []; phase = phase.Open; at = start_at cells p; last = refl; stage = refl }
 
--- each prefix of a lane path has a place as a plain value
+-- a producer whose part is a prefix of a lane path has a place as a plain value
 pub some_lane : (cells p : ℕ) (done : History) → IsLanePrefix cells p done
     → (lane : Lane) × IsLaneAfter cells p lane done
 some_lane cells p done prefix =
@@ -24,7 +24,7 @@ some_lane cells p done prefix =
       record { entries = s.entries; phase = s.phase; at = s.at; last = refl; stage = refl },
     )
 
--- what a producer has done leads to one place only
+-- two places, as plain values, of a producer that has done this are equal
 pub same_lane : (cells p : ℕ) (lane other : Lane) (done : History) → IsLaneAfter cells p lane done
     → IsLaneAfter cells p other done → lane ≡ other
 same_lane cells p lane other done x y =
@@ -33,21 +33,21 @@ same_lane cells p lane other done x y =
     let stage : lane.stage ≡ other.stage = x.stage ∙ ap stage_of one.1 ∙ sym y.stage in
     ap (λ z. record { last = z; stage = lane.stage }) last ∙ ap (λ z. record { last = other.last; stage = z }) stage
 
--- what a producer has done, if a lane as a plain value tells its place, is a prefix of a lane path
+-- if `lane` is the place of a producer that has done this, what it has done is a prefix of a lane path
 pub lane_prefix : (cells p : ℕ) (lane : Lane) (done : History) → IsLaneAfter cells p lane done
     → IsLanePrefix cells p done
 lane_prefix cells p lane done x = prefix_at cells p x.entries x.phase done x.at
 
--- the link of the last cell, or the head, is the word past the entries
+-- the word past the entries is the link word of the last entry's cell, or the head if there is none
 link_place : (p : ℕ) (es : List Entry) → link_after p (last_of es) ≡ place_after p es
 link_place p [] = refl
 link_place p (e ∷ es) = refl
 
--- the next link of the lane goes to the word past its entries
+-- the word that a producer's place names for its next link is the word past its entries
 pub next_place : (p : ℕ) (lane : Lane) (es : List Entry) → lane.last ≡ last_of es → next_link p lane ≡ place_after p es
 next_place p lane es is = ap (link_after p) is ∙ link_place p es
 
--- only in the phase Open an offer is not refused
+-- if the stage of a phase refuses no offer, the phase is Open
 open_of : (z : Phase) → stage_offer_refusal (stage_of z) ≡ None → z ≡ phase.Open
 open_of phase.Open is = refl
 open_of (phase.Offered e) is = absurd (cc)
@@ -56,7 +56,7 @@ open_of (phase.Full e) is = absurd (cc)
 open_of (phase.Ended None) is = absurd (cc)
 open_of (phase.Ended (Some e)) is = absurd (cc)
 
--- the producer's place after an offer's fetch-add
+-- if an offer is not refused, then after its fetch-add the producer stands where `lane_after_offer` says
 pub offered_lane : (cells p : ℕ) (lane : Lane) (done : History) (e : Entry) → IsLaneAfter cells p lane done
     → offer_refusal lane ≡ None
     → IsLaneAfter cells p (lane_after_offer cells e.value e.cell lane) (fetch p e ∷ done)
@@ -86,7 +86,7 @@ offered_lane cells p lane done e x going =
           }
     ]
 
--- the producer's place after a push's store, by the phase
+-- after the store of a push the producer stands where `lane_after_push` says, whatever its phase was
 pushed_at : (cells p : ℕ) (lane : Lane) (done : History) (es : List Entry) (phase : Phase) (s : Word × ℕ)
     → LaneIsAt cells p es phase done → lane.last ≡ last_of es → lane.stage ≡ stage_of phase
     → push_store p lane ≡ Some s → IsLaneAfter cells p (lane_after_push lane) (store p s.0 s.1 ∷ done)
@@ -125,12 +125,12 @@ pushed_at cells p lane done es (phase.Ended None) s at last stage is =
 pushed_at cells p lane done es (phase.Ended (Some e)) s at last stage is =
     absurd (let n : None ≡ Some s = sym (ap (stage_push_store (next_link p lane)) stage) ∙ is in cc)
 
--- the producer's place after a push's store
+-- after the store of a push the producer stands where `lane_after_push` says
 pub pushed_lane : (cells p : ℕ) (lane : Lane) (done : History) (s : Word × ℕ) → IsLaneAfter cells p lane done
     → push_store p lane ≡ Some s → IsLaneAfter cells p (lane_after_push lane) (store p s.0 s.1 ∷ done)
 pushed_lane cells p lane done s x is = pushed_at cells p lane done x.entries x.phase s x.at x.last x.stage is
 
--- the producer's place after the store of the end mark, by the phase
+-- after the store of the end mark the producer stands where `lane_after_finish` says, whatever its phase was
 finished_at : (cells p : ℕ) (lane : Lane) (done : History) (es : List Entry) (phase : Phase)
     → LaneIsAt cells p es phase done → lane.last ≡ last_of es → lane.stage ≡ stage_of phase
     → finish_refusal lane ≡ None → IsLaneAfter cells p (lane_after_finish lane) (store p (place_after p es) END ∷ done)
@@ -158,7 +158,7 @@ finished_at cells p lane done es (phase.Ended None) at last by_stage is =
 finished_at cells p lane done es (phase.Ended (Some e)) at last by_stage is =
     absurd (let n = sym (ap stage_finish_refusal by_stage) ∙ is in cc)
 
--- the producer's place after the store of the end mark
+-- after the store of the end mark the producer stands where `lane_after_finish` says
 pub finished_lane : (cells p : ℕ) (lane : Lane) (done : History) → IsLaneAfter cells p lane done
     → finish_refusal lane ≡ None
     → IsLaneAfter cells p (lane_after_finish lane) (store p (next_link p lane) END ∷ done)

@@ -8,14 +8,14 @@ pub same_twice : {X : Type 0} (b : Bool) (x : X) → cond b x x ≡ x
 same_twice true x = refl
 same_twice false x = refl
 
--- a word passes the test with itself
+-- `is_same_word` is true of a word and itself
 pub is_same_word-refl : (w : Word) → is_same_word w w ≡ true
 is_same_word-refl Counter = refl
 is_same_word-refl (Head p) = eq-eqb p p refl
 is_same_word-refl (Link p) = eq-eqb p p refl
 is_same_word-refl (Item p) = eq-eqb p p refl
 
--- words that pass the test are equal
+-- words of which `is_same_word` is true are equal
 pub is_same_word-eq : (v w : Word) → is_same_word v w ≡ true → v ≡ w
 is_same_word-eq Counter Counter h = refl
 is_same_word-eq (Head p) (Head q) h = ap Head (eqb-true p q h)
@@ -33,7 +33,7 @@ cases_word v w =
           absurd (false≢true (sym other ∙ same)))
     ]
 
--- words that are not equal fail the test
+-- `is_same_word` is false of words that are not equal
 pub is_same_word-ne : (v w : Word) → v ≢ w → is_same_word v w ≡ false
 is_same_word-ne v w ne =
     elim (cases_Bool (is_same_word v w)) [
@@ -41,16 +41,16 @@ is_same_word-ne v w ne =
       | inr other ↦ other
     ]
 
--- a process passes the test with itself
+-- `is_same_process` is true of a process and itself
 pub is_same_process-refl : (w : Process) → is_same_process w w ≡ true
 is_same_process-refl (Producer p) = eq-eqb p p refl
 is_same_process-refl (Reader p) = eq-eqb p p refl
 
--- an access of this process passes the test for it
+-- `is_same_process` is true of a process and the process of an access that it made
 pub own_process : (who : Process) (a : PoolAccess) → a.process ≡ who → is_same_process who a.process ≡ true
 own_process who a is = subst (λ x. is_same_process who x ≡ true) (sym is) (is_same_process-refl who)
 
--- processes that pass the test are equal
+-- processes of which `is_same_process` is true are equal
 pub is_same_process-eq : (v w : Process) → is_same_process v w ≡ true → v ≡ w
 is_same_process-eq (Producer p) (Producer q) h = ap Producer (eqb-true p q h)
 is_same_process-eq (Reader p) (Reader q) h = ap Reader (eqb-true p q h)
@@ -66,7 +66,7 @@ cases_process v w =
           absurd (false≢true (sym other ∙ same)))
     ]
 
--- processes that are not equal fail the test
+-- `is_same_process` is false of processes that are not equal
 pub is_same_process-ne : (v w : Process) → v ≢ w → is_same_process v w ≡ false
 is_same_process-ne v w ne =
     elim (cases_Bool (is_same_process v w)) [
@@ -74,7 +74,7 @@ is_same_process-ne v w ne =
       | inr other ↦ other
     ]
 
--- an access is known by its process, its word and its act
+-- an access is equal to the record of its process, its word and its act
 pub access_is : (a : PoolAccess) (who : Process) (w : Word) (act : PoolAct) → a.process ≡ who → a.word ≡ w → a.act ≡ act
     → a ≡ record { process = who; word = w; act = act }
 access_is a who w act e f g =
@@ -82,12 +82,12 @@ access_is a who w act e f g =
     ∙ ap (λ x. record { process = who; word = x; act = a.act }) f
     ∙ ap (λ x. record { process = who; word = w; act = x }) g
 
--- an access to another word leaves this one
+-- an access to another word leaves what this word holds
 pub value_in-other : (a : PoolAccess) (h : History) (w : Word) → is_same_word a.word w ≡ false
     → value_in w (a ∷ h) ≡ value_in w h
 value_in-other a h w e = rw e
 
--- what an act stores stands in its word
+-- after an access that stores v in a word, the word holds v
 pub value_in-stored : (a : PoolAccess) (h : History) (w : Word) (v : ℕ) → a.word ≡ w → stored_by a.act ≡ Some v
     → value_in w (a ∷ h) ≡ v
 value_in-stored a h w v at is =

@@ -1,4 +1,4 @@
--- What a producer and a reader may do next, and that it is in range.
+-- Which access a producer or a reader may make next, and that its word and its value are in range.
 use Rattle.std.proofs.Common.{List, None, Some, [], ap, arith, inl, inr, refl, subst, sym, ℕ, ◌+◌, ◌<◌, ◌^◌, ◌∙◌, ◌∷◌, ◌≡◌, ◌⊎◌}
 use Rattle.mb_cells.specs.Place as phase
 use Rattle.mb_cells.specs.{ActFits, AllCellsBelow, AllFit, Counter, END, Entry, FetchAdd, Has, Head, History, LaneIsAt, IsLaneAfter, IsLanePrefix}
@@ -13,7 +13,7 @@ use Rattle.mb_cells.proofs.Names.{own_process}
 use Rattle.mb_cells.proofs.Parts.{Has-of_part, part-own}
 use Rattle.mb_cells.proofs.Places.{IsFetchOrStore, came_from, step_kind, steps_only}
 
--- a step by a fetch-add is from a phase that refuses no offer
+-- if a producer's step is a fetch-add, the phase before it refuses no offer
 fetch_step : (cells p : ℕ) (es fs : List Entry) (was now : Phase) (a : PoolAccess) (e : Entry) → a ≡ fetch p e
     → Steps cells p es was a fs now → stage_offer_refusal (stage_of was) ≡ None
 fetch_step cells p es fs was now a e is (takes_cell _ f b) = refl
@@ -27,20 +27,20 @@ fetch_step cells p es fs was now a e is (ends_lane _) =
 fetch_step cells p es fs was now a e is (ends_refused _ f) =
     absurd (let acts : Store END ≡ FetchAdd e.value e.cell = ap (λ (x : PoolAccess). x.act) is in cc)
 
--- a fetch-add comes next only if an offer is not refused
+-- if a producer's part goes on with a fetch-add, its place before refuses no offer
 pub fetches_only : (cells p : ℕ) (lane : Lane) (done : History) (e : Entry) → IsLaneAfter cells p lane done
     → IsLanePrefix cells p (fetch p e ∷ done) → offer_refusal lane ≡ None
 fetches_only cells p lane done e x prefix =
     let n = steps_only cells p x.entries x.phase (fetch p e) done x.at prefix in
     ap stage_offer_refusal x.stage ∙ fetch_step cells p x.entries n.entries x.phase n.then (fetch p e) e refl n.step
 
--- the store that a push or a finish makes at a place
+-- the store of v in w is the one that a push makes at this place, or the one that a finish makes
 abbrev pub IsStoreAt : ℕ → List Entry → Phase → Word → ℕ → Type 0
 IsStoreAt p es was w v =
     (stage_push_store (place_after p es) (stage_of was) ≡ Some (w, v))
     ⊎ ((stage_finish_refusal (stage_of was) ≡ None) × ((w ≡ place_after p es) × (v ≡ END)))
 
--- a step by a store is a push or a finish
+-- if a producer's step is a store, it is the store that a push or a finish makes
 store_step : (cells p : ℕ) (es fs : List Entry) (was now : Phase) (a : PoolAccess) (w : Word) (v : ℕ) → a ≡ store p w v
     → Steps cells p es was a fs now → IsStoreAt p es was w v
 store_step cells p es fs was now a w v is (takes_cell _ f b) =
@@ -64,7 +64,7 @@ store_step cells p es fs was now a w v is (ends_refused _ f) =
     let acts : Store END ≡ Store v = ap (λ (x : PoolAccess). x.act) is in
     inr (refl, (sym (ap (λ (x : PoolAccess). x.word) is), cc))
 
--- a store comes next only if a push or a finish makes it
+-- if a producer's part goes on with a store, it is the store that a push or a finish makes at its place
 pub stores_only : (cells p : ℕ) (lane : Lane) (done : History) (w : Word) (v : ℕ) → IsLaneAfter cells p lane done
     → IsLanePrefix cells p (store p w v ∷ done)
     → (push_store p lane ≡ Some (w, v)) ⊎ ((finish_refusal lane ≡ None) × ((w ≡ next_link p lane) × (v ≡ END)))
@@ -78,7 +78,7 @@ stores_only cells p lane done w v x prefix =
       | inr end_is ↦ inr (ap stage_finish_refusal x.stage ∙ end_is.0, (end_is.1.0 ∙ sym link, end_is.1.1))
     ]
 
--- on a lane path nothing but a fetch-add or a store comes next
+-- if a producer's part goes on with an access, that is a fetch-add or a store
 pub kinds_only : (cells p : ℕ) (lane : Lane) (done : History) (a : PoolAccess) → IsLaneAfter cells p lane done
     → IsLanePrefix cells p (a ∷ done)
     → IsFetchOrStore p a
@@ -92,13 +92,13 @@ place-word : (size : PoolSize) (p : ℕ) (es : List Entry) → p < size.lanes �
 place-word size p [] lt b = lt
 place-word size p (e ∷ es) lt b = b.0
 
--- the next link of a lane is a word of the pool
+-- the word that the lane's place names for its next link is a word of the pool
 pub link_within : (size : PoolSize) (p : ℕ) (lane : Lane) (done : History) → p < size.lanes
     → IsLaneAfter size.cells p lane done → IsLaneWord size (next_link p lane)
 link_within size p lane done lt x =
     subst (IsLaneWord size) (sym (next_place p lane x.entries x.last)) (place-word size p x.entries lt x.at.below)
 
--- each act of the history is in range
+-- if all accesses of a history are in range, the act of each one is in range
 pub act-fits : (lanes : ℕ) (h : History) (a : PoolAccess) → AllFit lanes h → Has h a → ActFits a.act
 act-fits lanes [] a f has = absurd has
 act-fits lanes (b ∷ h) a f (inl is) = subst (λ (x : PoolAccess). ActFits x.act) is f.0
@@ -109,7 +109,7 @@ pub data PushAt (p : ℕ) (es : List Entry) : Phase → Word × ℕ → Type 0 w
   of_item : (e : Entry) → PushAt p es (phase.Offered e) (Item e.cell, e.value)
   of_link : (e : Entry) → PushAt p es (phase.Stored e) (place_after p es, e.cell + 1)
 
--- a push stores nothing else
+-- each store that a push makes is of the item or of the link, as `PushAt` says
 push_at : (p : ℕ) (es : List Entry) (phase : Phase) (s : Word × ℕ)
     → stage_push_store (place_after p es) (stage_of phase) ≡ Some s → PushAt p es phase s
 push_at p es phase.Open s is = absurd (let e : None ≡ Some s = is in cc)
@@ -123,7 +123,7 @@ push_at p es (phase.Full e) s is = absurd (let n : None ≡ Some s = is in cc)
 push_at p es (phase.Ended None) s is = absurd (let n : None ≡ Some s = is in cc)
 push_at p es (phase.Ended (Some e)) s is = absurd (let n : None ≡ Some s = is in cc)
 
--- the store of a push is that at the producer's place
+-- the store that a push makes at the producer's place is of the item or of the link, as `PushAt` says
 push_here : (cells p : ℕ) (lane : Lane) (done : History) (s : Word × ℕ) (x : IsLaneAfter cells p lane done)
     → push_store p lane ≡ Some s → PushAt p x.entries x.phase s
 push_here cells p lane done s x is =
@@ -132,7 +132,7 @@ push_here cells p lane done s x is =
     (ap (λ z. stage_push_store z (stage_of x.phase)) (sym link)
     ∙ sym (ap (stage_push_store (next_link p lane)) x.stage) ∙ is)
 
--- the store of a push is of a word of the pool
+-- the store of a push is to a word of the pool
 pub push_within : (size : PoolSize) (p : ℕ) (lane : Lane) (done : History) (w : Word) (v : ℕ) → p < size.lanes
     → IsLaneAfter size.cells p lane done → push_store p lane ≡ Some (w, v) → IsLaneWord size w
 push_within size p lane done w v lt x is =
@@ -162,7 +162,7 @@ push_value size h p lane w v l x is =
     by (phase.Full _) s at push = elim push [ ]
     by (phase.Ended _) s at push = elim push [ ]
 
--- a reader may load words of the pool alone
+-- each word that a reader may load is a word of the pool
 pub read_within : (size : PoolSize) (h : History) (r : ℕ) (w : Word) → IsPoolLawful size h
     → MayRead size.lanes w (part (Reader r) h) → IsLaneWord size w
 read_within size h r Counter l may = may
@@ -177,7 +177,7 @@ word-of_pool size (Head p) within = within
 word-of_pool size (Link k) within = within
 word-of_pool size (Item k) within = within
 
--- the access of a step is of a word of the pool
+-- the access of a producer's step is to a word of the pool
 step-word : (size : PoolSize) (p : ℕ) (es fs : List Entry) (was now : Phase) (a : PoolAccess) → p < size.lanes
     → AllCellsBelow size.cells es → PhaseFits size.cells was → Steps size.cells p es was a fs now
     → IsPoolWord size a.word
@@ -191,7 +191,7 @@ step-word size p es fs was now a lt below fits (ends_lane _) =
 step-word size p es fs was now a lt below fits (ends_refused _ e) =
     word-of_pool size (place_after p es) (place-word size p es lt below)
 
--- the newest access of a lawful history is of a word of the pool
+-- the newest access of a lawful history is to a word of the pool
 pub newest_within : (size : PoolSize) (h : History) (a : PoolAccess) → IsPoolLawful size (a ∷ h)
     → IsPoolWord size a.word
 newest_within size h a l =

@@ -8,7 +8,7 @@ use Rattle.mb_cells.proofs.Histories.{lawful-tail, storer_of}
 use Rattle.mb_cells.proofs.Names.{is_same_process-eq, is_same_word-eq, stores_or_not, value_in-kept, value_in-other, value_in-stored}
 use Rattle.mb_cells.proofs.Places.{prefix_at}
 
--- a history stays lawful with an access of a producer whose path goes on with it
+-- a history stays lawful with an access that is in range, true to memory, and goes on with its producer's path
 pub producer_step : (size : PoolSize) (h : History) (a : PoolAccess) (p : ℕ) → IsPoolLawful size h
     → a.process ≡ Producer p → p < size.lanes → ActFits a.act → ReadsLast a.word a.act h
     → IsLanePrefix size.cells p (a ∷ part (Producer p) h) → IsPoolLawful size (a ∷ h)
@@ -54,7 +54,7 @@ value_in-fits size (a ∷ h) w l other =
 MayRead-counter : (lanes : ℕ) (d : History) (w : Word) → MayRead lanes w d → w ≡ Counter → ⊥
 MayRead-counter lanes d w may is = subst (λ x. MayRead lanes x d) is may
 
--- a history stays lawful with a load of a reader that may load the word
+-- a history stays lawful if a reader loads a word that it may load
 pub reader_step : (size : PoolSize) (h : History) (r : ℕ) (w : Word) → IsPoolLawful size h
     → MayRead size.lanes w (part (Reader r) h)
     → IsPoolLawful size (load r w (value_in w h) ∷ h)
@@ -72,7 +72,7 @@ reader_step size h r w l may = record {
       (λ _. l.readers s);
 }
 
--- a producer that has done nothing is at the start
+-- a producer that has done nothing has linked no entry, and its phase is Open
 pub start_at : (cells p : ℕ) → LaneIsAt cells p [] Open []
 start_at cells p = record { below = tt; fits = tt; is = refl }
 

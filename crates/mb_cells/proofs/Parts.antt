@@ -14,7 +14,7 @@ pub part-other : (who : Process) (a : PoolAccess) (h : History) → is_same_proc
     → part who (a ∷ h) ≡ part who h
 part-other who a h e = rw e
 
--- a part has each access of its process
+-- each access of the history that a process made is in its part
 pub Has-part : (who : Process) (h : History) (a : PoolAccess) → Has h a → is_same_process who a.process ≡ true
     → Has (part who h) a
 Has-part who [] a m t = m
@@ -25,7 +25,7 @@ Has-part who (b ∷ h) a (inr m) t =
     cond_both (is_same_process who b.process) (b ∷ part who h) (part who h) (λ l. Has l a)
     (λ _. inr (Has-part who h a m t)) (λ _. Has-part who h a m t)
 
--- a part has no other access than the history has
+-- each access in a part is in the history
 pub Has-of_part : (who : Process) (h : History) (a : PoolAccess) → Has (part who h) a → Has h a
 Has-of_part who [] a m = m
 Has-of_part who (b ∷ h) a m =
@@ -33,7 +33,7 @@ Has-of_part who (b ∷ h) a m =
     (λ _ k. elim k [ inl e ↦ inl e | inr n ↦ inr (Has-of_part who h a n) ])
     (λ _ k. inr (Has-of_part who h a k)) m
 
--- each access of a part is its process's
+-- each access in a process's part was made by that process
 pub part_by : (who : Process) (h : History) (a : PoolAccess) → Has (part who h) a → a.process ≡ who
 part_by who [] a has = absurd has
 part_by who (b ∷ h) a has =
@@ -45,7 +45,7 @@ part_by who (b ∷ h) a has =
     ])
     (λ _ m. part_by who h a m) has
 
--- a word that only one process stores to is what that process leaves there
+-- a word that only one process stores to holds what that process's part alone leaves in it
 pub value_in-part : (who : Process) (w : Word) (h : History)
     → ((a : PoolAccess) (v : ℕ) → Has h a → a.word ≡ w → stored_by a.act ≡ Some v
     → is_same_process who a.process ≡ true)

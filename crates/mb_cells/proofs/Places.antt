@@ -11,7 +11,7 @@ pub record IsSomewhere (cells p : ℕ) (done : History) : Type 0 where
   pub phase : Phase
   pub at : LaneIsAt cells p entries phase done
 
--- what was done on the way to the groups of some entries (each a fetch-add and two stores) stands at a place
+-- a producer stands at some place if later accesses make what it did whole groups (a fetch-add and two stores each)
 in_groups : (cells p : ℕ) (es : List Entry) (later done : History) → AllCellsBelow cells es
     → later ++ done ≡ groups p es → IsSomewhere cells p done
 in_groups cells p es [] done b h =
@@ -23,7 +23,7 @@ in_groups cells p (e ∷ es) (x ∷ y ∷ []) done b h =
     record { entries = es; phase = Offered e; at = record { below = b.1; fits = b.0; is = cc } }
 in_groups cells p (e ∷ es) (x ∷ y ∷ z ∷ later) done b h = in_groups cells p es later done b.1 (cc)
 
--- what was done on the way to groups, and perhaps a fetch-add that found no cell, stands at a place
+-- a producer stands at some place if later accesses make what it did groups, and perhaps a fetch-add without a cell
 in_refusal : (cells p : ℕ) (es : List Entry) (r : Option Entry) (later done : History) → AllCellsBelow cells es
     → FindsNoCell cells r → later ++ done ≡ refusal p r (groups p es) → IsSomewhere cells p done
 in_refusal cells p es None later done b f h = in_groups cells p es later done b h
@@ -31,8 +31,7 @@ in_refusal cells p es (Some e) [] done b f h =
     record { entries = es; phase = Full e; at = record { below = b; fits = f; is = h } }
 in_refusal cells p es (Some e) (x ∷ later) done b f h = in_groups cells p es later done b (cc)
 
--- what was done on the way to groups, perhaps a fetch-add that found no cell, and perhaps the end mark, stands at a
--- place
+-- a producer stands at some place if later accesses make what it did groups, perhaps a refusal, perhaps an end mark
 in_ending : (cells p : ℕ) (es : List Entry) (r : Option Entry) (ended : Bool) (later done : History)
     → AllCellsBelow cells es → FindsNoCell cells r
     → later ++ done ≡ ending p (place_after p es) ended (refusal p r (groups p es)) → IsSomewhere cells p done
@@ -41,13 +40,13 @@ in_ending cells p es r true [] done b f h =
     record { entries = es; phase = Ended r; at = record { below = b; fits = f; is = h } }
 in_ending cells p es r true (x ∷ later) done b f h = in_refusal cells p es r later done b f (cc)
 
--- a prefix of a lane path stands at a place
+-- a producer whose part is a prefix of a lane path stands at some place
 pub somewhere : (cells p : ℕ) (done : History) → IsLanePrefix cells p done → IsSomewhere cells p done
 somewhere cells p done h =
     in_ending cells p h.lawful.entries h.lawful.refused h.lawful.ended h.later done h.lawful.below h.lawful.above
     (h.is ∙ h.lawful.is)
 
--- what was done before the rest of a whole path is a prefix of a lane path
+-- if later accesses make what was done a whole path, what was done is a prefix of a lane path
 whole : (cells p : ℕ) (es : List Entry) (r : Option Entry) (ended : Bool) → AllCellsBelow cells es
     → FindsNoCell cells r → (later done : History)
     → later ++ done ≡ ending p (place_after p es) ended (refusal p r (groups p es)) → IsLanePrefix cells p done
@@ -79,7 +78,7 @@ pub record CameFrom (cells p : ℕ) (es : List Entry) (phase : Phase) (a : PoolA
   pub at : LaneIsAt cells p entries was d
   pub by : Steps cells p entries was a es phase
 
--- each access was a step from a place
+-- a producer at a place made its newest access by one step (`Steps`) from the place before
 pub came_from : (cells p : ℕ) (es : List Entry) (phase : Phase) (a : PoolAccess) (d : History)
     → LaneIsAt cells p es phase (a ∷ d) → CameFrom cells p es phase a d
 came_from cells p [] Open a d at = absurd (let e : a ∷ d ≡ [] = at.is in cc)
@@ -144,7 +143,7 @@ came_from cells p es (Ended (Some e)) a d at =
       by = subst (λ x. Steps cells p es (Full e) x es (Ended (Some e))) (sym first) (ends_refused es e);
     }
 
--- one step of a producer leads from its place to the next
+-- a producer that makes a step stands after it at the place where the step leads
 pub goes_on : (cells p : ℕ) (es fs : List Entry) (was now : Phase) (a : PoolAccess) (d : History)
     → Steps cells p es was a fs now → LaneIsAt cells p es was d → LaneIsAt cells p fs now (a ∷ d)
 goes_on cells p es fs was now a d (takes_cell _ e b) at =
@@ -172,7 +171,7 @@ same_entry e f p is =
     let value : e.value ≡ f.value = cc in
     ap (λ x. record { cell = x; value = e.value }) cell ∙ ap (λ x. record { cell = f.cell; value = x }) value
 
--- from one place one access leads to one place
+-- steps from one place by the same access lead to the same place
 steps_once : (cells p : ℕ) (es fs gs : List Entry) (was now then : Phase) (a b : PoolAccess) → a ≡ b
     → Steps cells p es was a fs now → Steps cells p es was b gs then → (fs ≡ gs) × (now ≡ then)
 steps_once cells p es fs gs was now then a b is (takes_cell _ e x) (takes_cell _ f y) =
@@ -198,7 +197,7 @@ steps_once cells p es fs gs was now then a b is (ends_lane _) (finds_none _ f y)
 steps_once cells p es fs gs was now then a b is (ends_lane _) (ends_lane _) = (refl, refl)
 steps_once cells p es fs gs was now then a b is (ends_refused _ e) (ends_refused _ f) = (refl, refl)
 
--- a producer that has done nothing is at the start
+-- a producer that has done nothing has linked no entry, and its phase is Open
 at_start : (cells p : ℕ) (es : List Entry) (phase : Phase) → LaneIsAt cells p es phase [] → (es ≡ []) × (phase ≡ Open)
 at_start cells p [] Open at = (refl, refl)
 at_start cells p (e ∷ es) Open at = absurd (let is : [] ≡ groups p (e ∷ es) = at.is in cc)
@@ -209,29 +208,29 @@ at_start cells p es (Full e) at = absurd (let is : [] ≡ fetch p e ∷ groups p
 at_start cells p es (Ended r) at =
     absurd (let is : [] ≡ store p (place_after p es) END ∷ refusal p r (groups p es) = at.is in cc)
 
--- a producer stands at one place
-pub one_place : (cells p : ℕ) (es fs : List Entry) (was now : Phase) (d : History) → LaneIsAt cells p es was d
-    → LaneIsAt cells p fs now d → (es ≡ fs) × (was ≡ now)
-one_place cells p es fs was now [] x y =
-    let s = at_start cells p es was x in
-    let t = at_start cells p fs now y in
+-- a producer stands at one place: two places that fit what it has done are the same
+pub one_place : (cells p : ℕ) (es fs : List Entry) (phase other : Phase) (d : History) → LaneIsAt cells p es phase d
+    → LaneIsAt cells p fs other d → (es ≡ fs) × (phase ≡ other)
+one_place cells p es fs phase other [] x y =
+    let s = at_start cells p es phase x in
+    let t = at_start cells p fs other y in
     (s.0 ∙ sym t.0, s.1 ∙ sym t.1)
-one_place cells p es fs was now (a ∷ d) x y =
-    let c = came_from cells p es was a d x in
-    let k = came_from cells p fs now a d y in
+one_place cells p es fs phase other (a ∷ d) x y =
+    let c = came_from cells p es phase a d x in
+    let k = came_from cells p fs other a d y in
     let before = one_place cells p c.entries k.entries c.was k.was d c.at k.at in
-    let step : Steps cells p k.entries k.was a es was =
-    subst (λ z. Steps cells p z k.was a es was) before.0
-    (subst (λ z. Steps cells p c.entries z a es was) before.1 c.by) in
-    steps_once cells p k.entries es fs k.was was now a a refl step k.by
+    let step : Steps cells p k.entries k.was a es phase =
+    subst (λ z. Steps cells p z k.was a es phase) before.0
+    (subst (λ z. Steps cells p c.entries z a es phase) before.1 c.by) in
+    steps_once cells p k.entries es fs k.was phase other a a refl step k.by
 
--- what a producer may do next: one step from its place
+-- the access is a step of producer p from this place to some place
 pub record NextStep (cells p : ℕ) (es : List Entry) (phase : Phase) (a : PoolAccess) : Type 0 where
   pub entries : List Entry
   pub then : Phase
   pub step : Steps cells p es phase a entries then
 
--- an access that goes on with a lane path is a step from its place
+-- if a producer's part goes on with an access, that access is a step from its place
 pub steps_only : (cells p : ℕ) (es : List Entry) (phase : Phase) (a : PoolAccess) (d : History)
     → LaneIsAt cells p es phase d
     → IsLanePrefix cells p (a ∷ d) → NextStep cells p es phase a
@@ -250,7 +249,7 @@ steps_only cells p es phase a d at prefix =
 abbrev pub IsFetchOrStore : ℕ → PoolAccess → Type 0
 IsFetchOrStore p a = ((e : Entry) × (a ≡ fetch p e)) ⊎ ((w : Word) × ((v : ℕ) × (a ≡ store p w v)))
 
--- a step is by a fetch-add or by a store
+-- the access of each step is a fetch-add or a store
 pub step_kind : (cells p : ℕ) (es fs : List Entry) (was now : Phase) (a : PoolAccess) → Steps cells p es was a fs now
     → IsFetchOrStore p a
 step_kind cells p es fs was now a (takes_cell _ e b) = inl (e, refl)
@@ -260,7 +259,7 @@ step_kind cells p es fs was now a (links_cell _ e) = inr (place_after p es, (e.c
 step_kind cells p es fs was now a (ends_lane _) = inr (place_after p es, (END, refl))
 step_kind cells p es fs was now a (ends_refused _ e) = inr (place_after p es, (END, refl))
 
--- each access that led to a place is a fetch-add or a store
+-- each access of a producer that stands at a place is a fetch-add or a store
 pub kind_at : (cells p : ℕ) (d : History) (es : List Entry) (phase : Phase) (a : PoolAccess)
     → LaneIsAt cells p es phase d → Has d a → IsFetchOrStore p a
 kind_at cells p [] es phase a at has = absurd has

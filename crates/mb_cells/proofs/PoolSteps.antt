@@ -20,13 +20,13 @@ use Rattle.mb_cells.proofs.NextAccesses.{link_within, push_value, push_within}
 use Rattle.mb_cells.proofs.OneStep.{empty_lawful, producer_step}
 use Rattle.mb_cells.proofs.Parts.{part-other, part-own}
 
--- the state has each producer's place where its part leaves it
+-- lane p in a state is producer p's place, by its part of each history that leaves the state
 pub lane_here : (h : History) (s : PoolState) (p : ℕ) (lane : Lane) → p < lane_count s → IsAfter h s
     → lane ≡ slice_index_or s.lanes p lane → IsLaneAfter (cell_count s) p lane (part (Producer p) h)
 lane_here h s p lane lt after is =
     subst (λ l. IsLaneAfter (cell_count s) p l (part (Producer p) h)) (sym is) (after.lanes p lane lt)
 
--- after an access of producer p, with its new place in the list, each lane is where its producer's part leaves it
+-- after an access of producer p, if the list of lanes has p's new place, each lane in it is its producer's place
 lanes_after : (h : History) (a : PoolAccess) (cells p : ℕ) (lanes : List Lane) (lane : Lane) → a.process ≡ Producer p
     → p < length lanes
     → ((q : ℕ) (d : Lane) → q < length lanes → IsLaneAfter cells q (slice_index_or lanes q d) (part (Producer q) h))
@@ -50,7 +50,7 @@ lanes_after h a cells p lanes lane who lt before now q d bound =
           (before q d within))
     ]
 
--- an access of producer p leaves the state with these words and this place, if both fit the longer history
+-- after an access of producer p the state has the words `ws` and p's place `lane`, if the longer history leaves these
 access_after : (h : History) (a : PoolAccess) (s : PoolState) (p : ℕ) (lane : Lane) (ws : PoolWords) → IsAfter h s
     → a.process ≡ Producer p → p < lane_count s
     → length ws.items ≡ cell_count s → ActFits a.act → ReadsLast a.word a.act h
@@ -73,14 +73,14 @@ access_after h a s p lane ws was who lt same fits truth now holds =
           subst (λ z. IsLaneAfter z q at (part (Producer q) (a ∷ h))) (sym same) (after q d b);
     }
 
--- the word that is stored to holds the value
+-- after a store the word that was stored to holds the value
 words_with-same : (w : Word) (v : ℕ) (ws : PoolWords) → HasWord w ws → word_in w (words_with w v ws) ≡ v
 words_with-same Counter v ws has = refl
 words_with-same (Head p) v ws has = get_or-set_same ws.heads p v 0 has
 words_with-same (Link k) v ws has = get_or-set_same ws.links k v 0 has
 words_with-same (Item k) v ws has = get_or-set_same ws.items k v 0 has
 
--- each other word holds what it held
+-- after a store each other word holds what it held
 words_with-other : (w x : Word) (v : ℕ) (ws : PoolWords) → is_same_word w x ≡ false
     → word_in x (words_with w v ws) ≡ word_in x ws
 words_with-other Counter Counter v ws differs = absurd (false≢true (sym differs))
@@ -105,28 +105,28 @@ words_after size ws h a v has stores holds w within =
           words_with-other a.word w v ws other ∙ holds w within ∙ sym (value_in-other a h w other)
     ]
 
--- a store leaves the number of items
+-- a store leaves the number of items as it is
 pub words_with-items : (ws : PoolWords) (w : Word) (v : ℕ) → length (words_with w v ws).items ≡ length ws.items
 words_with-items ws Counter v = refl
 words_with-items ws (Head q) v = refl
 words_with-items ws (Link k) v = refl
 words_with-items ws (Item k) v = length-set ws.items k v
 
--- a store leaves the number of heads
+-- a store leaves the number of heads as it is
 pub words_with-heads : (ws : PoolWords) (w : Word) (v : ℕ) → length (words_with w v ws).heads ≡ length ws.heads
 words_with-heads ws Counter v = refl
 words_with-heads ws (Head q) v = length-set ws.heads q v
 words_with-heads ws (Link k) v = refl
 words_with-heads ws (Item k) v = refl
 
--- a store leaves the number of links
+-- a store leaves the number of links as it is
 pub words_with-links : (ws : PoolWords) (w : Word) (v : ℕ) → length (words_with w v ws).links ≡ length ws.links
 words_with-links ws Counter v = refl
 words_with-links ws (Head q) v = refl
 words_with-links ws (Link k) v = length-set ws.links k v
 words_with-links ws (Item k) v = refl
 
--- a store of producer p leaves the pool with the value in its word and the producer at this place
+-- after a store of producer p the state has the value in its word, and p at the place `lane`
 store_after : (h : History) (s : PoolState) (p : ℕ) (w : Word) (v : ℕ) (lane : Lane) → IsAfter h s → p < lane_count s
     → HasWord w s.words → v < 2 ^ 64
     → IsLaneAfter (cell_count s) p lane (store p w v ∷ part (Producer p) h)
@@ -135,7 +135,7 @@ store_after h s p w v lane was lt has fits now =
     access_after h (store p w v) s p lane (words_with w v s.words) was refl lt
     (words_with-items s.words w v) fits tt now (words_after (size_of s) s.words h (store p w v) v has refl was.words)
 
--- a fetch-add of producer p leaves the pool with the counter raised and the producer at this place
+-- after a fetch-add of producer p the state has the counter raised by one, and p at the place `lane`
 fetch_after : (h : History) (s : PoolState) (p x : ℕ) (lane : Lane) → IsAfter h s → p < lane_count s → x < 2 ^ 64
     → s.words.counter < 2 ^ 64
     → IsLaneAfter (cell_count s) p lane
@@ -150,7 +150,7 @@ fetch_after h s p x lane was lt fits small now =
     (fits, omega (arith, found)) refl now
     (words_after (size_of s) s.words h (fetch p e) (s.words.counter + 1) tt more was.words)
 
--- an offer that makes a fetch-add keeps the clause `meets`
+-- an offer that makes a fetch-add does what the clause `meets` says
 pub offer_made : (s : PoolState) (p x : ℕ) (lane : Lane) → p < lane_count s → lane ≡ slice_index_or s.lanes p lane
     → offer_refusal lane ≡ None → x < 2 ^ 64 → s.words.counter < 2 ^ 64
     → OfferMeets s p x (offer_by_found (cell_count s) s.words.counter)
@@ -176,7 +176,7 @@ offer_made s p x lane lt read going fits small h other was at =
           (fetch_after h s p x there was lt fits small moved),
     )
 
--- a head, link or item of the pool's size is among the pool's words
+-- a head, link or item within the pool's size is among the pool's words
 pub word_here : (s : PoolState) (w : Word) → PoolIsSound s → IsLaneWord (size_of s) w → HasWord w s.words
 word_here s Counter sound within = tt
 word_here s (Head p) sound within = omega (arith, sound.heads)
@@ -195,7 +195,7 @@ push_fits s p lane st lt sound read is =
       push_value (size_of s) h p lane st.0 st.1 was.lawful here is,
     )
 
--- a push that makes a store keeps the clause `meets`
+-- a push that makes a store does what the clause `meets` says
 pub push_made : (s : PoolState) (p : ℕ) (lane : Lane) (st : Word × ℕ) → p < lane_count s → PoolIsSound s
     → lane ≡ slice_index_or s.lanes p lane → push_store p lane ≡ Some st
     → PushMeets s p (push_answer lane)
@@ -213,7 +213,7 @@ push_made s p lane st lt sound read is h other was at =
           (store_after h s p st.0 st.1 (lane_after_push lane) was lt (word_here s st.0 sound fits.0) fits.1 moved),
     )
 
--- a finish that stores the end mark keeps the clause `meets`
+-- a finish that stores the end mark does what the clause `meets` says
 pub finish_made : (s : PoolState) (p : ℕ) (lane : Lane) → p < lane_count s → PoolIsSound s
     → lane ≡ slice_index_or s.lanes p lane → finish_refusal lane ≡ None
     → FinishMeets s p finish.Ended
@@ -237,12 +237,12 @@ finish_made s p lane lt sound read going h other was at =
           (subst (λ l. IsAfter (store p (next_link p l) END ∷ h) now) same after),
     )
 
--- a cursor within the pool is at one of its words
+-- a look at a cursor within the pool loads a word that the pool has
 pub cursor_word : (s : PoolState) (at : Cursor) → PoolIsSound s → IsWithin at s → HasWord (word_of at) s.words
 cursor_word s (cursor.Head p) sound within = omega (arith, sound.heads)
 cursor_word s (cursor.Past k) sound within = omega (arith, sound.links)
 
--- what a head or link leads to is a cell of the pool
+-- if a head or link holds neither 0 nor the end mark, it leads to a cell of the pool
 pub link_bound : (s : PoolState) (at : Cursor) (v : ℕ) → PoolIsSound s → IsWithin at s
     → word_in (word_of at) s.words ≡ v
     → v ≢ 0 → v ≢ END → v - 1 < cell_count s
@@ -265,7 +265,7 @@ link_bound s at v sound within is some no_end =
     word_told h s (cursor.Head p) sound was within = was.words (Head p) within
     word_told h s (cursor.Past k) sound was within = was.words (Link k) within
 
--- the counter of a pool is far below 2^64
+-- the counter of a sound pool is below 2^33
 pub counter_small : (s : PoolState) → PoolIsSound s → s.words.counter < 2 ^ 33
 counter_small s sound =
     let was = sound.history.1 in
@@ -329,7 +329,7 @@ empty_sound n m heads links items lanes few small hs ks is ls =
       history = ([], empty_after n m heads links items lanes few small hs ks is ls);
     }
 
--- a pool is sound after a store and a new place of one lane, if some history leaves it
+-- after a store and a new place of one lane a sound pool is still sound, if some history leaves the new state
 pub sound_after : (s : PoolState) (w : Word) (v p : ℕ) (lane : Lane) → PoolIsSound s
     → (h : History) × IsAfter h (record { words = words_with w v s.words; lanes = slice_set s.lanes p lane })
     → PoolIsSound (record { words = words_with w v s.words; lanes = slice_set s.lanes p lane })

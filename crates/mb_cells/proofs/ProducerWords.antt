@@ -1,29 +1,29 @@
--- What a producer leaves in its words.
+-- What a producer's part leaves in the words that only this producer stores to.
 use Rattle.std.proofs.Common.{List, None, Some, [], arith, eq-eqb, false, inl, inr, ne_eqb, refl, subst, sym, ℕ, ◌+◌, ◌<◌, ◌∙◌, ◌∷◌, ◌≡◌, ◌⊎◌}
 use Rattle.mb_cells.specs.{AllCellsBelow, Counter, END, Entry, Has, Head, History, Item, Link, Phase, PoolAccess, Store, Word, fetch, groups, is_same_word, part_at, place_after, value_in}
 use Rattle.mb_cells.specs.Place.{Ended, Full, Offered, Open, Stored}
 use Rattle.mb_cells.proofs.Counter.{AreRising}
 use Rattle.mb_cells.proofs.Names.{is_same_word-refl}
 
--- the cells fall from the newest to the oldest
+-- the numbers of the cells fall, from the entry linked last to the first
 abbrev pub AreFalling : List Entry → Type 0
 AreFalling [] = Unit {0}
 AreFalling (e ∷ es) = AllCellsBelow e.cell es × AreFalling es
 
--- if all fetch-adds gave less than n, all cells are below n
+-- if each fetch-add of the groups gave a number below n, all cells of the entries are below n
 has_fetch : (p n : ℕ) (es : List Entry) → ((f : Entry) → Has (groups p es) (fetch p f) → f.cell < n)
     → AllCellsBelow n es
 has_fetch p n [] h = tt
 has_fetch p n (e ∷ es) h = (h e (inr (inr (inl refl))), has_fetch p n es (λ f m. h f (inr (inr (inr m)))))
 
--- if the numbers rise, the cells of the groups fall
+-- if the numbers that the groups' fetch-adds gave rise in time, the cells of the entries fall (the last comes first)
 falling : (p : ℕ) (es : List Entry) → AreRising (groups p es) → AreFalling es
 falling p [] r = tt
 falling p (e ∷ es) r =
     let fetches : AreRising (fetch p e ∷ groups p es) = r.1.1 in
     (has_fetch p e.cell es (λ f m. fetches.0 p p e f refl m), falling p es fetches.1)
 
--- the cell of the phase's entry, if it has one, is above all cells of the entries
+-- the cell of the phase's entry, if it has one, is above the cells of all entries
 abbrev pub IsAbove : List Entry → Phase → Type 0
 IsAbove es Open = Unit {0}
 IsAbove es (Offered e) = AllCellsBelow e.cell es
@@ -35,7 +35,7 @@ IsAbove es (Ended r) = Unit {0}
 abbrev pub IsFallingAt : List Entry → Phase → Type 0
 IsFallingAt es phase = AreFalling es × IsAbove es phase
 
--- if the numbers rise, the cells fall at each place
+-- if the numbers that fetch-adds gave rise in time, the cells fall at each place
 pub falling_at : (p : ℕ) (es : List Entry) (phase : Phase) → AreRising (part_at p es phase) → IsFallingAt es phase
 falling_at p es Open r = (falling p es r, tt)
 falling_at p es (Offered e) r = (falling p es r.1, has_fetch p e.cell es (λ f m. r.0 p p e f refl m))
@@ -44,17 +44,17 @@ falling_at p es (Full e) r = (falling p es r.1, has_fetch p e.cell es (λ f m. r
 falling_at p es (Ended None) r = (falling p es r.1, tt)
 falling_at p es (Ended (Some e)) r = (falling p es r.1.1, tt)
 
--- the word leads to one of the cells, or is the item of one
+-- the word leads to one of the cells, or is the item word of one
 abbrev pub IsInChain : ℕ → List Entry → Word → Type 0
 IsInChain p [] w = ⊥
 IsInChain p (e ∷ es) w = (w ≡ place_after p es) ⊎ ((w ≡ Item e.cell) ⊎ IsInChain p es w)
 
--- each word that leads to a cell holds it, and its item word the item
+-- a chain: each word that leads to a cell holds its number + 1, and the cell's item word holds its item
 abbrev pub IsChained : (Word → ℕ) → ℕ → List Entry → Type 0
 IsChained m p [] = Unit {0}
 IsChained m p (e ∷ es) = (m (place_after p es) ≡ e.cell + 1) × (m (Item e.cell) ≡ e.value) × IsChained m p es
 
--- a chain holds in each memory that agrees on its words
+-- if memory m holds a chain, so does each memory n that has the same values in the words of the chain
 pub chained-agree : (m n : Word → ℕ) (p : ℕ) (es : List Entry) → ((w : Word) → IsInChain p es w → n w ≡ m w)
     → IsChained m p es → IsChained n p es
 chained-agree m n p [] same h = tt
@@ -65,22 +65,22 @@ chained-agree m n p (e ∷ es) same h = (
   chained-agree m n p es (λ w i. same w (inr (inr i))) h.2,
 )
 
--- the link of a greater cell is another word
+-- the link word of a cell is not that of a cell with a smaller number
 below-ne : (n k : ℕ) → k < n → is_same_word (Link n) (Link k) ≡ false
 below-ne n k lt = ne_eqb n k (λ e. absurd (omega arith))
 
--- a word of the chain is none of a greater cell
+-- the word is not the counter, nor the item word or the link word of cell n
 record IsApart (n : ℕ) (w : Word) : Type 0 where
   counter : is_same_word Counter w ≡ false
   item : is_same_word (Item n) w ≡ false
   link : is_same_word (Link n) w ≡ false
 
--- the word past smaller cells is no word of this cell
+-- if all entries have cells below n, the word past them is not the counter, nor a word of cell n
 apart-place : (p n : ℕ) (es : List Entry) → AllCellsBelow n es → IsApart n (place_after p es)
 apart-place p n [] b = record { counter = refl; item = refl; link = refl }
 apart-place p n (e ∷ es) b = record { counter = refl; item = refl; link = below-ne n e.cell b.0 }
 
--- no word of the chain is a word of a greater cell
+-- if all entries have cells below n, no word of their chain is the counter, or a word of cell n
 apart : (p n : ℕ) (es : List Entry) (w : Word) → AllCellsBelow n es → IsInChain p es w → IsApart n w
 apart p n [] w b i = absurd i
 apart p n (e ∷ es) w b (inl is) = subst (IsApart n) (sym is) (apart-place p n es b.1)
@@ -88,7 +88,7 @@ apart p n (e ∷ es) w b (inr (inl is)) =
     subst (IsApart n) (sym is) (record { counter = refl; item = below-ne n e.cell b.0; link = refl })
 apart p n (e ∷ es) w b (inr (inr i)) = apart p n es w b.1 i
 
--- the word past the last cell is no word of the chain
+-- the word past the last cell of a chain is no word of the chain
 apart-next : (p : ℕ) (es : List Entry) (w : Word) → AreFalling es → IsInChain p es w
     → is_same_word (place_after p es) w ≡ false
 apart-next p [] w f i = absurd i
@@ -97,17 +97,17 @@ apart-next p (e ∷ es) w f (inl is) =
 apart-next p (e ∷ es) w f (inr (inl is)) = subst (λ x. is_same_word (Link e.cell) x ≡ false) (sym is) refl
 apart-next p (e ∷ es) w f (inr (inr i)) = (apart p e.cell es w f.0 i).link
 
--- a link is no item
+-- the word past the entries is not the item word of a cell
 place-item : (p k : ℕ) (es : List Entry) → is_same_word (place_after p es) (Item k) ≡ false
 place-item p k [] = refl
 place-item p k (e ∷ es) = refl
 
--- an item is no link
+-- the item word of a cell is not the word past the entries
 item-place : (p k : ℕ) (es : List Entry) → is_same_word (Item k) (place_after p es) ≡ false
 item-place p k [] = refl
 item-place p k (e ∷ es) = refl
 
--- groups leave a chain
+-- if the cells of the entries fall, their groups leave them in memory as a chain
 groups-chained : (p : ℕ) (es : List Entry) → AreFalling es → IsChained (λ w. value_in w (groups p es)) p es
 groups-chained p [] f = tt
 groups-chained p (e ∷ es) f = (
@@ -118,7 +118,7 @@ groups-chained p (e ∷ es) f = (
       (groups-chained p es f.1),
 )
 
--- groups leave 0 in the link of a greater cell
+-- groups leave 0 in the link word of a cell above all of theirs
 groups-fresh : (p n : ℕ) (es : List Entry) → AllCellsBelow n es → value_in (Link n) (groups p es) ≡ 0
 groups-fresh p n [] b = refl
 groups-fresh p n (e ∷ []) b = refl
@@ -135,7 +135,7 @@ groups-next p (e ∷ d ∷ es) f =
     ne_eqb d.cell e.cell (λ x. absurd (omega (arith, f.0.0))) in
     rw ne (groups-fresh p e.cell (d ∷ es) f.0)
 
--- what the word past the last cell holds, by the phase
+-- what the word past the last cell holds, by the phase: the end mark if the lane has ended, else 0
 abbrev pub end_value : Phase → ℕ
 end_value Open = 0
 end_value (Offered _) = 0
@@ -143,12 +143,12 @@ end_value (Stored _) = 0
 end_value (Full _) = 0
 end_value (Ended _) = END
 
--- the counter is no link
+-- the counter is not the word past the entries
 counter-place : (p : ℕ) (es : List Entry) → is_same_word Counter (place_after p es) ≡ false
 counter-place p [] = refl
 counter-place p (e ∷ es) = refl
 
--- at each place a producer's part leaves a chain
+-- at each place the producer's part leaves its entries in memory as a chain
 pub chained_at : (p : ℕ) (es : List Entry) (phase : Phase) → IsFallingAt es phase
     → IsChained (λ w. value_in w (part_at p es phase)) p es
 chained_at p es Open f = groups-chained p es f.0
@@ -175,7 +175,7 @@ chained_at p es (Ended (Some e)) f =
     in_chain-counter p (e ∷ es) w (inr (inl is)) = subst (λ x. is_same_word Counter x ≡ false) (sym is) refl
     in_chain-counter p (e ∷ es) w (inr (inr i)) = in_chain-counter p es w i
 
--- the next link of a producer holds 0 or the end mark
+-- at each place the word past the last cell holds the end mark if the phase is Ended, else 0
 pub next_at : (p : ℕ) (es : List Entry) (phase : Phase) → AreFalling es
     → value_in (place_after p es) (part_at p es phase) ≡ end_value phase
 next_at p es Open f = groups-next p es f
@@ -191,7 +191,7 @@ IsOwned q h (Head p) = q ≡ p
 IsOwned q h (Link k) = (e : Entry) × ((e.cell ≡ k) × Has h (fetch q e))
 IsOwned q h (Item k) = (e : Entry) × ((e.cell ≡ k) × Has h (fetch q e))
 
--- what a producer owns it owns in a longer history
+-- a word that a producer owns in one history, it owns in each history with the same accesses and more
 pub owned-more : (q : ℕ) (h k : History) (w : Word) → ((a : PoolAccess) → Has h a → Has k a) → IsOwned q h w
     → IsOwned q k w
 owned-more q h k Counter more o = o
@@ -199,12 +199,12 @@ owned-more q h k (Head p) more o = o
 owned-more q h k (Link c) more o = (o.0, (o.1.0, more (fetch q o.0) o.1.1))
 owned-more q h k (Item c) more o = (o.0, (o.1.0, more (fetch q o.0) o.1.1))
 
--- a producer owns the word past its groups
+-- a producer owns the word past the cells of its groups
 owned-place : (q : ℕ) (es : List Entry) → IsOwned q (groups q es) (place_after q es)
 owned-place q [] = refl
 owned-place q (e ∷ es) = (e, (refl, inr (inr (inl refl))))
 
--- groups store to owned words
+-- each store of a producer's groups is to a word that the producer owns
 pub groups-owned : (q : ℕ) (es : List Entry) (a : PoolAccess) (v : ℕ) → Has (groups q es) a → a.act ≡ Store v
     → IsOwned q (groups q es) a.word
 groups-owned q [] a v has is = absurd has
@@ -217,7 +217,7 @@ groups-owned q (e ∷ es) a v (inr (inr (inl at))) is = absurd (cc)
 groups-owned q (e ∷ es) a v (inr (inr (inr has))) is =
     owned-more q (groups q es) (groups q (e ∷ es)) a.word (λ b m. inr (inr (inr m))) (groups-owned q es a v has is)
 
--- a producer owns the word past its last cell
+-- at each place the producer owns the word past its last cell
 pub owned_next : (q : ℕ) (es : List Entry) (phase : Phase) → IsOwned q (part_at q es phase) (place_after q es)
 owned_next q es Open = owned-place q es
 owned_next q es (Offered e) = owned-more q (groups q es) (part_at q es (Offered e)) (place_after q es) (λ b m. inr m)
@@ -232,7 +232,7 @@ owned_next q es (Ended (Some e)) =
     owned-more q (groups q es) (part_at q es (Ended (Some e))) (place_after q es) (λ b m. inr (inr m))
     (owned-place q es)
 
--- a producer stores to owned words
+-- at each place each store of the producer was to a word that it owns
 pub stores_owned : (q : ℕ) (es : List Entry) (phase : Phase) (a : PoolAccess) (v : ℕ) → Has (part_at q es phase) a
     → a.act ≡ Store v → IsOwned q (part_at q es phase) a.word
 stores_owned q es Open a v has is = groups-owned q es a v has is
@@ -256,7 +256,7 @@ stores_owned q es (Ended (Some e)) a v (inr (inr has)) is =
     owned-more q (groups q es) (part_at q es (Ended (Some e))) a.word (λ b m. inr (inr m))
     (groups-owned q es a v has is)
 
--- the words of the chain of groups are owned
+-- a producer owns all words of the chain of its groups
 chain_owned-groups : (p : ℕ) (es : List Entry) (w : Word) → IsInChain p es w → IsOwned p (groups p es) w
 chain_owned-groups p [] w i = absurd i
 chain_owned-groups p (e ∷ es) w (inl is) =
@@ -267,7 +267,7 @@ chain_owned-groups p (e ∷ es) w (inr (inl is)) =
 chain_owned-groups p (e ∷ es) w (inr (inr i)) =
     owned-more p (groups p es) (groups p (e ∷ es)) w (λ b m. inr (inr (inr m))) (chain_owned-groups p es w i)
 
--- the groups are a part of all that was done
+-- the accesses of the groups are among all that the producer has done
 pub groups_in : (p : ℕ) (es : List Entry) (phase : Phase) (a : PoolAccess) → Has (groups p es) a
     → Has (part_at p es phase) a
 groups_in p es Open a m = m
@@ -277,7 +277,7 @@ groups_in p es (Full e) a m = inr m
 groups_in p es (Ended None) a m = inr m
 groups_in p es (Ended (Some e)) a m = inr (inr m)
 
--- the words of the chain are owned at each place
+-- at each place the producer owns all words of its chain
 pub chain_owned : (p : ℕ) (es : List Entry) (phase : Phase) (w : Word) → IsInChain p es w
     → IsOwned p (part_at p es phase) w
 chain_owned p es phase w i = owned-more p (groups p es) (part_at p es phase) w (groups_in p es phase)

@@ -14,7 +14,7 @@ kept_cells : (p q : ℕ) (w : Word) (v : ℕ) (h : History) → link_of w (Store
 kept_cells p q w v h none =
     rw none (same_twice (nat_eq q p) (linked_cells q h))
 
--- a store leaves the items of all cells as they are
+-- a store leaves the items that were offered for cells as they are
 item_of-store : (p : ℕ) (w : Word) (v k : ℕ) (h : History) → item_of k (store p w v ∷ h) ≡ item_of k h
 item_of-store p w v k h = same_twice (is_same_word w Counter) (item_of k h)
 
@@ -31,14 +31,14 @@ pub put_list-kept : (h : History) (p q : ℕ) (w : Word) (v : ℕ) → link_of w
 put_list-kept h p q w v none =
     same_list h (store p w v ∷ h) q (kept_cells p q w v h none) (λ j has. item_of-store p w v j h)
 
--- the end mark leaves the put list as it is
+-- a store of the end mark leaves each put list as it is
 pub put_list-end : (h : History) (p q : ℕ) (w : Word) → IsLinkWord w → put_list q (store p w END ∷ h) ≡ put_list q h
 put_list-end h p q Counter link = absurd link
 put_list-end h p q (Head j) link = put_list-kept h p q (Head j) END refl
 put_list-end h p q (Link j) link = put_list-kept h p q (Link j) END refl
 put_list-end h p q (Item j) link = absurd link
 
--- a store of another lane leaves the put list as it is
+-- a store of another lane's producer leaves the put list as it is
 pub put_list-other : (h : History) (p q v : ℕ) (w : Word) → p ≢ q → put_list q (store p w v ∷ h) ≡ put_list q h
 put_list-other h p q v w ne =
     let other : nat_eq q p ≡ false = ne_eqb q p (λ e. ne (sym e)) in
@@ -62,7 +62,7 @@ put_list-fetch size h p q e l =
     let other : nat_eq e.cell j ≡ false = ne_eqb e.cell j (λ same. absurd (omega (arith, same, low, found, x.cell))) in
     rw other refl)
 
--- a link store puts its cell with its item at the end
+-- the store of a link to cell k adds k with its item at the end of the lane's put list
 pub put_list-link : (h : History) (p k : ℕ) (w : Word) → IsLinkWord w → k + 1 ≢ END
     → put_list p (store p w (k + 1) ∷ h) ≡ put_list p h ++ entry_at k h ∷ []
 put_list-link h p k w link ne =

@@ -1,10 +1,10 @@
--- The cells that a reader was given lie on chains that it met.
+-- If a reader loaded a link to a cell, it met that cell on some lane: it loaded all links from the head to the cell.
 use Rattle.std.proofs.Common.{List, [], ap, inl, inr, refl, ℕ, ◌+◌, ◌∙◌, ◌∷◌, ◌≡◌}
 use Rattle.mb_cells.specs.{Gave, Has, HasLoaded, HasMet, Head, History, IsGift, IsPoolLawful, IsReaderPath, Link, Load, MayRead, PoolAccess, PoolAct, PoolSize, Reader, Word, part, place_past}
 use Rattle.mb_cells.proofs.Names.{access_is}
 use Rattle.mb_cells.proofs.Parts.{Has-of_part, part_by}
 
--- what was met in a history was met in one that has its accesses and more
+-- cells that a reader met in one history, it met in each history with the same accesses and more
 pub HasMet-more : (r p : ℕ) (h k : History) (ks : List ℕ) → ((a : PoolAccess) → Has h a → Has k a) → HasMet r p ks h
     → HasMet r p ks k
 HasMet-more r p h k [] more met = tt
@@ -14,7 +14,7 @@ HasMet-more r p h k (c ∷ ks) more met = (
   HasMet-more r p h k ks more met.2,
 )
 
--- each cell that a reader was given lies on a chain that it met
+-- if a reader's part has a load of a link to cell k (`Gave`), the reader met k on some lane, past the cells `ks` there
 pub met-of : (lanes r : ℕ) (d : History) (k : ℕ) → ((a : PoolAccess) → Has d a → a.process ≡ Reader r)
     → IsReaderPath lanes d → Gave k d → (p : ℕ) × ((ks : List ℕ) × HasMet r p (k ∷ ks) d)
 met-of lanes r [] k mine path gave = absurd gave
@@ -46,7 +46,7 @@ met-of lanes r (a ∷ d) k mine path (inl gift) =
         )
     by older _ _ e f g may = absurd g
 
--- in a lawful history a cell that a reader was given lies on a chain that it met
+-- in a lawful history: if a reader loaded a link to cell k, it met k on some lane
 pub on_chain : (size : PoolSize) (h : History) (r k : ℕ) → IsPoolLawful size h → Gave k (part (Reader r) h)
     → (p : ℕ) × ((ks : List ℕ) × HasMet r p (k ∷ ks) h)
 on_chain size h r k l gave =

@@ -1,4 +1,4 @@
--- A reader's path, cut into its parts and put together again.
+-- A reader path, taken apart into the loads on each lane, and put together again.
 use Rattle.std.proofs.Common.{Bool, List, [], ap, eq-eqb, eqb-true, false, inl, inr, refl, subst, sym, true, ℕ, ◌++◌, ◌+◌, ◌||◌, ◌∙◌, ◌∷◌, ◌≡◌, ◌≢◌}
 use Rattle.std.specs.Prelude.{filter, nat_eq}
 use Rattle.std.proofs.lemmas.Bool.{cases_Bool, cond_both, false≢true}
@@ -11,7 +11,7 @@ use Rattle.mb_cells.proofs.Names.{access_is, is_same_process-refl}
 use Rattle.mb_cells.proofs.Parts.{Has-of_part, Has-part, part_by}
 use Rattle.mb_cells.proofs.ReaderChains.{HasMet-more, met-of, on_chain}
 
--- a part of what a reader loaded gave no more than all of it
+-- a cell that some of the accesses gave was given by all of them together
 Gave-filter : (test : PoolAccess → Bool) (d : History) (k : ℕ) → Gave k (filter test d) → Gave k d
 Gave-filter test [] k gave = gave
 Gave-filter test (a ∷ d) k gave =
@@ -19,7 +19,7 @@ Gave-filter test (a ∷ d) k gave =
     (λ _ g. elim g [ inl gift ↦ inl gift | inr older ↦ inr (Gave-filter test d k older) ])
     (λ _ g. inr (Gave-filter test d k g)) gave
 
--- a word that some of the accesses allow to load is allowed by all
+-- a word that a reader may load after some of the accesses, it may load after all of them
 MayRead-filter : (lanes : ℕ) (test : PoolAccess → Bool) (d : History) (w : Word) → MayRead lanes w (filter test d)
     → MayRead lanes w d
 MayRead-filter lanes test d Counter may = may
@@ -35,7 +35,7 @@ path-older lanes test a d path =
     (λ l. IsReaderPath lanes l → IsReaderPath lanes (filter test d))
     (λ _ x. x.2) (λ _ x. x) path
 
--- if each access is in some part, and each part is a reader path, so is the whole
+-- if each access passes some test, and those that pass each test are a reader path, so are all of them
 pub path_of_parts : (lanes : ℕ) (test : ℕ → PoolAccess → Bool) (d : History)
     → ((a : PoolAccess) → Has d a → (p : ℕ) × (test p a ≡ true))
     → ((p : ℕ) → IsReaderPath lanes (filter (test p) d)) → IsReaderPath lanes d
@@ -49,18 +49,18 @@ path_of_parts lanes test (a ∷ d) all paths =
     let before = path_of_parts lanes test d (λ b has. all b (inr has)) (λ p. path-older lanes (test p) a d (paths p)) in
     (here.0, MayRead-filter lanes (test own.0) d a.word here.1, before)
 
--- the test for a cell is true if the cell is in the list
+-- if a cell is in the list, `has_cell` is true
 pub has_cell-true : (ks : List ℕ) (k : ℕ) → Has ks k → has_cell ks k ≡ true
 has_cell-true [] k has = absurd has
 has_cell-true (j ∷ js) k (inl is) = let same : nat_eq j k ≡ true = eq-eqb j k is in rw same refl
 has_cell-true (j ∷ js) k (inr has) = rw (has_cell-true js k has) (or-true (nat_eq j k))
   where
-    -- a choice with true is true
+    -- `b || true` is true
     or-true : (b : Bool) → (b || true) ≡ true
     or-true true = refl
     or-true false = refl
 
--- a cell that passes the test is in the list
+-- if `has_cell` is true, the cell is in the list
 pub cell-of_true : (ks : List ℕ) (k : ℕ) → has_cell ks k ≡ true → Has ks k
 cell-of_true [] k is = absurd (false≢true is)
 cell-of_true (j ∷ js) k is =
@@ -69,22 +69,22 @@ cell-of_true (j ∷ js) k is =
       | inr other ↦ inr (cell-of_true js k (sym (ap (λ b. b || has_cell js k) other) ∙ is))
     ]
 
--- a cell that a list is split at is in the list
+-- if a list is `later`, then k, then `ks`, it has cell k
 start-cell : (later ks ls : List ℕ) (k : ℕ) → later ++ k ∷ ks ≡ ls → Has ls k
 start-cell [] ks ls k is = subst (λ l. Has l k) is (inl refl)
 start-cell (j ∷ later) ks ls k is = subst (λ l. Has l k) is (inr (start-cell later ks (later ++ k ∷ ks) k refl))
 
--- a cell that a reader met is on the lane
+-- a cell that a reader met on lane p is linked there
 pub met-cell : (size : PoolSize) (h : History) (r p k : ℕ) (ks : List ℕ) → IsPoolLawful size h → HasMet r p (k ∷ ks) h
     → Has (linked_cells p h) k
 met-cell size h r p k ks l met = let s = met_start size h r p (k ∷ ks) l met in
     start-cell s.0 ks (linked_cells p h) k s.1
 
--- all these accesses are of reader r, and in the history
+-- reader r made each access of d, and each is in h
 abbrev pub AreOf : ℕ → History → History → Type 0
 AreOf r h d = (a : PoolAccess) → Has d a → Has h a × (a.process ≡ Reader r)
 
--- a load that gave a cell of lane p is on lane p
+-- a load that gave a cell linked into lane p was of that lane's head, or of the link of a cell in that lane
 gift-lane : (size : PoolSize) (h : History) (r p k : ℕ) (a : PoolAccess) (d : History) → IsPoolLawful size h
     → AreOf r h (a ∷ d) → IsReaderPath size.lanes (a ∷ d)
     → IsGift k a.word a.act → Has (linked_cells p h) k → is_of_lane p (linked_cells p h) a.word ≡ true
@@ -116,7 +116,7 @@ gift-lane size h r p k a d l own path gift put_here =
         has_cell-true (linked_cells p h) j (subst (λ q. Has (linked_cells q h) j) (sym same) here)
     by (Item j) e = absurd (let x = (gift-load k a.word a.act gift).link in subst IsLinkWord e x)
 
--- a cell of lane p that a reader was given was given by its accesses on that lane
+-- if a reader's accesses gave a cell of lane p, its accesses on lane p alone gave it
 gave-on : (size : PoolSize) (h : History) (r p k : ℕ) (d : History) → IsPoolLawful size h → AreOf r h d
     → IsReaderPath size.lanes d → Has (linked_cells p h) k → Gave k d
     → Gave k (filter (λ a. is_of_lane p (linked_cells p h) a.word) d)
@@ -129,7 +129,7 @@ gave-on size h r p k (a ∷ d) l own path put_here (inr gave) =
     (filter (λ b. is_of_lane p (linked_cells p h) b.word) d) (λ x. Gave k x)
     (λ _. inr rest) (λ _. rest)
 
--- a reader may load a word of lane p after its own loads on that lane
+-- a word of lane p that a reader may load, it may load by its own loads on lane p alone
 may-on : (size : PoolSize) (h : History) (r p : ℕ) (d : History) (w : Word) → IsPoolLawful size h → AreOf r h d
     → IsReaderPath size.lanes d → is_of_lane p (linked_cells p h) w ≡ true
     → MayRead size.lanes w d → MayRead size.lanes w (filter (λ a. is_of_lane p (linked_cells p h) a.word) d)
@@ -140,7 +140,7 @@ may-on size h r p d (Link k) l own path on may =
 may-on size h r p d (Item k) l own path on may =
     gave-on size h r p k d l own path (cell-of_true (linked_cells p h) k on) may
 
--- what is of lane p in a reader path is a reader path
+-- the accesses of a reader path on lane p are a reader path by themselves
 path-on : (size : PoolSize) (h : History) (r p : ℕ) (d : History) → IsPoolLawful size h → AreOf r h d
     → IsReaderPath size.lanes d
     → IsReaderPath size.lanes (filter (λ a. is_of_lane p (linked_cells p h) a.word) d)
@@ -158,7 +158,7 @@ lane_path size h r p l =
     path-on size h r p (part (Reader r) h) l (λ a has. (Has-of_part (Reader r) h a has, part_by (Reader r) h a has))
     (l.readers r)
 
--- what a reader loaded it may load still
+-- a word that a reader has loaded, it may load again
 pub may-now : (lanes : ℕ) (d : History) (a : PoolAccess) → IsReaderPath lanes d → Has d a → MayRead lanes a.word d
 may-now lanes [] a path has = absurd has
 may-now lanes (b ∷ d) a path (inl is) = subst (λ (x : PoolAccess). MayRead lanes x.word (b ∷ d)) is (more b.word path.1)
@@ -188,7 +188,7 @@ some_lane_on size h r a l has =
     by (Link k) may = let g = given size h r k l may in (g.0, has_cell-true (linked_cells g.0 h) k g.1)
     by (Item k) may = let g = given size h r k l may in (g.0, has_cell-true (linked_cells g.0 h) k g.1)
 
--- a reader that loaded a lane's end mark has met all cells that are put there
+-- a reader that loaded a lane's end mark has met all cells linked there
 pub all_met : (size : PoolSize) (h : History) (r p : ℕ) (w : Word) → IsPoolLawful size h → IsLinkWord w
     → is_of_lane p (linked_cells p h) w ≡ true → HasLoaded r w END h → HasMet r p (linked_cells p h) h
 all_met size h r p Counter l link on loaded = absurd link
@@ -210,7 +210,7 @@ all_met size h r p (Link k) l link on loaded =
     subst (λ js. HasMet r p js h) (met_all size h r p (k ∷ ks) l met loaded) met
 all_met size h r p (Item k) l link on loaded = absurd link
 
--- a reader's part alone tells what it has met
+-- cells that a reader met in a history, it met in its own part of that history
 pub met_own : (h : History) (r p : ℕ) (ks : List ℕ) → HasMet r p ks h → HasMet r p ks (part (Reader r) h)
 met_own h r p [] met = tt
 met_own h r p (k ∷ ks) met = (
@@ -219,14 +219,14 @@ met_own h r p (k ∷ ks) met = (
   met_own h r p ks met.2,
 )
 
--- who loaded a word of a cell was given the cell
+-- a reader that loaded the link word of cell k had loaded a link to cell k
 pub gave_link : (size : PoolSize) (h : History) (r k v : ℕ) → IsPoolLawful size h → HasLoaded r (Link k) v h
     → Gave k (part (Reader r) h)
 gave_link size h r k v l has =
     may-now size.lanes (part (Reader r) h) (load r (Link k) v) (l.readers r)
     (Has-part (Reader r) h (load r (Link k) v) has (is_same_process-refl (Reader r)))
 
--- who loaded the item of a cell was given the cell
+-- a reader that loaded the item word of cell k had loaded a link to cell k
 pub gave_item : (size : PoolSize) (h : History) (r k v : ℕ) → IsPoolLawful size h → HasLoaded r (Item k) v h
     → Gave k (part (Reader r) h)
 gave_item size h r k v l has =
@@ -238,7 +238,7 @@ has_behind : (xs js : List ℕ) (k : ℕ) → Has (xs ++ k ∷ js) k
 has_behind [] js k = inl refl
 has_behind (y ∷ xs) js k = inr (has_behind xs js k)
 
--- if a list has a cell once, what stands past it is one list
+-- if a list has no cell twice, what comes after cell k is the same however the list is split at k
 one_rest : (later other ks js : List ℕ) (k : ℕ) → IsOnceEach (later ++ k ∷ ks) → later ++ k ∷ ks ≡ other ++ k ∷ js
     → ks ≡ js
 one_rest [] [] ks js k once is = tail_is ks js k is
@@ -262,7 +262,7 @@ one_rest (x ∷ later) (y ∷ other) ks js k once is =
     tails : (ls ms : List ℕ) (x y : ℕ) → x ∷ ls ≡ y ∷ ms → ls ≡ ms
     tails ls ms x y is = cc
 
--- one way alone leads to a cell that a reader has met
+-- two lists of the cells that a reader met on a lane before cell k are equal
 pub one_way : (size : PoolSize) (h : History) (r p k : ℕ) (ks js : List ℕ) → IsPoolLawful size h
     → HasMet r p (k ∷ ks) h → HasMet r p (k ∷ js) h → ks ≡ js
 one_way size h r p k ks js l met also =

@@ -1,4 +1,4 @@
--- How many cells and items the lanes have.
+-- How many cells and items the lanes of a lawful history have.
 use Rattle.std.proofs.Common.{List, None, Some, [], ap, arith, cond, eq-eqb, eqb-true, inl, inr, length, length-append, refl, subst, suc, sym, zero, ℕ}
 use Rattle.std.proofs.Common.{⊎_elim, ◌++◌, ◌+◌, ◌<◌, ◌∙◌, ◌∷◌, ◌≡◌, ◌≢◌, ◌≤◌, ◌⊎◌}
 use Rattle.std.specs.Prelude.{map, nat_eq}
@@ -37,7 +37,7 @@ shorter_without m (k ∷ ks) has =
     (λ f. ⊎_elim (λ (e : k ≡ m). absurd (false≢true (sym f ∙ eq-eqb k m e)))
     (λ (r : Has ks m). let s = shorter_without m ks r in omega arith) has)
 
--- if no element stands twice, each that is left is in the list and is not m
+-- if no element of a list is there twice, each element left without m is in the list and is not m
 has_without : (m : ℕ) (ks : List ℕ) (j : ℕ) → IsOnceEach ks → Has (without m ks) j → Has ks j × (j ≢ m)
 unfolding without
 has_without m [] j once h = absurd h
@@ -56,7 +56,7 @@ still_without m (k ∷ ks) j has apart =
     (λ t. ⊎_elim (λ (e : k ≡ j). absurd (apart (sym e ∙ eqb-true k m t))) (λ (r : Has ks j). r) has)
     (λ f. ⊎_elim (λ (e : k ≡ j). inl e) (λ (r : Has ks j). inr (still_without m ks j r apart)) has)
 
--- in a list without its first m no element stands twice, if none did before
+-- if no element of a list is there twice, none is there twice in the list without its first m
 once_without : (m : ℕ) (ks : List ℕ) → IsOnceEach ks → IsOnceEach (without m ks)
 unfolding without
 once_without m [] once = tt
@@ -64,7 +64,7 @@ once_without m (k ∷ ks) once =
     cond_both (nat_eq k m) ks (k ∷ without m ks) IsOnceEach (λ _. once.1)
     (λ _. ((λ h. once.0 (has_without m ks k once.1 h).0), once_without m ks once.1))
 
--- different numbers below m are no more than m
+-- a list of different numbers below m has at most m elements
 at_most : (m : ℕ) (ks : List ℕ) → IsOnceEach ks → ((k : ℕ) → Has ks k → k < m) → length ks ≤ m
 at_most zero [] once low = omega arith
 at_most zero (k ∷ ks) once low = let l = low k (inl refl) in absurd (omega arith)
@@ -74,7 +74,7 @@ at_most (suc m) ks once low =
     let long = length_without m ks in
     omega arith
 
--- a list that has all numbers below m has no fewer than m
+-- a list that has all numbers below m has at least m elements
 at_least : (m : ℕ) (ks : List ℕ) → ((k : ℕ) → k < m → Has ks k) → m ≤ length ks
 at_least zero ks all = omega arith
 at_least (suc m) ks all =
@@ -82,7 +82,7 @@ at_least (suc m) ks all =
     let short = shorter_without m ks (all m (omega arith)) in
     omega arith
 
--- a put list has an item for each cell
+-- a lane's put list is as long as the list of its linked cells
 length_put : (p : ℕ) (h : History) → length (put_list p h) ≡ length (linked_cells p h)
 length_put p h =
     length-reverse (map (λ k. entry_at k h) (linked_cells p h)) ∙ length-map (linked_cells p h) (λ k. entry_at k h)
@@ -114,25 +114,25 @@ length_cells (suc n) h =
       length_put n h,
     )
 
--- a cell of the first list is in both joined
+-- an element of the first list is in both joined
 has_first : (xs ys : List ℕ) (k : ℕ) → Has xs k → Has (xs ++ ys) k
 has_first [] ys k has = absurd has
 has_first (x ∷ xs) ys k (inl e) = inl e
 has_first (x ∷ xs) ys k (inr has) = inr (has_first xs ys k has)
 
--- a cell of the second list is in both joined
+-- an element of the second list is in both joined
 has_second : (xs ys : List ℕ) (k : ℕ) → Has ys k → Has (xs ++ ys) k
 has_second [] ys k has = has
 has_second (x ∷ xs) ys k has = inr (has_second xs ys k has)
 
--- a cell of both joined is in one of them
+-- an element of both joined is in one of them
 has_either : (xs ys : List ℕ) (k : ℕ) → Has (xs ++ ys) k → Has xs k ⊎ Has ys k
 has_either [] ys k has = inr has
 has_either (x ∷ xs) ys k (inl e) = inl (inl e)
 has_either (x ∷ xs) ys k (inr has) =
     ⊎_elim (λ t. inl (inr t)) (λ t. inr t) (has_either xs ys k has)
 
--- lists without a cell in common, each with its cells once, have them once when joined
+-- if two lists have no element twice, and none in common, the two joined have no element twice
 once_both : (xs ys : List ℕ) → IsOnceEach xs → IsOnceEach ys → ((k : ℕ) → Has xs k → Has ys k → ⊥)
     → IsOnceEach (xs ++ ys)
 once_both [] ys a b apart = b
@@ -151,7 +151,7 @@ in_lane (suc n) h k has =
     let x = in_lane n h k t in let low = x.1.0 in (x.0, (omega arith, x.1.1)))
     (has_either (linked_cells n h) (cells_in n h) k has)
 
--- each cell of one of the first n lanes is among the cells of these
+-- each cell linked into one of the first n lanes is among the cells of the first n lanes
 lane_in : (n : ℕ) (h : History) (p k : ℕ) → p < n → Has (linked_cells p h) k → Has (cells_in n h) k
 unfolding cells_in
 lane_in zero h p k low has = absurd (omega arith)
@@ -160,7 +160,7 @@ lane_in (suc n) h p k low has = elim (cases_eq p n) [
   | inr other ↦ has_second (linked_cells n h) (cells_in n h) k (lane_in n h p k (omega (arith, other)) has)
 ]
 
--- each cell of the first n lanes stands there once
+-- no cell is twice among the cells of the first n lanes
 once_all : (size : PoolSize) (h : History) (n : ℕ) → IsPoolLawful size h → IsOnceEach (cells_in n h)
 unfolding cells_in
 once_all size h zero l = tt
@@ -179,7 +179,7 @@ few_in_all size h l =
     (λ k has. let x = in_lane size.lanes h k has in (cell_within size h x.0 k l x.1.1).1) in
     omega (arith, most, length_cells size.lanes h)
 
--- a cell that was handed out was got by a producer
+-- each cell that was handed out was given by the fetch-add of some producer
 got_by : (size : PoolSize) (h : History) (k : ℕ) → IsPoolLawful size h → WasHandedOut k h
     → (p : ℕ) × ((e : Entry) × (Has h (fetch p e) × (e.cell ≡ k)))
 got_by size h k l (a, (has, (word, (x, act)))) =
@@ -193,7 +193,7 @@ got_by size h k l (a, (has, (word, (x, act)))) =
       | inr own ↦ absurd (let acts : FetchAdd x k ≡ Store (k + 1) = sym act ∙ own.0 in cc)
     ]
 
--- if a fetch-add found no cell and each cell got is linked, all cells are put
+-- if a fetch-add found no cell, and each cell that a producer got is linked, all cells are put
 pub all_items : (size : PoolSize) (h : History) (p : ℕ) (e : Entry) → IsPoolLawful size h → Has h (fetch p e)
     → size.cells ≤ e.cell → AllLinked size h → items_put size.lanes h ≡ size.cells
 all_items size h p e l has high linked =
@@ -224,7 +224,7 @@ in_groups p (x ∷ es) e (inr (inl is)) = absurd (not_fetch p (Item x.cell) x.va
 in_groups p (x ∷ es) e (inr (inr (inl is))) = inl (cell_is p x e is)
 in_groups p (x ∷ es) e (inr (inr (inr has))) = inr (in_groups p es e has)
 
--- if nothing is to be pushed, each cell that the producer got is one of its entries
+-- if a push would store nothing, each cell that the producer got is the cell of one of its entries
 in_part : (cells p : ℕ) (es : List Entry) (phase : Phase) (lane : Lane) (done : History) (e : Entry)
     → LaneIsAt cells p es phase done → lane.stage ≡ stage_of phase → push_store p lane ≡ None
     → Has done (fetch p e) → e.cell < cells → Has (cells_of es) e.cell
@@ -247,7 +247,7 @@ in_part cells p es phase lane done e at stage idle has low =
     by (Ended (Some x)) a idle (inr (inl is)) = absurd (past x a.fits is)
     by (Ended (Some x)) a idle (inr (inr has)) = in_groups p es e has
 
--- if nothing is to be pushed, each cell that the producer got is linked
+-- if a push would store nothing, each cell that the producer got is linked into its lane
 pub idle_linked : (size : PoolSize) (h : History) (p : ℕ) (lane : Lane) (e : Entry) → IsPoolLawful size h
     → IsLaneAfter size.cells p lane (part (Producer p) h) → push_store p lane ≡ None → Has h (fetch p e)
     → e.cell < size.cells → Has (linked_cells p h) e.cell

@@ -17,13 +17,13 @@ address_of size (Head p) = 1 + p
 address_of size (Link k) = 1 + size.lanes + k
 address_of size (Item k) = 1 + size.lanes + size.cells + k
 
--- the words at their addresses are those that a lawful history leaves. Other words may follow
+-- the words at their addresses are those that a lawful history leaves. Other words may follow them
 pub record IsMemoryOf (size : PoolSize) (words : List ℕ) (h : History) : Type 0 where
   pub lawful : IsPoolLawful size h
   pub room : pool_words size ≤ length words
   pub left : (w : Word) → IsPoolWord size w → slice_index words (address_of size w) ≡ value_in w h
 
--- the words are those of a lawful history, and each process has done its part of that history
+-- a lawful history leaves the words, and `parts` are the parts of its processes
 pub record IsStateOf (size : PoolSize) (words : List ℕ) (parts : Process → History)
     (h : History) : Type 0 where
   pub memory : IsMemoryOf size words h

@@ -45,7 +45,7 @@ item_by k (Offered p x r ∷ older) = item_by_offer k x r (item_by k older)
 item_by k (Pushed p r ∷ older) = item_by k older
 item_by k (Finished p r ∷ older) = item_by k older
 
--- the cell that a push with this answer linked, if it did
+-- the cell that a push with this answer linked, if it linked one
 abbrev pub link_by_push : Push → Option ℕ
 link_by_push (push.Item k) = None
 link_by_push (push.Link k) = Some k
@@ -82,26 +82,26 @@ has_ended_by p (Finished q r ∷ older) =
 abbrev pub lane_end_by : ℕ → List Call → Look
 lane_end_by p calls = if has_ended_by p calls then look.Ended else look.Nothing
 
--- the stage after an offer of x with this answer
+-- the stage after an offer of x with this answer, if it was `was` before
 abbrev pub stage_by_offer : ℕ → Offer → LaneStage → LaneStage
 stage_by_offer x (offer.Cell n) was = stage.Offered n x
 stage_by_offer x offer.Full was = stage.Full
 stage_by_offer x offer.Busy was = was
 stage_by_offer x offer.Closed was = was
 
--- the stage after a push with this answer
+-- the stage after a push with this answer, if it was `was` before
 abbrev pub stage_by_push : Push → LaneStage → LaneStage
 stage_by_push (push.Item k) was = stage.Stored k
 stage_by_push (push.Link k) was = stage.Open
 stage_by_push push.Idle was = was
 
--- the stage after a finish with this answer
+-- the stage after a finish with this answer, if it was `was` before
 abbrev pub stage_by_finish : Finish → LaneStage → LaneStage
 stage_by_finish finish.Ended was = stage.Ended (is_full was)
 stage_by_finish finish.Busy was = was
 stage_by_finish finish.Closed was = was
 
--- the stage of lane p after these calls: the last answer that was no refusal says it
+-- the stage of lane p after these calls: the last call that was not refused says it
 abbrev pub stage_by : ℕ → List Call → LaneStage
 stage_by p [] = stage.Open
 stage_by p (Offered q x r ∷ older) =
@@ -111,7 +111,7 @@ stage_by p (Pushed q r ∷ older) =
 stage_by p (Finished q r ∷ older) =
     if nat_eq p q then stage_by_finish r (stage_by p older) else stage_by p older
 
--- how many fetch-adds an offer with this answer made, at this stage
+-- how many fetch-adds an offer with this answer made, if the stage was `was` before
 abbrev pub fetch_adds_by_offer : Offer → LaneStage → ℕ
 fetch_adds_by_offer (offer.Cell n) was = 1
 fetch_adds_by_offer offer.Full was = if is_full was then 0 else 1

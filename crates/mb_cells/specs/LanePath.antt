@@ -4,7 +4,7 @@ use Rattle.std.specs.List.{AllByRecursion}
 use Rattle.mb_cells.specs.Types.{Counter, END, FetchAdd, Head, Item, Link, PoolAccess, Producer, Store, Word}
 use Rattle.mb_cells.specs.Memory.{History}
 
--- an item, and the number that its fetch-add found: a cell's, or if it was refused one past the cells
+-- an item (`value`) and the number that its fetch-add found (`cell`): a cell's, or one past the cells if it got none
 pub record Entry : Type 0 where
   pub cell : ℕ
   pub value : ℕ
@@ -40,7 +40,7 @@ abbrev pub ending : ℕ → Word → Bool → History → History
 ending p w false h = h
 ending p w true h = store p w END ∷ h
 
--- each entry has a cell of the pool
+-- the cell of each entry is one of the pool's `cells` cells
 abbrev pub AllCellsBelow : ℕ → List Entry → Type 0
 AllCellsBelow cells es = AllByRecursion (λ (e : Entry). e.cell < cells) es
 
@@ -49,7 +49,7 @@ abbrev pub FindsNoCell : ℕ → Option Entry → Type 0
 FindsNoCell cells None = Unit {0}
 FindsNoCell cells (Some e) = cells ≤ e.cell
 
--- a path of producer p with no item half put, in a pool of `cells` cells. It need not be refused or ended
+-- a path of producer p with no item half put, in a pool of `cells` cells. It may have no refusal and no end mark
 pub record IsLanePath (cells p : ℕ) (path : History) : Type 0 where
   pub entries : List Entry
   pub refused : Option Entry

@@ -6,7 +6,7 @@ use Rattle.mb_cells.specs.Size.{PoolSize}
 use Rattle.mb_cells.specs.Memory.{Has, History, is_same_process, is_same_word}
 use Rattle.mb_cells.specs.LanePath.{Entry, fetch}
 
--- the cell that a store to a head or link links. No lawful history stores 0 there
+-- the cell that this access links, if it does: a store of k + 1 to a head or link links k. No lawful history stores 0
 abbrev pub link_of : Word → PoolAct → Option ℕ
 link_of (Head _) (Store v) = if nat_eq v END then None else Some (v - 1)
 link_of (Link _) (Store v) = if nat_eq v END then None else Some (v - 1)
@@ -24,7 +24,7 @@ linked_cells p (a ∷ older) =
     if is_same_process (Producer p) a.process
     then push_if (link_of a.word a.act) (linked_cells p older) else linked_cells p older
 
--- the item of cell k after an act on the counter, if it was x before: a fetch-add that gives k has the item
+-- the item of cell k after an act on the counter, if it was x before: a fetch-add that gives k has the new item
 abbrev pub item_after : ℕ → PoolAct → ℕ → ℕ
 item_after k (FetchAdd y n) x = if nat_eq n k then y else x
 item_after k _ x = x
@@ -43,7 +43,7 @@ entry_of items k = record { cell = k; value = items k }
 abbrev pub entry_at : ℕ → History → Entry
 entry_at k h = record { cell = k; value = item_of k h }
 
--- the put list of lane p: the cells linked, each with its item, the first linked first
+-- the put list of lane p: its linked cells, each with the item offered for it, the first linked first
 abbrev pub put_list : ℕ → History → List Entry
 put_list p h = reverse (map (λ k. entry_at k h) (linked_cells p h))
 
@@ -64,12 +64,12 @@ has_ended p (a ∷ older) =
 abbrev pub lane_end : ℕ → History → Look
 lane_end p h = if has_ended p h then look.Ended else look.Nothing
 
--- no cell stands in the list twice
+-- no cell is in the list twice
 abbrev pub IsOnceEach : List ℕ → Type 0
 IsOnceEach [] = Unit {0}
 IsOnceEach (k ∷ ks) = (Has ks k → ⊥) × IsOnceEach ks
 
--- some fetch-add gave cell k
+-- some fetch-add found the number k, so gave the cell of that number
 abbrev pub WasHandedOut : ℕ → History → Type 0
 WasHandedOut k h =
     (a : PoolAccess) × (Has h a × ((a.word ≡ Counter) × ((x : ℕ) × (a.act ≡ FetchAdd x k))))

@@ -21,7 +21,7 @@ is_same_process (Producer p) (Producer q) = nat_eq p q
 is_same_process (Reader p) (Reader q) = nat_eq p q
 is_same_process _ _ = false
 
--- the list has this element: a history has an access, and a lane a cell
+-- the list has this element, which is an access of a history, or a cell of a lane
 abbrev pub Has : {X : Type 0} → List X → X → Type 0
 Has [] x = ⊥
 Has (y ∷ ys) x = (y ≡ x) ⊎ Has ys x
@@ -38,7 +38,7 @@ stored_by (Load _) = None
 stored_by (Store v) = Some v
 stored_by (FetchAdd _ n) = Some (n + 1)
 
--- what a history leaves in a word: the value that was last stored there, or 0 if none was
+-- what a history leaves in word w: the value that was last stored there, or 0 if none was
 abbrev pub value_in : Word → History → ℕ
 value_in w [] = 0
 value_in w (a ∷ older) =

@@ -30,7 +30,7 @@ abbrev pub HasMet : ℕ → ℕ → List ℕ → History → Type 0
 HasMet r p [] h = Unit {0}
 HasMet r p (k ∷ ks) h = HasLoaded r (place_past p ks) (k + 1) h × (k + 1 ≢ END) × HasMet r p ks h
 
--- the list ls began with ks: newer elements are on the left
+-- ls is ks with newer elements in front, or none
 abbrev pub IsStart : List ℕ → List ℕ → Type 0
 IsStart ks ls = (later : List ℕ) × (later ++ ks ≡ ls)
 

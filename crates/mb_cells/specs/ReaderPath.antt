@@ -9,7 +9,7 @@ IsGift k (Head _) (Load v) = (v ≡ k + 1) × (v ≢ END)
 IsGift k (Link _) (Load v) = (v ≡ k + 1) × (v ≢ END)
 IsGift k _ _ = ⊥
 
--- some access gave cell k
+-- some load of the history gave cell k
 abbrev pub Gave : ℕ → History → Type 0
 Gave k [] = ⊥
 Gave k (a ∷ older) = IsGift k a.word a.act ⊎ Gave k older

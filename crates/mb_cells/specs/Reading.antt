@@ -7,17 +7,17 @@ use Rattle.mb_cells.specs.Types.{Cursor, END, Look, Word}
 use Rattle.mb_cells.specs.Memory.{History, value_in}
 use Rattle.mb_cells.specs.LanePath.{Entry}
 
--- the word that says what comes after a cursor
+-- the word that a look at this cursor loads: it says what comes next
 abbrev pub word_of : Cursor → Word
 word_of (cursor.Head p) = word.Head p
 word_of (cursor.Past k) = word.Link k
 
--- the answer of a look that finds this value in a head or link
+-- what a look returns that finds this value in a head or link
 abbrev pub look_of : ℕ → Look
 look_of v = if nat_eq v 0 then look.Nothing else if nat_eq v END then look.Ended
     else look.Cell (v - 1)
 
--- the answer of a look at this cursor after a history
+-- what a look at this cursor returns after a history
 abbrev pub look_after : Cursor → History → Look
 look_after at h = look_of (value_in (word_of at) h)
 

@@ -1,4 +1,4 @@
--- Samples: lawful histories of one lane and one cell.
+-- For samples: three entries, and three lawful histories of a pool of one lane and one cell.
 use Rattle.std.specs.Prelude.{[], ◌^◌, ◌∷◌}
 use Rattle.mb_cells.specs.Types.{END, Head, Item, Link}
 use Rattle.mb_cells.specs.Memory.{History}
@@ -21,10 +21,10 @@ too_wide = record { cell = 0; value = 2 ^ 64 }
 abbrev pub one_taken : History
 one_taken = fetch 0 eight ∷ []
 
--- the item is then stored and linked, so it is put
+-- after `one_taken` the item is stored and linked, so it is put
 abbrev pub one_put : History
 one_put = store 0 (Head 0) 1 ∷ store 0 (Item 0) 8 ∷ one_taken
 
--- reader 5 has then loaded the head and the item, and after the finish the end mark
+-- after `one_put` reader 5 has loaded the head and the item, and after the finish the end mark
 abbrev pub one_read : History
 one_read = load 5 (Link 0) END ∷ store 0 (Link 0) END ∷ load 5 (Item 0) 8 ∷ load 5 (Head 0) 1 ∷ one_put

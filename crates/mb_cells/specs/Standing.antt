@@ -18,7 +18,7 @@ abbrev pub last_of : List Entry → Option ℕ
 last_of [] = None
 last_of (e ∷ _) = Some e.cell
 
--- the stage of a producer: as much of its phase as it has to know
+-- the stage of a producer in this phase: what its next calls need to know of the phase
 abbrev pub stage_of : Phase → LaneStage
 stage_of phase.Open = stage.Open
 stage_of (phase.Offered e) = stage.Offered e.cell e.value
@@ -40,7 +40,7 @@ abbrev pub new_lane : Lane
 new_lane = record { last = None; stage = stage.Open }
 
 -- ---- an offer at a place
--- the answer of an offer without an access, by the stage
+-- what an offer returns at this stage without an access, or None if it makes its fetch-add
 abbrev pub stage_offer_refusal : LaneStage → Option Offer
 stage_offer_refusal (stage.Ended full) = Some offer.Closed
 stage_offer_refusal (stage.Offered cell item) = Some offer.Busy
@@ -48,16 +48,16 @@ stage_offer_refusal (stage.Stored cell) = Some offer.Busy
 stage_offer_refusal stage.Full = Some offer.Full
 stage_offer_refusal stage.Open = None
 
--- the answer of an offer without an access: Closed after the end mark, Busy while an offered item is not linked,
+-- what an offer returns without an access: Closed after the end mark, Busy while an offered item is not linked,
 -- Full after a fetch-add that found no cell
 abbrev pub offer_refusal : Lane → Option Offer
 offer_refusal lane = stage_offer_refusal lane.stage
 
--- the answer of an offer whose fetch-add gave n
+-- what an offer returns whose fetch-add gave n
 abbrev pub offer_by_found : ℕ → ℕ → Offer
 offer_by_found cells n = if nat_lt n cells then offer.Cell n else offer.Full
 
--- the answer of an offer, if the counter holds n
+-- what an offer returns at this place, if the counter holds n
 abbrev pub offer_answer : ℕ → ℕ → Lane → Offer
 offer_answer cells n lane = unwrap_or (offer_refusal lane) (offer_by_found cells n)
 
@@ -67,7 +67,7 @@ lane_after_offer cells item n lane =
     record { last = lane.last; stage = if nat_lt n cells then stage.Offered n item else stage.Full }
 
 -- ---- a push at a place
--- the link of the cell linked last, or the head of lane p if there is none
+-- the link word of the cell linked last, or the head of lane p if there is none
 abbrev pub link_after : ℕ → Option ℕ → Word
 link_after p None = Head p
 link_after p (Some k) = Link k
@@ -88,7 +88,7 @@ stage_push_store link stage.Open = None
 abbrev pub push_store : ℕ → Lane → Option (Word × ℕ)
 push_store p lane = stage_push_store (next_link p lane) lane.stage
 
--- the answer of a push, by the stage
+-- what a push returns at this stage
 abbrev pub stage_push_answer : LaneStage → Push
 stage_push_answer (stage.Offered cell item) = push.Item cell
 stage_push_answer (stage.Stored cell) = push.Link cell
@@ -96,11 +96,11 @@ stage_push_answer (stage.Ended full) = push.Idle
 stage_push_answer stage.Full = push.Idle
 stage_push_answer stage.Open = push.Idle
 
--- the answer of a push
+-- what a push returns at this place
 abbrev pub push_answer : Lane → Push
 push_answer lane = stage_push_answer lane.stage
 
--- the cell that was linked last, after a push
+-- which cell was linked last after a push at this stage, if it was `last` before
 abbrev pub last_after_push : Option ℕ → LaneStage → Option ℕ
 last_after_push last (stage.Offered cell item) = last
 last_after_push last (stage.Stored cell) = Some cell
@@ -122,7 +122,7 @@ lane_after_push lane =
     record { last = last_after_push lane.last lane.stage; stage = stage_after_push lane.stage }
 
 -- ---- a finish at a place
--- the answer of a finish without an access, by the stage
+-- what a finish returns at this stage without an access, or None if it stores the end mark
 abbrev pub stage_finish_refusal : LaneStage → Option Finish
 stage_finish_refusal (stage.Ended full) = Some finish.Closed
 stage_finish_refusal (stage.Offered cell item) = Some finish.Busy
@@ -130,11 +130,11 @@ stage_finish_refusal (stage.Stored cell) = Some finish.Busy
 stage_finish_refusal stage.Full = None
 stage_finish_refusal stage.Open = None
 
--- the answer of a finish without an access: Closed after the end mark, Busy while an offered item is not linked
+-- what a finish returns without an access: Closed after the end mark, Busy while an offered item is not linked
 abbrev pub finish_refusal : Lane → Option Finish
 finish_refusal lane = stage_finish_refusal lane.stage
 
--- the answer of a finish
+-- what a finish returns at this place
 abbrev pub finish_answer : Lane → Finish
 finish_answer lane = unwrap_or (finish_refusal lane) finish.Ended
 
@@ -151,16 +151,16 @@ abbrev pub lane_after_finish : Lane → Lane
 lane_after_finish lane = record { last = lane.last; stage = stage.Ended (is_full lane.stage) }
 
 -- ---- the history after each call
--- the history, or the part, after an offer of x whose fetch-add finds n
+-- the history, or the part, after an offer of x whose fetch-add finds n. A refused offer leaves it as it was
 abbrev pub history_after_offer : ℕ → ℕ → ℕ → Lane → History → History
 history_after_offer p x n lane h =
     if is_some (offer_refusal lane) then h else (fetch p (record { cell = n; value = x }) ∷ h)
 
--- the history, or the part, after a push
+-- the history, or the part, after a push: with the push's store in front, if it makes one
 abbrev pub history_after_push : ℕ → Lane → History → History
 history_after_push p lane h = option_map_or (λ s. store p s.0 s.1 ∷ h) (push_store p lane) h
 
--- the history, or the part, after a finish
+-- the history, or the part, after a finish: with the end mark's store in front, if it is not refused
 abbrev pub history_after_finish : ℕ → Lane → History → History
 history_after_finish p lane h =
     if is_some (finish_refusal lane) then h else (store p (next_link p lane) END ∷ h)

@@ -32,21 +32,21 @@ cell_count s = length s.words.items
 abbrev pub size_of : PoolState → PoolSize
 size_of s = pool_size (lane_count s) (cell_count s)
 
--- the memory has this word
+-- the word is one of these words of a pool
 abbrev pub HasWord : Word → PoolWords → Type 0
 HasWord Counter ws = Unit {0}
 HasWord (Head p) ws = p < length ws.heads
 HasWord (Link k) ws = k < length ws.links
 HasWord (Item k) ws = k < length ws.items
 
--- what a word of the pool holds
+-- what this word of the pool holds
 abbrev pub word_in : Word → PoolWords → ℕ
 word_in Counter ws = ws.counter
 word_in (Head p) ws = slice_index ws.heads p
 word_in (Link k) ws = slice_index ws.links k
 word_in (Item k) ws = slice_index ws.items k
 
--- the words after a store
+-- the words after a store of v in this word
 abbrev pub words_with : Word → ℕ → PoolWords → PoolWords
 words_with Counter v ws = record ws { counter = v }
 words_with (Head p) v ws = record ws { heads = slice_set ws.heads p v }
@@ -61,7 +61,7 @@ HoldsWords size ws h = (w : Word) → IsPoolWord size w → word_in w ws ≡ val
 pub record IsAfter (h : History) (s : PoolState) : Type 0 where
   pub lawful : IsPoolLawful (size_of s) h
   pub words : HoldsWords (size_of s) s.words h
-  -- each lane is where its producer's part leaves it
+  -- each lane in the state is its producer's place, by the producer's part of the history
   pub lanes : (p : ℕ) (lane : Lane) → p < lane_count s →
       IsLaneAfter (cell_count s) p (slice_index_or s.lanes p lane) (part (Producer p) h)
 
@@ -79,7 +79,7 @@ pub record IsShownAlike (old new : PoolState) : Type 0 where
   pub links : new.words.links ≡ old.words.links
   pub items : new.words.items ≡ old.words.items
 
--- both states have as many lanes, and as many cells
+-- both states have the same number of lanes, and the same number of cells
 abbrev pub SameSize : PoolState → PoolState → Type 0
 SameSize old new = (lane_count new ≡ lane_count old) × (cell_count new ≡ cell_count old)
 
@@ -88,10 +88,10 @@ abbrev pub IsWithin : Cursor → PoolState → Type 0
 IsWithin (cursor.Head p) s = p < lane_count s
 IsWithin (cursor.Past k) s = k < cell_count s
 
--- the answer of a look at this cursor
+-- what a look at this cursor returns in this state
 abbrev pub look_in : Cursor → PoolState → Look
 look_in at s = look_of (word_in (word_of at) s.words)
 
--- the item of a cell
+-- what the item word of cell k holds in this state
 abbrev pub item_in : ℕ → PoolState → ℕ
 item_in k s = slice_index s.words.items k

@@ -63,8 +63,8 @@ impl Lane {
         }
     }
 
-    /// Goes on after an offer's fetch-add that gave `found`, in a pool of `cells` cells. Returns the offer's answer. It
-    /// needs a lane that does not refuse an offer.
+    /// Moves on to the place after an offer's fetch-add that gave `found`, in a pool of `cells` cells. Returns what the
+    /// offer returns. It needs a lane that does not refuse an offer.
     pub fn offered(&mut self, cells: u32, item: u64, found: u64) -> Offer
         requires { offer_refusal self.old ≡ None }
         ensures answer { result ≡ offer_by_found cells found }
@@ -91,7 +91,7 @@ impl Lane {
         }
     }
 
-    /// Goes on after a push's store, and returns the push's answer. An idle push changes nothing.
+    /// Moves on to the place after a push's store, and returns the push's answer. An idle push changes nothing.
     pub fn pushed(&mut self) -> Push
         ensures answer { result ≡ push_answer self.old }
         ensures lane { self.new ≡ lane_after_push self.old }
@@ -131,7 +131,7 @@ impl Lane {
         }
     }
 
-    /// Goes on after the store of the end mark. It needs a lane that does not refuse a finish.
+    /// Moves on to the place after the store of the end mark. It needs a lane that does not refuse a finish.
     pub fn finished(&mut self)
         requires { finish_refusal self.old ≡ None }
         ensures { self.new ≡ lane_after_finish self.old }

@@ -17,7 +17,7 @@ ghost use Rattle.mb_cells.specs.declared.answer.Finish.TheVariants as finish;
 ghost use Rattle.mb_cells.specs.declared.answer.Offer.TheVariants as offer;
 ghost use Rattle.mb_cells.specs.declared.answer.Look.TheVariants as look;
 
-/// The cells that a reader has met on a lane are the first ones of the lane, in the order of linking.
+/// The cells that a reader has met on a lane are the first cells of that lane, in the order of linking.
 pub fn readers_follow_lanes()
     ensures met { (size : PoolSize) (h : History) (r p : ℕ) (ks : List ℕ) → IsPoolLawful size h
         → HasMet r p ks h → IsStart ks (linked_cells p h) }
@@ -26,21 +26,21 @@ pub fn readers_follow_lanes()
     ensures part { (size : PoolSize) (h : History) (r p : ℕ) (ks : List ℕ) → IsPoolLawful size h
         → HasMet r p ks (part (Reader r) h) → IsStart ks (linked_cells p h) }
 
-    // It is the same in every history in which the reader has this part.
+    // A reader has met the same cells by its own part as by the whole history.
     ensures own { (h : History) (r p : ℕ) (ks : List ℕ) → HasMet r p ks h
         → HasMet r p ks (part (Reader r) h) }
     ensures whole { (h : History) (r p : ℕ) (ks : List ℕ) → HasMet r p ks (part (Reader r) h)
         → HasMet r p ks h }
 
-    // The cells that a reader has met up to a cell are always the same.
+    // The cells that a reader has met on a lane before a given cell are always the same.
     ensures one_way { (size : PoolSize) (h : History) (r p k : ℕ) (ks js : List ℕ)
         → IsPoolLawful size h → HasMet r p (k ∷ ks) h → HasMet r p (k ∷ js) h → ks ≡ js }
 
-    // A reader was given no cell but those that it met.
+    // Each cell that a reader loaded a link to is one that it met on some lane.
     ensures chains { (size : PoolSize) (h : History) (r k : ℕ) → IsPoolLawful size h
         → Gave k (part (Reader r) h) → (p : ℕ) × ((ks : List ℕ) × HasMet r p (k ∷ ks) h) }
 
-    // A reader was given each cell whose words it loaded.
+    // A reader that loaded the link or the item of a cell had loaded a link to that cell.
     ensures link { (size : PoolSize) (h : History) (r k v : ℕ) → IsPoolLawful size h
         → HasLoaded r (Link k) v h → Gave k (part (Reader r) h) }
     ensures item { (size : PoolSize) (h : History) (r k v : ℕ) → IsPoolLawful size h
@@ -56,7 +56,7 @@ pub fn calls_put_items()
         → Reads (λ at. look_in at s) (λ k. item_in k s)
         (cursor.Head p) (put_list_by p calls) (lane_end_by p calls) }
 
-    // Each answer follows from the calls before it.
+    // What each call returns follows from the calls before it.
     ensures answers { (size : PoolSize) (c : Call) (older : List Call) (s : PoolState)
         → HasMade size (c ∷ older) s → IsAnswerBy size.cells c older }
 
@@ -72,7 +72,7 @@ pub fn calls_put_items()
     ensures counter { (size : PoolSize) (calls : List Call) (s : PoolState) → HasMade size calls s
         → s.words.counter ≡ fetch_adds_by calls }
 
-    // A cell stands in one lane at most, and there once.
+    // Each cell is linked into one lane at most, and there once.
     ensures lane { (size : PoolSize) (p q k : ℕ) (calls : List Call) (s : PoolState)
         → HasMade size calls s
         → Has (linked_cells_by p calls) k → Has (linked_cells_by q calls) k → p ≡ q }
@@ -85,7 +85,7 @@ pub fn calls_put_items()
         → (p < lane_count s) × (k < cell_count s) }
 {}
 
-/// Nothing follows an end mark, and a reader that loaded it has met all.
+/// An end mark is its producer's last access, and a reader that loaded it has met all cells of the lane.
 pub fn end_marks_are_last()
     // Once a lane has ended, its producer makes no access.
     ensures producer { (size : PoolSize) (later older : History) (p : ℕ)
@@ -110,7 +110,7 @@ pub fn end_marks_are_all_ones()
     ensures { END ≡ 2 ^ 64 - 1 }
 {}
 
-/// A cell of the pool stands in one lane at most, and there once.
+/// A cell of the pool is linked into one lane at most, and there once.
 pub fn cells_stand_once()
     ensures lane { (size : PoolSize) (h : History) (p q k : ℕ) → IsPoolLawful size h
         → Has (linked_cells p h) k → Has (linked_cells q h) k → p ≡ q }
@@ -168,7 +168,7 @@ pub fn loads_tell_what_stays()
     ensures link { (size : PoolSize) (h : History) (r v : ℕ) (w : Word) → IsPoolLawful size h
         → IsLinkWord w → HasLoaded r w v h → (v ≡ 0) ⊎ (v ≡ value_in w h) }
 
-    // On a lane a link holds 0 or the next cell, and the one after the last cell 0 or the end mark.
+    // A load of a lane's head or link gives 0 or the next cell. Past the last cell it gives 0 or the end mark.
     ensures next { (size : PoolSize) (h : History) (r p k v : ℕ) (later ks : List ℕ)
         → IsPoolLawful size h → later ++ k ∷ ks ≡ linked_cells p h
         → HasLoaded r (place_past p ks) v h → (v ≡ 0) ⊎ (v ≡ k + 1) }
@@ -176,7 +176,7 @@ pub fn loads_tell_what_stays()
         → HasLoaded r (place_past p (linked_cells p h)) v h
         → (v ≡ 0) ⊎ ((v ≡ END) × (has_ended p h ≡ true)) }
 
-    // A load of an item gives the item put. Its cell is linked in a lane, as is each cell that a reader was given.
+    // A load of an item gives the item put, and its cell is linked. So is each cell that the reader loaded a link to.
     ensures item { (size : PoolSize) (h : History) (r k v : ℕ) → IsPoolLawful size h
         → HasLoaded r (Item k) v h → v ≡ item_of k h }
     ensures item_put { (size : PoolSize) (h : History) (r k v : ℕ) → IsPoolLawful size h
@@ -222,7 +222,7 @@ pub fn readers_keep_to_lanes()
     ensures all { (size : PoolSize) (h : History) (r : ℕ) (a : PoolAccess) → IsPoolLawful size h
         → Has (part (Reader r) h) a → (p : ℕ) × (is_of_lane p (linked_cells p h) a.word ≡ true) }
 
-    // Accesses are a reader path if each of them is in some part, and all parts are reader paths.
+    // Accesses are a reader path if each of them passes some test, and those that pass each test are a reader path.
     ensures whole { (lanes : ℕ) (test : ℕ → PoolAccess → Bool) (done : History)
         → ((a : PoolAccess) → Has done a → (p : ℕ) × (test p a ≡ true))
         → ((p : ℕ) → IsReaderPath lanes (filter (test p) done)) → IsReaderPath lanes done }
@@ -283,7 +283,7 @@ pub fn lanes_refuse_by_what_was_done()
         → has_ended p h ≡ false → (HasPending size.cells p h → ⊥)
         → (HasFoundNone size.cells p h → ⊥) → offer_refusal lane ≡ None }
 
-    // A push is idle exactly if no item has such a cell.
+    // A push is idle exactly if no item is pending: none has a cell that is not linked.
     ensures idle { (size : PoolSize) (h : History) (p : ℕ) (lane : Lane) → IsPoolLawful size h
         → IsLaneAfter size.cells p lane (part (Producer p) h)
         → (push_store p lane ≡ None) ↔ (HasPending size.cells p h → ⊥) }

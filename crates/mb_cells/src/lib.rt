@@ -12,12 +12,12 @@
 //! leads to a cell, or it is the end mark. The item of that cell was stored before the link to it, and no other
 //! producer has the cell, so the item is there to stay. A link is stored once. So all readers meet the same cells in
 //! the same order. The end mark comes after the last cell, and the only way there leads through all of them. So a
-//! reader that met the end mark has met all.
+//! reader that loaded the end mark has met all cells of the lane.
 //!
 //! # What is here
 //!
-//! - [`Lane`] is the place of a producer. [`Lane::next_push`] returns its next store, and [`Lane::pushed`] goes on
-//!   after that. [`Cursor`] is where a reader stands. They hold no words, so they serve threads too.
+//! - [`Lane`] is the place of a producer. [`Lane::next_push`] returns its next store, and [`Lane::pushed`] moves on to
+//!   the place after it. [`Cursor`] is where a reader stands. They hold no words, so they serve threads too.
 //! - [`Pool`] has all words and lanes under one caller, and makes each access itself.
 //! - [`laws`] has what holds of every lawful history of a pool, for all orders of accesses, and of every list of calls.
 //!   [`steps`] has what builders of worlds and tables need. [`samples`] shows what each definition admits and refuses.

@@ -25,7 +25,7 @@ pub fn memory_makes_nothing_up()
     ensures next_number { IsMemoryTrue (fetch 1 nine ∷ one_taken) }
 {}
 
-/// The part of a producer that goes wrong is no prefix of a lane path.
+/// If a producer makes an access out of its order, its part is no prefix of a lane path.
 pub fn producers_keep_their_order()
     ensures link_before_item { IsLanePrefix 1 0 (store 0 (Head 0) 1 ∷ one_taken) → ⊥ }
     ensures other_item { IsLanePrefix 1 0 (store 0 (Item 0) 9 ∷ one_taken) → ⊥ }
@@ -36,9 +36,9 @@ pub fn producers_keep_their_order()
     ensures after_end { IsLanePrefix 1 0 (fetch 0 nine ∷ store 0 (Link 0) END ∷ one_put) → ⊥ }
 {}
 
-/// A reader goes where its own loads led it. The end mark leads nowhere.
+/// A reader loads a cell's words only if its own loads led to the cell. The end mark leads to no cell.
 pub fn readers_go_where_they_are_led()
-    // A reader may not load an item whose cell it was not given, or the head of a lane that is not there.
+    // A reader may not load an item of a cell that none of its loads led to, or the head of a lane that is not there.
     ensures not_given { IsReaderPath 1 (load 5 (Item 0) 8 ∷ load 5 (Head 0) 0 ∷ []) → ⊥ }
     ensures end_mark { IsReaderPath 1 (load 5 (Item (END - 1)) 8 ∷ load 5 (Head 0) END ∷ []) → ⊥ }
     ensures no_lane { IsReaderPath 1 (load 5 (Head 1) 0 ∷ []) → ⊥ }

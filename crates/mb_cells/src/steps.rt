@@ -28,7 +28,7 @@ pub fn history_extends()
         → ActFits a.act → ReadsLast a.word a.act h
         → IsLanePrefix size.cells p (a ∷ part (Producer p) h) → IsPoolLawful size (a ∷ h) }
 
-    // A reader's load may follow if it may load the word.
+    // A reader's load may follow if the reader may load the word.
     ensures reader { (size : PoolSize) (h : History) (r : ℕ) (w : Word) → IsPoolLawful size h
         → MayRead size.lanes w (part (Reader r) h)
         → IsPoolLawful size (load r w (value_in w h) ∷ h) }
@@ -48,7 +48,7 @@ pub fn accesses_lengthen_one_part()
     ensures counter { (h : History) (a : PoolAccess) → a.word ≢ Counter
         → fetch_adds_on Counter (a ∷ h) ≡ fetch_adds_on Counter h }
 
-    // Two processes are one or are not, and so are two words.
+    // Two processes are equal or not, and so are two words.
     ensures processes { (a b : Process) → (a ≡ b) ⊎ (a ≢ b) }
     ensures names { (v w : Word) → (v ≡ w) ⊎ (v ≢ w) }
 {}
@@ -74,14 +74,14 @@ pub fn places_lead_on()
     ensures one { (cells p : ℕ) (es fs : List Entry) (was now : Phase) (done : History)
         → LaneIsAt cells p es was done → LaneIsAt cells p fs now done → (es ≡ fs) × (was ≡ now) }
 
-    // After any other access the part is no prefix of a lane path.
+    // If the part with one access more is a prefix of a lane path, the access is a step from the place.
     ensures only { (cells p : ℕ) (es : List Entry) (phase : Phase) (a : PoolAccess) (done : History)
         → LaneIsAt cells p es phase done → IsLanePrefix cells p (a ∷ done)
         → (fs : List Entry) × ((now : Phase) × Steps cells p es phase a fs now) }
 {}
 
-/// A producer's place, as a plain value, goes on with each access of its lane. It names all accesses that may come
-/// next.
+/// Each access of a producer leads from its place, as a plain value, to the next. The place names all accesses that may
+/// come next.
 pub fn lanes_lead_on()
     ensures start { (cells p : ℕ) → IsLaneAfter cells p new_lane [] }
     ensures lane { (cells p : ℕ) (done : History) → IsLanePrefix cells p done
@@ -125,7 +125,7 @@ pub fn accesses_stay_within()
     ensures load { (size : PoolSize) (h : History) (r : ℕ) (w : Word) → IsPoolLawful size h
         → MayRead size.lanes w (part (Reader r) h) → IsLaneWord size w }
 
-    // The value of a push is a word of 64 bits.
+    // The value that a push stores is below 2^64.
     ensures fits { (size : PoolSize) (h : History) (p : ℕ) (lane : Lane) (w : Word) (v : ℕ)
         → IsPoolLawful size h → IsLaneAfter size.cells p lane (part (Producer p) h)
         → push_store p lane ≡ Some (w, v) → v < 2 ^ 64 }
@@ -154,7 +154,7 @@ pub fn loads_leave_pools()
     ensures { (s : PoolState) (w : Word) → LoadGoesOn w s }
 {}
 
-/// All pools of one size that a history leaves are one.
+/// All pools of one size that one history leaves are equal.
 pub fn pools_are_what_was_done()
     ensures { (h : History) (s t : PoolState) → PoolIsSound s → PoolIsSound t → SameSize s t
         → IsAfter h s → IsAfter h t → s ≡ t }
@@ -168,7 +168,7 @@ pub fn addresses_are_apart()
         → address_of size w < pool_words size }
 {}
 
-/// All words of a pool in one block, and the parts of its processes, follow the accesses of their history.
+/// After each access, a pool's words in one block and its processes' parts are those of the history with that access.
 pub fn words_follow_steps()
     ensures empty { (size : PoolSize) (words : List ℕ) → size.cells < END
         → pool_words size ≤ length words

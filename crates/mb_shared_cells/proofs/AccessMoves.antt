@@ -1,4 +1,4 @@
--- An access of a lane or a reader keeps the rule.
+-- An access of a lane's or a reader's seat keeps the rule of the table.
 use Rattle.std.proofs.Common.{List, [], ap, arith, get_or-set_other, length-set, refl, slice_index, slice_set, subst, sym, ℕ, ⊎_elim, ◌<◌, ◌^◌, ◌∙◌, ◌∷◌, ◌≡◌, ◌≢◌, ◌≤◌}
 use Rattle.std.specs.Prelude.{unwrap_or}
 use mathlib.Core.Option.{some}
@@ -18,7 +18,7 @@ use Rattle.mb_shared_cells.specs.declared.views.View.TheVariants.{Member}
 use Rattle.mb_shared_cells.proofs.Seatings.{Spares, enrolled_fits, fits_still, stands_then}
 use Rattle.mb_shared_cells.proofs.ViewLists.{all_set}
 
--- the laws of the cells on which one access more stands
+-- the laws of `mb_cells` about one access more in a history
 pub record AccessLaws : Type 0 where
   pub own : (h : History) (a : PoolAccess) → part a.process (a ∷ h) ≡ a ∷ part a.process h
   pub others : (h : History) (a : PoolAccess) (who : Process) → a.process ≢ who → part who (a ∷ h) ≡ part who h
@@ -27,15 +27,15 @@ pub record AccessLaws : Type 0 where
       → IsStateOf size (block_after size a words) (parts_after a parts) (a ∷ h)
   pub within : (size : PoolSize) (w : Word) → IsPoolWord size w → address_of size w < pool_words size
 
--- after each lawful history in which the process did this part, and which leaves n in the word, the access may follow.
--- The word then holds what f makes of n
+-- the access `act n` may follow each lawful history that has this part of the process, and that leaves n in the word.
+-- The word then holds `f n`
 abbrev pub GoesOn : PoolSize → Process → History → Word → (ℕ → PoolAct) → (ℕ → ℕ) → Type 0
 GoesOn size who done word act f =
     (h : History) (n : ℕ) → IsPoolLawful size h → part who h ≡ done → ProcessFits size.lanes who
     → n ≡ value_in word h → n < 2 ^ 64
     → IsPoolLawful size (access_by who word (act n) ∷ h) × (f n ≡ unwrap_or (stored_by (act n)) n)
 
--- words and views keep the rule after one access more of a lane or a reader, whichever it is
+-- words and views still keep the rule after an access of a lane's or reader's seat, if the history with it is lawful
 pub kept_by_access : AccessLaws → (size : PoolSize) (words : List ℕ) (views : List View) (id : ℕ) (own : PoolSize)
     (who : Process) (known : PartList) (done : History) (word : Word) (act : PoolAct) (n : ℕ)
     (h : IsCellsState size words views) → get_elem? views id ≡ some (Member own who known done)
@@ -103,7 +103,7 @@ kept_by_access laws size words views id own who known done word act n h at withi
       },
     )
 
--- a seat may make the step of an access that goes on
+-- if `GoesOn` holds of an access, the seat may make it as a step of the table
 pub access_allows : AccessLaws → (size : PoolSize) (slots id : ℕ) (who : Process) (known : PartList) (done : History)
     (word : Word) (act : ℕ → PoolAct) (f : ℕ → ℕ) → IsPoolWord size word → GoesOn size who done word act f
     → Allows (KeepsCells size) slots id (Member size who known done, []) (address_of size word) f
@@ -131,7 +131,7 @@ access_allows laws size slots id who known done word act f within goes s h _ at 
       ),
     )
 
--- a seat may make that step, if table, seat and access are known by equations
+-- `access_allows` for a table, a seat and an access that are known only by equations
 pub access_asked : AccessLaws → (key size : PoolSize) (slots id i : ℕ) (me : SeatState) (who : Process)
     (known : PartList) (done : History) (word : Word) (act : ℕ → PoolAct) (f : ℕ → ℕ) (picked : Word)
     (picks : ℕ → PoolAct) → key ≡ size → me ≡ (Member size who known done, []) → i ≡ address_of size word
@@ -144,7 +144,7 @@ access_asked laws key size slots id i me who known done word act f picked picks 
     (λ i. (sym same i, sym is i, sym there i, sym of i, sym acts i))
     (access_allows laws size slots id who known done word act f within goes)
 
--- a seat may make the step of a store, which announces the number stored
+-- `access_asked` for a store: the number that the step announces is the value stored
 pub store_asked : AccessLaws → (key size : PoolSize) (slots id i value : ℕ) (me : SeatState) (who : Process)
     (known : PartList) (done : History) (word : Word) (act : ℕ → PoolAct) (picked : Word)
     (picks : ℕ → PoolAct) → key ≡ size → me ≡ (Member size who known done, []) → i ≡ address_of size word

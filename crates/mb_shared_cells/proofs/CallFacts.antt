@@ -1,4 +1,4 @@
--- What the calls of a seat may do, and what they find, by the laws of the cells.
+-- Which accesses a seat's calls can make, and what they find. The laws of `mb_cells` come in as premises.
 use Rattle.std.proofs.Common.{[], ap, arith, inl, subst, sym, true, ℕ, ◌++◌, ◌+◌, ◌-◌, ◌<◌, ◌∙◌, ◌∷◌, ◌≡◌, ◌≢◌}
 use Rattle.std.specs.Prelude.{None, Some, slice_get}
 use Rattle.std.proofs.lemmas.Bool.{eqb-true}
@@ -19,7 +19,7 @@ use Rattle.mb_cells.specs.declared.size.PoolSize.{PoolSize}
 use Rattle.mb_shared_cells.specs.Seats.{CanFetch, CanLoad, CanStore, IsLaneSeat, IsReaderSeat, done_in, known_in, number_in, size_in}
 use Rattle.mb_shared_cells.specs.Views.{IsAccessAfter, PartList, SeatState, access_by}
 
--- the laws of a lane's place
+-- the laws of `mb_cells` about a producer's place before and after each access
 pub record LaneLaws : Type 0 where
   pub prefix : (cells p : ℕ) (lane : Lane) (done : History) → IsLaneAfter cells p lane done → IsLanePrefix cells p done
   pub offered : (cells p : ℕ) (lane : Lane) (done : History) (e : Entry) → IsLaneAfter cells p lane done
@@ -30,19 +30,19 @@ pub record LaneLaws : Type 0 where
       → finish_refusal lane ≡ None
       → IsLaneAfter cells p (lane_after_finish lane) (store p (next_link p lane) END ∷ done)
 
--- the store of a push is to a head, link or item of the pool
+-- a law of `mb_cells`: the store of a push is to a head, link or item of the pool
 abbrev pub PushWithin : Type 0
 PushWithin =
     (size : PoolSize) (p : ℕ) (lane : Lane) (done : History) (w : Word) (v : ℕ) → p < size.lanes
     → IsLaneAfter size.cells p lane done → push_store p lane ≡ Some (w, v) → IsLaneWord size w
 
--- the next link of a lane is a head or link of the pool
+-- a law of `mb_cells`: the word for a lane's next link is a head or link of the pool
 abbrev pub LinkWithin : Type 0
 LinkWithin =
     (size : PoolSize) (p : ℕ) (lane : Lane) (done : History) → p < size.lanes
     → IsLaneAfter size.cells p lane done → IsLaneWord size (next_link p lane)
 
--- a word that a reader may load is a head, link or item of the pool
+-- a law of `mb_cells`: a word that a reader may load is a head, link or item of the pool
 abbrev pub LoadWithin : Type 0
 LoadWithin =
     (size : PoolSize) (h : History) (r : ℕ) (w : Word) → IsPoolLawful size h
@@ -61,7 +61,7 @@ can_fetch laws size me number lane x s same free =
           (laws.offered cells number lane (done_in me.0) (record { cell = n; value = x }) s.stands free);
     })
 
--- a lane's seat can make the store of its push
+-- a lane's seat can make the store that a push makes at its producer's place
 pub can_push : LaneLaws → PushWithin → (size : PoolSize) (me : SeatState) (number : ℕ) (lane : Lane) (w : Word) (v : ℕ)
     → IsLaneSeat me number lane → size_in me.0 ≡ size → push_store number lane ≡ Some (w, v) → CanStore size w v me
 can_push laws within size me number lane w v s same some =
@@ -105,7 +105,7 @@ can_load within size me w s same may =
           (subst (λ l. MayRead own.lanes w l) (sym s.history.2) may');
     })
 
--- the laws of the cells by which a link that was loaded leads to a cell of the table
+-- the laws of `mb_cells` by which a link that was loaded leads to a cell of the table
 pub record CellLaws : Type 0 where
   pub own : (h : History) (a : PoolAccess) → part a.process (a ∷ h) ≡ a ∷ part a.process h
   pub put : (size : PoolSize) (h : History) (r k : ℕ) → IsPoolLawful size h → Gave k (part (Reader r) h)
@@ -113,12 +113,12 @@ pub record CellLaws : Type 0 where
   pub within : (size : PoolSize) (h : History) (p k : ℕ) → IsPoolLawful size h → Has (linked_cells p h) k
       → (p < size.lanes) × (k < size.cells)
 
--- a load of the word at a cursor that finds k + 1 gives cell k
+-- a look's load that finds k + 1, which is not the end mark, gives cell k
 pub gift : (at : Cursor) (v k : ℕ) → v ≡ k + 1 → v ≢ END → IsGift k (word_of at) (Load v)
 gift (cursor.Head p) v k is some = (is, some)
 gift (cursor.Past j) v k is some = (is, some)
 
--- the cell that a look finds is one of the pool's
+-- a look whose load finds neither 0 nor the end mark finds a cell of the pool
 pub cell_within : CellLaws → (size : PoolSize) (r : ℕ) (known : PartList) (done : History) (at : Cursor) (v : ℕ)
     → IsAccessAfter size known (access_by (Reader r) (word_of at) (Load v)) done → v ≢ 0 → v ≢ END
     → v - 1 < size.cells
@@ -131,7 +131,7 @@ cell_within laws size r known done at v after some no_end =
     let there = laws.put size h r (v - 1) after.lawful gave in
     (laws.within size h there.0 (v - 1) after.lawful there.1).1
 
--- the laws of the cells by which a load on a known lane finds what that lane's part left there
+-- the laws of `mb_cells` by which a load on a lane whose part is known finds what that part left there
 pub record KnownLaws : Type 0 where
   pub older : (size : PoolSize) (later older : History) → IsPoolLawful size (later ++ older) → IsPoolLawful size older
   pub head : (size : PoolSize) (h : History) (p : ℕ) → IsPoolLawful size h
@@ -142,7 +142,7 @@ pub record KnownLaws : Type 0 where
       → value_in (Link k) h ≡ value_in (Link k) (part (Producer p) h)
   pub linked : (h : History) (p : ℕ) → linked_cells p h ≡ linked_cells p (part (Producer p) h)
 
--- what a history leaves in a word of a lane is what the lane's part leaves there
+-- a word of a lane holds what the part of the lane's producer alone leaves in it
 held_there : KnownLaws → (size : PoolSize) (h : History) (p : ℕ) (w : Word) → IsPoolLawful size h
     → is_of_lane p (linked_cells p (part (Producer p) h)) w ≡ true
     → value_in w h ≡ value_in w (part (Producer p) h)
@@ -154,7 +154,7 @@ held_there laws size h p (Link k) l own =
 held_there laws size h p (Item k) l own =
     laws.item size h p k l (cell-of_true _ k (subst (λ ks. has_cell ks k ≡ true) (sym (laws.linked h p)) own))
 
--- a load on a lane that is known finds what that lane's part left there
+-- a load on a lane whose part the reader knows finds what that part left there
 pub known_tells : KnownLaws → (size : PoolSize) (r : ℕ) (known : PartList) (done : History) (w : Word) (v : ℕ)
     → IsAccessAfter size known (access_by (Reader r) w (Load v)) done → (p : ℕ) (theirs : History)
     → slice_get known p ≡ Some (Some theirs) → is_of_lane p (linked_cells p theirs) w ≡ true

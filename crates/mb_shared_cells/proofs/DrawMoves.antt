@@ -13,7 +13,7 @@ use Rattle.mb_shared_cells.specs.Vocabulary.{empty_roll, hub_after_draw, roll_at
 use Rattle.mb_shared_cells.proofs.Seatings.{fits_still, stands_then}
 use Rattle.mb_shared_cells.proofs.ViewLists.{all_set}
 
--- words after those of the pool may hold anything
+-- a law of `mb_cells`: words after those of the pool may hold anything
 abbrev pub MoreLaw : Type 0
 MoreLaw =
     (size : PoolSize) (words more : List ℕ) (parts : Process → History) (h : History)
@@ -21,7 +21,7 @@ MoreLaw =
     → ((i : ℕ) → i < pool_words size → slice_index more i ≡ slice_index words i)
     → pool_words size ≤ length more → IsStateOf size more parts h
 
--- words that all hold 0 are those of the empty history
+-- a law of `mb_cells`: a block of words that all hold 0 is what the empty history leaves
 abbrev pub EmptyLaw : Type 0
 EmptyLaw =
     (size : PoolSize) (words : List ℕ) → size.cells < END → pool_words size ≤ length words
@@ -34,7 +34,7 @@ zeros zero i = refl
 zeros (suc n) zero = refl
 zeros (suc n) (suc i) = zeros n i
 
--- a new table keeps the rule
+-- the words and the view of a new table keep the rule
 pub begins : EmptyLaw → (size : PoolSize) → size.cells < END
     → IsCellsState size (replicate (roster_of size + 1) 0) (Hub size empty_roll ∷ [])
 begins law size fits =
@@ -77,7 +77,7 @@ begins law size fits =
     nothing_taken t (Producer p) done e = absurd (cc)
     nothing_taken t (Reader r) done e = absurd (cc)
 
--- after a number is drawn the same seating explains the table: the roster counts one more
+-- after the hub has drawn a number, the table agrees with the same seating, and the roster counts one more
 pub after_draw : MoreLaw → (size : PoolSize) (words : List ℕ) (views : List View) (t : Seating)
     (id more : ℕ) (own : PoolSize) (roll : Roll) → IsTableState size words views t
     → IsViewAt views id (Hub own roll) → length roll.lanes < size.lanes
@@ -135,7 +135,7 @@ draw_allows law size slots id own roll room small s h _ at _ =
       refl,
     )
 
--- the hub may draw a number, if table, seat and word are known by equations
+-- `draw_allows` for a table, a seat and an address that are known only by equations
 pub draw_asked : MoreLaw → (key size : PoolSize) (slots id i : ℕ) (me : SeatState) (own : PoolSize) (roll : Roll)
     → key ≡ size → me ≡ (Hub own roll, []) → i ≡ roster_of size → length roll.lanes < size.lanes
     → size.lanes < 2 ^ 32

@@ -16,12 +16,12 @@ use Rattle.mb_shared_cells.proofs.Seatings.{Spares, fits_still, moved, moved-els
 use Rattle.mb_shared_cells.proofs.ViewLists.{all_set, all_snoc, at_within, longer_had}
 
 -- ---- a seat split off for a lane or a reader
--- the process has the next number of its kind
+-- the process is the next to be issued: its number is how many lanes, or readers, the roll has
 IsNext : Process → Roll → Type 0
 IsNext (Producer p) roll = p ≡ length roll.lanes
 IsNext (Reader r) roll = r ≡ length roll.readers
 
--- the roll with that number, whose seat is out
+-- the roll once this process is issued: it has one number more, without a part
 grown : Process → Roll → Roll
 grown (Producer p) roll = roll_with_lane roll
 grown (Reader r) roll = roll_with_reader roll
@@ -31,22 +31,22 @@ before : Process → PoolSize → Roll → View
 before (Producer p) own roll = HubDraws own roll
 before (Reader r) own roll = Hub own roll
 
--- the lanes' parts that are put into this process's seat
+-- the lanes' parts that the new seat of this process knows: a reader's knows those that were returned
 known_by : Process → Roll → PartList
 known_by (Producer p) roll = []
 known_by (Reader r) roll = roll.lanes
 
--- how many lanes are issued with this process, if n were before
+-- how many lanes are issued once this process is issued, if n were before
 lanes_after : Process → ℕ → ℕ
 lanes_after (Producer p) n = n + 1
 lanes_after (Reader r) n = n
 
--- how many readers are issued with this process, if n were before
+-- how many readers are issued once this process is issued, if n were before
 readers_after : Process → ℕ → ℕ
 readers_after (Producer p) n = n
 readers_after (Reader r) n = n + 1
 
--- the seating with this process issued, at seat `to`
+-- the seating once this process is issued, at seat `to`
 seating_after : Process → ℕ → Seating → Seating
 seating_after who to t = record {
   history = t.history;
@@ -56,7 +56,7 @@ seating_after who to t = record {
   seat_of = moved who to t.seat_of;
 }
 
--- a process that was issued before still is
+-- each process issued by seating t is issued too once `who` is issued
 still_enrolled : (who : Process) (to : ℕ) (t : Seating) (x : Process) → IsEnrolled t x
     → IsEnrolled (seating_after who to t) x
 unfolding lanes_after readers_after seating_after
@@ -65,7 +65,7 @@ still_enrolled (Producer p) to t (Reader q) e = e
 still_enrolled (Reader p) to t (Producer q) e = e
 still_enrolled (Reader p) to t (Reader q) e = omega arith
 
--- the process of that seating is issued in it
+-- the process issued next is issued by the seating after that
 next_enrolled : (size : PoolSize) (seat : ℕ) (own : PoolSize) (roll : Roll) (who : Process) (to : ℕ) (t : Seating)
     → IsHub size t seat own roll → IsNext who roll → IsEnrolled (seating_after who to t) who
 unfolding lanes_after readers_after seating_after IsNext
@@ -79,7 +79,7 @@ unfolding IsNext
 next_not_enrolled size seat own roll (Producer p) t h is e = let n = h.lanes in omega arith
 next_not_enrolled size seat own roll (Reader r) t h is e = let n = h.readers in omega arith
 
--- each process issued in that seating was issued before, or is the new one
+-- each process issued in the seating after `who` is issued was issued before, or is `who`
 enrolled_before : (size : PoolSize) (seat : ℕ) (own : PoolSize) (roll : Roll) (who : Process) (to : ℕ) (t : Seating)
     (x : Process) → IsHub size t seat own roll → IsNext who roll → IsEnrolled (seating_after who to t) x
     → (IsEnrolled t x) ⊎ (who ≡ x)
@@ -93,21 +93,21 @@ enrolled_before size seat own roll (Reader p) to t (Reader q) h is e =
     let n = h.readers in
     elim (cases_eq q t.readers) [ inl same ↦ inr (ap Reader (is ∙ n ∙ sym same)) | inr other ↦ inl (omega arith) ]
 
--- the roll with that number has a place for each lane issued
+-- the roll once `who` is issued has as many lanes as `lanes_after` says
 grown_lanes : (who : Process) (roll : Roll) (n : ℕ) → length roll.lanes ≡ n
     → length (grown who roll).lanes ≡ lanes_after who n
 unfolding lanes_after grown
 grown_lanes (Producer p) roll n e = omega (arith, length-append roll.lanes (None ∷ []))
 grown_lanes (Reader r) roll n e = e
 
--- the roll with that number has a place for each reader issued
+-- the roll once `who` is issued has as many readers as `readers_after` says
 grown_readers : (who : Process) (roll : Roll) (n : ℕ) → length roll.readers ≡ n
     → length (grown who roll).readers ≡ readers_after who n
 unfolding readers_after grown
 grown_readers (Producer p) roll n e = e
 grown_readers (Reader r) roll n e = omega (arith, length-append roll.readers (None ∷ []))
 
--- each part in the roll with that number was in the roll before
+-- each part in the roll once `who` is issued was in the roll before
 grown_had : (who : Process) (roll : Roll) (x : Process) (done : History)
     → roll_at x (grown who roll) ≡ Some (Some done) → roll_at x roll ≡ Some (Some done)
 unfolding grown
@@ -116,14 +116,14 @@ grown_had (Producer p) roll (Reader q) done e = e
 grown_had (Reader p) roll (Producer q) done e = e
 grown_had (Reader p) roll (Reader q) done e = longer_had roll.readers q done e
 
--- each process whose part the hub's view had has its part there still
+-- each process whose part the hub's view had before the split has its part there after it
 before_keeps : (who : Process) (own : PoolSize) (roll : Roll) (x : Process) → HasProcess (before who own roll) x
     → HasProcess (Hub own (grown who roll)) x
 unfolding before grown
 before_keeps (Producer p) own roll x h = (h.0, with_lane-has roll x (Some h.0) h.1)
 before_keeps (Reader p) own roll x h = (h.0, with_reader-has roll x (Some h.0) h.1)
 
--- if the hub's view before the split fits, it is the hub's, and the roster counts the lanes issued with the process
+-- if the hub's view before the split is true of its seat, that is the hub's. The roster holds what `lanes_after` says
 before_fits : (size : PoolSize) (t : Seating) (roster seat : ℕ) (who : Process) (own : PoolSize) (roll : Roll)
     → FitsView size t roster seat (before who own roll)
     → IsHub size t seat own roll × (roster ≡ lanes_after who t.lanes)
@@ -131,7 +131,7 @@ unfolding lanes_after before
 before_fits size t roster seat (Producer p) own roll h = h
 before_fits size t roster seat (Reader r) own roll h = h
 
--- each lane of which a new seat gets the part was returned
+-- each lane whose part a new seat knows was returned
 newcomer_knows : (size : PoolSize) (t : Seating) (seat : ℕ) (own : PoolSize) (roll : Roll) (who : Process)
     → IsHub size t seat own roll → KnowsTaken t (known_by who roll)
 unfolding known_by

@@ -1,4 +1,4 @@
--- What a reader finds on a lane that it knows.
+-- What a reader finds on a lane that it knows: one that was returned before the reader was issued.
 use Rattle.std.proofs.Common.{Bool, List, [], ap, append_assoc, arith, false, inl, inr, refl, subst, sym, true, ℕ, ◌++◌, ◌+◌, ◌<◌, ◌∙◌, ◌∷◌, ◌≡◌, ◌≢◌}
 use Rattle.std.specs.Prelude.{Some, if◌then◌else◌, slice_get}
 use Rattle.mb_cells.specs.Vocabulary.{Has, HasMet, History, IsPoolLawful, IsStart, has_ended, linked_cells, part, place_past, value_in}
@@ -9,7 +9,7 @@ use Rattle.mb_cells.specs.declared.access.Word.{Word}
 use Rattle.mb_cells.specs.declared.size.PoolSize.{PoolSize}
 use Rattle.mb_shared_cells.specs.Views.{IsAccessAfter, PartList, access_by}
 
--- the laws of the cells on which this file stands
+-- the laws of `mb_cells` that the lemmas of this file take as a premise
 pub record ReadLaws : Type 0 where
   pub older : (size : PoolSize) (later older : History) → IsPoolLawful size (later ++ older) → IsPoolLawful size older
   pub start : (size : PoolSize) (h : History) (r p : ℕ) (ks : List ℕ) → IsPoolLawful size h
@@ -23,13 +23,13 @@ pub record ReadLaws : Type 0 where
   pub within : (size : PoolSize) (h : History) (p k : ℕ) → IsPoolLawful size h → Has (linked_cells p h) k
       → (p < size.lanes) × (k < size.cells)
 
--- the value of the link past the cells met: the next cell, or past all of them the end mark or 0
+-- what the word past the cells met holds: the link to the next cell, or past all of them the end mark or 0
 pub data Found (p : ℕ) (theirs : History) (ks : List ℕ) (v : ℕ) : Type 0 where
   a_cell : (k : ℕ) → v ≡ k + 1 → k + 1 ≢ END → IsStart (k ∷ ks) (linked_cells p theirs) → Found p theirs ks v
   the_end : v ≡ END → ks ≡ linked_cells p theirs → has_ended p theirs ≡ true → Found p theirs ks v
   no_cell : v ≡ 0 → ks ≡ linked_cells p theirs → has_ended p theirs ≡ false → Found p theirs ks v
 
--- a list with an element has a last one
+-- a list with a first element x has a last element too
 last_of : (x : ℕ) (xs : List ℕ) → (l : List ℕ) × ((k : ℕ) × (l ++ k ∷ [] ≡ x ∷ xs))
 last_of x [] = ([], (x, refl))
 last_of x (y ∷ ys) = let t = last_of y ys in (x ∷ t.0, (t.1.0, ap (λ l. x ∷ l) t.1.1))
@@ -39,7 +39,7 @@ has_behind : (later ks : List ℕ) (k : ℕ) → Has (later ++ k ∷ ks) k
 has_behind [] ks k = inl refl
 has_behind (j ∷ later) ks k = inr (has_behind later ks k)
 
--- a load of the link past cells of a known lane finds one of these three
+-- a load of the word past the cells met on a known lane finds what `Found` says
 pub found : ReadLaws → (size : PoolSize) (r p : ℕ) (known : PartList) (done theirs : History) (ks : List ℕ)
     (w : Word) (v : ℕ) → w ≡ place_past p ks → IsAccessAfter size known (access_by (Reader r) w (Load v)) done
     → slice_get known p ≡ Some (Some theirs) → HasMet r p ks done → Found p theirs ks v
@@ -72,21 +72,21 @@ found laws size r p known done theirs ks w v at_place after at met =
         a_cell k (told ∙ laws.next size h p k t.0 ks lawful cut) (λ end. omega arith)
         (t.0, cut ∙ laws.linked h p ∙ ap (linked_cells p) is)
 
--- a look that finds nothing tells that all cells were met and the lane goes on
+-- if the load found 0, the reader has met all cells of the lane, and the lane has not ended
 pub nothing_found : (p : ℕ) (theirs : History) (ks : List ℕ) (v : ℕ) → v ≡ 0 → Found p theirs ks v
     → (ks ≡ linked_cells p theirs) × (has_ended p theirs ≡ false)
 nothing_found p theirs ks v is (a_cell k told no_end start) = absurd (omega arith)
 nothing_found p theirs ks v is (the_end told all ended) = absurd (omega arith)
 nothing_found p theirs ks v is (no_cell told all ended) = (all, ended)
 
--- a load that finds the end mark tells that all cells were met and the lane has ended
+-- if the load found the end mark, the reader has met all cells of the lane, and the lane has ended
 pub end_found : (p : ℕ) (theirs : History) (ks : List ℕ) (v : ℕ) → v ≡ END → Found p theirs ks v
     → (ks ≡ linked_cells p theirs) × (has_ended p theirs ≡ true)
 end_found p theirs ks v is (a_cell k told no_end start) = absurd (no_end (sym told ∙ is))
 end_found p theirs ks v is (the_end told all ended) = (all, ended)
 end_found p theirs ks v is (no_cell told all ended) = absurd (omega arith)
 
--- a load that finds a cell tells that it comes next in the lane
+-- if the load found k + 1, which is not the end mark, cell k comes next in the lane after the cells met
 pub cell_found : (p : ℕ) (theirs : History) (ks : List ℕ) (v k : ℕ) → v ≡ k + 1 → v ≢ END → Found p theirs ks v
     → IsStart (k ∷ ks) (linked_cells p theirs)
 cell_found p theirs ks v k is apart (a_cell j told no_end start) =

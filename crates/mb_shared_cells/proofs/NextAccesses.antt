@@ -1,4 +1,4 @@
--- Which accesses may follow, by the laws of the cells.
+-- Which accesses may follow a seat's part, whatever others did. The laws of `mb_cells` come in as premises.
 use Rattle.std.proofs.Common.{arith, refl, subst, sym, ℕ, ◌%◌, ◌+◌, ◌<◌, ◌^◌, ◌∷◌, ◌≡◌, ◌≤◌}
 use Rattle.mb_cells.specs.Vocabulary.{ActFits, Entry, History, IsLaneWord, IsLanePrefix, IsPoolLawful, IsPoolWord, MayRead, ReadsLast, fetch, load, part, store, value_in}
 use Rattle.mb_cells.specs.declared.access.PoolAccess.{PoolAccess}
@@ -16,24 +16,24 @@ pool_word size (Head p) x = x
 pool_word size (Link k) x = x
 pool_word size (Item k) x = x
 
--- an access with which its producer's path goes on keeps the history lawful
+-- a law of `mb_cells`: a history stays lawful with an access in range, true to memory, that its producer's path allows
 abbrev pub ProducerLaw : Type 0
 ProducerLaw =
     (size : PoolSize) (h : History) (a : PoolAccess) (p : ℕ) → IsPoolLawful size h → a.process ≡ Producer p
     → p < size.lanes → ActFits a.act → ReadsLast a.word a.act h
     → IsLanePrefix size.cells p (a ∷ part (Producer p) h) → IsPoolLawful size (a ∷ h)
 
--- a load of a word that its reader may load keeps the history lawful
+-- a law of `mb_cells`: a history stays lawful if a reader loads a word that it may load
 abbrev pub ReaderLaw : Type 0
 ReaderLaw =
     (size : PoolSize) (h : History) (r : ℕ) (w : Word) → IsPoolLawful size h
     → MayRead size.lanes w (part (Reader r) h) → IsPoolLawful size (load r w (value_in w h) ∷ h)
 
--- the counter is at most the cells and the lanes
+-- a law of `mb_cells`: the counter is at most the number of cells plus the number of lanes
 abbrev pub CounterLaw : Type 0
 CounterLaw = (size : PoolSize) (h : History) → IsPoolLawful size h → value_in Counter h ≤ size.cells + size.lanes
 
--- a load of a word that its reader may load may follow, if it finds what the word holds
+-- a load may follow a lawful history if its reader may load the word, and it finds what the word holds
 pub load_follows : ReaderLaw → (size : PoolSize) (r : ℕ) (done : History) (w : Word)
     → MayRead size.lanes w done → (h : History) (n : ℕ) → IsPoolLawful size h
     → part (Reader r) h ≡ done → n ≡ value_in w h
@@ -42,13 +42,13 @@ load_follows law size r done w may h n lawful mine is =
     subst (λ z. IsPoolLawful size (load r w z ∷ h)) (sym is)
     (law size h r w lawful (subst (λ l. MayRead size.lanes w l) (sym mine) may))
 
--- a load of a word that its reader may load goes on, whatever it finds
+-- a load of a word that its reader may load may follow, whatever the word holds
 pub load_goes : ReaderLaw → (size : PoolSize) (r : ℕ) (done : History) (w : Word) → MayRead size.lanes w done
     → GoesOn size (Reader r) done w (λ n. Load n) (λ n. n)
 load_goes law size r done w may h n lawful mine lane is low =
     (load_follows law size r done w may h n lawful mine is, refl)
 
--- a store may follow, if its producer's path goes on with it
+-- a store may follow a lawful history if it goes on with its producer's path
 pub store_follows : ProducerLaw → (size : PoolSize) (p : ℕ) (done : History) (w : Word) (value : ℕ)
     → value < 2 ^ 64 → IsLanePrefix size.cells p (store p w value ∷ done)
     → (h : History) → IsPoolLawful size h → part (Producer p) h ≡ done → p < size.lanes
@@ -57,14 +57,14 @@ store_follows law size p done w value small path h lawful mine lane =
     law size h (store p w value) p lawful refl lane small tt
     (subst (λ l. IsLanePrefix size.cells p (store p w value ∷ l)) (sym mine) path)
 
--- a store goes on, if its producer's path does
+-- a store that goes on with its producer's path may follow, whatever its word holds
 pub store_goes : ProducerLaw → (size : PoolSize) (p : ℕ) (done : History) (w : Word) (value : ℕ) → value < 2 ^ 64
     → IsLanePrefix size.cells p (store p w value ∷ done)
     → GoesOn size (Producer p) done w (λ _. Store value) (λ _. value)
 store_goes law size p done w value small path h n lawful mine lane is low =
     (store_follows law size p done w value small path h lawful mine lane, refl)
 
--- a fetch-add may follow, if its producer's path goes on with it, and it finds what the counter has
+-- a fetch-add may follow a lawful history if it goes on with its producer's path, and finds what the counter holds
 pub fetch_follows : ProducerLaw → (size : PoolSize) (p : ℕ) (done : History) (item n : ℕ)
     → item < 2 ^ 64 → n < 2 ^ 64
     → IsLanePrefix size.cells p (fetch p (record { cell = n; value = item }) ∷ done)
@@ -76,7 +76,7 @@ fetch_follows law size p done item n small low path h lawful mine lane is =
     law size h (fetch p e) p lawful refl lane (small, low) is
     (subst (λ l. IsLanePrefix size.cells p (fetch p e ∷ l)) (sym mine) path)
 
--- a fetch-add goes on, if its producer's path does. The counter's bound keeps it from wrapping
+-- a fetch-add that goes on with its producer's path may follow, whatever it finds. The counter is too small to wrap
 pub fetch_goes : ProducerLaw → CounterLaw → (size : PoolSize) (p : ℕ) (done : History) (item : ℕ)
     → size.lanes < 2 ^ 32 → size.cells < 2 ^ 32 → item < 2 ^ 64
     → ((n : ℕ) → IsLanePrefix size.cells p (fetch p (record { cell = n; value = item }) ∷ done))

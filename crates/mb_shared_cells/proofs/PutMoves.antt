@@ -20,7 +20,7 @@ use Rattle.mb_cells.specs.declared.lane.LaneStage.TheVariants as stage
 use Rattle.mb_cells.specs.declared.size.PoolSize.{PoolSize}
 use Rattle.mb_shared_cells.specs.Vocabulary.{FinishBy, FinishMakes, LaneMakes, OfferBy, OfferMakes, PushMakes, LaneSeatView, IsAccessAfter}
 
--- the laws of the cells on which this file stands
+-- the laws of `mb_cells` that the lemmas of this file take as a premise
 pub record PutLaws : Type 0 where
   pub own : (h : History) (a : PoolAccess) → part a.process (a ∷ h) ≡ a ∷ part a.process h
   pub older : (size : PoolSize) (later older : History) → IsPoolLawful size (later ++ older) → IsPoolLawful size older
@@ -33,7 +33,7 @@ pub record PutLaws : Type 0 where
   pub item : (h : History) (p q k v : ℕ) → put_list q (store p (Item k) v ∷ h) ≡ put_list q h
   pub end : (h : History) (p q : ℕ) (w : Word) → IsLinkWord w → put_list q (store p w END ∷ h) ≡ put_list q h
 
--- a fetch-add puts nothing
+-- a fetch-add that came after a producer's part puts nothing
 fetch_puts : PutLaws → (size : PoolSize) (p : ℕ) (e : Entry) (done : History)
     → IsAccessAfter size [] (fetch p e) done → put_list p (fetch p e ∷ done) ≡ put_list p done
 fetch_puts laws size p e done after =
@@ -46,7 +46,7 @@ fetch_puts laws size p e done after =
     ∙ laws.told size h p lawful
     ∙ ap (put_list p) after.own
 
--- an offer of x got cell k by its fetch-add: what the seat is then
+-- an offer of x got cell k by its fetch-add, which led from the seat `old` to the seat `new`
 pub record GotCell (old : LaneSeatView) (x k : ℕ) (new : LaneSeatView) : Type 0 where
   pub low : k < old.table.size.cells
   pub after : IsAccessAfter old.table.size [] (fetch old.lane (record { cell = k; value = x })) old.part
@@ -55,11 +55,11 @@ pub record GotCell (old : LaneSeatView) (x k : ℕ) (new : LaneSeatView) : Type 
     part = fetch old.lane (record { cell = k; value = x }) ∷ old.part;
   }
 
--- equal answers have equal cells
+-- two equal answers of an offer have equal cells
 same_cell : (n k : ℕ) → offer.Cell k ≡ offer.Cell n → n ≡ k
 same_cell n k e = cc
 
--- an offer whose fetch-add found n, and which returned cell k, got cell k
+-- an offer that returned cell k, and whose fetch-add found n, got cell k by it (`GotCell`)
 got_by : (old : LaneSeatView) (x k n : ℕ) (new : LaneSeatView) (b : Bool) → nat_lt n old.table.size.cells ≡ b
     → offer.Cell k ≡ (if b then offer.Cell n else offer.Full)
     → LaneMakes (fetch old.lane (record { cell = n; value = x })) (lane_after_offer old.table.size.cells x n old.place)
@@ -76,7 +76,7 @@ got_by old x k n new true low told makes =
     })
 got_by old x k n new false low told makes = absurd (cc)
 
--- an offer that returned cell k got it, by the producer's stage
+-- an offer that returned cell k got it by its fetch-add, whatever the producer's stage was
 got_at : (old : LaneSeatView) (x k : ℕ) (new : LaneSeatView) (at : LaneStage)
     → OfferBy (stage_offer_refusal at) old x (offer.Cell k) new → GotCell old x k new
 got_at old x k new stage.Open made = got_by old x k made.0 new (nat_lt made.0 old.table.size.cells) refl made.1 made.2
@@ -85,12 +85,12 @@ got_at old x k new (stage.Stored c) made = absurd (cc)
 got_at old x k new stage.Full made = absurd (cc)
 got_at old x k new (stage.Ended f) made = absurd (cc)
 
--- the next link is a head or link
+-- the word for the next link is a head or link
 pub link_word : (p : ℕ) (last : Option ℕ) → IsLinkWord (link_after p last)
 link_word p None = tt
 link_word p (Some k) = tt
 
--- what an offer of x that got cell k and two pushes come to: their answers, and the seat after them
+-- an offer of x got cell k, pushes returned `one` and `two`, and these calls led from the seat `old` to the seat `new`
 pub record PutCell (old : LaneSeatView) (x k : ℕ) (one two : Push) (new : LaneSeatView) : Type 0 where
   pub got : k < old.table.size.cells
   pub after : IsAccessAfter old.table.size [] (fetch old.lane (record { cell = k; value = x })) old.part
@@ -102,7 +102,7 @@ pub record PutCell (old : LaneSeatView) (x k : ℕ) (one two : Push) (new : Lane
         ∷ fetch old.lane (record { cell = k; value = x }) ∷ old.part;
   }
 
--- an offer that got cell k and two pushes come to that
+-- an offer that returned cell k and the two pushes after it are as `PutCell` says
 pub three_calls : (old offered stored new : LaneSeatView) (x k : ℕ) (one two : Push)
     → OfferMakes old x (offer.Cell k) offered → PushMakes offered one stored → PushMakes stored two new
     → PutCell old x k one two new
@@ -122,7 +122,7 @@ three_calls old offered stored new x k one two offers stores links =
       is = b.1.1;
     }
 
--- these calls put the item at the end of the lane's put list
+-- an offer of x that got cell k, and two pushes, put k with x at the end of the lane's put list
 pub item_put : PutLaws → (old new : LaneSeatView) (x k : ℕ) (one two : Push) → PutCell old x k one two new
     → put_list old.lane new.part ≡ put_list old.lane old.part ++ record { cell = k; value = x } ∷ []
 item_put laws old new x k one two c =
@@ -140,7 +140,7 @@ item_put laws old new x k one two c =
     ∙ laws.link h p k (next_link p old.place) (link_word p old.place.last) no_end
     ∙ (λ i. before i ++ entry i ∷ [])
 
--- an offer that returns Full puts nothing, by the producer's stage
+-- an offer that returns Full puts nothing, whatever the producer's stage was
 full_at : PutLaws → (old new : LaneSeatView) (x : ℕ) (at : LaneStage)
     → OfferBy (stage_offer_refusal at) old x offer.Full new
     → put_list old.lane new.part ≡ put_list old.lane old.part
@@ -157,7 +157,7 @@ pub full_puts : PutLaws → (old new : LaneSeatView) (x : ℕ) → OfferMakes ol
     → put_list old.lane new.part ≡ put_list old.lane old.part
 full_puts laws old new x made = full_at laws old new x old.place.stage made
 
--- if an offer returns Full after its own fetch-add, that found no cell
+-- if an offer makes a fetch-add and returns Full, the fetch-add found no cell
 found_now : (cells n : ℕ) (b : Bool) → nat_lt n cells ≡ b → offer.Full ≡ (if b then offer.Cell n else offer.Full)
     → cells ≤ n
 found_now cells n true low told = absurd (cc)
@@ -178,7 +178,7 @@ found_before cells p lane done after is =
     by (phase.Ended None) e at = absurd (cc)
     by (phase.Ended (Some x)) e at = absurd (cc)
 
--- after an offer that returns Full a fetch-add had found no cell, by the producer's stage
+-- after an offer that returns Full the producer has made a fetch-add that found no cell, whatever its stage was
 found_at : (old new : LaneSeatView) (x : ℕ) (at : LaneStage)
     → IsLaneAfter old.table.size.cells old.lane old.place old.part → old.place.stage ≡ at
     → OfferBy (stage_offer_refusal at) old x offer.Full new
@@ -204,7 +204,7 @@ pub full_found : (old new : LaneSeatView) (x : ℕ) → IsLaneAfter old.table.si
     → (e : Entry) × (Has new.part (fetch old.lane e) × (old.table.size.cells ≤ e.cell))
 full_found old new x after made = found_at old new x old.place.stage after refl made
 
--- a finish that ends the lane puts nothing, by the producer's stage
+-- a finish that ends the lane puts nothing, whatever the producer's stage was
 end_at : PutLaws → (old new : LaneSeatView) (at : LaneStage)
     → FinishBy (stage_finish_refusal at) old finish.Ended new
     → put_list old.lane new.part ≡ put_list old.lane old.part

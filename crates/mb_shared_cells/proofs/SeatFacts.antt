@@ -1,4 +1,4 @@
--- What is kept in the hub and in each seat, after their steps.
+-- The invariants of the hub and of each seat hold after their steps.
 use Rattle.std.proofs.Common.{[], ap, length, refl, subst, sym, ℕ, ◌∙◌, ◌∷◌, ◌≡◌}
 use Rattle.std.specs.Prelude.{Some}
 use Rattle.atomic_table.specs.Seated.{TableId}
@@ -16,17 +16,17 @@ use Rattle.mb_shared_cells.specs.Views.{IsAccessAfter, IsRollOf, MakesAccess, Pa
 use Rattle.mb_shared_cells.specs.declared.views.Roll.{Roll}
 use Rattle.mb_shared_cells.specs.declared.views.View.TheVariants.{Hub}
 
--- a hub with such a view and count keeps what it has to
+-- the invariant of the hub (`IsHubSeat`) follows from its view, its count and the history of its roll
 pub hub_is : (me : SeatState) (size : PoolSize) (roll : Roll) (given : ℕ) → me ≡ (Hub size roll, [])
     → given ≡ length roll.lanes → (h : History) × IsRollOf size roll h → IsHubSeat me given
 hub_is me size roll given is count history =
     subst (λ (z : SeatState). IsHubSeat z given) (sym is) (record { is = refl; count = count; history = history })
 
--- the part of an access's process has the access in front
+-- a law of `mb_cells`: after an access its process's part is the part before, with the access in front
 abbrev pub OwnLaw : Type 0
 OwnLaw = (h : History) (a : PoolAccess) → part a.process (a ∷ h) ≡ a ∷ part a.process h
 
--- some lawful history has the part with the access
+-- if an access came after this part, some lawful history has the part with the access in front
 history_then : OwnLaw → (size : PoolSize) (who : Process) (known : PartList) (done : History) (word : Word)
     (act : PoolAct) → IsAccessAfter size known (access_by who word act) done
     → HasHistory size who (access_by who word act ∷ done)
@@ -34,7 +34,7 @@ history_then law size who known done word act after =
     let a = access_by who word act in
     (a ∷ after.older, after.lawful, law after.older a ∙ ap (λ l. a ∷ l) after.own)
 
--- a lane's seat keeps what it has to after an access
+-- after an access the invariant of a lane's seat (`IsLaneSeat`) holds, with its new place `now`
 pub lane_then : OwnLaw → (me new : SeatState) (number : ℕ) (was now : Lane) (word : Word) (act : PoolAct)
     → IsLaneSeat me number was → MakesAccess word act me new
     → IsLaneAfter (size_in me.0).cells number now (access_by (Producer number) word act ∷ done_in me.0)
@@ -51,7 +51,7 @@ lane_then law me new number was now word act s m stands =
       history = history_then law size (Producer number) [] done word act m'.0;
     })
 
--- a reader's seat keeps what it has to after an access
+-- after an access the invariant of a reader's seat (`IsReaderSeat`) still holds
 pub reader_then : OwnLaw → (me new : SeatState) (word : Word) (act : PoolAct) → IsReaderSeat me
     → MakesAccess word act me new → IsReaderSeat new
 reader_then law me new word act s m =
@@ -63,7 +63,7 @@ reader_then law me new word act s m =
       history = history_then law size (Reader (number_in me.0)) (known_in me.0) (done_in me.0) word act m'.0;
     })
 
--- an access of a reader's seat, as callers see it
+-- what callers see of a reader's access: it came after the part seen before, and the part seen after has it in front
 pub reader_makes : (id then : TableId) (me new : SeatState) (word : Word) (act : PoolAct) → IsReaderSeat me
     → MakesAccess word act me new → then ≡ id
     → IsAccessAfter (size_in me.0) (known_in me.0) (access_by (Reader (number_in me.0)) word act) (done_in me.0)
@@ -74,7 +74,7 @@ reader_makes id then me new word act s m same =
     let m' = subst (λ (z : SeatState). MakesAccess word act z new) s.is m in
     (m'.0, λ i. reader_shown (same i) (m'.1 i))
 
--- the roll of a new table is that of the empty history
+-- the empty history has the parts of an empty roll, which are none
 pub empty_roll_history : (size : PoolSize) → IsPoolLawful size [] → (h : History) × IsRollOf size empty_roll h
 empty_roll_history size lawful = ([], record { lawful = lawful; parts = nobody; others = λ who e. refl })
   where

@@ -1,4 +1,4 @@
--- Who stands at which seat, and what a step leaves of it for the seats that did not make it.
+-- A process *stands* at the seat whose view has its part. A step leaves this as it was for the seats that it spares.
 use Rattle.std.proofs.Common.{List, [], ap, arith, inl, inr, length, length-set, refl, slice_set, subst, sym, ℕ, ⊎_elim, ◌++◌, ◌∙◌, ◌∷◌, ◌≡◌, ◌≢◌, ◌≤◌, ◌⊎◌}
 use Rattle.std.specs.Prelude.{None, Option, Some}
 use Rattle.std.proofs.lemmas.Bool.{cases_eq}
@@ -24,7 +24,7 @@ use Rattle.mb_shared_cells.proofs.ViewLists.{at_within, longer_has, out_or_in, s
 pub moved : Process → ℕ → (Process → ℕ) → Process → ℕ
 moved who to seats x = ⊎_elim (λ _. to) (λ _. seats x) (cases_process who x)
 
--- process `who` then stands at seat `to`
+-- by `moved`, process `who` stands at seat `to`
 pub moved-here : (who : Process) (to : ℕ) (seats : Process → ℕ) → moved who to seats who ≡ to
 unfolding moved
 moved-here who to seats = here (cases_process who who)
@@ -33,7 +33,7 @@ moved-here who to seats = here (cases_process who who)
     here (inl e) = refl
     here (inr other) = absurd (other refl)
 
--- each other process stands where it stood
+-- by `moved`, each other process stands where it stood
 pub moved-else : (who : Process) (to : ℕ) (seats : Process → ℕ) (x : Process) → who ≢ x
     → moved who to seats x ≡ seats x
 unfolding moved
@@ -43,7 +43,7 @@ moved-else who to seats x apart = there (cases_process who x)
     there (inl e) = absurd (apart e)
     there (inr other) = refl
 
--- a process that stood at seat `to` before stands there still
+-- by `moved`, a process that stood at seat `to` before stands there still
 pub moved-to : (who : Process) (to : ℕ) (seats : Process → ℕ) (x : Process) → seats x ≡ to
     → moved who to seats x ≡ to
 unfolding moved
@@ -62,7 +62,7 @@ pub record Spares (t u : Seating) (roster more seat : ℕ) : Type 0 where
   pub stand : (who : Process) → IsEnrolled t who → (t.seat_of who ≡ seat) ⊎ (t.seat_of who ≡ t.hub)
       → (u.seat_of who ≡ t.seat_of who) × (part who u.history ≡ part who t.history)
 
--- a process with a place in the roll was issued
+-- a process at whose number the hub's roll has a place was issued
 pub roll_enrolled : (size : PoolSize) (t : Seating) (seat : ℕ) (own : PoolSize) (roll : Roll) (who : Process)
     (b : Option History) → IsHub size t seat own roll → roll_at who roll ≡ Some b → IsEnrolled t who
 roll_enrolled size t seat own roll (Producer p) b h e =
@@ -70,14 +70,14 @@ roll_enrolled size t seat own roll (Producer p) b h e =
 roll_enrolled size t seat own roll (Reader r) b h e =
     let low = slice_get_within roll.readers r b e in let is = h.readers in omega arith
 
--- the seat of a process that was issued is out, or was returned
+-- if a process was issued, the hub's roll has None at its number (not returned), or its part
 pub enrolled_out : (size : PoolSize) (t : Seating) (seat : ℕ) (own : PoolSize) (roll : Roll) (who : Process)
     → IsHub size t seat own roll → IsEnrolled t who
     → (roll_at who roll ≡ Some None) ⊎ ((done : History) × (roll_at who roll ≡ Some (Some done)))
 enrolled_out size t seat own roll (Producer p) h low = let is = h.lanes in out_or_in roll.lanes p (omega arith)
 enrolled_out size t seat own roll (Reader r) h low = let is = h.readers in out_or_in roll.readers r (omega arith)
 
--- a list of lanes' parts that was right is right still
+-- if a step spares a seat, each list of lanes' parts that was true before the step is true after it
 knows_still : (t u : Seating) (roster more seat : ℕ) → Spares t u roster more seat → (known : PartList)
     → KnowsTaken t known → KnowsTaken u known
 knows_still t u roster more seat s known h p theirs at =
@@ -85,7 +85,7 @@ knows_still t u roster more seat s known h p theirs at =
     let k = s.stand (Producer p) x.0 (inr x.1) in
     (s.enrolled (Producer p) x.0, k.0 ∙ x.1 ∙ sym s.hubs, x.2 ∙ sym k.1)
 
--- a view that was the hub's is the hub's still
+-- if a step spares the hub's seat, the hub's view is still true of the seating
 hub_still : (size : PoolSize) (t u : Seating) (roster more seat : ℕ) → Spares t u roster more seat
     → (own : PoolSize) (roll : Roll) → IsHub size t seat own roll → IsHub size u seat own roll
 hub_still size t u roster more seat s own roll h =
@@ -100,14 +100,14 @@ hub_still size t u roster more seat s own roll h =
           (z.0 ∙ y.0, y.1 ∙ sym z.1);
     }
 
--- a part that a seat has is still that of its process
+-- if a step spares a seat, the part that the seat has is still that of its process
 part_still : (t u : Seating) (roster more seat : ℕ) → Spares t u roster more seat → (who : Process) (done : History)
     → HasPart t seat who done → HasPart u seat who done
 part_still t u roster more seat s who done h =
     let x = s.stand who h.enrolled (inl h.here) in
     record { here = x.0 ∙ h.here; enrolled = s.enrolled who h.enrolled; part = h.part ∙ sym x.1 }
 
--- a view that the step spares fits as before
+-- if a step spares a seat, the seat's view is still true of its seat, the new seating and the new roster
 pub fits_still : (size : PoolSize) (t u : Seating) (roster more seat : ℕ) → Spares t u roster more seat → (v : View)
     → FitsView size t roster seat v → FitsView size u more seat v
 fits_still size t u roster more seat s (Hub own roll) h =
@@ -134,7 +134,7 @@ fits_still size t u roster more seat s (Member own who known done) h = (
 )
 fits_still size t u roster more seat s Empty h = tt
 
--- a process that stands at a seat stands there still after a view is replaced, if the new view keeps that process
+-- a process still stands at its seat after a view is replaced, if the new view has a part of it in case the old one had
 pub stands_then : (views : List View) (at : ℕ) (was new : View) (seat : ℕ) (who : Process)
     → get_elem? views at ≡ some was → (HasProcess was who → HasProcess new who)
     → StandsAt views seat who → StandsAt (slice_set views at new) seat who
@@ -153,7 +153,7 @@ pub stands_longer : (views : List View) (new : View) (seat : ℕ) (who : Process
     → StandsAt (views ++ new ∷ []) seat who
 stands_longer views new seat who h = (h.0, at_longer views (new ∷ []) seat h.0 h.1, h.2)
 
--- a process that was issued has a number in range
+-- a producer that was issued has one of the pool's lanes
 pub enrolled_fits : (t : Seating) (lanes roster : ℕ) (who : Process) → IsEnrolled t who → t.lanes ≤ roster
     → roster ≤ lanes → ProcessFits lanes who
 enrolled_fits t lanes roster (Producer p) low drawn few = omega arith
@@ -172,7 +172,7 @@ pub with_part-readers : (who : Process) (done : History) (roll : Roll)
 with_part-readers (Producer p) done roll = refl
 with_part-readers (Reader r) done roll = length-set roll.readers r (Some done)
 
--- each part in that roll is the one put in, or was there before
+-- each part in a roll with a part put in is that part, or was in the roll before
 pub with_part-had : (who : Process) (done : History) (roll : Roll) (x : Process) (d : History)
     → roll_at x (roll_with_part who done roll) ≡ Some (Some d)
     → ((who ≡ x) × (done ≡ d)) ⊎ (roll_at x roll ≡ Some (Some d))
@@ -183,13 +183,13 @@ with_part-had (Reader p) done roll (Producer q) d e = inr e
 with_part-had (Reader p) done roll (Reader q) d e =
     ⊎_elim (λ t. inl (ap Reader t.0, cc)) (λ t. inr t) (set_had roll.readers p q (Some done) (Some d) e)
 
--- the part put in is in that roll
+-- the part that was put into a roll is there
 pub with_part-here : (who : Process) (done : History) (roll : Roll) (b : Option History)
     → roll_at who roll ≡ Some b → roll_at who (roll_with_part who done roll) ≡ Some (Some done)
 with_part-here (Producer p) done roll b e = set_here roll.lanes p (Some done) b e
 with_part-here (Reader r) done roll b e = set_here roll.readers r (Some done) b e
 
--- a process that had a part in the roll has one after a part is put in
+-- a process that had a part in the roll has one after a part was put in
 pub with_part-has : (who : Process) (done : History) (roll : Roll) (x : Process) (d : History)
     → roll_at x roll ≡ Some (Some d)
     → (part : History) × (roll_at x (roll_with_part who done roll) ≡ Some (Some part))
@@ -198,13 +198,13 @@ with_part-has (Producer p) done roll (Reader r) d e = (d, e)
 with_part-has (Reader r) done roll (Producer p) d e = (d, e)
 with_part-has (Reader r) done roll (Reader q) d e = set_has roll.readers r q done d e
 
--- a roll with one lane more has what it had
+-- a roll with one lane more has at each number what it had
 pub with_lane-has : (roll : Roll) (x : Process) (b : Option History) → roll_at x roll ≡ Some b
     → roll_at x (roll_with_lane roll) ≡ Some b
 with_lane-has roll (Producer p) b e = longer_has roll.lanes p b e
 with_lane-has roll (Reader r) b e = e
 
--- a roll with one reader more has what it had
+-- a roll with one reader more has at each number what it had
 pub with_reader-has : (roll : Roll) (x : Process) (b : Option History) → roll_at x roll ≡ Some b
     → roll_at x (roll_with_reader roll) ≡ Some b
 with_reader-has roll (Producer p) b e = e
@@ -220,7 +220,7 @@ roll_part size t seat own roll who done h e =
     let enrolled = roll_enrolled size t seat own roll who (Some done) h e in
     record { here = x.0; enrolled = enrolled; part = x.1 }
 
--- a part that a fitting view tells is that of its process, which stands at the seat of that view
+-- if a view is true of its seat, each part in it is that of its process, which stands at that seat
 pub told_part : (size : PoolSize) (t : Seating) (roster seat : ℕ) (v : View) (who : Process)
     (done : History) → FitsView size t roster seat v → TellsPart v who done
     → HasPart t seat who done
@@ -236,7 +236,7 @@ told_part size t roster seat (Member own other known theirs) who done f e =
     subst (λ (z : Process × History). HasPart t seat z.0 z.1) (λ i. (e.0 i, e.1 i)) f.2
 told_part size t roster seat Empty who done f e = absurd e
 
--- a process whose part a seat has stands at that seat
+-- a process whose part the view of a seat has stands at that seat by the seating
 pub stands_there : (size : PoolSize) (words : List ℕ) (views : List View) (t : Seating) (seat : ℕ) (who : Process)
     → IsTableState size words views t → StandsAt views seat who → t.seat_of who ≡ seat
 stands_there size words views t seat who r h =

@@ -1,4 +1,4 @@
--- The hub's steps that take a part in.
+-- The hub's two steps that take a seat back: it joins the seat to its own, then a load puts the part into its roll.
 use Rattle.std.proofs.Common.{List, [], ap, inl, inr, refl, slice_index, slice_set, subst, sym, ℕ, ⊎_elim, ◌∙◌, ◌≡◌, ◌≢◌, arith}
 use Rattle.std.specs.Prelude.{None, Some}
 use Rattle.std.proofs.lemmas.List.{set-get_or}
@@ -19,7 +19,7 @@ use Rattle.mb_shared_cells.proofs.Seatings.{Spares, enrolled_out, fits_still, mo
 use Rattle.mb_shared_cells.proofs.Seatings.{with_part-had, with_part-has, with_part-here, with_part-lanes, with_part-readers}
 use Rattle.mb_shared_cells.proofs.ViewLists.{all_set, at_within, none_past}
 
--- the hub may join the seat of a process to its own
+-- the hub may join the seat of a process to its own: the rule is kept
 pub takes_in : (size : PoolSize) (id other : ℕ) (own its : PoolSize) (roll : Roll) (who : Process) (known : PartList)
     (done : History)
     → Joins (KeepsCells size) id (Hub own roll) other (Member its who known done) (HubJoins own roll who done) Empty
@@ -110,7 +110,7 @@ takes_in size id other own its roll who known done s h at apart there =
       },
     )
 
--- the hub may join a seat, if both are known by equations
+-- `takes_in` for two seats whose views are known only by equations
 pub join_asked : (key : PoolSize) (id other : ℕ) (v w : View) (own its : PoolSize) (roll : Roll) (who : Process)
     (known : PartList) (done : History) → v ≡ Hub own roll → w ≡ Member its who known done
     → Joins (KeepsCells key) id v other w (hub_after_join v w) Empty
@@ -129,7 +129,7 @@ loaded_keeps who own done roll x out (d, inl e) = (
 )
 loaded_keeps who own done roll x out (d, inr e) = with_part-has who done roll x d e
 
--- a process without a place in the roll was not issued
+-- a process without a place in the hub's roll was not issued
 not_enrolled : (size : PoolSize) (t : Seating) (seat : ℕ) (own : PoolSize) (roll : Roll) (who : Process)
     → IsHub size t seat own roll → roll_at who roll ≡ None → IsEnrolled t who → ⊥
 not_enrolled size t seat own roll (Producer p) h none e =
@@ -146,7 +146,7 @@ roll_history size words views t seat own roll r hub = record {
   others = λ who e. r.nobody_else who (not_enrolled size t seat own roll who hub e);
 }
 
--- the hub that has joined a seat is the hub still once it has put the part into its roll
+-- after the hub has put the part of the seat that it joined into its roll, its view is still true of the seating
 loaded_hub : (size : PoolSize) (words : List ℕ) (views : List View) (t : Seating) (id : ℕ)
     (own : PoolSize) (roll : Roll) (who : Process) (done : History)
     → IsTableState size words views t → IsViewAt views id (HubJoins own roll who done)
@@ -164,7 +164,7 @@ loaded_hub size words views t id own roll who done r at =
           (with_part-had who done roll x d e);
     }
 
--- after that the same seating explains the table
+-- after the hub has put the part of the seat that it joined into its roll, the table agrees with the same seating
 pub after_load : (size : PoolSize) (words : List ℕ) (views : List View) (t : Seating) (id : ℕ)
     (own : PoolSize) (roll : Roll) (who : Process) (done : History)
     → IsTableState size words views t → IsViewAt views id (HubJoins own roll who done)
@@ -206,7 +206,7 @@ load_allows size slots id own roll who done s h _ at _ =
       ((mine.3, (t.history, roll_history size s.words views t id own _ r hub)), refl),
     )
 
--- the hub may put the part in, if its seat is known by an equation
+-- `load_allows` for a seat that is known only by an equation
 pub load_asked : (key : PoolSize) (slots id : ℕ) (me : SeatState) (own : PoolSize) (roll : Roll) (who : Process)
     (done : History) → me ≡ (HubJoins own roll who done, [])
     → Allows (KeepsCells key) slots id me 0 (λ n. n) (λ n w. WasOut me.0 × (w ≡ (hub_after_load me.0, me.1)))

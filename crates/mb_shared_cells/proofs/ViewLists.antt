@@ -28,7 +28,7 @@ at_snoc (x ∷ xs) new v zero e = inl (e, omega arith)
 at_snoc (x ∷ xs) new v (suc j) e =
     ⊎_elim (λ t. let h = t.1 in inl (t.0, omega arith)) (λ t. inr (ap suc t.0, t.1)) (at_snoc xs new v j e)
 
--- what holds of each view and of one more holds of each view after it is added
+-- if P holds of each view and of a new one, it holds of each view after the new one is added
 pub all_snoc : (P : ℕ → View → Type 0) (views : List View) (new : View)
     → ((j : ℕ) (v : View) → get_elem? views j ≡ some v → P j v) → P (length views) new
     → (j : ℕ) (v : View) → get_elem? (views ++ new ∷ []) j ≡ some v → P j v
@@ -39,14 +39,14 @@ all_snoc P views new others mine j v e =
     subst (λ (y : ℕ × View). P y.0 y.1) (λ i. (sym x.0 i, x.1 i)) mine)
     (at_snoc views new v j e)
 
--- a seat with a view is one of the list
+-- a seat that has a view in the list is below the length of the list
 pub at_within : (views : List View) (j : ℕ) (v : View) → get_elem? views j ≡ some v → j < length views
 at_within [] j v e = absurd (some-ne-none v (sym e))
 at_within (x ∷ xs) zero v e = omega arith
 at_within (x ∷ xs) (suc j) v e = let h = at_within xs j v e in omega arith
 
 -- ---- lists of parts
--- a list of parts with one number more, whose seat is out, has what it had
+-- after a number without a part is added to a list of parts, the list still has what it had
 pub longer_has : (xs : PartList) (k : ℕ) (b : Option History) → slice_get xs k ≡ Some b
     → slice_get (xs ++ None ∷ []) k ≡ Some b
 longer_has [] k b e = absurd (cc)
@@ -61,7 +61,7 @@ longer_had [] (suc k) done e = absurd (cc)
 longer_had (x ∷ xs) zero done e = e
 longer_had (x ∷ xs) (suc k) done e = longer_had xs k done e
 
--- what a list has at a number after one is replaced is the new one, or was there before
+-- after one place of a list is replaced, what the list has at a number is the new one, or was there before
 pub set_had : (xs : PartList) (i k : ℕ) (a b : Option History) → slice_get (slice_set xs i a) k ≡ Some b
     → ((i ≡ k) × (a ≡ b)) ⊎ (slice_get xs k ≡ Some b)
 set_had [] i k a b e = absurd (cc)
@@ -71,14 +71,14 @@ set_had (x ∷ xs) (suc i) zero a b e = inr e
 set_had (x ∷ xs) (suc i) (suc k) a b e =
     ⊎_elim (λ t. inl (ap suc t.0, t.1)) (λ t. inr t) (set_had xs i k a b e)
 
--- what is put in at a number of the list is there
+-- after a part is stored at a number that the list has, it is there
 pub set_here : (xs : PartList) (k : ℕ) (a b : Option History) → slice_get xs k ≡ Some b
     → slice_get (slice_set xs k a) k ≡ Some a
 set_here [] k a b e = absurd (cc)
 set_here (x ∷ xs) zero a b e = refl
 set_here (x ∷ xs) (suc k) a b e = set_here xs k a b e
 
--- a number that had a part has one after a part is put in
+-- a number that had a part still has one after a part is stored at some number
 pub set_has : (xs : PartList) (i k : ℕ) (done d : History) → slice_get xs k ≡ Some (Some d)
     → (part : History) × (slice_get (slice_set xs i (Some done)) k ≡ Some (Some part))
 set_has [] i k done d e = absurd (cc)
@@ -87,7 +87,7 @@ set_has (x ∷ xs) zero (suc k) done d e = (d, e)
 set_has (x ∷ xs) (suc i) zero done d e = (d, e)
 set_has (x ∷ xs) (suc i) (suc k) done d e = set_has xs i k done d e
 
--- a number in the list is out, or was returned
+-- at each number below its length a list has None (not returned), or a part
 pub out_or_in : (xs : PartList) (k : ℕ) → k < length xs
     → (slice_get xs k ≡ Some None) ⊎ ((done : History) × (slice_get xs k ≡ Some (Some done)))
 out_or_in [] k low = absurd (omega arith)
@@ -95,7 +95,7 @@ out_or_in (None ∷ rest) zero low = inl refl
 out_or_in (Some done ∷ rest) zero low = inr (done, refl)
 out_or_in (x ∷ rest) (suc k) low = out_or_in rest k (omega arith)
 
--- a number without a place in a list is past its end
+-- a number at which a list has nothing is not below its length
 pub none_past : (xs : PartList) (k : ℕ) → slice_get xs k ≡ None → length xs ≤ k
 none_past [] k e = omega arith
 none_past (x ∷ xs) zero e = absurd (cc)

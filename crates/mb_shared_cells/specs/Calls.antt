@@ -18,20 +18,20 @@ use Rattle.mb_cells.specs.declared.lane.Lane.{Lane}
 use Rattle.mb_shared_cells.specs.Shown.{LaneSeatView, ReaderSeatView}
 use Rattle.mb_shared_cells.specs.Views.{IsAccessAfter}
 
--- the lane's seat makes the access, which came after its part, and its producer then stands at this place
+-- a lane's seat makes the access after its part. The part then has the access, and the producer stands at this place
 abbrev pub LaneMakes : PoolAccess → Lane → LaneSeatView → LaneSeatView → Type 0
 LaneMakes a place old new =
     IsAccessAfter old.table.size [] a old.part
     × (new ≡ record old { place = place; part = a ∷ old.part })
 
--- the reader's seat makes the access, which came after its part
+-- a reader's seat makes the access after its part, which then has the access
 abbrev pub ReaderMakes : PoolAccess → ReaderSeatView → ReaderSeatView → Type 0
 ReaderMakes a old new =
     IsAccessAfter old.table.size old.known a old.part
     × (new ≡ record old { part = a ∷ old.part })
 
--- an offer of x, by the refusal of its producer's place. Refused it makes no access. Else it is a fetch-add, which
--- finds some number
+-- an offer of x. If the producer's place refuses it, it returns that refusal and makes no access. Else it makes a
+-- fetch-add, which finds some number
 abbrev pub OfferBy : Option Offer → LaneSeatView → ℕ → Offer → LaneSeatView → Type 0
 OfferBy (Some refusal) old x answer new = (answer ≡ refusal) × (new ≡ old)
 OfferBy None old x answer new =
@@ -39,33 +39,33 @@ OfferBy None old x answer new =
     × LaneMakes (fetch old.lane (record { cell = n; value = x }))
     (lane_after_offer old.table.size.cells x n old.place) old new
 
--- an offer of x, by the place of the seat's producer
+-- an offer of x, at the place of the seat's producer
 abbrev pub OfferMakes : LaneSeatView → ℕ → Offer → LaneSeatView → Type 0
 OfferMakes old x answer new = OfferBy (offer_refusal old.place) old x answer new
 
--- a push, by the store that its producer's place names: it makes that store, or none
+-- a push: it makes the store that its producer's place names, or no access if that names none
 abbrev pub PushBy : Option (Word × ℕ) → LaneSeatView → Push → LaneSeatView → Type 0
 PushBy None old answer new = (answer ≡ push.Idle) × (new ≡ old)
 PushBy (Some s) old answer new =
     (answer ≡ push_answer old.place)
     × LaneMakes (store old.lane s.0 s.1) (lane_after_push old.place) old new
 
--- a push, by the place of the seat's producer
+-- a push, at the place of the seat's producer
 abbrev pub PushMakes : LaneSeatView → Push → LaneSeatView → Type 0
 PushMakes old answer new = PushBy (push_store old.lane old.place) old answer new
 
--- a finish, by the refusal of its producer's place. Refused it makes no access. Else it stores the end mark
+-- a finish. If the producer's place refuses it, it returns that refusal, without access. Else it stores the end mark
 abbrev pub FinishBy : Option Finish → LaneSeatView → Finish → LaneSeatView → Type 0
 FinishBy (Some refusal) old answer new = (answer ≡ refusal) × (new ≡ old)
 FinishBy None old answer new =
     (answer ≡ finish.Ended)
     × LaneMakes (store old.lane (next_link old.lane old.place) END) (lane_after_finish old.place) old new
 
--- a finish, by the place of the seat's producer
+-- a finish, at the place of the seat's producer
 abbrev pub FinishMakes : LaneSeatView → Finish → LaneSeatView → Type 0
 FinishMakes old answer new = FinishBy (finish_refusal old.place) old answer new
 
--- a look loads the word at the cursor, and says what that holds
+-- a look loads the word at the cursor, and returns what the value loaded says (`look_of`)
 abbrev pub LookMakes : ReaderSeatView → Cursor → Look → ReaderSeatView → Type 0
 LookMakes old at answer new =
     (n : ℕ) × (answer ≡ look_of n) × ReaderMakes (load old.reader (word_of at) n) old new

@@ -1,4 +1,4 @@
--- The rule of the table: its words and views are those of one lawful history of the pool.
+-- The rule of the table: its words and views agree with one lawful history of the pool.
 use Rattle.std.specs.Prelude.{List, None, Some, [], length, slice_get, slice_index, ℕ, ◌+◌, ◌<◌, ◌≡◌, ◌≢◌, ◌≤◌, ◌⊎◌}
 use mathlib.Core.Option.{some}
 use lib.ListN.{get_elem?}
@@ -12,7 +12,7 @@ use Rattle.mb_shared_cells.specs.declared.views.Roll.{Roll}
 use Rattle.mb_shared_cells.specs.declared.views.View.{View}
 use Rattle.mb_shared_cells.specs.declared.views.View.TheVariants.{Empty, Hub, HubDraws, HubJoins, Member}
 
--- the roster, which counts the lanes' numbers drawn, lies after the words of the pool
+-- the address of the roster, the word after those of the pool, which counts the lanes' numbers drawn
 abbrev pub roster_of : PoolSize → ℕ
 roster_of size = pool_words size
 
@@ -25,7 +25,7 @@ pub record Seating : Type 0 where
   pub hub : ℕ
   pub seat_of : Process → ℕ
 
--- the process was issued
+-- the process was issued: its number is below that of the lanes, or readers, issued
 abbrev pub IsEnrolled : Seating → Process → Type 0
 IsEnrolled t (Producer p) = p < t.lanes
 IsEnrolled t (Reader r) = r < t.readers
@@ -39,7 +39,7 @@ pub record IsHub (size : PoolSize) (t : Seating) (seat : ℕ) (own : PoolSize) (
   pub parts : (who : Process) (done : History) → roll_at who roll ≡ Some (Some done)
       → (t.seat_of who ≡ seat) × (done ≡ part who t.history)
 
--- each lane of which the list has a part was returned, and that part is the one of the history
+-- each lane of which the list has a part was returned to the hub, and that part is the one of the history
 abbrev pub KnowsTaken : Seating → PartList → Type 0
 KnowsTaken t known =
     (p : ℕ) (theirs : History) → slice_get known p ≡ Some (Some theirs)
@@ -51,7 +51,7 @@ pub record HasPart (t : Seating) (seat : ℕ) (who : Process) (done : History) :
   pub enrolled : IsEnrolled t who
   pub part : done ≡ part who t.history
 
--- the view fits the seat, the seated history and the roster, which holds this number
+-- the view is true of its seat and of the seating, and of the roster, which holds the number `roster`
 abbrev pub FitsView : PoolSize → Seating → ℕ → ℕ → View → Type 0
 FitsView size t roster seat (Hub own roll) = IsHub size t seat own roll × (roster ≡ t.lanes)
 FitsView size t roster seat (HubDraws own roll) = IsHub size t seat own roll × (roster ≡ t.lanes + 1)
@@ -65,7 +65,7 @@ FitsView size t roster seat Empty = Unit {0}
 abbrev pub IsViewAt : List View → ℕ → View → Type 0
 IsViewAt views seat v = get_elem? views seat ≡ some v
 
--- the view tells this part of the process: it is that of its seat, or the hub's that took the seat back
+-- the view has this part of the process: it is the view of the process's seat, or of the hub that took that seat back
 abbrev pub TellsPart : View → Process → History → Type 0
 TellsPart (Hub own roll) who done = roll_at who roll ≡ Some (Some done)
 TellsPart (HubDraws own roll) who done = roll_at who roll ≡ Some (Some done)
@@ -74,24 +74,24 @@ TellsPart (HubJoins own roll joined part) who done =
 TellsPart (Member own seated known part) who done = (seated ≡ who) × (part ≡ done)
 TellsPart Empty who done = ⊥
 
--- the view of this seat tells this part of the process
+-- the view of this seat has this part of the process
 abbrev pub TellsPartAt : List View → ℕ → Process → History → Type 0
 TellsPartAt views seat who done = (v : View) × IsViewAt views seat v × TellsPart v who done
 
--- the view has a part of the process
+-- the view has some part of the process
 abbrev pub HasProcess : View → Process → Type 0
 HasProcess v who = (done : History) × TellsPart v who done
 
--- the view of the seat has a part of the process
+-- the process stands at the seat: the seat's view has a part of the process
 abbrev pub StandsAt : List View → ℕ → Process → Type 0
 StandsAt views seat who = (v : View) × IsViewAt views seat v × HasProcess v who
 
--- the words and views are those of the history that is seated so
+-- words and views agree with this seating of a history
 pub record IsTableState (size : PoolSize) (words : List ℕ) (views : List View) (t : Seating) : Type 0 where
-  -- the history is lawful, and leaves each word of the pool as it is
+  -- the history is lawful, and leaves in each word of the pool what the word holds
   pub memory : IsMemoryOf size words t.history
   pub wide : length words ≡ roster_of size + 1
-  -- there are no more numbers than lanes
+  -- no more numbers were drawn than there are lanes
   pub few : slice_index words (roster_of size) ≤ size.lanes
   pub drawn : t.lanes ≤ slice_index words (roster_of size)
   -- a process that was not issued did nothing
@@ -101,10 +101,10 @@ pub record IsTableState (size : PoolSize) (words : List ℕ) (views : List View)
   pub fits : (seat : ℕ) (v : View) → IsViewAt views seat v
       → FitsView size t (slice_index words (roster_of size)) seat v
 
--- the words and views are those of some history
+-- words and views agree with some seating of some history
 abbrev pub IsCellsState : PoolSize → List ℕ → List View → Type 0
 IsCellsState size words views = (t : Seating) × IsTableState size words views t
 
--- the state of a table keeps the rule: its words and views are those of some history
+-- the state of a table keeps the rule: its words and views agree with some seating of some history
 abbrev pub KeepsCells : PoolSize → State (Unit {0}) View → Type 0
 KeepsCells size s = IsCellsState size s.words s.views

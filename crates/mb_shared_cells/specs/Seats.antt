@@ -1,4 +1,4 @@
--- What is kept in the hub and in each seat, how callers see it, and which accesses a seat can make.
+-- The invariants of the hub and of each seat, what callers see of them, and which accesses a seat can make.
 use Rattle.std.specs.Prelude.{[], length, ℕ, ◌<◌, ◌∷◌, ◌≡◌}
 use Rattle.atomic_table.specs.Seated.{TableId}
 use Rattle.mb_cells.specs.Vocabulary.{History, IsLaneAfter, IsLanePrefix, IsLaneWord, MayRead, fetch, store}
@@ -63,19 +63,19 @@ done_in Empty = []
 abbrev pub name_in : TableId → SeatState → CellsName
 name_in id me = record { id = id; size = size_in me.0 }
 
--- ---- what is kept, and how callers see it
--- what is kept in the hub: it counts the lanes' numbers that it issued, and the parts that it took back are those of some
--- lawful history
+-- ---- the invariants, and what callers see
+-- the invariant of the hub: it counts the lanes' numbers that it issued, and the parts that it took back are those of
+-- some lawful history
 pub record IsHubSeat (me : SeatState) (given : ℕ) : Type 0 where
   pub is : me ≡ (Hub (size_in me.0) (roll_in me.0), [])
   pub count : given ≡ length (roll_in me.0).lanes
   pub history : (h : History) × IsRollOf (size_in me.0) (roll_in me.0) h
 
--- the hub as callers see it
+-- what callers see of the hub
 abbrev pub hub_shown : TableId → SeatState → CellHubView
 hub_shown id me = record { table = name_in id me; roll = roll_in me.0 }
 
--- what is kept in a lane's seat: the lane is one of the table's, its producer stands at the place, and some lawful
+-- the invariant of a lane's seat: the lane is one of the table's, its producer stands at the place, and some lawful
 -- history has its part
 pub record IsLaneSeat (me : SeatState) (number : ℕ) (place : Lane) : Type 0 where
   pub is : me ≡ (Member (size_in me.0) (Producer number) [] (done_in me.0), [])
@@ -83,17 +83,17 @@ pub record IsLaneSeat (me : SeatState) (number : ℕ) (place : Lane) : Type 0 wh
   pub stands : IsLaneAfter (size_in me.0).cells number place (done_in me.0)
   pub history : HasHistory (size_in me.0) (Producer number) (done_in me.0)
 
--- a lane's seat as callers see it
+-- what callers see of a lane's seat
 abbrev pub lane_shown : TableId → SeatState → ℕ → Lane → LaneSeatView
 lane_shown id me number place =
     record { table = name_in id me; lane = number; place = place; part = done_in me.0 }
 
--- what is kept in a reader's seat: some lawful history has the reader's part
+-- the invariant of a reader's seat: some lawful history has the reader's part
 pub record IsReaderSeat (me : SeatState) : Type 0 where
   pub is : me ≡ (Member (size_in me.0) (Reader (number_in me.0)) (known_in me.0) (done_in me.0), [])
   pub history : HasHistory (size_in me.0) (Reader (number_in me.0)) (done_in me.0)
 
--- a reader's seat as callers see it
+-- what callers see of a reader's seat
 abbrev pub reader_shown : TableId → SeatState → ReaderSeatView
 reader_shown id me = record {
   table = name_in id me;
@@ -103,7 +103,7 @@ reader_shown id me = record {
 }
 
 -- ---- which accesses a seat can make
--- the seat is a reader's, which may load the word
+-- the seat is a reader's, and that reader may load the word
 pub record CanLoad (size : PoolSize) (word : Word) (me : SeatState) : Type 0 where
   pub reader : ℕ
   pub known : PartList
@@ -112,7 +112,7 @@ pub record CanLoad (size : PoolSize) (word : Word) (me : SeatState) : Type 0 whe
   pub may : MayRead size.lanes word done
   pub within : IsLaneWord size word
 
--- the seat is a lane's, whose path goes on with the store
+-- the seat is a lane's, and its producer's path goes on with this store
 pub record CanStore (size : PoolSize) (word : Word) (value : ℕ) (me : SeatState) : Type 0 where
   pub lane : ℕ
   pub done : History
@@ -120,7 +120,7 @@ pub record CanStore (size : PoolSize) (word : Word) (value : ℕ) (me : SeatStat
   pub path : IsLanePrefix size.cells lane (store lane word value ∷ done)
   pub within : IsLaneWord size word
 
--- the seat is a lane's, whose path goes on with a fetch-add, whatever number that finds
+-- the seat is a lane's, and its producer's path goes on with a fetch-add, whatever number that finds
 pub record CanFetch (size : PoolSize) (item : ℕ) (me : SeatState) : Type 0 where
   pub lane : ℕ
   pub done : History

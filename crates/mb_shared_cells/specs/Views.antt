@@ -29,16 +29,16 @@ empty_roll = record { lanes = []; readers = [] }
 abbrev pub first_view : PoolSize → View
 first_view size = Hub size empty_roll
 
--- what the roll has at the number of a process
+-- what the roll has at the number of a process: nothing, None (not returned), or its part
 abbrev pub roll_at : Process → Roll → Option (Option History)
 roll_at (Producer p) roll = slice_get roll.lanes p
 roll_at (Reader r) roll = slice_get roll.readers r
 
--- the roll with one lane more, whose seat is out
+-- the roll with one lane more, whose seat is not returned
 abbrev pub roll_with_lane : Roll → Roll
 roll_with_lane roll = record roll { lanes = roll.lanes ++ None ∷ [] }
 
--- the roll with one reader more, whose seat is out
+-- the roll with one reader more, whose seat is not returned
 abbrev pub roll_with_reader : Roll → Roll
 roll_with_reader roll = record roll { readers = roll.readers ++ None ∷ [] }
 
@@ -52,7 +52,7 @@ roll_with_part (Reader r) done roll = record roll { readers = slice_set roll.rea
 abbrev pub access_by : Process → Word → PoolAct → PoolAccess
 access_by who word act = record { process = who; word = word; act = act }
 
--- each lane of which the list has a part has done just that part of the history
+-- in the history, each lane of which the list has a part did just that part
 abbrev pub KnowsLanes : PartList → History → Type 0
 KnowsLanes known h =
     (p : ℕ) (theirs : History) → slice_get known p ≡ Some (Some theirs) → part (Producer p) h ≡ theirs
@@ -78,7 +78,7 @@ pub record IsRollOf (size : PoolSize) (roll : Roll) (h : History) : Type 0 where
   pub parts : (who : Process) (done : History) → roll_at who roll ≡ Some (Some done) → part who h ≡ done
   pub others : (who : Process) → roll_at who roll ≡ None → part who h ≡ []
 
--- the view of a seat after an access: that of a lane or a reader has it in its part
+-- the view of a seat after an access: a lane's or a reader's part has the access then
 abbrev pub view_after : Word → PoolAct → View → View
 view_after word act (Hub size roll) = Hub size roll
 view_after word act (HubDraws size roll) = HubDraws size roll
@@ -86,7 +86,7 @@ view_after word act (HubJoins size roll who done) = HubJoins size roll who done
 view_after word act (Member size who known done) = Member size who known (access_by who word act ∷ done)
 view_after word act Empty = Empty
 
--- the access came after what the seat of this view had done
+-- the access came after the part that this view has
 abbrev pub CameAfter : Word → PoolAct → View → Type 0
 CameAfter word act (Hub size roll) = Unit {0}
 CameAfter word act (HubDraws size roll) = Unit {0}
@@ -94,7 +94,7 @@ CameAfter word act (HubJoins size roll who done) = Unit {0}
 CameAfter word act (Member size who known done) = IsAccessAfter size known (access_by who word act) done
 CameAfter word act Empty = Unit {0}
 
--- the clause of an access's step: the access came after what the seat had done, and the seat's view then has it
+-- the clause of an access's step: the access came after the part in the seat's view, and the part then has the access
 abbrev pub MakesAccess : Word → PoolAct → SeatState → SeatState → Type 0
 MakesAccess word act v w = CameAfter word act v.0 × (w ≡ (view_after word act v.0, v.1))
 
@@ -127,7 +127,7 @@ newcomer (HubJoins size roll who done) = Empty
 newcomer (Member size who known done) = Empty
 newcomer Empty = Empty
 
--- the hub of this size and roll, with the part of the seat that was joined beside the roll
+-- the view of a hub of this size and roll after a seat was joined to it: that seat's part is beside the roll
 abbrev pub hub_beside : PoolSize → Roll → View → View
 hub_beside size roll (Hub other rest) = Hub size roll
 hub_beside size roll (HubDraws other rest) = Hub size roll
@@ -151,7 +151,7 @@ hub_after_load (HubJoins size roll who done) = Hub size (roll_with_part who done
 hub_after_load (Member size who known done) = Member size who known done
 hub_after_load Empty = Empty
 
--- the number of the seat that was joined was out, and all parts in the roll are now those of one lawful history
+-- the seat that was joined was not returned before. With its part, all parts in the roll are of one lawful history
 abbrev pub WasOut : View → Type 0
 WasOut (Hub size roll) = Unit {0}
 WasOut (HubDraws size roll) = Unit {0}
@@ -160,6 +160,6 @@ WasOut (HubJoins size roll who done) =
 WasOut (Member size who known done) = Unit {0}
 WasOut Empty = Unit {0}
 
--- the clause of the load after a join: the seat was out, and the hub's roll then has its part
+-- the clause of the load after a join: the seat was not returned before, and the hub's roll then has its part
 abbrev pub TakesPart : Step (Unit {0}) → SeatState → ℕ → SeatState → Type 0
 TakesPart s v found w = WasOut v.0 × (w ≡ (hub_after_load v.0, v.1))

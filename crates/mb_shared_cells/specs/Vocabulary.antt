@@ -1,5 +1,5 @@
--- The names that clauses use, here and in the crates above. What the seats keep is in `Seats`, for the code of this
--- crate alone.
+-- The names that clauses use, here and in the crates above. The invariants of seats are in `Seats`, for the code of
+-- this crate alone.
 pub use Rattle.mb_shared_cells.specs.Views.{IsAccessAfter, IsRollOf, KnowsLanes, MayComeNext, PartList, empty_roll}
 pub use Rattle.mb_shared_cells.specs.Views.{roll_at, roll_with_lane, roll_with_part, roll_with_reader}
 pub use Rattle.mb_shared_cells.specs.Rule.{FitsView, HasPart, HasProcess, IsCellsState, IsEnrolled, IsHub, IsTableState}

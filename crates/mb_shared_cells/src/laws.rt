@@ -28,9 +28,9 @@ use mb_cells::steps::{
     lanes_lead_on, put_lists_grow, words_follow_steps,
 };
 
-/// What a state of the cells is. No process is in two views ([`processes_stand_once`]).
+/// What holds of each state of the cells. No process is in two views ([`processes_stand_once`]).
 pub fn states_have_one_history()
-    // Some lawful history leaves the words. Its parts are exactly those that the views tell. The parts of lanes that a
+    // Some lawful history leaves the words. Its parts are exactly those that the views have. The parts of lanes that a
     // seat knows are parts of it, too.
     ensures history { (size : PoolSize) (words : List ℕ) (views : List View)
         → IsCellsState size words views

@@ -8,7 +8,7 @@
 //!   that hub and seat are of this table.
 //! - [`CellHub`] issues seats, and takes them back with what was done on them.
 //! - [`LaneSeat`] is what a producer offers, pushes and finishes with. It keeps the producer's place as a
-//!   [`mb_cells::Lane`], and goes through it as `mb_cells::Pool` does.
+//!   [`mb_cells::Lane`], and makes the same accesses as a `mb_cells::Pool`.
 //! - [`ReaderSeat`] is what a reader looks and loads items with.
 //!
 //! # What is kept

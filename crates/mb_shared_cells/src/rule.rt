@@ -59,7 +59,7 @@ impl Play<(), View> for Draws {
     ghost then = { DrawsNumber };
 }
 
-/// The hub's load after a join. It says that the number was out, and puts the part into the roll.
+/// The hub's load after a join. It says that the seat was not returned before, and puts its part into the roll.
 pub struct TakesIn;
 
 impl Play<(), View> for TakesIn {
@@ -68,7 +68,7 @@ impl Play<(), View> for TakesIn {
     ghost then = { TakesPart };
 }
 
-/// How the hub's seat is cut for a new lane or reader, and joined with one that comes back.
+/// How the hub's view is split for a new lane or reader, and joined with the view of a seat that is returned.
 pub struct Parts;
 
 impl Split<View> for Parts {

@@ -2,8 +2,8 @@
 use mb_cells::{PoolAccess, PoolSize, Process};
 use std::collections::LinkedList;
 
-/// What the hub has taken back, by the numbers that it issued: a part, the newest access first, or `None` if the seat is
-/// out. A reader's number is its place here.
+/// For each number that the hub issued: the part of its seat, the newest access first, or `None` if the seat was not
+/// returned. A reader's number is its place here.
 pub struct Roll {
     /// The parts of the lanes.
     pub lanes: LinkedList<Option<LinkedList<PoolAccess>>>,
@@ -13,7 +13,7 @@ pub struct Roll {
 
 /// What a seat knows: the size of the table, and more that depends on whose seat it is.
 pub enum View {
-    /// The hub, and what it has taken back.
+    /// The hub, and the parts that it has taken back.
     Hub(PoolSize, Roll),
     /// The hub, which has drawn a lane's number from the roster, and has not split the seat off yet.
     HubDraws(PoolSize, Roll),

@@ -12,7 +12,7 @@ impl<A: Allocator + Drop> SharedCells<A> {
     ghost use Rattle.mb_shared_cells.specs.{roll_with_lane, roll_with_part, roll_with_reader};
 
     /// Issues the seat of the next lane, with an empty part. Lanes have the numbers 0, 1, .. in this order. One
-    /// fetch-add of the roster draws the number, which no history has. The error is [`AllGiven`] if all lanes of the
+    /// fetch-add of the roster draws the number, and is in no history. The error is [`AllGiven`] if all lanes of the
     /// table were issued, and then nothing changes.
     pub fn enroll_lane(&self, hub: &mut CellHub) -> Result<LaneSeat, AllGiven>
         requires { hub.old.table ≡ self.now }
@@ -65,8 +65,8 @@ impl<A: Allocator + Drop> SharedCells<A> {
         }
     }
 
-    /// Takes a lane's seat back, at any time. The hub then has its part as it is. It makes one load of the table's first
-    /// word, which no history has.
+    /// Takes a lane's seat back, at any time. The hub then has its part as it is. The call loads the table's first word
+    /// once, which is in no history.
     pub fn take_lane(&self, hub: &mut CellHub, seat: LaneSeat)
         requires hub { hub.old.table ≡ self.now }
         requires seat { seat.table ≡ self.now }

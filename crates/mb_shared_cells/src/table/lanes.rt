@@ -10,8 +10,8 @@ impl<A: Allocator + Drop> SharedCells<A> {
     ghost use Rattle.mb_shared_cells.specs.{FinishMakes, OfferMakes, PushMakes};
 
     /// Takes the next cell for item `x`, by one fetch-add of the counter. It is refused as `Pool::offer` of `mb_cells`
-    /// is, without an access: `Closed` after the end mark, `Busy` while an item waits for its link. `Full` comes after a
-    /// fetch-add that found no cell, and then without one.
+    /// is, without an access: `Closed` after the end mark, `Busy` while an item waits for its link. The first `Full`
+    /// comes after a fetch-add that found no cell, and each later one without an access.
     pub fn offer(&self, seat: &mut LaneSeat, x: u64) -> Offer
         requires { seat.old.table ≡ self.now }
         ensures makes { OfferMakes seat.old x result seat.new }

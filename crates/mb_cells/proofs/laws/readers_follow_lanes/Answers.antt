@@ -1,4 +1,4 @@
--- Proof of `laws::readers_follow_lanes`: the cells that a reader has met on a lane are the first ones of the lane, in
+-- Proof of `laws::readers_follow_lanes`: the cells that a reader has met on a lane are the first cells of that lane, in
 -- the order of linking.
 use Rattle.mb_cells.proofs.laws.readers_follow_lanes.Goals as goal
 use Rattle.mb_cells.specs.{Reader, part}

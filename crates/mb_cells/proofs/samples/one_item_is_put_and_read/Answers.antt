@@ -32,7 +32,7 @@ returns-clause-item c =
 found : IsPoolLawful (pool_size 1 1) one_put → IsPoolLawful (pool_size 1 1) (load 5 (Head 0) 1 ∷ one_put)
 found item = reader_step (pool_size 1 1) one_put 5 (Head 0) item (omega arith)
 
--- that load gave the reader cell 0
+-- a load of 1 from the head of lane 0 gave the reader cell 0
 given_zero : Gave 0 (load 5 (Head 0) 1 ∷ [])
 given_zero = inl (refl, λ e. absurd (omega arith))
 

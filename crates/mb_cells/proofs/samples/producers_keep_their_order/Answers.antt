@@ -1,4 +1,4 @@
--- Proof of `samples::producers_keep_their_order`: the part of a producer that goes wrong is no prefix of a lane path.
+-- Proof of `samples::producers_keep_their_order`: a part with an access out of order is no prefix of a lane path.
 use Rattle.std.proofs.Common.{None, Option, Some, [], ap, arith, false, inl, inr, refl, ℕ, ◌<◌, ◌∷◌, ◌≡◌}
 use Rattle.mb_cells.specs.declared.answer.Offer.TheVariants as offer
 use Rattle.mb_cells.specs.declared.answer.Finish.TheVariants as finish
@@ -12,7 +12,7 @@ use Rattle.mb_cells.proofs.NextAccesses.{fetches_only, stores_only}
 abbrev pub taken_lane : Lane
 taken_lane = record { last = None; stage = stage.Offered 0 8 }
 
--- after `one_taken` the producer stands at that place, if the pool has a cell
+-- after `one_taken` the producer stands at `taken_lane`, if the pool has a cell
 taken_at : (cells : ℕ) → 0 < cells → IsLaneAfter cells 0 taken_lane one_taken
 taken_at cells b =
     record {
@@ -45,7 +45,7 @@ put_at_one =
       stage = refl;
     }
 
--- after the end mark the producer's lane has ended
+-- once producer 0 has stored the end mark after `one_put`, it is at the stage Ended
 ended_at : IsLaneAfter 1 0 (record { last = Some 0; stage = stage.Ended false }) (store 0 (Link 0) END ∷ one_put)
 ended_at =
     record {
@@ -56,29 +56,29 @@ ended_at =
       stage = refl;
     }
 
--- None is no store
+-- an option without a store is not equal to one with a store
 not_none : (s : Word × ℕ) → None ≡ Some s → ⊥
 not_none s e = cc
 
--- a store as an option
+-- the store of a value in a word, as a push names it
 abbrev pub some_store : Word → ℕ → Option (Word × ℕ)
 some_store w v = Some (w, v)
 
--- equal stores are of equal words
+-- equal stores go to equal words
 same_words : (w u : Word) (n m : ℕ) → some_store w n ≡ some_store u m → w ≡ u
 same_words w u n m e =
     let a : Word × ℕ = (w, n) in
     let b : Word × ℕ = (u, m) in
     let pair : a ≡ b = cc in ap (λ (z : Word × ℕ). z.0) pair
 
--- equal stores are of equal values
+-- equal stores store equal values
 same_values : (w u : Word) (n m : ℕ) → some_store w n ≡ some_store u m → n ≡ m
 same_values w u n m e =
     let a : Word × ℕ = (w, n) in
     let b : Word × ℕ = (u, m) in
     let pair : a ≡ b = cc in ap (λ (z : Word × ℕ). z.1) pair
 
--- after `one_taken` no store goes on with the path but the one of a push
+-- after `one_taken` a store that is not the push's does not go on with a lane path
 not_from_taken : (w : Word) (v : ℕ) → (push_store 0 taken_lane ≡ Some (w, v) → ⊥)
     → IsLanePrefix 1 0 (store 0 w v ∷ one_taken) → ⊥
 not_from_taken w v ne prefix =

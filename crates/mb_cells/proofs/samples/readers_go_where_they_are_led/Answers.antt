@@ -1,4 +1,4 @@
--- Proof of `samples::readers_go_where_they_are_led`: a reader goes where its own loads led it.
+-- Proof of `samples::readers_go_where_they_are_led`: a reader loads a cell's words only after it loaded a link to it.
 use Rattle.std.proofs.Common.{ap, arith, inl, inr, refl, ℕ, ◌+◌, ◌<◌, ◌≡◌}
 use Rattle.mb_cells.proofs.samples.readers_go_where_they_are_led.Goals as goal
 use Rattle.mb_cells.specs.{Load, PoolAccess}
@@ -20,7 +20,7 @@ returns-clause-end_mark c = λ path.
 pub returns-clause-no_lane : goal.returns-clause-no_lane
 returns-clause-no_lane c = λ path. let low : 1 < 1 = path.1 in omega arith
 
--- equal loads are of equal values
+-- equal loads found equal values
 same_load : (n m : ℕ) → Load n ≡ Load m → n ≡ m
 same_load n m e = cc
 

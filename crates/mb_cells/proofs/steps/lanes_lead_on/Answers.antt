@@ -1,4 +1,4 @@
--- Proof of `steps::lanes_lead_on`: a producer's place, as a plain value, goes on with each access of its lane.
+-- Proof of `steps::lanes_lead_on`: each access of a producer leads from its place, as a plain value, to the next.
 use Rattle.mb_cells.proofs.steps.lanes_lead_on.Goals as goal
 use Rattle.mb_cells.proofs.LaneSteps.{finished_lane, lane_prefix, offered_lane, pushed_lane, same_lane, some_lane, start_lane}
 use Rattle.mb_cells.proofs.NextAccesses.{fetches_only, kinds_only, stores_only}

@@ -5,7 +5,7 @@ use Rattle.mb_cells.specs.{History, LoadGoesOn, PoolState, Word, load, size_of, 
 use Rattle.mb_cells.proofs.Names.{value_in-kept}
 use Rattle.mb_cells.proofs.OneStep.{reader_step}
 
--- a load leaves each word
+-- a load leaves what each word holds as it was
 kept : (h : History) (r : ℕ) (w x : Word) → value_in x (load r w (value_in w h) ∷ h) ≡ value_in x h
 kept h r w x = value_in-kept (load r w (value_in w h)) h x refl
 

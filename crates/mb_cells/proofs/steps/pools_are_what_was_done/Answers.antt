@@ -1,4 +1,4 @@
--- Proof of `steps::pools_are_what_was_done`: a history leaves only one pool of a size.
+-- Proof of `steps::pools_are_what_was_done`: all pools of one size that one history leaves are equal.
 use Rattle.std.proofs.Common.{ap, arith, subst, sym, ◌∙◌, ◌≡◌}
 use Rattle.std.proofs.Math.ListN.{get_or}
 use Rattle.std.proofs.lemmas.List.{ext_get_or}

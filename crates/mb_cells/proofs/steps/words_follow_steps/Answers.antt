@@ -1,5 +1,5 @@
--- Proof of `steps::words_follow_steps`: all words of a pool in one block, and the parts of its processes, follow the
--- accesses of their history.
+-- Proof of `steps::words_follow_steps`: after each access, a pool's words in one block and its processes' parts are
+-- those of the history with that access.
 use Rattle.mb_cells.proofs.steps.words_follow_steps.Goals as goal
 use Rattle.mb_cells.proofs.Blocks.{state_after, state_empty, state_more}
 

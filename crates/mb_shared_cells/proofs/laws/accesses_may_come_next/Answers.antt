@@ -5,7 +5,7 @@ use Rattle.mb_shared_cells.specs.Types.{Counter, END, Producer}
 use Rattle.mb_shared_cells.proofs.NextAccesses.{fetch_follows, load_follows, pool_word, store_follows}
 use Rattle.mb_shared_cells.proofs.laws.accesses_may_come_next.Goals as goal
 
--- a word that a reader may load is one of the pool's, so the history leaves what it holds
+-- a word that a reader may load is one of the pool's, so it holds what the history leaves in it
 pub returns-clause-load : goal.returns-clause-load
 returns-clause-load c = λ size words r w done may h memory mine fits.
     let now = subst (λ l. MayRead size.lanes w l) (sym mine) may in

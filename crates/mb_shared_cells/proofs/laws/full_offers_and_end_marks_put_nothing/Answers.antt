@@ -3,7 +3,7 @@
 use Rattle.mb_shared_cells.proofs.PutMoves.{PutLaws, end_puts, full_found, full_puts}
 use Rattle.mb_shared_cells.proofs.laws.full_offers_and_end_marks_put_nothing.Goals as goal
 
--- here and below `laws` are the laws of the cells on which the lemmas of `PutMoves` stand
+-- in each clause `laws` are the laws of `mb_cells` that the lemmas of `PutMoves` take
 pub returns-clause-full : goal.returns-clause-full
 returns-clause-full c = λ old new x made.
     let laws : PutLaws = record {

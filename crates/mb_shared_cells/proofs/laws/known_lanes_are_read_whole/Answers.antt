@@ -5,7 +5,7 @@ use Rattle.mb_cells.specs.Vocabulary.{word_of}
 use Rattle.mb_shared_cells.proofs.KnownLanes.{ReadLaws, cell_found, end_found, found, nothing_found}
 use Rattle.mb_shared_cells.proofs.laws.known_lanes_are_read_whole.Goals as goal
 
--- each clause takes what the look's load found, and the laws of the cells by which the link past the cells met is known
+-- in each clause `laws` are the laws of `mb_cells` that say what the look's load can find past the cells met
 pub returns-clause-nothing : goal.returns-clause-nothing
 returns-clause-nothing c = λ old new at p theirs ks known met is made.
     let laws : ReadLaws = record {

@@ -1,4 +1,4 @@
--- Proof of `laws::states_have_one_history`: what a state of the cells is.
+-- Proof of `laws::states_have_one_history`: what holds of each state of the cells.
 use Rattle.std.proofs.Common.{List, [], arith, subst, sym, ℕ, ◌≢◌, ◌∙◌}
 use Rattle.std.proofs.Math.Decide.{dec_lt}
 use Rattle.mb_cells.specs.Vocabulary.{History, part}
@@ -12,7 +12,7 @@ enrolled_or_not : (t : Seating) (who : Process) → Dec (IsEnrolled t who)
 enrolled_or_not t (Producer p) = dec_lt p t.lanes
 enrolled_or_not t (Reader r) = dec_lt r t.readers
 
--- a part that a view tells is that of its process in the seating
+-- a part that a view has is that of its process in the seating's history
 told : (size : PoolSize) (words : List ℕ) (views : List View) (t : Seating) (seat : ℕ)
     (who : Process) (done : History) → IsTableState size words views t
     → TellsPartAt views seat who done → HasPart t seat who done
@@ -29,7 +29,7 @@ standing size words views t who r some (yes e) =
     let there = told size words views t (t.seat_of who) who x.2.0 r (x.0, x.1, x.2.1) in
     (t.seat_of who, (x.0, x.1, subst (TellsPart x.0 who) there.part x.2.1))
 
--- the history is the one that is seated
+-- the history that the clause asks for is that of the state's seating
 pub returns-clause-history : goal.returns-clause-history
 returns-clause-history c = λ size words views held.
     let t = held.0 in

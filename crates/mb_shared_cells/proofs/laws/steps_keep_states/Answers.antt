@@ -14,7 +14,7 @@ use Rattle.mb_shared_cells.proofs.laws.steps_keep_states.Goals as goal
 pub returns-clause-new : goal.returns-clause-new
 returns-clause-new c = λ size few. begins c.words_follow_steps.ensures.empty size few
 
--- the access may follow the history of the state, since that leaves the words
+-- the access may follow the history of the state's seating, since that history leaves the words
 pub returns-clause-access : goal.returns-clause-access
 returns-clause-access c = λ size own words views id known done a held is may.
     let laws : AccessLaws = record {
@@ -31,13 +31,13 @@ returns-clause-access c = λ size own words views id known done a held is may.
     kept_by_access laws size words views id own a.process known done a.word a.act _ held is
     (c.accesses_stay_within.ensures.all size (a ∷ t.history) a lawful (inl refl)) refl lawful
 
--- after a draw the same seating explains the table
+-- after a draw the table agrees with the same seating
 pub returns-clause-draw : goal.returns-clause-draw
 returns-clause-draw c = λ size own words views id roll held is room.
     let more = c.words_follow_steps.ensures.more in
     (held.0, after_draw more size words views held.0 id _ own roll held.1 is room refl)
 
--- a split and a join leave the words. The rule knows of no slots
+-- a split and a join leave the words as they are. The rule says nothing of slots, so the state here has none
 pub returns-clause-give_lane : goal.returns-clause-give_lane
 returns-clause-give_lane c = λ size own words views id roll held is.
     lane_splits size id (HubDraws own roll) own roll refl
@@ -48,7 +48,7 @@ returns-clause-give_reader c = λ size own words views id roll held is.
     reader_splits size id (Hub own roll) own roll refl
     (record { words = words; homes = []; views = views }) held is
 
--- the seats are two, since one has the hub's view and the other a member's
+-- hub and seat are two seats, since one has the hub's view and the other a member's
 pub returns-clause-take : goal.returns-clause-take
 returns-clause-take c = λ size own its words views id other roll who known done held is there.
     let apart : other ≢ id = λ e.
@@ -59,7 +59,7 @@ returns-clause-take c = λ size own its words views id other roll who known done
     (record { words = words; homes = []; views = views }) held is
     apart (set_else views id other _ apart ∙ there)
 
--- after the load the same seating explains the table
+-- after the load the table agrees with the same seating
 pub returns-clause-settle : goal.returns-clause-settle
 returns-clause-settle c = λ size own words views id roll who done held is.
     (held.0, after_load size words views held.0 id own roll who done held.1 is)

@@ -10,7 +10,7 @@ pub returns-clause-part : goal.returns-clause-part
 returns-clause-part c = λ old offered stored new x k one two a b d.
     ap (λ (v : LaneSeatView). v.part) (three_calls old offered stored new x k one two a b d).is
 
--- by the laws of the cells the link store puts the item, and the two accesses before put nothing
+-- by the laws of `mb_cells` the link store puts the item, and the two accesses before put nothing
 pub returns-clause-put : goal.returns-clause-put
 returns-clause-put c = λ old offered stored new x k one two a b d.
     let laws : PutLaws = record {

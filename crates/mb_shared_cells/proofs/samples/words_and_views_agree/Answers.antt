@@ -38,7 +38,7 @@ nobody_in : (who : Process) (done : History) → roll_at who empty_roll ≡ Some
 nobody_in (Producer p) done e = absurd (cc)
 nobody_in (Reader r) done e = absurd (cc)
 
--- each process that is issued has a seat: there is no such process
+-- each process that was issued stands at seat 0: no process was issued
 nobody_stands : (who : Process) → IsEnrolled nothing who → StandsAt (first_view one_by_one ∷ []) 0 who
 nobody_stands (Producer p) low = absurd (omega (arith, low))
 nobody_stands (Reader r) low = absurd (omega (arith, low))
@@ -47,14 +47,14 @@ nobody_stands (Reader r) low = absurd (omega (arith, low))
 new_hub : IsHub one_by_one nothing 0 one_by_one empty_roll
 new_hub = record { sized = refl; here = refl; lanes = refl; readers = refl; parts = nobody_in }
 
--- each view fits that seating
+-- each view of the new table is true of its seat
 new_fits : (seat : ℕ) (v : View) → get_elem? (first_view one_by_one ∷ []) seat ≡ some v
     → FitsView one_by_one nothing 0 seat v
 new_fits zero v e = subst (λ x. FitsView one_by_one nothing 0 0 x)
     (some-injective (first_view one_by_one) v e) (new_hub, refl)
 new_fits (suc seat) v e = absurd (some-ne-none v (sym e))
 
--- that seating and the empty history explain the new table
+-- words and views of the new table agree with the seating `nothing`
 pub returns-clause-new : goal.returns-clause-new
 returns-clause-new c = (
   nothing,
@@ -78,7 +78,7 @@ returns-clause-new c = (
 abbrev putting : Seating
 putting = record { history = one_put; lanes = 1; readers = 0; hub = 0; seat_of = λ who. 1 }
 
--- the roll in which the seat of lane 0 is out
+-- the roll in which lane 0 was issued and is not returned
 abbrev one_out : Roll
 one_out = record { lanes = None ∷ []; readers = [] }
 
@@ -93,7 +93,7 @@ holds (Link (suc k)) b = absurd (omega (arith, b))
 holds (Item zero) b = refl
 holds (Item (suc k)) b = absurd (omega (arith, b))
 
--- the roll in which lane 0 is out has no part
+-- the roll `one_out` has no part
 none_taken : (who : Process) (done : History) → roll_at who one_out ≡ Some (Some done)
     → (putting.seat_of who ≡ 0) × (done ≡ part who putting.history)
 none_taken (Producer zero) done e = absurd (cc)
@@ -106,17 +106,17 @@ nobody_else (Producer zero) out = absurd (out (omega arith))
 nobody_else (Producer (suc p)) out = let e : nat_eq (suc p) 0 ≡ false = eqb-suc-zero p in cc
 nobody_else (Reader r) out = refl
 
--- lane 0 stands at seat 1
+-- each process that was issued stands at seat 1: it is the producer of lane 0
 one_stands : (who : Process) → IsEnrolled putting who → StandsAt (hub_of_one ∷ lane_with one_put ∷ []) 1 who
 one_stands (Producer zero) low = (lane_with one_put, refl, (one_put, (refl, refl)))
 one_stands (Producer (suc p)) low = absurd (omega (arith, low))
 one_stands (Reader r) low = absurd (omega (arith, low))
 
--- the hub's view fits
+-- the view of the hub is true of seat 0
 put_hub : FitsView one_by_one putting 1 0 hub_of_one
 put_hub = (record { sized = refl; here = refl; lanes = refl; readers = refl; parts = none_taken }, refl)
 
--- the view of lane 0's seat fits
+-- the view of lane 0's seat is true of seat 1
 put_seat : FitsView one_by_one putting 1 1 (lane_with one_put)
 put_seat = (
   refl,
@@ -129,7 +129,7 @@ put_seat = (
   λ p theirs e. absurd (cc),
 )
 
--- each view fits the seating
+-- each view of this table is true of its seat
 put_fits : (seat : ℕ) (v : View) → get_elem? (hub_of_one ∷ lane_with one_put ∷ []) seat ≡ some v
     → FitsView one_by_one putting 1 seat v
 put_fits zero v e = subst (λ x. FitsView one_by_one putting 1 0 x) (some-injective hub_of_one v e) put_hub
@@ -137,7 +137,7 @@ put_fits (suc zero) v e = subst (λ x. FitsView one_by_one putting 1 1 x)
     (some-injective (lane_with one_put) v e) put_seat
 put_fits (suc (suc seat)) v e = absurd (some-ne-none v (sym e))
 
--- that seating and `one_put` explain the table
+-- words and views of this table agree with the seating `putting`
 pub returns-clause-put : goal.returns-clause-put
 returns-clause-put c = (
   putting,

@@ -21,7 +21,7 @@ returns-clause-made_up c = λ s.
     let e : 1 ≡ 0 = here ∙ (own ∙ ap (λ h. value_in (Head 0) h) idle) in
     omega (arith, e)
 
--- lane 0 has put its item, so the head leads to the cell
+-- lane 0 has put its item, so its head holds 1, and not 0
 pub returns-clause-lost : goal.returns-clause-lost
 returns-clause-lost c = λ s.
     let t = s.0 in

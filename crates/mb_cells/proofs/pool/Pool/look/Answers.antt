@@ -5,7 +5,7 @@ use Rattle.mb_cells.specs.{IsWithin, PoolState, cell_count, word_in}
 use Rattle.mb_cells.specs.declared.answer.Look.TheVariants.{Cell}
 use Rattle.mb_cells.proofs.PoolSteps.{cursor_word, link_bound}
 
--- a cell that the link leads to is one of the pool, so it fits. In all these clauses s is the pool's state
+-- the cell that a link leads to is one of the pool, so its number has 32 bits. In all clauses s is the pool's state
 pub overflow_cast-result : goal.overflow_cast-result
 overflow_cast-result g c =
     let s : PoolState = record { words = c.self.inside.words; lanes = c.self.inside.lanes.items } in
@@ -16,7 +16,7 @@ overflow_cast-result g c =
     c.if-link.false in
     omega (arith, low, c.self.invariant.cells)
 
--- the cursor is at a word of the pool
+-- the word that the look loads is one of the pool's
 pub load-link-requires : goal.load-link-requires
 load-link-requires g c =
     let s : PoolState = record { words = c.self.inside.words; lanes = c.self.inside.lanes.items } in
@@ -24,7 +24,7 @@ load-link-requires g c =
     subst (λ (z : PoolState). IsWithin c.args.cursor z) (sym c.self.view_is) c.requires in
     rw (c.word.ensures) (cursor_word s c.args.cursor c.self.invariant within)
 
--- equal answers of a look have equal cells
+-- two equal answers of a look have equal cells
 same_cell : (n m : ℕ) → Cell n ≡ Cell m → n ≡ m
 same_cell n m e = cc
 

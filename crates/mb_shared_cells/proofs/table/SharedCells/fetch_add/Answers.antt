@@ -8,7 +8,7 @@ use Rattle.mb_shared_cells.proofs.AccessMoves.{AccessLaws, access_asked}
 use Rattle.mb_shared_cells.proofs.NextAccesses.{fetch_goes}
 use Rattle.mb_shared_cells.proofs.table.SharedCells.fetch_add.Goals as goal
 
--- the counter has address 0, and the fetch-add goes on whatever number it finds
+-- the counter has address 0, and the fetch-add may follow whatever others did
 pub fetch_add-requires : goal.fetch_add-requires
 fetch_add-requires g c =
     let size = c.self.inside.size in

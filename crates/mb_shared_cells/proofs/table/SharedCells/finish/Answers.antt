@@ -10,7 +10,7 @@ use Rattle.mb_shared_cells.proofs.CallFacts.{LaneLaws, can_finish}
 use Rattle.mb_shared_cells.proofs.SeatFacts.{lane_then}
 use Rattle.mb_shared_cells.proofs.table.SharedCells.finish.Goals as goal
 
--- the access picked is the store
+-- the access that `ghosts-store` names is this store
 pub store-requires-clause-picked : goal.store-requires-clause-picked
 store-requires-clause-picked g c = (refl, refl)
 
@@ -28,7 +28,7 @@ store-requires-clause-can g c =
     c.seat.inside.place c.next_link-word.result c.seat.invariant size (sym c.finish_refusal.ensures ∙ c.in_default.is)
     c.next_link-word.ensures
 
--- the seat's new place is the one after the finish, and is that of the longer part
+-- after the store the seat stands where `finished` says, and its part, longer by the store, leads there too
 pub invariant_of-seat : goal.invariant_of-seat
 invariant_of-seat g c =
     let me = c.seat.inside.seat.me in

@@ -1,4 +1,4 @@
--- Choices for the calls of `SharedCells::finish`: stores the end mark of the lane.
+-- The access that `SharedCells::finish` picks for the step that it calls: it stores the end mark of the lane.
 use Rattle.mb_cells.specs.declared.access.PoolAct.TheVariants.{Store}
 use Rattle.mb_shared_cells.proofs.table.SharedCells.finish.Given as goal
 

@@ -9,24 +9,24 @@ use Rattle.mb_shared_cells.proofs.CallFacts.{KnownLaws, can_load, known_tells}
 use Rattle.mb_shared_cells.proofs.SeatFacts.{reader_makes, reader_then}
 use Rattle.mb_shared_cells.proofs.table.SharedCells.item.Goals as goal
 
--- the access picked is the load
+-- the access that `ghosts-load` names is this load
 pub load-requires-clause-picked : goal.load-requires-clause-picked
 load-requires-clause-picked g c = (refl, refl)
 
--- the seat can load the item, since the reader's loads led to the cell
+-- the seat can load the item, since the reader has loaded a link to the cell
 pub load-requires-clause-can : goal.load-requires-clause-can
 load-requires-clause-can g c =
     let size = ap (λ v. v.table.size) c.seat.view_is ∙ ap (λ v. v.size) c.requires.table in
     can_load c.accesses_stay_within.ensures.load c.args.self.now.size c.seat.inside.seat.me (Item c.args.k)
     c.seat.invariant size (subst (λ v. Gave c.args.k v.part) (sym c.seat.view_is) c.requires.may)
 
--- the reader's longer part is still that of a lawful history
+-- the reader's part, longer by the load, is still that of a lawful history
 pub invariant_of-seat : goal.invariant_of-seat
 invariant_of-seat g c =
     reader_then c.accesses_lengthen_one_part.ensures.own c.seat.inside.seat.me c.load.new.seat.me (Item c.args.k)
     (Load c.load.result) c.seat.invariant c.load.ensures.makes
 
--- on a known lane the load finds what that lane's producer left
+-- on a lane whose part the reader knows, the load finds what that lane's producer left
 pub returns-clause-known : goal.returns-clause-known
 returns-clause-known g c = λ p theirs at own.
     let me = c.seat.inside.seat.me in

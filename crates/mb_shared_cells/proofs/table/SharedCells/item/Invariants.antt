@@ -1,4 +1,4 @@
--- Choices for the calls of `SharedCells::item`: the item of cell `k`, which this reader met, by one load.
+-- The access that `SharedCells::item` picks for the step that it calls: it loads the item of cell `k`.
 use Rattle.mb_cells.specs.declared.access.PoolAct.TheVariants.{Load}
 use Rattle.mb_shared_cells.proofs.table.SharedCells.item.Given as goal
 

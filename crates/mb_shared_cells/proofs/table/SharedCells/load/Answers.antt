@@ -12,7 +12,7 @@ use Rattle.mb_shared_cells.proofs.table.SharedCells.load.Goals as goal
 pub address-address-requires : goal.address-address-requires
 address-address-requires g c = pool_word c.args.self.now.size c.args.word c.requires.can.within
 
--- the word has its address in the table, and its load goes on after whatever others did
+-- the word has its address in the table, and the load may follow whatever others did
 pub load-requires : goal.load-requires
 load-requires g c =
     let size = c.self.inside.size in

@@ -14,11 +14,11 @@ use Rattle.mb_shared_cells.proofs.SeatFacts.{reader_makes, reader_then}
 use Rattle.mb_shared_cells.proofs.table.SharedCells.look.Goals as goal
 use Rattle.mb_shared_cells.proofs.table.SharedCells.look.Goals.{then-link-eq0, else-link-eq0+then-link, else-link-eq0+else-link}
 
--- the access picked is the load
+-- the access that `ghosts-load` names is this load
 pub load-link-requires-clause-picked : goal.load-link-requires-clause-picked
 load-link-requires-clause-picked g c = (refl, refl)
 
--- the reader's longer part is still that of a lawful history
+-- the reader's part, longer by the load, is still that of a lawful history
 pub invariant_of-seat : goal.invariant_of-seat
 invariant_of-seat g c =
     reader_then c.accesses_lengthen_one_part.ensures.own c.seat.inside.seat.me c.load-link.new.seat.me c.word.result
@@ -46,22 +46,22 @@ overflow_cast-result g c =
     let few = c.load-link.ensures.few in
     omega arith
 
--- a value that is neither 0 nor the end mark says a cell
+-- a look that loads v, which is neither 0 nor the end mark, returns cell v - 1
 tells_cell : (v : ℕ) → v ≢ 0 → v ≢ END → Cell (v - 1) ≡ look_of v
 tells_cell v some no_end = rw (ne_eqb v 0 some, ne_eqb v END no_end) refl
 
--- equal answers of a look have equal cells
+-- two equal answers of a look have equal cells
 same_cell : (n m : ℕ) → Cell n ≡ Cell m → n ≡ m
 same_cell n m e = cc
 
--- the answers Nothing and Ended are no cells
+-- the answers Nothing and Ended are not equal to a cell
 none_cell : (k : ℕ) → Nothing ≡ Cell k → ⊥
 none_cell k e = cc
 
 end_cell : (k : ℕ) → Ended ≡ Cell k → ⊥
 end_cell k e = cc
 
--- on a known lane the load finds what that lane's producer left, and so does the look
+-- on a lane whose part the reader knows, the load finds what that lane's producer left. The look returns what that says
 pub returns-clause-known : goal.returns-clause-known
 returns-clause-known g c = λ p theirs at own.
     let me = c.seat.inside.seat.me in
@@ -87,7 +87,7 @@ returns-clause-known g c = λ p theirs at own.
     ] in
     told ∙ ap look_of is
 
--- the cell found is one of the table's, by the laws of the cells
+-- the cell found is one of the table's, by the laws of `mb_cells`
 pub returns-clause-within : goal.returns-clause-within
 returns-clause-within g c = λ k e.
     let me = c.seat.inside.seat.me in

@@ -1,5 +1,4 @@
--- Choices for the calls of `SharedCells::look`: what comes after the cursor, by one load: nothing yet, a cell, or the
--- end mark.
+-- The access that `SharedCells::look` picks for the step that it calls: it loads the head or link at the cursor.
 use Rattle.mb_cells.specs.declared.access.PoolAct.TheVariants.{Load}
 use Rattle.mb_shared_cells.proofs.table.SharedCells.look.Given as goal
 

@@ -18,7 +18,7 @@ of_words-requires g c =
     subst (λ (ws : List ℕ). IsCellsState size ws (Hub size empty_roll ∷ [])) (sym (search rules))
     (begins c.words_follow_steps.ensures.empty size fits)
 
--- the new hub has an empty roll, which is that of the empty history
+-- the roll of the new hub is empty, and the empty history has its parts
 pub invariant_of-result-2 : goal.invariant_of-result-2
 invariant_of-result-2 g c =
     let size : PoolSize = record { lanes = c.args.lanes; cells = c.args.cells } in

@@ -10,7 +10,7 @@ use Rattle.mb_shared_cells.proofs.CallFacts.{LaneLaws, can_fetch}
 use Rattle.mb_shared_cells.proofs.SeatFacts.{lane_then}
 use Rattle.mb_shared_cells.proofs.table.SharedCells.offer.Goals as goal
 
--- the access picked is the fetch-add
+-- the access that `ghosts-fetch_add` names is this fetch-add
 pub fetch_add-found-requires-clause-picked : goal.fetch_add-found-requires-clause-picked
 fetch_add-found-requires-clause-picked g c = (refl, refl)
 
@@ -27,7 +27,7 @@ fetch_add-found-requires-clause-can g c =
     can_fetch laws c.args.self.now.size c.seat.inside.seat.me c.seat.inside.number c.seat.inside.place c.args.x
     c.seat.invariant size (sym c.offer_refusal.ensures ∙ c.in_default.is)
 
--- the seat's new place is the one after the offer, and is that of the longer part
+-- after the fetch-add the seat stands where `offered` says, and its part, longer by the fetch-add, leads there too
 pub invariant_of-seat : goal.invariant_of-seat
 invariant_of-seat g c =
     let me = c.seat.inside.seat.me in

@@ -1,4 +1,4 @@
--- Choices for the calls of `SharedCells::offer`: takes the next cell for item `x`, by one fetch-add of the counter.
+-- The access that `SharedCells::offer` picks for the step that it calls: one fetch-add of the counter, for item `x`.
 use Rattle.mb_cells.specs.declared.access.PoolAct.TheVariants.{FetchAdd}
 use Rattle.mb_cells.specs.declared.access.Word.TheVariants.{Counter}
 use Rattle.mb_shared_cells.proofs.table.SharedCells.offer.Given as goal

@@ -8,11 +8,11 @@ use Rattle.mb_shared_cells.proofs.CallFacts.{LaneLaws, can_push}
 use Rattle.mb_shared_cells.proofs.SeatFacts.{lane_then}
 use Rattle.mb_shared_cells.proofs.table.SharedCells.push.Goals as goal
 
--- the access picked is the store
+-- the access that `ghosts-store` names is this store
 pub store-requires-clause-picked : goal.store-requires-clause-picked
 store-requires-clause-picked g c = (refl, refl)
 
--- the seat can make the store of the push
+-- the seat can make the store that the push makes at its producer's place
 pub store-requires-clause-can : goal.store-requires-clause-can
 store-requires-clause-can g c =
     let laws : LaneLaws = record {
@@ -25,7 +25,7 @@ store-requires-clause-can g c =
     can_push laws c.accesses_stay_within.ensures.push c.args.self.now.size c.seat.inside.seat.me c.seat.inside.number
     c.seat.inside.place c.in-Some.word c.in-Some.value c.seat.invariant size (sym c.next_push.ensures ∙ c.in-Some.is)
 
--- the seat's new place is the one after the push, and is that of the longer part
+-- after the store the seat stands where `pushed` says, and its part, longer by the store, leads there too
 pub invariant_of-seat : goal.invariant_of-seat
 invariant_of-seat g c =
     let me = c.seat.inside.seat.me in

@@ -1,5 +1,4 @@
--- Choices for the calls of `SharedCells::push`: stores the item that was offered, and at the next call the link to its
--- cell.
+-- The access that `SharedCells::push` picks for the step that it calls: it stores the item offered, or the cell's link.
 use Rattle.mb_cells.specs.declared.access.PoolAct.TheVariants.{Store}
 use Rattle.mb_shared_cells.proofs.table.SharedCells.push.Given as goal
 

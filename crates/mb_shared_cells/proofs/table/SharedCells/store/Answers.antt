@@ -12,7 +12,7 @@ use Rattle.mb_shared_cells.proofs.table.SharedCells.store.Goals as goal
 pub address-address-requires : goal.address-address-requires
 address-address-requires g c = pool_word c.args.self.now.size c.args.word c.requires.can.within
 
--- the word has its address in the table, and the store goes on after whatever others did
+-- the word has its address in the table, and the store may follow whatever others did
 pub store-requires : goal.store-requires
 store-requires g c =
     let size = c.self.inside.size in

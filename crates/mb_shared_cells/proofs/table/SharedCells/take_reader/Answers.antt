@@ -25,7 +25,7 @@ join_seat-requires g c =
           (ap (λ (z : SeatState). z.0) c.hub.invariant.is) (ap (λ (z : SeatState). z.0) c.seat.invariant.is),
     )
 
--- the joined view of the hub may take the part into the roll
+-- the hub, which has joined the seat to its own, may put the seat's part into its roll
 pub load-requires : goal.load-requires
 load-requires g c =
     let me = c.hub.inside.seat.me in
