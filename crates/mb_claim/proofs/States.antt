@@ -24,7 +24,7 @@ module _
   abbrev found : ℕ
   found = found_in cs k object op words
 
-  -- the access, by what it finds in the words
+  -- the access that the op makes on the words
   abbrev access : ClaimAccess
   access = access_in cs c k object op word words
 
@@ -53,7 +53,7 @@ module _
   access_adds may = adds cs h access memory.lawful (subst (λ a. MayFollow cs a h) same_access may)
 
   module _ (added : Adds cs access h) where
-    -- after the access each word has what the longer history leaves in it, by whether it is the word of the access
+    -- after the access each word has what the longer history leaves in it. Cases: whether the access is to this word
     held_by :
         (j o : ℕ) (q : Reg) → IsWordIn cs o q → j < cs.cells
         → (address ≡ address_in cs j o q) ⊎ (address ≡ address_in cs j o q → ⊥)
@@ -114,7 +114,7 @@ memory_empty cs words room zeros =
       left = λ k o reg cell place. zeros (address_in cs k o reg);
     }
 
--- a word after those of the cells may be stored to: the others are still those that the history leaves
+-- if a value is stored at an address after those of the cells, the words are still those that the history leaves
 pub memory_beyond :
     (cs : Claims) (at n : ℕ) (words : List ℕ) (h : List ClaimAccess) → words_in cs ≤ at → IsMemoryOf cs words h
     → IsMemoryOf cs (slice_set words at n) h

@@ -42,7 +42,7 @@ first_input t (k ∷ ks) o v n w xs e (inr (u, later, x, q)) =
 
 module _ (t : QuorumTable) (k : Kind) (ks : List Kind) (o : ℕ) (hs : ℕ → List Access) (P : ℕ → Type 0)
     (fam : Family t (k ∷ ks) o hs P) (law : OfKind t k) (c : ℕ) (l : fam.input c < t.values) where
-  -- a consumer that has passed the first object has no turn there after that
+  -- a consumer that has passed object o has no turn there later
   none_more :
       (u : ℕ) (later : List ObjectTurn) → Passes t k o (fam.input c) (fam.rest c) u later → turns_at o later ≡ []
   none_more u later x =
@@ -50,7 +50,7 @@ module _ (t : QuorumTable) (k : Kind) (ks : List Kind) (o : ℕ) (hs : ℕ → L
       (ap (turns_at o) x.all ∙ turns_at-append o later (turns_on o x.turns)
       ∙ ap (λ ts. turns_at o later ++ ts) (turns_at-turns_on o x.turns)) (step t k ks o hs P fam c).here
 
-  -- a consumer that comes to a later object comes to it from the next one on
+  -- a consumer that comes from object o to a later object comes there from the next object on, with the same input
   comes_on :
       (n w : ℕ) → o < n → Enters t (k ∷ ks) o (fam.input c) (fam.rest c) n w
       → Enters t ks (suc o) (step t k ks o hs P fam c).value (step t k ks o hs P fam c).rest n w
@@ -61,7 +61,7 @@ module _ (t : QuorumTable) (k : Kind) (ks : List Kind) (o : ℕ) (hs : ℕ → L
 
 -- ---- each object has a lawful history
 -- object n has a lawful history with some inputs. E says of each consumer with an access there that it comes with its
--- input, and of no other input
+-- input, and with no other
 pub record Used (t : QuorumTable) (kind : Kind) (hs : ℕ → List Access) (E : ℕ → ℕ → Type 0) (n : ℕ) : Type 0 where
   pub inputs : ℕ → ℕ
   pub lawful : IsObjectLawful (object_of t kind inputs) (hs n)
