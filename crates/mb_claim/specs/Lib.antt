@@ -18,7 +18,7 @@ pub mod Boards
 pub mod Samples
 pub mod ShapedSamples
 pub mod Vocabulary
--- clauses leave out the file of what these lines name: `Rattle.mb_claim.specs.NAME`
+-- clauses name what these lines export without its file: `Rattle.mb_claim.specs.NAME`
 pub use ObjectTypes.*
 pub use Types.*
 pub use History.*
