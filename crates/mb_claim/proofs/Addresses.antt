@@ -10,7 +10,7 @@ use Rattle.mb_claim.specs.{Reg, Kind, Value, Proposal, Quorum, Last, Conciliator
 use Rattle.mb_claim.specs.{row_words, address_of, pairs_of, IsWordOf}
 
 -- ---- different words have different addresses
--- a word lies within its object
+-- the position of a word in its object is below the number of the object's words
 in_object : (r : ℕ) (k : Kind) (reg : Reg) → HasReg r k reg → offset reg < width r k
 in_object r (Conciliator s) Value h = omega arith
 in_object r (Conciliator s) Proposal h = absurd h
@@ -56,7 +56,7 @@ same_word r LastObject (Quorum i) q h g e = absurd h
 first_word : (r : ℕ) (k : Kind) (ks : List Kind) (reg : Reg) → IsWordOf r (k ∷ ks) 0 reg → HasReg r k reg
 first_word r k ks reg p = subst (λ j. HasReg r j reg) (sym (same_Some k p.0 p.1)) p.2
 
--- a word lies within its cell
+-- the position of a word in its cell is below the number of the cell's words
 in_cell :
     (r : ℕ) (kinds : List Kind) (o : ℕ) (reg : Reg) → IsWordOf r kinds o reg
     → words_before r kinds o + offset reg < row_words r kinds
@@ -125,7 +125,7 @@ pub words_before-first : (r : ℕ) (kinds : List Kind) → words_before r kinds 
 words_before-first r [] = refl
 words_before-first r (k ∷ ks) = refl
 
--- before the next object lie the words before this one, and its own words
+-- before the next object lie the words before this one, and this one's own words
 pub words_before-next :
     (r : ℕ) (kinds : List Kind) (o : ℕ) (kind : Kind) → slice_get kinds o ≡ Some kind
     → words_before r kinds (suc o) ≡ words_before r kinds o + width r kind

@@ -12,7 +12,7 @@ use Rattle.mb_claim.proofs.Lists.{not_empty, append_nil_parts, append_nil_rest, 
 use Rattle.mb_claim.proofs.Unique.{open_closed, one_stage_lem}
 
 -- ---- the first object of a row, and the place there
--- if turns on an object are no steps, there are no turns
+-- if turns on object o make an empty list of steps, there are no turns
 no_turns_on : (o : ℕ) (turns : List Turn) → turns_on o turns ≡ [] → turns ≡ []
 no_turns_on o [] none = refl
 no_turns_on o (x ∷ turns) none = absurd (not_empty _ _ none)
@@ -95,7 +95,7 @@ module _ (layout : Layout) (law : AreDeciding (quorums_of layout)) (claim : Clai
   abbrev behind_fast : List Kind
   behind_fast = pairs_of (spread (quorums_of layout).values) layout.pairs ++ last_row layout.shape.last
 
-  -- these objects have a first one
+  -- the objects of the layout after its fast path have a first one
   abbrev first : (kind : Kind) × (rest : List Kind) × (behind_fast ≡ kind ∷ rest)
   first = some_object (spread (quorums_of layout).values) layout.pairs layout.shape.last layout.some
 

@@ -14,7 +14,7 @@ own_part a h =
     ap₂ (λ p q. cons_option (cond p (cond q (Some a.step) None) None) (part_on a.consumer a.cell h))
     (eq-eqb a.consumer a.consumer refl) (eq-eqb a.cell a.cell refl)
 
--- an access that is not of this part adds nothing to it
+-- an access of another consumer, or on another cell, adds nothing to a part
 other_by :
     (p q : Bool) (x : ObjectTurn) (xs : List ObjectTurn) → (p ≡ true → q ≡ true → ⊥)
     → cons_option (cond p (cond q (Some x) None) None) xs ≡ xs
@@ -41,7 +41,7 @@ held_by false r x reg xs = refl
 
 module _ (cs : Claims) (h : List ClaimAccess) (a : ClaimAccess)
     (law : IsClaimLawful cs h) (may : MayFollow cs a h) where
-  -- whether the access is of this part
+  -- the access is consumer c's on cell k, or it is not
   mine : (c k : ℕ) → ((a.consumer ≡ c) × (a.cell ≡ k)) ⊎ (a.consumer ≡ c → a.cell ≡ k → ⊥)
   mine c k =
       ⊎_elim (λ p. ⊎_elim (λ q. inl (p, q)) (λ q. inr (λ x y. q y)) (cases_eq a.cell k)) (λ p. inr (λ x y. p x))

@@ -170,7 +170,7 @@ last_turn_small layout =
     let narrow : width_of m ≤ 6 = (width_is_least m).least 6 (omega (arith, quorum.few)) in
     omega (arith, narrow)
 
--- the cells of a layout have at most MAX_OBJECTS objects
+-- a row with at most MAX_PAIRS pairs has at most MAX_OBJECTS objects
 pub objects_few : (shape : Shape) (s n : ℕ) → n ≤ MAX_PAIRS → length (row_of shape s n) ≤ MAX_OBJECTS
 objects_few shape s n few =
     omega (arith, length-row_of shape s n, fast_few shape.fast, last_few shape.last, few)

@@ -21,12 +21,12 @@ append_nil_left xs ys p = ap (λ zs. zs ++ ys) p
 pub append_nil_right : {A : Type 0} (xs ys : List A) → ys ≡ [] → xs ++ ys ≡ xs
 append_nil_right xs ys p = ap (λ zs. xs ++ zs) p ∙ append-nil xs
 
--- if two lists joined are empty, the first is
+-- if two lists joined are empty, the first list is empty
 pub append_nil_parts : {A : Type 0} (xs ys : List A) → xs ++ ys ≡ [] → xs ≡ []
 append_nil_parts [] ys e = refl
 append_nil_parts (x ∷ xs) ys e = absurd (not_empty x (xs ++ ys) e)
 
--- if two lists joined are empty, the second is
+-- if two lists joined are empty, the second list is empty
 pub append_nil_rest : {A : Type 0} (xs ys : List A) → xs ++ ys ≡ [] → ys ≡ []
 append_nil_rest [] ys e = e
 append_nil_rest (x ∷ xs) ys e = absurd (not_empty x (xs ++ ys) e)

@@ -30,7 +30,7 @@ record IsBehind
   pub path : IsPath t kind v turns (answer false value)
   pub rest : IsClaimPrefixFrom t c kinds (suc o) value (x ∷ later) s
 
--- if all steps are on object o, the last one is too, after turns there alone
+-- if all steps are turns on object o, so are the last step and the steps before it
 here :
     (t : QuorumTable) (kind : Kind) (o v : ℕ) (x : ObjectTurn) (xs : List ObjectTurn) (turns : List Turn)
     → x ∷ xs ≡ turns_on o turns → IsPrefix t kind v turns → IsHere t kind o v x xs

@@ -53,7 +53,7 @@ nothing_before t c (k ∷ ks) o v n xs s l (inr (inr (u, rest, x, p))) =
 pub open_part : (t : QuorumTable) (k : Kind) (v : ℕ) (turns : List Turn) → IsOpen t k v turns → IsPrefix t k v turns
 open_part t k v turns g = (g.0, g.2.0, g.2.1)
 
--- if turns pass object o, they are all the turns on o among these steps
+-- the turns with which steps pass object o are all the turns on o among these steps
 pub passed_turns :
     (t : QuorumTable) (c : ℕ) (k : Kind) (ks : List Kind) (o v : ℕ) (xs : List ObjectTurn) (s : Stage) (u : ℕ)
     (rest : List ObjectTurn) (x : Passes t k o v xs u rest)

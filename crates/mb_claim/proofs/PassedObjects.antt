@@ -27,7 +27,7 @@ nothing_passed t (k ∷ ks) o v w n xs l (u, later, x, p) =
 module _ (t : QuorumTable) (c : ℕ) (k : Kind) (ks : List Kind) (o v : ℕ) (xs : List ObjectTurn) (s : Stage)
     (law : OfKind t k) (l : v < t.values)
     (u : ℕ) (later : List ObjectTurn) (x : Passes t k o v xs u later) (none : turns_at o later ≡ []) where
-  -- the turns with which the first object was passed are all the turns there
+  -- the turns with which object o was passed are all the turns on o
   pub here : x.turns ≡ turns_at o xs
   here =
       sym (ap (turns_at o) x.all ∙ turns_at-append o later (turns_on o x.turns)
@@ -64,7 +64,7 @@ pub record LawfulObject (t : QuorumTable) (kind : Kind) (hs : ℕ → List Acces
   pub same : part c (hs o) ≡ turns
   pub within : inputs c < t.values
 
--- in a family, too, the split of a consumer that passed object o gives the value of that, and the steps after it
+-- in a family, too, the split of a consumer that passed object o gives the value with which it did, and the later steps
 pub step_passes :
     (t : QuorumTable) (k : Kind) (ks : List Kind) (o : ℕ) (hs : ℕ → List Access) (P : ℕ → Type 0)
     (fam : Family t (k ∷ ks) o hs P) (law : OfKind t k) (c : ℕ) → fam.input c < t.values
@@ -74,7 +74,7 @@ unfolding step
 step_passes t k ks o hs P fam law c l u later x none =
     forward_passes t c k ks o (fam.input c) (fam.rest c) (fam.stage c) law l u later x none (fam.member c)
 
--- the object to which a consumer came past the objects `before` has a lawful history, with its input w and its turns
+-- the object after those that a consumer passed has a lawful history, with its input w and its turns
 pub family_at :
     (t : QuorumTable) (hs : ℕ → List Access) (law : AreDeciding t) (before : List Kind) (kind : Kind)
     (after : List Kind) (o : ℕ) (P : ℕ → Type 0)

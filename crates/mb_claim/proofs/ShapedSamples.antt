@@ -22,7 +22,7 @@ fast_kinds = Ratifier ∷ Ratifier ∷ Conciliator 2 ∷ Ratifier ∷ []
 won_there : IsPath (unary_table 2) Ratifier 0 (turns_at 0 (part_on 0 0 lost_at_second)) (answer true 0)
 won_there = (Store Proposal 1 ∷ Load Proposal 0 ∷ Store (Quorum 0) 1 ∷ [], inl (refl, refl), refl)
 
--- consumer 0 has won
+-- in `lost_at_second` consumer 0 has won
 pub fast_won : IsClaimPrefixFrom (unary_table 2) 0 fast_kinds 0 0 (part_on 0 0 lost_at_second) Won
 fast_won =
     inr (inl (record {
@@ -120,7 +120,7 @@ fast_lawful =
       ) some;
     }
 
--- `skip_both_ratifiers` is not lawful: who comes to the conciliator has passed the first ratifier
+-- `skip_both_ratifiers` is not lawful: a consumer comes to the conciliator only past both ratifiers
 pub both_refused : IsClaimLawful (two_with true false) skip_both_ratifiers → ⊥
 both_refused bad =
     let xs : List ObjectTurn = part_on 0 0 skip_both_ratifiers in
@@ -128,7 +128,7 @@ both_refused bad =
     (both_came_undecided (unary_table 2) 0 (Conciliator 2 ∷ Ratifier ∷ []) 0 2 xs mine.2.0 (omega arith) mine.2.1
     (λ none. not_empty _ _ none)).2
 
--- `skip_one_ratifier` is not lawful: who comes to the conciliator has passed the second ratifier
+-- `skip_one_ratifier` is not lawful: a consumer comes to the conciliator only past both ratifiers
 pub one_refused : IsClaimLawful (two_with true false) skip_one_ratifier → ⊥
 one_refused bad =
     let xs : List ObjectTurn = part_on 1 0 skip_one_ratifier in
@@ -335,7 +335,7 @@ last_lawful =
 pub empty_refused : IsClaimLawful (two_with false true) last_found_empty_twice → ⊥
 empty_refused bad = let none : ◌≡◌ {A = ℕ} 0 1 = bad.memory.0 in absurd (omega (arith, none))
 
--- `last_comes_first` is not lawful: who comes to the last object has passed the pair
+-- `last_comes_first` is not lawful: a consumer comes to the last object only past the pair
 pub first_refused : IsClaimLawful (two_with false true) last_comes_first → ⊥
 first_refused bad =
     let xs : List ObjectTurn = part_on 0 0 last_comes_first in

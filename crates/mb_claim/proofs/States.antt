@@ -96,7 +96,7 @@ module _
         memory_after (access_adds (may_follow cs law stepping h c k object pc op word memory.lawful cell stands is
         (subst (λ (a : ClaimAccess). IsInWords a.step.turn) (sym same_access) small)))
 
-    -- the claim's place can go on with the value that is found
+    -- the value found is one that the claim's place allows (`CanFind`)
     pub memory_found : CanFind cs.table pc op found
     memory_found =
         same_find cs.table pc op found (object_history k object h) is seen

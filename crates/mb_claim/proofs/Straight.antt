@@ -62,7 +62,7 @@ module _ (layout : Layout) (c o v : ℕ) where
   standing_is kind claim at is =
       subst (λ k. MatchOption k ⊥ (λ kind. claim ≡ standing layout c o v kind)) at is
 
-  -- calls of a claim before its first access to an object of the layout may be made with that layout (`FitsLayout`)
+  -- a claim before its first access to an object of the layout may be called with that layout (`FitsLayout`)
   pub standing_fits :
       (kind : Kind) → slice_get (kinds_of layout) o ≡ Some kind → IsFitKind kind → v < consumer_count layout
       → FitsLayout layout (standing layout c o v kind)

@@ -15,14 +15,14 @@ use Rattle.mb_claim.proofs.PassedObjects.{step_passes}
 use Rattle.mb_claim.proofs.CellFamily.{competes, family}
 
 -- ---- the input with which a part comes to an object
--- a part comes only to the object on which it begins, and to those after it
+-- a part that begins on object o comes to no object before o
 comes_from :
     (t : QuorumTable) (ks : List Kind) (o v n w : ℕ) (xs : List ObjectTurn) → Enters t ks o v xs n w → o ≤ n
 comes_from t [] o v n w xs q = absurd q
 comes_from t (k ∷ ks) o v n w xs (inl x) = omega (arith, x.0)
 comes_from t (k ∷ ks) o v n w xs (inr (u, later, x, q)) = omega (arith, comes_from t ks (suc o) u n w later q)
 
--- an object to which a part comes, m objects further than the one on which it begins, is of some kind
+-- an object to which a part comes, m objects after the one on which it begins, has a kind in the row
 pub kind_of :
     (t : QuorumTable) (ks : List Kind) (o m v n w : ℕ) (xs : List ObjectTurn) → n ≡ o + m → Enters t ks o v xs n w
     → (kind : Kind) × (slice_get ks m ≡ Some kind)
@@ -96,7 +96,7 @@ used t hs law m E kind (k ∷ ks) o P fam enter leave (suc n) e r =
 -- ---- the objects of a cell
 module _ (cs : Claims) (law : AreDeciding cs.table) (h : List ClaimAccess) (lawful : IsClaimLawful cs h)
     (k o : ℕ) (kind : Kind) (is : slice_get cs.kinds o ≡ Some kind) where
-  -- the object of a lawful history of claims has a lawful history, with the inputs of the claim paths
+  -- in a lawful history of claims, object o of cell k has a lawful history with the inputs that claim paths give
   object_used :
       Used cs.table kind (λ n. object_history k n h) (λ c w. Enters cs.table cs.kinds 0 c (part_on c k h) o w) o
   object_used =
@@ -104,11 +104,11 @@ module _ (cs : Claims) (law : AreDeciding cs.table) (h : List ClaimAccess) (lawf
       cs.kinds 0 (competes cs h k law lawful) (family cs h k law lawful) (λ c w ne q. q) (λ c w ne q. q) o
       (omega arith) is
 
-  -- consumers use the object with some inputs
+  -- consumers use object o of cell k with some inputs (`IsUsedWith`)
   pub some_inputs : (inputs : ℕ → ℕ) × IsUsedWith cs k o kind inputs h
   some_inputs = (object_used.inputs, record { is = is; lawful = object_used.lawful; enters = object_used.enters })
 
-  -- a consumer with an access to the object comes to it with one input
+  -- a consumer with an access to object o of cell k comes to it with one input
   pub one_input :
       (c u w : ℕ) → part_at c k o h ≢ [] → Enters cs.table cs.kinds 0 c (part_on c k h) o u
       → Enters cs.table cs.kinds 0 c (part_on c k h) o w → u ≡ w

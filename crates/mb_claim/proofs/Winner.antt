@@ -64,7 +64,7 @@ module _ (cs : Claims) (h : List ClaimAccess) (k : ℕ) (law : AreDeciding cs.ta
   shown_announced : (o u : ℕ) → Shown cs.table (λ n. object_history k n h) E o u → IsClaimAnnounced cs k o u h
   shown_announced o u x = (x.process, x.register, x.enters, x.member, x.stored)
 
-  -- a process that has stored there has a step on the cell
+  -- a process that has stored in a write quorum of an object (`Shown`) has a step on the cell
   some_part : (o u : ℕ) (x : Shown cs.table (λ n. object_history k n h) E o u) → part_on x.process k h ≢ []
   some_part o u x e =
       has_turns (part x.process (object_history k o h)) _ x.stored

@@ -61,7 +61,7 @@ own_word op n =
     stored_here (is_same_reg (reg_of_act (act_of op n)) (reg_of op)) (stored_by (act_of op n)) n
     (ap (λ p. is_same_reg p (reg_of op)) (reg_of-act_of op n) ∙ same_reg-refl (reg_of op))
 
--- in another word an op leaves what was there
+-- after an op each other word of its object still holds n
 other_word : (op : Op) (s n : ℕ) (q : Reg) → is_same_reg (reg_of op) q ≡ false → value_after q (act_of op s) n ≡ n
 other_word op s n q e =
     stored_there (is_same_reg (reg_of_act (act_of op s)) q) (stored_by (act_of op s)) n
@@ -81,7 +81,7 @@ same_at true true x n h = h refl refl
 same_at true false x n h = refl
 same_at false b x n h = refl
 
--- in a word of another cell, object or name an op leaves what was there
+-- after an op a word of another cell or object, or with another name, still holds n
 pub other_place :
     (k o s n : ℕ) (op : Op) (j m : ℕ) (q : Reg) → (k ≡ j → o ≡ m → reg_of op ≡ q → ⊥)
     → cond (eqb k j) (cond (eqb o m) (value_after q (act_of op s) n) n) n ≡ n
