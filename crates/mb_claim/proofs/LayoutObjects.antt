@@ -39,13 +39,13 @@ second_of_pair s (suc n) zero (suc (suc o)) e h = absurd (omega arith)
 second_of_pair s (suc n) (suc i) (suc (suc o)) e h = second_of_pair s n i o (omega arith) (omega arith)
 
 -- ---- the objects of a row
--- of two lists joined, the first elements are those of the first list
+-- at the positions of the first list, two lists joined have its elements
 get_ahead : (xs ys : List Kind) (o : ℕ) → o < length xs → slice_get (xs ++ ys) o ≡ slice_get xs o
 get_ahead [] ys o h = absurd (omega (arith, h))
 get_ahead (x ∷ xs) ys zero h = refl
 get_ahead (x ∷ xs) ys (suc o) h = get_ahead xs ys o (omega (arith, h))
 
--- of two lists joined, the elements after the first list are those of the second
+-- after the positions of the first list, two lists joined have the second list's elements
 get_behind : (xs ys : List Kind) (n o : ℕ) → n ≡ length xs + o → slice_get (xs ++ ys) n ≡ slice_get ys o
 get_behind [] ys n o e = let same : n ≡ o = omega (arith, e) in ap (slice_get ys) same
 get_behind (x ∷ xs) ys zero o e = absurd (omega (arith, e))

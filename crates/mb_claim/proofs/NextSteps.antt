@@ -67,7 +67,7 @@ where_is t c kind kinds o v x xs s (inr (inr (u, z ∷ later, y, p))) =
           (sym (heads x z xs (later ++ turns_on o y.turns) y.all)) p;
     })
 
--- if the last step is on an object after object o, the turns on o are those of the whole path there
+-- if the last step is on an object after object o, the turns on o are exactly the whole path there
 behind_turns :
     (t : QuorumTable) (c : ℕ) (kind : Kind) (kinds : List Kind) (o v : ℕ) (x : ObjectTurn) (xs : List ObjectTurn)
     (s : Stage)

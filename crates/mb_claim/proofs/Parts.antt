@@ -78,7 +78,7 @@ pub record Came (t : QuorumTable) (k : Kind) (ks : List Kind) (o v : ℕ) (xs : 
   pub nonempty : xs ≢ []
   pub enters : (n w : ℕ) → Enters t ks (suc o) value rest n w → Enters t (k ∷ ks) o v xs n w
 
--- the claim is going, or object o decided for it, or o left it undecided and `stage`, that of the rest, is its stage s
+-- the claim is going, or object o decided for it, or o left it undecided and the rest has `stage`, which is s
 abbrev pub Ends : QuorumTable → ℕ → Kind → ℕ → ℕ → List ObjectTurn → Stage → ℕ → Stage → Type 0
 Ends t c k o v xs s value stage =
     (s ≡ Going)

@@ -24,7 +24,7 @@ history_from-push cs h (x ∷ steps) [] step e all = absurd all
 history_from-push cs h (x ∷ steps) (y ∷ entries) step e all =
     history_from-push cs (with_entry x.1 y h) steps entries step e all.2
 
--- the entries of steps, with an entry that may come after their accesses, are those of these steps and one more
+-- the entries of steps, and one more entry that may come after their accesses, are the entries of one step more
 entries_push :
     (cs : Claims) (h : List ClaimAccess) (steps : List (ℕ × ℕ)) (entries : List ClaimEntry) (step : ℕ
     × ℕ) (e : ClaimEntry)
@@ -150,7 +150,7 @@ module _
 nobody : Claim
 nobody = record { consumer = 0; object = 0; place = InRatifier (Begin 0); stage = Going; begun = false }
 
--- the entries of a board and the stages of its claims are those of a run of the steps (`IsPlayed`)
+-- the entries of a board and the stages of its claims are what a run of the steps comes to (`IsPlayed`)
 pub board_played :
     (layout : Layout) (steps : List (ℕ × ℕ)) (board : BoardState) → IsBoard layout steps board
     → IsPlayed (claims_in layout 1) steps board.entries (map claim_stage board.claims)

@@ -141,8 +141,8 @@ one_refused bad =
 abbrev last_kinds : List Kind
 last_kinds = Conciliator 2 ∷ Ratifier ∷ LastObject ∷ []
 
--- if consumer 0 begins as in `both_undecided`, both objects of the pair leave it undecided with its own number, and its
--- stage is that of its later steps
+-- if consumer 0 begins as in `both_undecided`, both objects of the pair leave it undecided with its own number, and it
+-- has the stage that its later steps have
 zero_passes :
     (h : List ClaimAccess) (s : Stage) (later : List ObjectTurn)
     → part_on 0 0 h ≡ later ++ part_on 0 0 both_undecided
@@ -176,8 +176,8 @@ zero_passes h s later is end =
       )),
     ))
 
--- if consumer 1 begins as in `both_undecided`, both objects of the pair leave it undecided with its own number, and its
--- stage is that of its later steps
+-- if consumer 1 begins as in `both_undecided`, both objects of the pair leave it undecided with its own number, and it
+-- has the stage that its later steps have
 one_passes :
     (h : List ClaimAccess) (s : Stage) (later : List ObjectTurn)
     → part_on 1 0 h ≡ later ++ part_on 1 0 both_undecided

@@ -34,11 +34,11 @@ module _
       let a = within cs.table.registers cs.kinds cs.cells k object (reg_of op) place cell in
       let b = memory.room in omega arith
 
-  -- the value found is the one that the history leaves in the word
+  -- the value found is what the history leaves in the word
   seen : found ≡ held_at k object (reg_of op) h
   seen = memory.left k object (reg_of op) cell place
 
-  -- the access made on the words is the one that the op makes after the history
+  -- the access made on the words is the access that the op makes after the history
   pub same_access : access_after c k object op word h ≡ access
   same_access =
       ap (λ x. record {
@@ -103,7 +103,7 @@ module _
         (finds_there cs law stepping h c k object pc op memory.lawful stands is)
 
 -- ---- the words of the empty history, and words after those of the cells
--- words that are all 0 are those of the empty history
+-- words that are all 0 are what the empty history leaves
 pub memory_empty :
     (cs : Claims) (words : List ℕ) → words_in cs ≤ length words → ((i : ℕ) → slice_index words i ≡ 0)
     → IsMemoryOf cs words []

@@ -13,7 +13,7 @@ pub record BoardState : Type 0 where
   pub claims : List Claim
   pub entries : List ClaimEntry
 
--- the board is that of a run after these steps, each a consumer and a random word
+-- the board is the board of a run after these steps, each a consumer and a random word
 pub record IsBoard (layout : Layout) (steps : List (ℕ × ℕ)) (board : BoardState) : Type 0 where
   -- there is one entry for each step, and each may come after the accesses of those before it
   pub fits : AreEntriesOf (claims_in layout 1) steps board.entries []

@@ -22,7 +22,7 @@ standing layout c o v kind =
       begun = is_past o;
     }
 
--- the claim is that of consumer c before its first access to object o, with input v
+-- the claim is consumer c's before its first access to object o, with input v
 abbrev pub IsStanding : Layout → ℕ → ℕ → ℕ → Claim → Type 0
 IsStanding layout c o v claim =
     MatchOption (slice_get (kinds_of layout) o) ⊥ (λ kind. claim ≡ standing layout c o v kind)

@@ -101,7 +101,7 @@ pub fn prefixes_begin_whole_claims()
     ensures begun { (cs : Claims) (c : ℕ) (later xs : List ObjectTurn) (output : Out)
         → IsWholeClaim cs c (later ++ xs) output → (s : Stage) × IsClaimPrefix cs c xs s }
 
-    // A whole path has the stage of its output, and each stage but `Going` is that of a whole path.
+    // A whole path has the stage of its output, and a prefix with a stage other than `Going` is a whole path.
     ensures whole { (cs : Claims) (c : ℕ) (xs : List ObjectTurn) (output : Out)
         → IsWholeClaim cs c xs output → IsClaimPrefix cs c xs (stage_of c output) }
     ensures ended { (cs : Claims) (c : ℕ) (xs : List ObjectTurn) (s : Stage)

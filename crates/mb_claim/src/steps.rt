@@ -60,7 +60,7 @@ pub fn claims_have_one_next_op()
     ensures going { (cs : Claims) (c : ℕ) (x : ObjectTurn) (xs : List ObjectTurn) (s : Stage)
         → IsClaimPrefix cs c (x ∷ xs) s → IsClaimPrefix cs c xs Going }
 
-    // With the value that memory gives and the same random word, two such accesses are the same.
+    // Two accesses of one consumer on one cell, with one random word, are equal if each may come next.
     ensures access { (cs : Claims) (a b : ClaimAccess) (h : List ClaimAccess) → ClaimsAreSound cs
         → IsClaimLawful cs (a ∷ h) → IsClaimLawful cs (b ∷ h) → a.consumer ≡ b.consumer
         → a.cell ≡ b.cell

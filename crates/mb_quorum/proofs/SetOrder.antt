@@ -43,7 +43,7 @@ set_size (suc n) (suc h) v known =
           ))
     ]
 
--- of two sets the one with the larger number has the larger mask
+-- of two sets of h registers among n, the set with the larger number has the larger mask
 pub set_rises : (n h v w : ℕ) → v < w → w < choose n h → set_number n h v < set_number n h w
 set_rises zero zero v w less known = absurd (omega (arith, less, known))
 set_rises zero (suc h) v w less known = absurd (omega (arith, known))

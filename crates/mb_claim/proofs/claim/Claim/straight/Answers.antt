@@ -10,7 +10,7 @@ use Rattle.mb_claim.proofs.LayoutObjects.{objects_few, quorums_lawful}
 use Rattle.mb_claim.proofs.Straight.{further, further_may, led_as, standing_end}
 use Rattle.mb_claim.proofs.claim.Claim.straight.Goals as goal
 
--- what follows both if a test passes and if it fails, holds
+-- what follows if a test passes, and also if it fails, holds
 by_choice : {X : Type 0} (b : Bool) → (b ≡ true → X) → (b ≡ false → X) → X
 by_choice true so else = so refl
 by_choice false so else = else refl
@@ -60,7 +60,7 @@ agree-requires-clause-may g c =
     at.object at.value c.objects.memory at.left c.objects.invariant.steps
     (λ claim mid next. g.M.Drawing.can_make_at mid (site_of layout c.args.begin next.object) next.op) c.requires.may
 
--- In the next two proofs `first` are the accesses up to the object to which `agree` leads.
+-- In the proofs below, `first` are the accesses up to the object to which `agree` leads.
 pub decide-requires-clause-may : goal.decide-requires-clause-may
 decide-requires-clause-may g c =
     let layout = c.args.layout.now in
