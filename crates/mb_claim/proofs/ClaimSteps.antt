@@ -120,7 +120,7 @@ claim_going t kinds claim x xs parts known going begun stands =
       stands = λ g. stands;
     }
 
--- a claim that is begun and has ended is the claim of turns that are a prefix with the claim's stage
+-- a claim that is begun and has ended is the claim of turns (`IsClaimOf`) that are a prefix with the claim's stage
 pub claim_ended :
     (t : QuorumTable) (kinds : List Kind) (claim : Claim) (x : ObjectTurn) (xs : List ObjectTurn)
     → claim.consumer < t.values → claim.stage ≢ Going → claim.begun ≡ true
@@ -156,8 +156,8 @@ stands_first t kinds kind c pc first below at =
       place = at;
     }
 
--- after a turn that ended an object undecided, a claim is the claim of the turns in two cases: it stands on the next
--- object, or there is none and it is undecided
+-- if a turn ended its object's path undecided, a claim is the claim of the turns (`IsClaimOf`) in two cases: it stands
+-- on the next object, or there is none and it is undecided
 pub claim_passed :
     (t : QuorumTable) (kinds : List Kind) (claim : Claim) (c object : ℕ) (pc : Pc) (xs : List ObjectTurn)
     (p : StandsAt t kinds c object pc xs) (x : Turn) (u : ℕ)
@@ -186,7 +186,7 @@ claim_passed t kinds claim c object pc xs p x u parts own known begun below path
     (n ∙ sym passed.1)
     (next_object t kinds c object pc xs p x u kind claim.place below path (ap (slice_get kinds) n ∙ is) passed.2))
 
--- after a turn that ended an object decided, a claim with the stage for that value is the claim of the turns
+-- if a turn ended its object's path decided, a claim with the stage for the value is the claim of the turns
 pub claim_decided :
     (t : QuorumTable) (kinds : List Kind) (claim : Claim) (object : ℕ) (pc : Pc) (xs : List ObjectTurn)
     (p : StandsAt t kinds claim.consumer object pc xs) (x : Turn) (u : ℕ)

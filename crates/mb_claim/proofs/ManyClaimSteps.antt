@@ -108,7 +108,7 @@ module _ {M : Type 0} (layout : Layout) (parts : PlacesMakeParts (quorums_of lay
         ap (λ pc. stood_at pc claim.begun claim) (place_after zero at before steps)
     stands_there (suc n) at before steps = refl
 
-    -- n accesses that led to an output are accesses of the claim, which is then one that went on with that output
+    -- n accesses that led to an output are accesses of the claim, and lead to the claim that goes on with that output
     pub ended_on :
         (n : ℕ) (out : Out) (now : M) (follows : Claim) → consumer_of follows ≡ consumer_of claim
         → AreSteps (quorums_of layout) (DrawsAndMakes draws makes claim.object) claim.place start n (leads.Out out) now

@@ -30,7 +30,7 @@ pub fn history_extends()
         → IsClaimLawful cs h → MayFollow cs a h → Adds cs a h }
 {}
 
-/// What one access more adds to the parts, whether or not it may come next.
+/// What an access adds to the parts of a history, whether or not it may come next there.
 pub fn accesses_lengthen_one_part()
     ensures own { (a : ClaimAccess) (h : List ClaimAccess)
         → part a.consumer (a ∷ h) ≡ a ∷ part a.consumer h }
