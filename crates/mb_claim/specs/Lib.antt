@@ -18,7 +18,7 @@ pub mod Boards
 pub mod Samples
 pub mod ShapedSamples
 pub mod Vocabulary
--- clauses name what these lines export without its file: `Rattle.mb_claim.specs.NAME`
+-- for what these lines export, clauses leave out the file: `Rattle.mb_claim.specs.NAME`
 pub use ObjectTypes.*
 pub use Types.*
 pub use History.*
