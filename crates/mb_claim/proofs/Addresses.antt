@@ -10,7 +10,7 @@ use Rattle.mb_claim.specs.{Reg, Kind, Value, Proposal, Quorum, Last, Conciliator
 use Rattle.mb_claim.specs.{row_words, address_of, pairs_of, IsWordOf}
 
 -- ---- different words have different addresses
--- a word lies within its object
+-- the position of a word in its object is below the number of the object's words
 in_object : (r : ℕ) (k : Kind) (reg : Reg) → HasReg r k reg → offset reg < width r k
 in_object r (Conciliator s) Value h = omega arith
 in_object r (Conciliator s) Proposal h = absurd h
@@ -25,7 +25,7 @@ in_object r LastObject Value h = absurd h
 in_object r LastObject Proposal h = absurd h
 in_object r LastObject (Quorum i) h = absurd h
 
--- two words of an object lie in two positions
+-- two words of an object that lie at one position are the same
 same_word : (r : ℕ) (k : Kind) (p q : Reg) → HasReg r k p → HasReg r k q → offset p ≡ offset q → p ≡ q
 same_word r (Conciliator s) Value Value h g e = refl
 same_word r (Conciliator s) Value Proposal h g e = absurd g
@@ -56,7 +56,7 @@ same_word r LastObject (Quorum i) q h g e = absurd h
 first_word : (r : ℕ) (k : Kind) (ks : List Kind) (reg : Reg) → IsWordOf r (k ∷ ks) 0 reg → HasReg r k reg
 first_word r k ks reg p = subst (λ j. HasReg r j reg) (sym (same_Some k p.0 p.1)) p.2
 
--- a word lies within its cell
+-- the position of a word in its cell is below the number of the cell's words
 in_cell :
     (r : ℕ) (kinds : List Kind) (o : ℕ) (reg : Reg) → IsWordOf r kinds o reg
     → words_before r kinds o + offset reg < row_words r kinds
@@ -64,7 +64,7 @@ in_cell r [] o reg p = absurd (none-some p.0 p.1)
 in_cell r (k ∷ ks) zero reg p = let h = in_object r k reg (first_word r k ks reg p) in omega arith
 in_cell r (k ∷ ks) (suc o) reg p = let h = in_cell r ks o reg p in omega arith
 
--- two words of a cell lie in two positions
+-- two words of a cell that lie at one position are the same word of the same object
 apart :
     (r : ℕ) (kinds : List Kind) (o n : ℕ) (p q : Reg) → IsWordOf r kinds o p → IsWordOf r kinds n q
     → words_before r kinds o + offset p ≡ words_before r kinds n + offset q → (o ≡ n) × (p ≡ q)
@@ -75,14 +75,14 @@ apart r (k ∷ ks) zero (suc n) p q a b e = let h = in_object r k p (first_word 
 apart r (k ∷ ks) (suc o) zero p q a b e = let h = in_object r k q (first_word r k ks q b) in absurd (omega arith)
 apart r (k ∷ ks) (suc o) (suc n) p q a b e = let h = apart r ks o n p q a b (omega arith) in (ap suc h.0, h.1)
 
--- no position in a row is one in a later row
+-- if each cell has w words, no position in cell k is one in a later cell n
 row_before : (w k n a b : ℕ) → k < n → a < w → k * w + a ≡ n * w + b → ⊥
 row_before w k n a b l h e =
     let m : suc k * w ≤ n * w = mul-le-mul_right w l in
     let s : suc k * w ≡ k * w + w = suc-mul k w in
     omega arith
 
--- different words have different addresses, by whether the cells are one, or one comes before the other
+-- different words have different addresses. Cases: whether they are on one cell, or which cell comes first
 distinct_by :
     (r : ℕ) (kinds : List Kind) (k n o m : ℕ) (p q : Reg) → IsWordOf r kinds o p → IsWordOf r kinds m q
     → address_of r kinds k o p ≡ address_of r kinds n m q
@@ -103,7 +103,7 @@ pub distinct :
     → address_of r kinds k o p ≡ address_of r kinds n m q → (k ≡ n) × (o ≡ m) × (p ≡ q)
 distinct r kinds k n o m p q a b e = distinct_by r kinds k n o m p q a b e (cases_order k n)
 
--- the words of the first `cells` cells lie below the number of their words
+-- the address of each word of `cells` cells is below the number of their words
 pub within :
     (r : ℕ) (kinds : List Kind) (cells k o : ℕ) (reg : Reg) → IsWordOf r kinds o reg → k < cells
     → address_of r kinds k o reg < cells * row_words r kinds
@@ -125,7 +125,7 @@ pub words_before-first : (r : ℕ) (kinds : List Kind) → words_before r kinds 
 words_before-first r [] = refl
 words_before-first r (k ∷ ks) = refl
 
--- before the next object lie the words before this one, and its own words
+-- before the next object lie the words before this one, and this one's own words
 pub words_before-next :
     (r : ℕ) (kinds : List Kind) (o : ℕ) (kind : Kind) → slice_get kinds o ≡ Some kind
     → words_before r kinds (suc o) ≡ words_before r kinds o + width r kind
@@ -146,13 +146,13 @@ words_before-few r [] o = omega arith
 words_before-few r (k ∷ ks) zero = omega arith
 words_before-few r (k ∷ ks) (suc o) = omega (arith, width_few r k, words_before-few r ks o, suc-mul o (1 + r))
 
--- the words before an object are some of the row's
+-- before an object there are at most as many words as the whole row has
 pub words_before-within : (r : ℕ) (kinds : List Kind) (o : ℕ) → words_before r kinds o ≤ row_words r kinds
 words_before-within r [] o = omega arith
 words_before-within r (k ∷ ks) zero = omega arith
 words_before-within r (k ∷ ks) (suc o) = omega (arith, words_before-within r ks o)
 
--- a row has at most the words of as many ratifiers
+-- a row has at most as many words as if all its objects were ratifiers
 pub row_words-few : (r : ℕ) (kinds : List Kind) → row_words r kinds ≤ length kinds * (1 + r)
 row_words-few r kinds = omega (arith, words_before-all r kinds, words_before-few r kinds (length kinds))
 

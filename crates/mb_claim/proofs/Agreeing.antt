@@ -20,12 +20,12 @@ winner_holds t hs law (k ∷ ks) o P fam c u n =
 
 module _ (t : QuorumTable) (k : Kind) (ks : List Kind) (o : ℕ) (hs : ℕ → List Access) (P : ℕ → Type 0)
     (fam : Family t (k ∷ ks) o hs P) (law : AreDeciding t) where
-  -- if u was decided here, whoever goes on names u
+  -- if object o decided u for consumer c, each winner that is named from the next object on is u
   late : (c d u w : ℕ) → HasOutput (object_of t k fam.input) c true u (hs o)
       → StageNames d (step t k ks o hs P fam d).stage w → w ≡ u
   late c d u w p n = winner_holds t hs law ks (suc o) (λ a. a ≡ u) (next_decided t k ks o hs P fam (law k) c u p) d w n
 
-  -- two winners are one, if each was decided here or later
+  -- if any two winners that c and d name from the next object on are equal, so are two decided on object o or later
   agree_by :
       (c d u w : ℕ) → ((a b : ℕ) → StageNames c (step t k ks o hs P fam c).stage a
       → StageNames d (step t k ks o hs P fam d).stage b → a ≡ b)

@@ -1,4 +1,4 @@
--- How many accesses a claim makes.
+-- How many accesses a claim makes at most.
 use Rattle.std.proofs.Common.{◌≡◌, ◌+◌, ◌≤◌, ℕ, zero, suc, Bool, true, false, List, [], ◌∷◌, ◌++◌, length, ap, inl, inr, suc-mul, arith}
 use Rattle.mb_quorum.specs.Vocabulary.{QuorumTable}
 use Rattle.mb_deciding.specs.Vocabulary.{largest_quorum, spread}

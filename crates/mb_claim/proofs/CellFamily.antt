@@ -1,4 +1,4 @@
--- The consumers of one cell, as a lawful history of claims has them.
+-- The family of all consumers of one cell, from object 0 on, in a lawful history of claims.
 use Rattle.std.proofs.Common.{◌≡◌, ◌≢◌, ◌<◌, ◌≤◌, ◌⊎◌, ℕ, List, [], ◌∷◌, refl, sym, subst, inl, inr, arith}
 use Rattle.std.proofs.lemmas.Bool.{cases_lt}
 use Rattle.mb_quorum.specs.Vocabulary.{QuorumTable}
@@ -11,7 +11,7 @@ use Rattle.mb_claim.proofs.Parts.{Member}
 use Rattle.mb_claim.proofs.Unique.{one_stage_lem}
 use Rattle.mb_claim.proofs.Family.{Family}
 
--- consumer c has this one stage in the history, and has no turn if it is none of the claims' consumers
+-- the one stage of consumer c on cell k in the history. If the claims have no consumer c, it has no step there
 pub record Start (cs : Claims) (h : List ClaimAccess) (k c : ℕ) : Type 0 where
   pub stage : Stage
   pub member : Member cs.table c cs.kinds 0 c (part_on c k h) stage
@@ -40,7 +40,7 @@ module _ (cs : Claims) (h : List ClaimAccess) (k : ℕ) (law : AreDeciding cs.ta
             λ s q. one_stage_lem cs.table law c cs.kinds 0 c (part_on c k h) p.0 s p.1 q.1;
       }
 
-  -- each consumer has a stage, also one that has not begun or is none of the claims
+  -- each number c has one stage. Cases: whether it has a step, and whether it is below the number of consumers
   start_by : (c : ℕ) → (part_on c k h ≡ []) ⊎ (part_on c k h ≢ []) → (c < cs.table.values) ⊎ (cs.table.values ≤ c)
       → Start cs h k c
   start_by c (inr ne) below = let p = lawful.parts c k ne in begun c p.0 p.2
@@ -56,7 +56,7 @@ module _ (cs : Claims) (h : List ClaimAccess) (k : ℕ) (law : AreDeciding cs.ta
             absurd (omega arith);
       }
 
-  -- each consumer has one stage
+  -- each number c has one stage, also if it is no consumer's
   pub start : (c : ℕ) → Start cs h k c
   start c = start_by c (nil_or (part_on c k h)) (cases_lt c cs.table.values)
 
@@ -64,7 +64,7 @@ module _ (cs : Claims) (h : List ClaimAccess) (k : ℕ) (law : AreDeciding cs.ta
   abbrev pub competes : ℕ → Type 0
   competes c = part_on c k h ≢ []
 
-  -- all consumers at the first object: each comes with its own number
+  -- the family of all consumers from object 0 on: each comes there with its own number
   abbrev pub family : Family cs.table cs.kinds 0 (λ o. object_history k o h) competes
   family =
       record {

@@ -8,7 +8,7 @@ use Rattle.mb_claim.specs.{Claims, ClaimAccess, step_by, part_on, access_on, obj
 use Rattle.mb_claim.specs.{IsMemoryTrue, AreInWords, on_cell, IsClaimPart, IsClaimLawful}
 use Rattle.mb_claim.proofs.Lists.{filter_map-filter_map, filter_map_agree}
 
--- ---- a pick from what a test lets through
+-- ---- picking after a test
 -- picking after a test gives what picking alone gives, if an access that fails the test gives nothing
 picks :
     {B : Type 0} (g : ClaimAccess → Option B) (b : Bool) (a : ClaimAccess) → (b ≡ false → g a ≡ None)
@@ -28,7 +28,7 @@ none_picked : {A B : Type 0} (h : List A) → filter_map {X = A} {Y = B} (λ a. 
 none_picked [] = refl
 none_picked (a ∷ h) = none_picked h
 
--- a pick by two tests gives nothing, if the second fails
+-- picking by two tests gives nothing, if the second fails
 cond_none : {B : Type 0} (p q : Bool) (x : B) → q ≡ false → cond p (cond q (Some x) None) None ≡ None
 cond_none true q x e = ap (λ b. cond b (Some x) None) e
 cond_none false q x e = refl
@@ -64,7 +64,7 @@ object_kept k o h =
     (Some (record { process = a.consumer; turn = a.step.turn })) None) None) e)) h
 
 -- ---- the cut history is lawful
--- one access more keeps the cut history true to memory, by whether it is on cell k
+-- one access more keeps the cut history true to memory. Cases: whether it is on cell k
 memory_by :
     (k : ℕ) (a : ClaimAccess) (h : List ClaimAccess) (q : Bool) → eqb a.cell k ≡ q
     → ReadsLast a.step.turn.act (object_history a.cell a.step.object h) → IsMemoryTrue (on_cell k h)
@@ -83,7 +83,7 @@ memory_cut : (k : ℕ) (h : List ClaimAccess) → IsMemoryTrue h → IsMemoryTru
 memory_cut k [] m = tt
 memory_cut k (a ∷ h) m = memory_by k a h (eqb a.cell k) refl m.0 (memory_cut k h m.1)
 
--- one access more keeps the values and random words below 2 ^ 64, by whether it is kept
+-- one access more keeps the values and random words below 2 ^ 64. Cases: whether the cut history has it
 words_by :
     (a : ClaimAccess) (xs : List ClaimAccess) (q : Bool) → IsInWords a.step.turn → AreInWords xs
     → AreInWords (cons_option (cond q (Some a) None) xs)

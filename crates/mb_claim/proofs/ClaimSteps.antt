@@ -1,4 +1,4 @@
--- A claim after its next access, at its beginning, and the object on which it stands.
+-- A claim after its next access, a new claim, and the object on which a claim stands.
 use Rattle.std.proofs.Common.{◌≡◌, ◌≢◌, ◌+◌, ◌<◌, ℕ, suc, true, false, Option, Some, None, MatchOption}
 use Rattle.std.proofs.Common.{List, [], ◌∷◌, ◌++◌, length, refl, sym, ◌∙◌, ap, ap₂, subst, subst₂, slice_get}
 use Rattle.std.proofs.Common.{append-nil, append_assoc, arith}
@@ -12,7 +12,7 @@ use Rattle.mb_claim.proofs.Lists.{not_empty, get_behind, first_of, none_of, leng
 use Rattle.mb_claim.proofs.Standing.{longer_is, decided_here, undecided_here, stands_on}
 
 -- ---- where a consumer stands after one turn more
--- after one more whole path without a decision, one object more is passed
+-- a consumer that passed some objects, and then makes a whole undecided path on the next one, has passed that too
 passes_more :
     (t : QuorumTable) (before : List Kind) (kind : Kind) (o v w u : ℕ) (front : List ObjectTurn) (turns : List Turn)
     → PassesAll t before o v front w → IsPath t kind w turns (answer false u)
@@ -44,7 +44,7 @@ passes_more t (k ∷ ks) kind o v w u front turns (i, rest, x, p) path =
 
 module _ (t : QuorumTable) (kinds : List Kind) (c object : ℕ) (pc : Pc) (xs : List ObjectTurn)
     (p : StandsAt t kinds c object pc xs) (x : Turn) where
-  -- the consumer stands on the same object, at the place to which its turn led
+  -- if the new turn led to a place on the same object, the consumer stands on that object, at this place
   pub same_object : (after : Pc) → PcIsAt t p.kind p.input after (x ∷ p.turns)
       → StandsAt t kinds c object after (record { object = object; turn = x } ∷ xs)
   same_object after at =
@@ -63,11 +63,11 @@ module _ (t : QuorumTable) (kinds : List Kind) (c object : ℕ) (pc : Pc) (xs : 
         place = at;
       }
 
-  -- the kind with the next number is the first of those after the consumer's object
+  -- the kind of the object with the next number is the first of the kinds after the consumer's object
   next_kind : slice_get kinds (suc object) ≡ slice_get p.after 0
   next_kind = ap₂ (λ ks n. slice_get ks (suc n)) p.order p.number ∙ get_behind p.before p.kind p.after
 
-  -- the consumer's turn ended its path undecided, and it stands on the next object
+  -- if the new turn ended the path on its object undecided, the consumer stands on the next object, at its first place
   pub next_object :
       (u : ℕ) (kind : Kind) (after : Pc) → u < t.values → IsPath t p.kind p.input (x ∷ p.turns) (answer false u)
       → slice_get kinds (suc object) ≡ Some kind → PcIsAt t kind u after []
@@ -93,7 +93,7 @@ module _ (t : QuorumTable) (kinds : List Kind) (c object : ℕ) (pc : Pc) (xs : 
         place = at;
       }
 
-  -- the object was the last one and did not decide, so the part is undecided
+  -- if the new turn ended the path on the last object undecided, the turns are a prefix with the stage `Undecided`
   undecided_last :
       (u : ℕ) → IsPath t p.kind p.input (x ∷ p.turns) (answer false u) → slice_get kinds (suc object) ≡ None
       → IsClaimPrefixFrom t c kinds 0 c (record { object = object; turn = x } ∷ xs) Undecided
@@ -101,12 +101,12 @@ module _ (t : QuorumTable) (kinds : List Kind) (c object : ℕ) (pc : Pc) (xs : 
       undecided_here t kinds c object pc xs p x u path (none_of p.after (sym next_kind ∙ last))
 
 -- ---- a claim with an access: it goes on, or has ended
--- the turns of each consumer that stands at a place are a prefix of its path, and it is going
+-- if a consumer stands at a place after some turns, these are a prefix of its claim path, and its claim is going
 abbrev pub PlacesMakeParts : QuorumTable → List Kind → Type 0
 PlacesMakeParts t kinds = (c object : ℕ) (pc : Pc) (xs : List ObjectTurn) → StandsAt t kinds c object pc xs
     → IsClaimPrefixFrom t c kinds 0 c xs Going
 
--- a claim with an access that is going is the claim of these turns, if its consumer stands at its place
+-- a claim that is begun and going is the claim of turns (`IsClaimOf`) after which its consumer stands at its place
 pub claim_going :
     (t : QuorumTable) (kinds : List Kind) (claim : Claim) (x : ObjectTurn) (xs : List ObjectTurn)
     → PlacesMakeParts t kinds → claim.consumer < t.values → claim.stage ≡ Going → claim.begun ≡ true
@@ -120,7 +120,7 @@ claim_going t kinds claim x xs parts known going begun stands =
       stands = λ g. stands;
     }
 
--- a claim with an access that has ended is the claim of these turns, if they are a prefix with its stage
+-- a claim that is begun and has ended is the claim of turns (`IsClaimOf`) that are a prefix with the claim's stage
 pub claim_ended :
     (t : QuorumTable) (kinds : List Kind) (claim : Claim) (x : ObjectTurn) (xs : List ObjectTurn)
     → claim.consumer < t.values → claim.stage ≢ Going → claim.begun ≡ true
@@ -134,8 +134,8 @@ claim_ended t kinds claim x xs known ended begun prefix =
           (ended g);
     }
 
--- ---- a claim at its beginning, and after an object's end
--- a consumer without a turn stands on the first object
+-- ---- a new claim, and a claim after the last turn on an object
+-- a consumer without a turn stands on object 0
 pub stands_first :
     (t : QuorumTable) (kinds : List Kind) (kind : Kind) (c : ℕ) (pc : Pc) → slice_get kinds 0 ≡ Some kind → c < t.values
     → PcIsAt t kind c pc [] → StandsAt t kinds c 0 pc []
@@ -156,8 +156,8 @@ stands_first t kinds kind c pc first below at =
       place = at;
     }
 
--- a claim whose object did not decide is the claim of the turns, if it has passed to the next object or, if there is
--- none, is undecided
+-- if a turn ended its object's path undecided, a claim is the claim of the turns (`IsClaimOf`) in two cases: it stands
+-- on the next object, or there is none and it is undecided
 pub claim_passed :
     (t : QuorumTable) (kinds : List Kind) (claim : Claim) (c object : ℕ) (pc : Pc) (xs : List ObjectTurn)
     (p : StandsAt t kinds c object pc xs) (x : Turn) (u : ℕ)
@@ -186,7 +186,7 @@ claim_passed t kinds claim c object pc xs p x u parts own known begun below path
     (n ∙ sym passed.1)
     (next_object t kinds c object pc xs p x u kind claim.place below path (ap (slice_get kinds) n ∙ is) passed.2))
 
--- a claim whose object decided is the claim of the turns, if it has the stage for the value
+-- if a turn ended its object's path decided, a claim with the stage for the value is the claim of the turns
 pub claim_decided :
     (t : QuorumTable) (kinds : List Kind) (claim : Claim) (object : ℕ) (pc : Pc) (xs : List ObjectTurn)
     (p : StandsAt t kinds claim.consumer object pc xs) (x : Turn) (u : ℕ)
@@ -200,7 +200,7 @@ claim_decided t kinds claim object pc xs p x u known begun ended is path =
     (decided_here t kinds claim.consumer object pc xs p x u path))
 
 -- ---- the object on which a claim stands, as calls ask for it
--- a place to which turns led fits the table
+-- a place to which turns of a process led is a place over the quorum table (`IsPlace`)
 at_place : (t : QuorumTable) (kind : Kind) (v : ℕ) (pc : Pc) (turns : List Turn)
     → PcIsAt t kind v pc turns → IsPlace t pc
 at_place t Ratifier v (InRatifier place) turns at = at.0
@@ -226,7 +226,7 @@ on_object layout claim xs of going =
       place = at_place (quorums_of layout) p.kind p.input claim.place p.turns p.place;
     }
 
--- the claim's next access is on the object on which its consumer stands
+-- the claim's next access is on the object where its consumer stands
 pub stands_next :
     (layout : Layout) (claim : Claim) (next : ClaimOp) (xs : List ObjectTurn)
     → IsClaimOf (quorums_of layout) (kinds_of layout) claim xs → claim.stage ≡ Going

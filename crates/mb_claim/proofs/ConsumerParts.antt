@@ -12,7 +12,7 @@ part_own a h = ap (λ b. cons_option (cond b (Some a) None) (part a.consumer h))
 pub part_other : (c : ℕ) (a : ClaimAccess) (h : List ClaimAccess) → a.consumer ≢ c → part c (a ∷ h) ≡ part c h
 part_other c a h n = ap (λ b. cons_option (cond b (Some a) None) (part c h)) (ne_eqb a.consumer c n)
 
--- one access more, kept if it is the consumer's, adds its step to the part on cell k, if it is on that cell
+-- one access more, kept if it is consumer c's, adds its step to the part on cell k if it is on that cell
 part_by :
     (c k : ℕ) (a : ClaimAccess) (xs : List ClaimAccess) (ys : List ObjectTurn) → part_on c k xs ≡ ys
     → (b : Bool) → eqb a.consumer c ≡ b

@@ -9,7 +9,7 @@ use Rattle.mb_claim.proofs.KindLaws.{OfKind, AreDeciding, AreRatifying}
 use Rattle.mb_claim.proofs.Turns.{has_turns}
 use Rattle.mb_claim.proofs.Family.{Family, step, acted, lawful_here, next, passed}
 
--- a process with input u to object n, as E says, has stored in a register of u's write quorum
+-- E says that a process comes to object n with input u, and it has stored in a register of u's write quorum
 pub record Shown (t : QuorumTable) (hs : ℕ → List Access) (E : ℕ → ℕ → ℕ → Type 0) (n u : ℕ) : Type 0 where
   pub process : ℕ
   pub register : ℕ
@@ -31,7 +31,7 @@ module _
     (fam : Family t (k ∷ ks) o hs P) (law : AreDeciding t) (ratifying : AreRatifying t)
     (E : ℕ → ℕ → ℕ → Type 0) (enter : (c n w : ℕ) → fam.rest c ≢ []
     → Enters t (k ∷ ks) o (fam.input c) (fam.rest c) n w → E c n w) where
-  -- a process that announced a value has come to the object with that value
+  -- if u was announced to object o, some process came there with u and stored in a register of u's write quorum
   abbrev shown : (u : ℕ) → IsAnnounced (object_of t Ratifier fam.input) u (hs o) → Shown t hs E o u
   shown u a =
       record {
@@ -43,7 +43,7 @@ module _
         stored = a.4;
       }
 
-  -- if a ratifier here has an undecided output, two processes have announced different values
+  -- if object o is a ratifier with an undecided output, two processes have announced different values there
   contest_here : k ≡ Ratifier → (c u : ℕ) → HasOutput (object_of t k fam.input) c false u (hs o) → Contest t hs E o
   contest_here e c u out =
       let found =
@@ -60,7 +60,7 @@ module _
         two = λ q. other.1 (sym other.2.2 ∙ ap fam.input (sym q) ∙ found.0.2);
       }
 
-  -- if the way from object o + 1 to a later object follows an undecided output of object o, it is a way from object o
+  -- if consumer c comes from object o + 1 on to object n with input w, E says that it comes there with w
   pub enter_next :
       (law' : OfKind t k) (c n w : ℕ) → (next t k ks o hs P fam law').rest c ≢ []
       → Enters t ks (suc o) ((next t k ks o hs P fam law').input c) ((next t k ks o hs P fam law').rest c) n w

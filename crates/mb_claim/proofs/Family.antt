@@ -1,4 +1,4 @@
--- All consumers of one cell together, from one object on.
+-- All consumers of one cell together, with their steps from one object on.
 use Rattle.std.proofs.Common.{◌≡◌, ◌≢◌, ◌<◌, ◌≤◌, ◌⊎◌, ℕ, suc, Bool, true, false, cond, eqb, List, [], ◌∷◌, refl, sym}
 use Rattle.std.proofs.Common.{◌∙◌, ap, subst, inl, inr, arith}
 use Rattle.std.proofs.lemmas.Bool.{eqb-true}
@@ -11,8 +11,8 @@ use Rattle.mb_claim.proofs.KindLaws.{OfKind}
 use Rattle.mb_claim.proofs.ObjectHistories.{turns_at}
 use Rattle.mb_claim.proofs.Parts.{Member, Forward, Ends, forward}
 
--- The consumers of one cell, from object o on, with hs n as the history of object n. For each consumer: its input
--- to object o, what its part has from there on, and its stage. P holds of the inputs of all who have come so far.
+-- The consumers of one cell, from object o on. `hs n` is the history of object n. Each consumer has an input to object
+-- o, its steps from there on, and their stage. P holds of the input of each consumer that has such a step.
 pub record Family (t : QuorumTable) (ks : List Kind) (o : ℕ) (hs : ℕ → List Access) (P : ℕ → Type 0) : Type 0 where
   pub input : ℕ → ℕ
   pub rest : ℕ → List ObjectTurn
@@ -24,12 +24,12 @@ pub record Family (t : QuorumTable) (ks : List Kind) (o : ℕ) (hs : ℕ → Lis
   pub words : (n : ℕ) → AreObjectInWords (hs n)
 
 -- ---- which winner a stage names, if a value was decided
--- if consumer c has won or has lost to a, by whether c is a, its stage names a
+-- if consumer c has won and is a, or has lost to a, the winner u that its stage names is a
 names_decided : (c a u : ℕ) (b : Bool) → eqb c a ≡ b → StageNames c (cond b Won (Lost a)) u → u ≡ a
 names_decided c a u true e n = n ∙ eqb-true c a e
 names_decided c a u false e n = n
 
--- if a was decided, the winner that is named is a
+-- if a was decided for consumer c, the winner that c's stage names is a
 names_stage : (c a u : ℕ) (s : Stage) → s ≡ stage_for c a → StageNames c s u → u ≡ a
 names_stage c a u s e n = names_decided c a u (eqb c a) refl (subst (λ r. StageNames c r u) e n)
 
@@ -41,19 +41,19 @@ decided_undecided c a false e = cc
 module _ (t : QuorumTable) (k : Kind) (ks : List Kind) (o : ℕ) (hs : ℕ → List Access) (P : ℕ → Type 0)
     (fam : Family t (k ∷ ks) o hs P) where
   -- ---- object o: its history, and the outputs there
-  -- each consumer's part, taken one object further
+  -- each consumer's steps from object o on, split after o
   unfoldable pub step : (c : ℕ) → Forward t c k ks o (fam.input c) (fam.rest c) (fam.stage c)
   step c = forward t c k ks o (fam.input c) (fam.rest c) (fam.stage c) (fam.member c)
 
-  -- the turns of a consumer in the history of object o are those of its part
+  -- the turns of a consumer in the history of object o are the turns on o among its steps
   pub here : (c : ℕ) → part c (hs o) ≡ turns_at o (fam.rest c)
   here c = fam.turns c o (omega arith)
 
-  -- who has a turn on object o has come so far
+  -- a consumer with a turn on object o has a step from o on
   pub acted : (c : ℕ) → part c (hs o) ≢ [] → fam.rest c ≢ []
   acted c ne e = ne (here c ∙ ap (turns_at o) e)
 
-  -- the turns of a consumer on object o are a prefix of a path of its input, which is a value of the table
+  -- if a consumer has turns on object o, they are a prefix of a path of its input, which is a value of the table
   part_here :
       (c : ℕ) → part c (hs o) ≢ []
       → (turns_at o (fam.rest c) ≡ []) ⊎ IsPrefix t k (fam.input c) (turns_at o (fam.rest c))
@@ -61,7 +61,7 @@ module _ (t : QuorumTable) (k : Kind) (ks : List Kind) (o : ℕ) (hs : ℕ → L
   part_here c ne (inl e) = absurd (ne (here c ∙ e))
   part_here c ne (inr p) = ((fam.holds c (acted c ne)).0, subst (λ ts. IsPrefix t k (fam.input c) ts) (sym (here c)) p)
 
-  -- the history of this object is lawful
+  -- the history of object o is lawful, with these inputs
   pub lawful_here : IsObjectLawful (object_of t k fam.input) (hs o)
   lawful_here = record { memory = fam.memory o; words = fam.words o; parts = λ c ne. part_here c ne (step c).here }
 
@@ -80,7 +80,7 @@ module _ (t : QuorumTable) (k : Kind) (ks : List Kind) (o : ℕ) (hs : ℕ → L
       subst (λ n. (n < t.values) × P n) from.2 at
 
   -- ---- the family from the next object on
-  -- the consumers from the next object on, if Q holds of each undecided output of object o
+  -- the family from the next object on, with Q, if Q holds of each undecided output of object o
   abbrev pub next_with :
       (Q : ℕ → Type 0) → ((c u : ℕ) → HasOutput (object_of t k fam.input) c false u (hs o) → (u < t.values) × Q u)
       → Family t ks (suc o) hs Q
@@ -96,11 +96,11 @@ module _ (t : QuorumTable) (k : Kind) (ks : List Kind) (o : ℕ) (hs : ℕ → L
         words = fam.words;
       }
 
-  -- the consumers from the next object on: what holds of the inputs to object o holds of those to the next
+  -- the family from the next object on, with P: each undecided output of object o is an input of which P holds
   abbrev pub next : OfKind t k → Family t ks (suc o) hs P
   next law = next_with P (λ c u out. output_holds law c false u out)
 
-  -- the consumers from the next object on, if u was decided on object o: each comes with u
+  -- the family from the next object on, if u was decided on object o: each consumer that goes on has the input u
   abbrev pub next_decided :
       OfKind t k → (c u : ℕ) → HasOutput (object_of t k fam.input) c true u (hs o) → Family t ks (suc o) hs (λ a. a ≡ u)
   next_decided law c u p =
@@ -108,13 +108,13 @@ module _ (t : QuorumTable) (k : Kind) (ks : List Kind) (o : ℕ) (hs : ℕ → L
       ((output_holds law b false a out).0, (law fam.input).coherence (hs o) lawful_here c b false u a p out))
 
   -- ---- where a claim was decided, or not
-  -- u was decided for consumer c on object o, or after it
+  -- object o decided u for consumer c, or left it undecided and its stage from the next object on names u
   abbrev pub Ended : ℕ → ℕ → Type 0
   Ended c u =
       HasOutput (object_of t k fam.input) c true u (hs o)
       ⊎ (HasOutput (object_of t k fam.input) c false (step c).value (hs o) × StageNames c (step c).stage u)
 
-  -- if the stage of consumer c names u, u was decided on object o or after it, by how c's part ends
+  -- if the stage of consumer c names u, u was decided for c on object o or after it. Cases: how c's steps on o end
   ended_by :
       (c u : ℕ) → StageNames c (fam.stage c) u
       → Ends t c k o (fam.input c) (fam.rest c) (fam.stage c) (step c).value (step c).stage → Ended c u
@@ -124,11 +124,11 @@ module _ (t : QuorumTable) (k : Kind) (ks : List Kind) (o : ℕ) (hs : ℕ → L
       (output c true a path))
   ended_by c u n (inr (inr x)) = inr (output c false (step c).value x.0, subst (λ r. StageNames c r u) (sym x.1) n)
 
-  -- if the stage of consumer c names u, u was decided on object o or after it
+  -- if the stage of consumer c names u, u was decided for c on object o or after it
   pub ended : (c u : ℕ) → StageNames c (fam.stage c) u → Ended c u
   ended c u n = ended_by c u n (step c).ends
 
-  -- an undecided claim has passed object o undecided, by how its part ends
+  -- if consumer c is undecided, object o and the later ones left it undecided. Cases: how its steps on o end
   passed_by :
       (c : ℕ) → fam.stage c ≡ Undecided
       → Ends t c k o (fam.input c) (fam.rest c) (fam.stage c) (step c).value (step c).stage
@@ -137,13 +137,13 @@ module _ (t : QuorumTable) (k : Kind) (ks : List Kind) (o : ℕ) (hs : ℕ → L
   passed_by c e (inr (inl (a, path, g))) = absurd (decided_undecided c a (eqb c a) (sym e ∙ g))
   passed_by c e (inr (inr x)) = (output c false (step c).value x.0, x.1 ∙ e)
 
-  -- an undecided claim has passed object o undecided
+  -- if consumer c is undecided, object o left it undecided, and so did the later ones
   pub passed :
       (c : ℕ) → fam.stage c ≡ Undecided
       → HasOutput (object_of t k fam.input) c false (step c).value (hs o) × ((step c).stage ≡ Undecided)
   passed c e = passed_by c e (step c).ends
 
--- if no object is left, no winner is named
+-- with no object left, no stage names a winner
 pub none_named :
     (t : QuorumTable) (c o v u : ℕ) (xs : List ObjectTurn) (s : Stage) → Member t c [] o v xs s → StageNames c s u → ⊥
 none_named t c o v u xs s (inl x) n = subst (λ r. StageNames c r u) x.1 n

@@ -1,4 +1,4 @@
--- Two leading ratifiers: if the first has decided, nobody comes after the second.
+-- A row that begins with two ratifiers: if the first has decided, nobody comes to an object after the second.
 use Rattle.std.proofs.lemmas.Bool.{cases_eq}
 use Rattle.std.proofs.lemmas.List.Elements.{filter_map-append}
 use Rattle.std.proofs.Common.{subst, inl, inr, ◌++◌, ◌≡◌, ◌≢◌, ◌≤◌, ℕ, true, false, List, [], ◌∷◌, sym, ◌∙◌, ap, ⊎_elim}
@@ -20,11 +20,11 @@ use Rattle.mb_claim.proofs.CellFamily.{competes, family}
 module _ (t : QuorumTable) (ks : List Kind) (hs : ℕ → List Access) (law : AreDeciding t) (ratifying : AreRatifying t)
     (P : ℕ → Type 0) (fam : Family t (Ratifier ∷ Ratifier ∷ ks) 0 hs P) (c u : ℕ)
     (p : IsPath t Ratifier (fam.input c) (part c (hs 0)) (answer true u)) where
-  -- all who come to the second ratifier come with u
+  -- the family from the second ratifier on: each consumer that comes there has the input u
   abbrev second : Family t (Ratifier ∷ ks) 1 hs (λ a. a ≡ u)
   second = next_decided t Ratifier (Ratifier ∷ ks) 0 hs P fam (law Ratifier) c u p
 
-  -- the consumers who would come after the second ratifier
+  -- the family from the object after the second ratifier on
   abbrev third : Family t ks 2 hs (λ a. a ≡ u)
   third = next t Ratifier ks 1 hs (λ a. a ≡ u) second (law Ratifier)
 
@@ -43,7 +43,7 @@ module _ (t : QuorumTable) (ks : List Kind) (hs : ℕ → List Access) (law : Ar
   none_behind d o l =
       third.turns d o l ∙ ap (turns_at o) (⊎_elim (λ e. e) (λ ne. absurd (nobody d ne)) (nil_or (third.rest d)))
 
--- in a lawful history of claims, too, nobody comes after the second ratifier if the first has decided
+-- in a lawful history of claims, if the first ratifier has decided, nobody has a turn after the second
 pub fast_path_lem :
     (t : QuorumTable) → AreDeciding t → AreRatifying t
     → (ks : List Kind) (cells : ℕ) (h : List ClaimAccess) (k c u : ℕ)
@@ -62,7 +62,7 @@ module _ (t : QuorumTable) (law : AreDeciding t) (ratifying : AreRatifying t) (k
   abbrev kinds : List Kind
   kinds = Ratifier ∷ Ratifier ∷ ks
 
-  -- what consumer c did on the first object
+  -- the turns of consumer c on object 0 of the cell
   abbrev firsts : List ClaimAccess → List Turn
   firsts h = part c (object_history k 0 h)
 

@@ -1,4 +1,4 @@
--- A claim that has made no access.
+-- A claim that has made no access: it is going, is not begun, and stands on object 0.
 use Rattle.std.proofs.Common.{◌≡◌, ◌<◌, ◌≤◌, ℕ, zero, suc, Bool, true, false, List, [], ◌∷◌, ◌++◌, ◌+◌, length, refl}
 use Rattle.std.proofs.Common.{sym, ◌∙◌, ap, subst, inl, arith}
 use Rattle.mb_quorum.specs.Vocabulary.{QuorumTable}
@@ -12,7 +12,7 @@ use Rattle.mb_claim.proofs.Lists.{not_empty, append_nil_parts, append_nil_rest, 
 use Rattle.mb_claim.proofs.Unique.{open_closed, one_stage_lem}
 
 -- ---- the first object of a row, and the place there
--- no turns on an object are no turns
+-- if turns on object o make an empty list of steps, there are no turns
 no_turns_on : (o : ℕ) (turns : List Turn) → turns_on o turns ≡ [] → turns ≡ []
 no_turns_on o [] none = refl
 no_turns_on o (x ∷ turns) none = absurd (not_empty _ _ none)
@@ -22,14 +22,14 @@ first_object : (s n : ℕ) (ys : List Kind) → 1 ≤ n → (rest : List Kind) �
 first_object s zero ys some = absurd (omega (arith, some))
 first_object s (suc n) ys some = (Ratifier ∷ (pairs_of s n ++ ys), refl)
 
--- pairs and a last object have a first object, if there is one of them
+-- if there is a pair or a last object, there is a first object among these
 some_object : (s n : ℕ) (b : Bool) → 1 ≤ n + length (last_row b)
     → (kind : Kind) × (rest : List Kind) × (pairs_of s n ++ last_row b ≡ kind ∷ rest)
 some_object s (suc n) b some = (Conciliator s, Ratifier ∷ (pairs_of s n ++ last_row b), refl)
 some_object s zero true some = (LastObject, [], refl)
 some_object s zero false some = absurd (omega (arith, some))
 
--- with a fast path or without, a row has a first object
+-- if the objects after the fast path have a first one, so has the row, with a fast path or without
 first_kind : (b : Bool) (kind : Kind) (rest ys : List Kind) → ys ≡ kind ∷ rest
     → (first : Kind) × (behind : List Kind) × (fast_row b ++ ys ≡ first ∷ behind)
 first_kind true kind rest ys is = (Ratifier, Ratifier ∷ ys, refl)
@@ -48,7 +48,7 @@ first_load t s v (InConciliator (Look input)) op at is = absurd at.1.1.2
 
 -- ---- a consumer without turns
 module _ (t : QuorumTable) (law : AreDeciding t) (c : ℕ) (known : c < t.values) where
-  -- without turns no object is passed
+  -- a consumer without turns has passed no object
   none_passed : (before : List Kind) (front : List ObjectTurn) (w : ℕ) → front ≡ [] → PassesAll t before 0 c front w
       → before ≡ []
   none_passed [] front w none passed = refl
@@ -58,7 +58,7 @@ module _ (t : QuorumTable) (law : AreDeciding t) (c : ℕ) (known : c < t.values
       absurd (open_closed t kind (law kind) c [] x.turns (answer false u) (sym empty) ((law kind
       (λ p. p)).opens c known) x.path)
 
-  -- in a row that begins with a conciliator a consumer without turns stands on object 0, and loads that word next
+  -- if object 0 is a conciliator, a consumer without turns stands there, loads its word and finds at most `values`
   stands_first :
       (s object : ℕ) (rest : List Kind) (pc : Pc) (op : Op) → StandsAt t (Conciliator s ∷ rest) c object pc []
       → IsOpAt t pc op
@@ -83,7 +83,7 @@ module _ (t : QuorumTable) (law : AreDeciding t) (c : ℕ) (known : c < t.values
       let front : at.front ≡ [] = append_nil_rest (turns_on object at.turns) at.front (sym at.all) in
       at.number ∙ ap length (none_passed at.before at.front at.input front at.passed)
 
--- what is not true is false
+-- a test that is not true is false
 not_true : (b : Bool) → (b ≡ true → ⊥) → b ≡ false
 not_true true never = absurd (never refl)
 not_true false never = refl
@@ -91,11 +91,11 @@ not_true false never = refl
 -- ---- a claim of a layout without accesses
 module _ (layout : Layout) (law : AreDeciding (quorums_of layout)) (claim : Claim)
     (of : IsClaimOf (quorums_of layout) (kinds_of layout) claim []) where
-  -- the layout's pairs and what comes after them
+  -- the objects of the layout after its fast path
   abbrev behind_fast : List Kind
   behind_fast = pairs_of (spread (quorums_of layout).values) layout.pairs ++ last_row layout.shape.last
 
-  -- these objects have a first one
+  -- the objects of the layout after its fast path have a first one
   abbrev first : (kind : Kind) × (rest : List Kind) × (behind_fast ≡ kind ∷ rest)
   first = some_object (spread (quorums_of layout).values) layout.pairs layout.shape.last layout.some
 
@@ -103,7 +103,7 @@ module _ (layout : Layout) (law : AreDeciding (quorums_of layout)) (claim : Clai
   abbrev any_first : (kind : Kind) × (rest : List Kind) × (kinds_of layout ≡ kind ∷ rest)
   any_first = first_kind layout.shape.fast first.0 first.1 behind_fast first.2
 
-  -- the claim is going
+  -- a claim without accesses is going
   pub fresh_going : claim.stage ≡ Going
   fresh_going =
       one_stage_lem (quorums_of layout) law claim.consumer
@@ -116,18 +116,18 @@ module _ (layout : Layout) (law : AreDeciding (quorums_of layout)) (claim : Clai
         is = refl;
       })))
 
-  -- the claim is not begun
+  -- a claim without accesses is not begun
   pub fresh_begun : claim.begun ≡ false
   fresh_begun = not_true claim.begun (λ e. of.begun.0 e refl)
 
-  -- the claim stands on the first object
+  -- a claim without accesses stands on object 0
   pub fresh_object : claim.object ≡ 0
   fresh_object =
       stands_at_first (quorums_of layout) law claim.consumer of.known (kinds_of layout) claim.object claim.place
       (of.stands fresh_going)
 
-  -- with pairs and without a fast path, its next access loads the conciliator's word, and finds no more than the number
-  -- of consumers
+  -- with pairs and without a fast path, the next access of a claim without accesses loads the conciliator's word, and
+  -- finds at most the number of consumers
   pub fresh_next :
       1 ≤ layout.pairs → layout.shape.fast ≡ false → (op : Op) → IsOpAt (quorums_of layout) claim.place op
       → (claim.object ≡ 0) × (op ≡ to.Load Value)

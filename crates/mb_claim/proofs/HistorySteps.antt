@@ -14,7 +14,7 @@ own_part a h =
     ap₂ (λ p q. cons_option (cond p (cond q (Some a.step) None) None) (part_on a.consumer a.cell h))
     (eq-eqb a.consumer a.consumer refl) (eq-eqb a.cell a.cell refl)
 
--- an access that is not of this part adds nothing to it
+-- an access of another consumer, or on another cell, adds nothing to a part
 other_by :
     (p q : Bool) (x : ObjectTurn) (xs : List ObjectTurn) → (p ≡ true → q ≡ true → ⊥)
     → cons_option (cond p (cond q (Some x) None) None) xs ≡ xs
@@ -30,7 +30,7 @@ other_part c k a h ne =
     other_by (eqb a.consumer c) (eqb a.cell k) a.step (part_on c k h)
     (λ p q. ne (eqb-true a.consumer c p) (eqb-true a.cell k q))
 
--- what is left in a word changes as the access says, by whether it is on the word's object
+-- an access changes what a history leaves in a word of an object only if it is on that object (tests q and r)
 held_by :
     (q r : Bool) (x : Access) (reg : Reg) (xs : List Access)
     → value_in reg (cons_option (cond q (cond r (Some x) None) None) xs) ≡ cond q
@@ -41,7 +41,7 @@ held_by false r x reg xs = refl
 
 module _ (cs : Claims) (h : List ClaimAccess) (a : ClaimAccess)
     (law : IsClaimLawful cs h) (may : MayFollow cs a h) where
-  -- whether the access is of this part
+  -- the access is consumer c's on cell k, or it is not
   mine : (c k : ℕ) → ((a.consumer ≡ c) × (a.cell ≡ k)) ⊎ (a.consumer ≡ c → a.cell ≡ k → ⊥)
   mine c k =
       ⊎_elim (λ p. ⊎_elim (λ q. inl (p, q)) (λ q. inr (λ x y. q y)) (cases_eq a.cell k)) (λ p. inr (λ x y. p x))

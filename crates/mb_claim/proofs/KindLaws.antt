@@ -1,4 +1,4 @@
--- What the objects over a table owe, whatever their inputs, and what the law of one next op says of them.
+-- Laws of the objects over a table, whatever the inputs of their processes.
 use Rattle.std.proofs.Common.{ℕ, ◌≡◌, List, ◌∷◌}
 use Rattle.mb_quorum.specs.Vocabulary.{QuorumTable}
 use Rattle.mb_deciding.specs.Vocabulary.{IsSameOp, ReadsLast, IsPrefix, object_of, IsDeciding, IsRatifying}
@@ -12,15 +12,15 @@ OfKind t kind = (inputs : ℕ → ℕ) → IsDeciding (object_of t kind inputs)
 abbrev pub AreDeciding : QuorumTable → Type 0
 AreDeciding t = (kind : Kind) → OfKind t kind
 
--- the turns of a process name its next op
+-- what a process has done determines its next op
 abbrev pub OneOp : QuorumTable → Type 0
 OneOp t = (kind : Kind) (v : ℕ) (turns : List Turn) (a b : Turn) → IsPrefix t kind v (a ∷ turns)
     → IsPrefix t kind v (b ∷ turns) → IsSameOp a.act b.act
 
--- acts of one op after one history are one act
+-- two acts of one op, each true to memory after the same history, are equal
 abbrev pub OneAct : Type 0
 OneAct = (a b : Act) (h : List Access) → IsSameOp a b → ReadsLast a h → ReadsLast b h → a ≡ b
 
--- ratifiers keep their further laws
+-- ratifiers keep the laws that hold of ratifiers alone (`IsRatifying`)
 abbrev pub AreRatifying : QuorumTable → Type 0
 AreRatifying t = (inputs : ℕ → ℕ) → IsRatifying (object_of t Ratifier inputs)

@@ -11,13 +11,13 @@ use Rattle.mb_claim.specs.{ClaimAccess, Won, Lost, Undecided, part_on, turns_on,
 use Rattle.mb_claim.specs.{IsClaimLawful, pairs_of, two_consumers, won_and_lost, both_undecided}
 use Rattle.mb_claim.proofs.ObjectHistories.{turns_at}
 
--- ---- what holds of each access holds of each part
+-- ---- what holds of each access holds of each consumer and cell with a part
 -- P holds of the consumer and the cell of each access
 abbrev pub AreAll : (ℕ → ℕ → Type 0) → List ClaimAccess → Type 0
 AreAll P [] = Unit {0}
 AreAll P (a ∷ h) = P a.consumer a.cell × AreAll P h
 
--- P holds of a part with one access more, by whether the access is of that part
+-- with one access more, P holds of consumer c and cell k if they have a step. Cases: whether the access is theirs
 known_by :
     (P : ℕ → ℕ → Type 0) (c k : ℕ) (a : ClaimAccess) (xs : List ObjectTurn) (p q : Bool) → eqb a.consumer c ≡ p
     → eqb a.cell k ≡ q
@@ -33,15 +33,15 @@ known P c k (a ∷ h) all some =
     known_by P c k a (part_on c k h) (eqb a.consumer c) (eqb a.cell k) refl refl all.0 (known P c k h all.1) some
 
 -- ---- consumer 0 wins, and consumer 1 loses
--- consumer 0 has stored its own number in the conciliator, and leaves it with that
+-- consumer 0 has stored its own number in the conciliator, and leaves it with that number
 pub conciliated : IsPath (unary_table 2) (Conciliator 2) 0 (turns_at 0 (part_on 0 0 won_and_lost)) (answer false 0)
 conciliated = (refl, (refl, (0, (omega arith), inr (refl, (refl, (omega arith), tt)))))
 
--- consumer 0 has met no 1 in the ratifier, so its own number is decided
+-- consumer 0 has loaded no 1 in the ratifier, so its own number is decided
 pub ratified : IsPath (unary_table 2) Ratifier 0 (turns_at 1 (part_on 0 0 won_and_lost)) (answer true 0)
 ratified = (Store Proposal 1 ∷ Load Proposal 0 ∷ Store (Quorum 0) 1 ∷ [], inl (refl, refl), refl)
 
--- consumer 0 has won
+-- in `won_and_lost` consumer 0 has won
 pub won : IsClaimPrefixFrom (unary_table 2) 0 (pairs_of 2 1) 0 0 (part_on 0 0 won_and_lost) Won
 won =
     inr (inr (
@@ -58,7 +58,7 @@ won =
           })),
     ))
 
--- consumer 1 has lost to consumer 0
+-- in `won_and_lost` consumer 1 has lost to consumer 0
 pub lost : IsClaimPrefixFrom (unary_table 2) 1 (pairs_of 2 1) 0 1 (part_on 1 0 won_and_lost) (Lost 0)
 lost =
     inr (inr (
@@ -80,31 +80,31 @@ lost =
           })),
     ))
 
--- what consumer c did on cell k in this history belongs to its claim
+-- what consumer c did on cell k in the history h belongs to its claim
 abbrev IsMine : List ClaimAccess → ℕ → ℕ → Type 0
 IsMine h c k = IsClaimPart two_consumers c k (part_on c k h)
 
--- what consumer 0 did on cell 0 belongs to its claim
+-- in `won_and_lost` what consumer 0 did on cell 0 belongs to its claim
 first : IsMine won_and_lost 0 0
 first = ((omega arith), (omega arith), (Won, won))
 
--- what consumer 1 did on cell 0 belongs to its claim
+-- in `won_and_lost` what consumer 1 did on cell 0 belongs to its claim
 second : IsMine won_and_lost 1 0
 second = ((omega arith), (omega arith), (Lost 0, lost))
 
--- a turn that loads 0 is within words
+-- the numbers in a turn that loads 0 are below 2 ^ 64
 pub zero_word : IsInWords (record { act = Load Value 0; word = 0 })
 zero_word = ((omega arith, tt), (omega arith))
 
--- a turn that loads 1 is within words
+-- the numbers in a turn that loads 1 are below 2 ^ 64
 pub one_word : IsInWords (record { act = Load Value 1; word = 0 })
 one_word = ((omega arith, tt), (omega arith))
 
--- a turn that stores 1 is within words
+-- the numbers in a turn that stores 1 are below 2 ^ 64
 pub one_put : IsInWords (record { act = Store Value 1; word = 0 })
 one_put = ((tt, omega arith), (omega arith))
 
--- the history in which consumer 0 wins and consumer 1 loses is lawful
+-- `won_and_lost` is lawful
 pub lawful : IsClaimLawful two_consumers won_and_lost
 lawful =
     record {
@@ -204,23 +204,23 @@ second_undecided =
       )),
     ))
 
--- what consumer 0 did on cell 0 belongs to its claim, if both are undecided
+-- in `both_undecided` what consumer 0 did on cell 0 belongs to its claim
 zero_here : IsMine both_undecided 0 0
 zero_here = ((omega arith), (omega arith), (Undecided, first_undecided))
 
--- what consumer 1 did on cell 0 belongs to its claim, if both are undecided
+-- in `both_undecided` what consumer 1 did on cell 0 belongs to its claim
 one_here : IsMine both_undecided 1 0
 one_here = ((omega arith), (omega arith), (Undecided, second_undecided))
 
--- a turn that loads 2 is within words
+-- the numbers in a turn that loads 2 are below 2 ^ 64
 two_word : IsInWords (record { act = Load Value 2; word = 0 })
 two_word = ((omega arith, tt), (omega arith))
 
--- a turn that stores 2 is within words
+-- the numbers in a turn that stores 2 are below 2 ^ 64
 two_put : IsInWords (record { act = Store Value 2; word = 0 })
 two_put = ((tt, omega arith), (omega arith))
 
--- the history in which both are undecided is lawful
+-- `both_undecided` is lawful
 pub undecided_lawful : IsClaimLawful two_consumers both_undecided
 undecided_lawful =
     record {

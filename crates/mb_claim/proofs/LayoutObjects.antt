@@ -1,5 +1,5 @@
--- The objects of a layout: how many there are, and of which kinds. Their numbers and words are few. Also what is left
--- of a row, and a row that is copied object by object.
+-- The objects of a layout: how many there are, of which kinds, and bounds on their number and words. Also what is left
+-- of a row after some objects, and how a row is copied.
 use Rattle.std.proofs.Common.{◌≡◌, ◌<◌, ◌≤◌, ◌+◌, ◌*◌, ℕ, zero, suc, Bool, true, false, Some, List, [], ◌∷◌, ◌++◌, drop, length, slice_get, set}
 use Rattle.std.proofs.Common.{refl, ◌∙◌, sym, ap, subst, get_or, append-nil, length-append, arith}
 use Rattle.std.proofs.lemmas.Option.{none-some, same_Some, slice_get-get_or, get_or_from_slice_get}
@@ -39,13 +39,13 @@ second_of_pair s (suc n) zero (suc (suc o)) e h = absurd (omega arith)
 second_of_pair s (suc n) (suc i) (suc (suc o)) e h = second_of_pair s n i o (omega arith) (omega arith)
 
 -- ---- the objects of a row
--- of two lists joined, the first elements are those of the first list
+-- at the positions of the first list, two lists joined have its elements
 get_ahead : (xs ys : List Kind) (o : ℕ) → o < length xs → slice_get (xs ++ ys) o ≡ slice_get xs o
 get_ahead [] ys o h = absurd (omega (arith, h))
 get_ahead (x ∷ xs) ys zero h = refl
 get_ahead (x ∷ xs) ys (suc o) h = get_ahead xs ys o (omega (arith, h))
 
--- of two lists joined, the elements after the first list are those of the second
+-- after the positions of the first list, two lists joined have the second list's elements
 get_behind : (xs ys : List Kind) (n o : ℕ) → n ≡ length xs + o → slice_get (xs ++ ys) n ≡ slice_get ys o
 get_behind [] ys n o e = let same : n ≡ o = omega (arith, e) in ap (slice_get ys) same
 get_behind (x ∷ xs) ys zero o e = absurd (omega (arith, e))
@@ -95,7 +95,7 @@ pub in_fast :
     (shape : Shape) (s n o : ℕ) → o < length (fast_row shape.fast) → slice_get (row_of shape s n) o ≡ Some Ratifier
 in_fast shape s n o h = fast_kind shape.fast (pairs_of s n ++ last_row shape.last) o h
 
--- an object of a pair is the same in the row as among the pairs alone
+-- an object of a pair has the same kind in the row and among the pairs alone
 pub in_pairs :
     (shape : Shape) (s n o place : ℕ) → o ≡ length (fast_row shape.fast) + place → place < 2 * n
     → slice_get (row_of shape s n) o ≡ slice_get (pairs_of s n) place
@@ -117,23 +117,23 @@ at_last shape s n o e h =
     ∙ get_behind (pairs_of s n) (last_row shape.last) (2 * n) 0 (omega (arith, length-pairs_of s n))
     ∙ last_kind shape.last (omega (arith, length-row_of shape s n, e, h))
 
--- ---- what is small enough in a layout
+-- ---- bounds on what a layout has
 -- the quorum table of a layout keeps the law of quorum tables
 pub quorums_lawful : (layout : Layout) → IsQuorumTable (quorums_of layout)
 quorums_lawful layout = chosen_lawful layout.table
 
--- a layout has at least one consumer, and no more than a table has values
+-- a layout has at least one consumer, and at most `MAX_VALUES`
 pub consumers_within : (layout : Layout) → (1 ≤ consumer_count layout) × (consumer_count layout ≤ MAX_VALUES)
 consumers_within layout = chosen_within layout.table
 
--- the kinds of a row of pairs fit, if s is at most 63
+-- if s is at most 63, each kind in a row of pairs is allowed (`IsFitKind`)
 pub fit_in_pairs : (s n o : ℕ) (kind : Kind) → s ≤ 63 → slice_get (pairs_of s n) o ≡ Some kind → IsFitKind kind
 fit_in_pairs s zero o kind h e = absurd (none-some kind e)
 fit_in_pairs s (suc n) zero kind h e = subst IsFitKind (same_Some (Conciliator s) kind e) h
 fit_in_pairs s (suc n) (suc zero) kind h e = subst IsFitKind (same_Some Ratifier kind e) tt
 fit_in_pairs s (suc n) (suc (suc o)) kind h e = fit_in_pairs s n o kind h e
 
--- the kinds of two lists joined fit, if those of both do
+-- if each kind in two lists is allowed (`IsFitKind`), so is each in the two lists joined
 fit_behind :
     (xs ys : List Kind) → ((o : ℕ) (kind : Kind) → slice_get xs o ≡ Some kind → IsFitKind kind)
     → ((o : ℕ) (kind : Kind) → slice_get ys o ≡ Some kind → IsFitKind kind) → (o : ℕ) (kind : Kind)
@@ -142,20 +142,20 @@ fit_behind [] ys f g o kind e = g o kind e
 fit_behind (x ∷ xs) ys f g zero kind e = f 0 kind e
 fit_behind (x ∷ xs) ys f g (suc o) kind e = fit_behind xs ys (λ n k h. f (suc n) k h) g o kind e
 
--- the kinds of a fast path fit
+-- each kind of a fast path is allowed (`IsFitKind`)
 fit_fast : (b : Bool) (o : ℕ) (kind : Kind) → slice_get (fast_row b) o ≡ Some kind → IsFitKind kind
 fit_fast true zero kind e = subst IsFitKind (same_Some Ratifier kind e) tt
 fit_fast true (suc zero) kind e = subst IsFitKind (same_Some Ratifier kind e) tt
 fit_fast true (suc (suc o)) kind e = absurd (none-some kind e)
 fit_fast false o kind e = absurd (none-some kind e)
 
--- the kind of a last object fits
+-- the kind of a last object is allowed (`IsFitKind`)
 fit_last : (b : Bool) (o : ℕ) (kind : Kind) → slice_get (last_row b) o ≡ Some kind → IsFitKind kind
 fit_last true zero kind e = subst IsFitKind (same_Some LastObject kind e) tt
 fit_last true (suc o) kind e = absurd (none-some kind e)
 fit_last false o kind e = absurd (none-some kind e)
 
--- the kinds of a row fit, if s is at most 63
+-- if s is at most 63, each kind in a row of any shape is allowed (`IsFitKind`)
 pub fit_in_row :
     (shape : Shape) (s n o : ℕ) (kind : Kind) → s ≤ 63 → slice_get (row_of shape s n) o ≡ Some kind → IsFitKind kind
 fit_in_row shape s n o kind h e =
@@ -170,7 +170,7 @@ last_turn_small layout =
     let narrow : width_of m ≤ 6 = (width_is_least m).least 6 (omega (arith, quorum.few)) in
     omega (arith, narrow)
 
--- the cells of a layout have at most MAX_OBJECTS objects
+-- a row with at most MAX_PAIRS pairs has at most MAX_OBJECTS objects
 pub objects_few : (shape : Shape) (s n : ℕ) → n ≤ MAX_PAIRS → length (row_of shape s n) ≤ MAX_OBJECTS
 objects_few shape s n few =
     omega (arith, length-row_of shape s n, fast_few shape.fast, last_few shape.last, few)
@@ -184,8 +184,8 @@ cell_small layout =
     let few = objects_few layout.shape (spread (quorums_of layout).values) layout.pairs layout.few in
     omega (arith, row_words-few r kinds, mul-le (length kinds) (1 + r) MAX_OBJECTS 65 few (omega (arith, quorum.limit)))
 
--- ---- objects that are read, left and copied
--- if two rows have the same object at a position, what is read from the second is the object of the first
+-- ---- objects that are read, dropped and copied
+-- if two rows have the same kind at a position, reading the second there gives the kind in the first
 pub told_by_row :
     (xs ys : List Kind) (o : ℕ) (d : Kind) → o < length xs → slice_get xs o ≡ slice_get ys o
     → slice_get xs o ≡ Some (get_or ys o d)
@@ -193,14 +193,14 @@ told_by_row xs ys o d below same =
     let e = slice_get-get_or xs o d below in
     e ∙ ap Some (sym (get_or_from_slice_get ys o (get_or xs o d) d (sym same ∙ e)))
 
--- past the last object of a row no turns are allowed
+-- if all objects of a row are dropped, none is left that allows a turn
 pub none_left : (t : QuorumTable) (kinds : List Kind) (o : ℕ) → length kinds ≤ o → most_on_objects t (drop o kinds) ≡ 0
 none_left t [] zero h = refl
 none_left t [] (suc o) h = refl
 none_left t (k ∷ ks) zero h = absurd (omega arith)
 none_left t (k ∷ ks) (suc o) h = none_left t ks o (omega arith)
 
--- if the first i objects of a row are copied, one store copies the next, too
+-- if ys has the first i objects of xs, then with a store of xs's object at position i it has the first i + 1
 pub copied_next :
     (xs ys : List Kind) (i : ℕ) (x : Kind) → i < length ys → slice_get xs i ≡ Some x
     → ((o : ℕ) → o < i → slice_get xs o ≡ slice_get ys o)

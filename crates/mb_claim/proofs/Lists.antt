@@ -21,12 +21,12 @@ append_nil_left xs ys p = ap (λ zs. zs ++ ys) p
 pub append_nil_right : {A : Type 0} (xs ys : List A) → ys ≡ [] → xs ++ ys ≡ xs
 append_nil_right xs ys p = ap (λ zs. xs ++ zs) p ∙ append-nil xs
 
--- if two lists joined are empty, the first is
+-- if two lists joined are empty, the first list is empty
 pub append_nil_parts : {A : Type 0} (xs ys : List A) → xs ++ ys ≡ [] → xs ≡ []
 append_nil_parts [] ys e = refl
 append_nil_parts (x ∷ xs) ys e = absurd (not_empty x (xs ++ ys) e)
 
--- if two lists joined are empty, the second is
+-- if two lists joined are empty, the second list is empty
 pub append_nil_rest : {A : Type 0} (xs ys : List A) → xs ++ ys ≡ [] → ys ≡ []
 append_nil_rest [] ys e = e
 append_nil_rest (x ∷ xs) ys e = absurd (not_empty x (xs ++ ys) e)
@@ -45,19 +45,19 @@ tail_of (x ∷ xs) = xs
 pub heads : {A : Type 0} (x y : A) (xs ys : List A) → x ∷ xs ≡ y ∷ ys → x ≡ y
 heads x y xs ys e = ap (head_or x) e
 
--- equal lists have equal rests
+-- equal lists have the same elements after the first
 pub tails : {A : Type 0} (x y : A) (xs ys : List A) → x ∷ xs ≡ y ∷ ys → xs ≡ ys
 tails x y xs ys e = ap tail_of e
 
--- ---- picks from a list
--- a pick from a list with perhaps one element more is a pick from both
+-- ---- picking elements of a list by a function (`filter_map`)
+-- what is picked from a list with perhaps one element more is what is picked from that element and from the list
 filter_map-cons_option :
     {A B : Type 0} (g : A → Option B) (o : Option A) (xs : List A)
     → filter_map g (cons_option o xs) ≡ cons_option (option_and_then g o) (filter_map g xs)
 filter_map-cons_option g None xs = refl
 filter_map-cons_option g (Some x) xs = refl
 
--- one pick after another is one pick
+-- picking by f, and then by g from what was picked, is picking once by both
 pub filter_map-filter_map :
     {A B C : Type 0} (g : B → Option C) (f : A → Option B) (h : List A)
     → filter_map g (filter_map f h) ≡ filter_map (λ a. option_and_then g (f a)) h
@@ -66,20 +66,20 @@ filter_map-filter_map g f (a ∷ h) =
     filter_map-cons_option g (f a) (filter_map f h)
     ∙ ap (cons_option (option_and_then g (f a))) (filter_map-filter_map g f h)
 
--- two picks that agree at each element give the same list
+-- two functions that agree at each element pick the same list
 pub filter_map_agree :
     {A B : Type 0} (f g : A → Option B) → ((a : A) → f a ≡ g a) → (h : List A) → filter_map f h ≡ filter_map g h
 filter_map_agree f g e [] = refl
 filter_map_agree f g e (a ∷ h) =
     ap (λ o. cons_option o (filter_map f h)) (e a) ∙ ap (cons_option (g a)) (filter_map_agree f g e h)
 
--- ---- elements at places
--- the element after a list stands at the list's length
+-- ---- elements at positions
+-- the element after the list xs is at position `length xs`
 pub get_at : {A : Type 0} (xs : List A) (a : A) (ys : List A) → slice_get (xs ++ a ∷ ys) (length xs) ≡ Some a
 get_at [] a ys = refl
 get_at (x ∷ xs) a ys = get_at xs a ys
 
--- what stands after a list and one element more is the first of what follows
+-- the position after the list xs and one element more has the first element of what follows
 pub get_behind : {A : Type 0} (xs : List A) (a : A) (ys : List A)
     → slice_get (xs ++ a ∷ ys) (suc (length xs)) ≡ slice_get ys 0
 get_behind [] a ys = refl

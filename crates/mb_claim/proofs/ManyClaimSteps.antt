@@ -1,4 +1,4 @@
--- The accesses of a place on a claim's object are accesses of the claim.
+-- Accesses that a process makes from the place of a claim on its object are accesses of the claim.
 use Rattle.std.proofs.Common.{◌≡◌, ◌+◌, ◌∙◌, arith, ℕ, zero, suc, Bool, true, List, ◌∷◌, refl, sym, subst, ap}
 use Rattle.mb_deciding.specs.declared.access.Op.{Op}
 use Rattle.mb_deciding.specs.declared.place.pc.Next.TheVariants as leads
@@ -17,7 +17,7 @@ stood_after (suc n) pc claim = stood_at pc true claim
 
 module _ {M : Type 0} (layout : Layout) (parts : PlacesMakeParts (quorums_of layout) (kinds_of layout))
     (draws : M → ℕ → M → Type 0) (makes : M → ℕ → Op → ℕ → M → Type 0) where
-  -- an access of a claim's place that leads to a place is a step of the claim to that place
+  -- an access at the claim's place that leads to another place is a step of the claim, which is then at that place
   goes_on :
       (claim : Claim) → claim_stage claim ≡ Going → (before now : M) (word : ℕ) (follows : Pc)
       → IsStep (quorums_of layout) claim.place
@@ -42,7 +42,7 @@ module _ {M : Type 0} (layout : Layout) (parts : PlacesMakeParts (quorums_of lay
       }
 
   module _ (claim : Claim) (going : claim_stage claim ≡ Going) (start : M) where
-    -- after n accesses of its place the claim is at the place to which they led
+    -- after n accesses from its place the claim is at the place to which they led
     pub place_after :
         (n : ℕ) (at : Pc) (before : M)
         → AreSteps (quorums_of layout) (DrawsAndMakes draws makes claim.object) claim.place start n (leads.Go at) before
@@ -65,13 +65,13 @@ module _ {M : Type 0} (layout : Layout) (parts : PlacesMakeParts (quorums_of lay
     consumer_after zero at = refl
     consumer_after (suc n) at = refl
 
-    -- the claim after n accesses, put at a place and begun, is the first claim put there
+    -- the claim before n accesses and the claim after them are equal once both are put at one place and begun
     moved_after : (n : ℕ) (at follows : Pc) → stood_at follows true (stood_after n at claim)
         ≡ stood_at follows true claim
     moved_after zero at follows = refl
     moved_after (suc n) at follows = refl
 
-    -- the accesses of the claim's place, which led to a place, are accesses of the claim
+    -- accesses from the claim's place that led to a place are accesses of the claim
     pub all_go_on :
         (n : ℕ) (follows : Pc) (now : M)
         → AreSteps (quorums_of layout) (DrawsAndMakes draws makes claim.object) claim.place start n
@@ -99,7 +99,7 @@ module _ {M : Type 0} (layout : Layout) (parts : PlacesMakeParts (quorums_of lay
           (sym (place_after n at before older)) step))),
     )
 
-    -- the claim after n accesses is the first claim put at the place to which they led
+    -- the claim after n accesses is the first claim but for its place, to which they led, and for whether it is begun
     stands_there :
         (n : ℕ) (at : Pc) (before : M)
         → AreSteps (quorums_of layout) (DrawsAndMakes draws makes claim.object) claim.place start n (leads.Go at) before
@@ -108,7 +108,7 @@ module _ {M : Type 0} (layout : Layout) (parts : PlacesMakeParts (quorums_of lay
         ap (λ pc. stood_at pc claim.begun claim) (place_after zero at before steps)
     stands_there (suc n) at before steps = refl
 
-    -- if the last access led to an output, the accesses of the place lead to the claim that went on with that output
+    -- n accesses that led to an output are accesses of the claim, and lead to the claim that goes on with that output
     pub ended_on :
         (n : ℕ) (out : Out) (now : M) (follows : Claim) → consumer_of follows ≡ consumer_of claim
         → AreSteps (quorums_of layout) (DrawsAndMakes draws makes claim.object) claim.place start n (leads.Out out) now
@@ -142,10 +142,10 @@ module _ {M : Type 0} (layout : Layout) (parts : PlacesMakeParts (quorums_of lay
           },
         )
 
--- ---- two rows of accesses are one
+-- ---- accesses of a claim, made one after the other
 module _ {M : Type 0} (layout : Layout) (makes : M → ℕ → ClaimOp → ℕ → M → Type 0) (claim : Claim) (start : M) (m : ℕ)
     (between : Claim) (mid : M) (first : AreClaimSteps layout makes claim start m between mid) where
-  -- accesses of a claim after m accesses of it make one row of accesses
+  -- m accesses of a claim, and then n accesses from where these ended, are n + m accesses of the claim
   pub joined :
       (n : ℕ) (follows : Claim) (now : M) → AreClaimSteps layout makes between mid n follows now
       → AreClaimSteps layout makes claim start (n + m) follows now

@@ -6,7 +6,7 @@ use Rattle.mb_claim.specs.{quorums_of, kinds_of, most_on_objects, most_accesses,
 use Rattle.mb_claim.proofs.Bounds.{most-append, row_steps}
 use Rattle.mb_claim.proofs.StepsLeft.{ended_left, going_left, won_ended, lost_ended}
 
--- what comes after one object of a row is what is left if that object and those before it are dropped
+-- if an object of a row and all objects before it are dropped, the objects after it are left
 past_one : (before : List Kind) (kind : Kind) (after : List Kind)
     → drop (suc (length before)) (before ++ kind ∷ after) ≡ after
 past_one [] kind after = refl

@@ -1,4 +1,4 @@
--- After the same steps a claim has one next op, and it was going before its last step.
+-- After the same steps a claim has one next op. Also, a claim was going before its last step.
 use Rattle.std.proofs.Common.{◌≡◌, ◌⊎◌, append_assoc, ℕ, suc, false, true, List, [], ◌∷◌, ◌++◌, refl, sym, ◌∙◌, ap}
 use Rattle.std.proofs.Common.{subst, subst₂, inl, inr, arith}
 use Rattle.std.proofs.lemmas.List.{append_cancel_right}
@@ -11,7 +11,7 @@ use Rattle.mb_claim.proofs.ObjectHistories.{turns_at}
 use Rattle.mb_claim.proofs.Parts.{nothing_before, open_part, turns_at-append, turns_at-turns_on}
 use Rattle.mb_claim.proofs.Unique.{same_out, used_once}
 
--- the last step x is one on object o, after turns there alone
+-- the last step x and the steps xs before it are all on object o, and their turns are a prefix of a path there
 record IsHere (t : QuorumTable) (kind : Kind) (o v : ℕ) (x : ObjectTurn) (xs : List ObjectTurn) : Type 0 where
   pub turn : Turn
   pub turns : List Turn
@@ -19,7 +19,7 @@ record IsHere (t : QuorumTable) (kind : Kind) (o v : ℕ) (x : ObjectTurn) (xs :
   pub all : xs ≡ turns_on o turns
   pub prefix : IsPrefix t kind v (turn ∷ turns)
 
--- the last step x is one on a later object than o, which was passed
+-- the last step x is on an object after object o, and the steps xs before it begin with a whole undecided path on o
 record IsBehind
     (t : QuorumTable) (c : ℕ) (kind : Kind) (kinds : List Kind) (o v : ℕ) (x : ObjectTurn) (xs : List ObjectTurn)
     (s : Stage) : Type 0 where
@@ -30,7 +30,7 @@ record IsBehind
   pub path : IsPath t kind v turns (answer false value)
   pub rest : IsClaimPrefixFrom t c kinds (suc o) value (x ∷ later) s
 
--- if all steps are on object o, so is the last one
+-- if all steps are turns on object o, so are the last step and the steps before it
 here :
     (t : QuorumTable) (kind : Kind) (o v : ℕ) (x : ObjectTurn) (xs : List ObjectTurn) (turns : List Turn)
     → x ∷ xs ≡ turns_on o turns → IsPrefix t kind v turns → IsHere t kind o v x xs
@@ -67,7 +67,7 @@ where_is t c kind kinds o v x xs s (inr (inr (u, z ∷ later, y, p))) =
           (sym (heads x z xs (later ++ turns_on o y.turns) y.all)) p;
     })
 
--- if the last step is after object o, the turns there are those with which it was passed
+-- if the last step is on an object after object o, the turns on o are exactly the whole path there
 behind_turns :
     (t : QuorumTable) (c : ℕ) (kind : Kind) (kinds : List Kind) (o v : ℕ) (x : ObjectTurn) (xs : List ObjectTurn)
     (s : Stage)
@@ -81,7 +81,7 @@ behind_turns t c kind kinds o v x xs s y =
     ∙ (turns_at-append o y.later (turns_on o y.turns)
     ∙ (ap (λ zs. zs ++ turns_at o (turns_on o y.turns)) later ∙ turns_at-turns_on o y.turns))
 
--- after the same steps the next one is not on object o in one prefix and on a later object in another
+-- it cannot be that after the same steps one next step is on object o, and another is on an object after it
 no_more :
     (t : QuorumTable) (law : AreDeciding t) (c : ℕ) (kind : Kind) (kinds : List Kind) (o v : ℕ) (x y : ObjectTurn)
     (xs : List ObjectTurn) (s : Stage) → IsHere t kind o v x xs → IsBehind t c kind kinds o v y xs s → ⊥
@@ -93,7 +93,7 @@ no_more t law c kind kinds o v x y xs s h b =
     (ap (λ zs. h.turn ∷ zs) same) (inr h.prefix) in
     cc
 
--- after the same steps two next steps are on one object, by one op
+-- after the same steps two next steps are on the same object, and their acts are of one op
 pub one_next :
     (t : QuorumTable) → AreDeciding t → OneOp t
     → (c : ℕ) (kinds : List Kind) (o v : ℕ) (x y : ObjectTurn) (xs : List ObjectTurn) (s r : Stage)
@@ -104,7 +104,7 @@ one_next t law one c (kind ∷ kinds) o v x y xs s r p q =
     by (where_is t c kind kinds o v x xs s p) (where_is t c kind kinds o v y xs r q)
     (λ u l g h. one_next t law one c kinds (suc o) u x y l s r g h)
   where
-    -- the two steps are on one object by one op, by where each is
+    -- the next steps x and y are on one object, by one op. Cases: whether each is on object o or on one after it
     by :
         IsHere t kind o v x xs ⊎ IsBehind t c kind kinds o v x xs s
         → IsHere t kind o v y xs ⊎ IsBehind t c kind kinds o v y xs r
@@ -143,7 +143,7 @@ older_goes t c [] o v x xs s p = absurd (let e = p.0 in cc)
 older_goes t c (kind ∷ kinds) o v x xs s p =
     by (where_is t c kind kinds o v x xs s p) (λ u l q. older_goes t c kinds (suc o) u x l s q)
   where
-    -- without its last step the part is going, by which object that step is on
+    -- without its last step the claim is going. Cases: whether that step is on object o or on an object after it
     by :
         IsHere t kind o v x xs ⊎ IsBehind t c kind kinds o v x xs s
         → ((u : ℕ) (l : List ObjectTurn) → IsClaimPrefixFrom t c kinds (suc o) u (x ∷ l) s

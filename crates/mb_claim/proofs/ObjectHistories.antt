@@ -32,7 +32,7 @@ two_picks false true false x y z g g' e f = refl
 two_picks false false true x y z g g' e f = refl
 two_picks false false false x y z g g' e f = refl
 
--- a process's turns in the history of an object are those of its part
+-- consumer c's turns in the history of object o of cell k are the turns on o in its part on the cell
 pub part-object_history :
     (c k o : ℕ) (h : List ClaimAccess) → part c (object_history k o h) ≡ turns_at o (part_on c k h)
 part-object_history c k o h =
@@ -43,7 +43,7 @@ part-object_history c k o h =
     (record { process = a.consumer; turn = a.step.turn }) a.step a.step.turn (turn_by c) (turn_at o) refl refl) h
     ∙ sym (filter_map-filter_map (turn_at o) (step_by c k) h)
 
--- one access more keeps the history of object o true to memory, by whether it is on that object
+-- one access more keeps the history of object o true to memory. Cases: whether it is on this cell and object
 cut_by :
     (k o : ℕ) (a : ClaimAccess) (h : List ClaimAccess) (q r : Bool) → eqb a.cell k ≡ q → eqb a.step.object o ≡ r
     → ReadsLast a.step.turn.act (object_history a.cell a.step.object h) → IsObjectMemoryTrue (object_history k o h)

@@ -1,4 +1,4 @@
--- A lawful history goes on with one access of a consumer on a cell, and steps have one run.
+-- A history and a random word determine a consumer's next access on a cell, and the same steps have one run.
 use Rattle.std.proofs.Common.{◌≡◌, ℕ, ◌<◌, List, [], ◌∷◌, length, get_or, refl, sym, ap, ap₂, subst, subst₂, ◌∙◌}
 use Rattle.std.proofs.lemmas.List.{ext_get_or}
 use Rattle.mb_deciding.specs.Vocabulary.{ReadsLast}
@@ -24,7 +24,7 @@ same_record a b consumer cell object act word =
     ∙ ap (λ x. record { consumer = b.consumer; cell = b.cell; step = x }) step
 
 module _ (cs : Claims) (law : AreDeciding cs.table) (one : OneOp cs.table) (act : OneAct) where
-  -- the last access of a lawful history makes its consumer's part longer along a claim path
+  -- with the last access of a lawful history, the steps of its consumer on its cell are a prefix of a claim path
   last_prefix :
       (a : ClaimAccess) (h : List ClaimAccess) → IsClaimLawful cs (a ∷ h)
       → (s : Stage) × IsClaimPrefix cs a.consumer (a.step ∷ part_on a.consumer a.cell h) s
@@ -33,7 +33,7 @@ module _ (cs : Claims) (law : AreDeciding cs.table) (one : OneOp cs.table) (act 
       let of = lawful.parts a.consumer a.cell (λ none. not_empty _ _ (sym mine ∙ none)) in
       (of.2.0, subst (λ xs. IsClaimPrefix cs a.consumer xs of.2.0) mine of.2.1)
 
-  -- after a history a consumer has one access on a cell with a random word
+  -- two accesses of one consumer on one cell, with one random word, are equal if a lawful history can go on with either
   pub one_access :
       (a b : ClaimAccess) (h : List ClaimAccess) → IsClaimLawful cs (a ∷ h) → IsClaimLawful cs (b ∷ h)
       → a.consumer ≡ b.consumer → a.cell ≡ b.cell → a.step.turn.word ≡ b.step.turn.word → a ≡ b
@@ -50,11 +50,11 @@ module _ (cs : Claims) (law : AreDeciding cs.table) (one : OneOp cs.table) (act 
       same_record a b consumer cell next.0
       (act a.step.turn.act b.step.turn.act (object_history a.cell a.step.object h) next.1 first.memory.0 reads) word
 
-  -- a claim has one stage in a history
+  -- the claim of a consumer on a cell has one stage in a history
   one_stage : (c k : ℕ) (s r : Stage) (h : List ClaimAccess) → HasStage cs c k s h → HasStage cs c k r h → s ≡ r
   one_stage c k s r h p q = one_stage_lem cs.table law c cs.kinds 0 c (part_on c k h) s r p.1 q.1
 
-  -- after a history a step has one entry
+  -- after a history a step has one entry. The accesses of entries are all on cell 0
   one_entry :
       (word : ℕ) (h : List ClaimAccess) (e f : ClaimEntry)
       → IsClaimLawful cs (with_entry word e h) → IsClaimLawful cs (with_entry word f h)
@@ -70,7 +70,7 @@ module _ (cs : Claims) (law : AreDeciding cs.table) (one : OneOp cs.table) (act 
       (record { consumer = d; cell = 0; step = record { object = n; turn = record { act = b; word = word } } })
       h l m same refl refl)
 
-  -- if a history is lawful with the access of an entry, it was lawful before
+  -- if a history is lawful with the access of an entry, it is lawful without it
   entry_older :
       (word : ℕ) (e : ClaimEntry) (h : List ClaimAccess) → IsClaimLawful cs (with_entry word e h) → IsClaimLawful cs h
   entry_older word (entry.Done c) h l = l
@@ -78,7 +78,7 @@ module _ (cs : Claims) (law : AreDeciding cs.table) (one : OneOp cs.table) (act 
       older_lawful cs
       (record { consumer = c; cell = 0; step = record { object = o; turn = record { act = a; word = word } } }) h l
 
-  -- if a history is lawful with the accesses of a run, it was lawful before these
+  -- if a history is lawful with the accesses of entries after it, it is lawful without them
   entries_older :
       (steps : List (ℕ × ℕ)) (es : List ClaimEntry) (h : List ClaimAccess)
       → IsClaimLawful cs (history_from steps es h) → IsClaimLawful cs h
@@ -87,7 +87,7 @@ module _ (cs : Claims) (law : AreDeciding cs.table) (one : OneOp cs.table) (act 
   entries_older (step ∷ steps) (e ∷ es) h l =
       entry_older step.1 e h (entries_older steps es (with_entry step.1 e h) l)
 
-  -- after a history steps have one list of entries
+  -- after a history the same steps have one list of entries
   one_list :
       (steps : List (ℕ × ℕ)) (es fs : List ClaimEntry) (h : List ClaimAccess)
       → IsClaimLawful cs (history_from steps es h) → IsClaimLawful cs (history_from steps fs h)
@@ -106,7 +106,7 @@ module _ (cs : Claims) (law : AreDeciding cs.table) (one : OneOp cs.table) (act 
       (subst (λ d. IsClaimLawful cs (history_from steps fs (with_entry step.1 d h))) (sym first) m) x.2
       (subst (λ d. AreEntriesOf cs steps fs (with_entry step.1 d h)) (sym first) y.2))
 
-  -- steps have one list of entries and one of stages
+  -- the same steps have one list of entries and one of stages
   pub one_play :
       (steps : List (ℕ × ℕ)) (es fs : List ClaimEntry) (ss rs : List Stage)
       → IsPlayed cs steps es ss → IsPlayed cs steps fs rs → (es ≡ fs) × (ss ≡ rs)

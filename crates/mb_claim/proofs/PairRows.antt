@@ -1,4 +1,4 @@
--- The conciliators of a row: after each comes a ratifier, and no more accesses than few are made to one.
+-- The conciliators of a row: after each comes a ratifier, and its last attempt is at most 7.
 use Rattle.std.proofs.Common.{◌≡◌, ◌≤◌, ℕ, zero, suc, Bool, true, false, Some, List, ◌++◌, slice_get, refl, arith}
 use Rattle.std.proofs.lemmas.Option.{none-some, same_Some}
 use Rattle.mb_quorum.specs.Width.{width_of}
@@ -7,7 +7,7 @@ use Rattle.mb_deciding.specs.Vocabulary.{spread}
 use Rattle.mb_claim.specs.{Kind, Conciliator, Ratifier, LastObject, Layout, pairs_of, fast_row, last_row, quorums_of, kinds_of}
 use Rattle.mb_claim.proofs.LayoutObjects.{quorums_lawful}
 
--- what is known of a conciliator at position o of these objects: its last attempt is s, and a ratifier is next
+-- a conciliator at position o of these objects, with last attempt k: k is s, and the next object is a ratifier
 abbrev IsPaired : ℕ → ℕ → ℕ → List Kind → Type 0
 IsPaired s k o kinds = (k ≡ s) × (slice_get kinds (suc o) ≡ Some Ratifier)
 
@@ -29,7 +29,7 @@ none_after true zero k e = no_last_object k (same_Some LastObject (Conciliator k
 none_after true (suc o) k e = none-some (Conciliator k) e
 none_after false o k e = none-some (Conciliator k) e
 
--- the conciliators of pairs with a last object
+-- each conciliator among pairs and perhaps a last object has last attempt s, and a ratifier comes next
 paired_in : (s n o k : ℕ) (b : Bool) → slice_get (pairs_of s n ++ last_row b) o ≡ Some (Conciliator k)
     → IsPaired s k o (pairs_of s n ++ last_row b)
 paired_in s zero o k b e = absurd (none_after b o k e)
@@ -37,7 +37,7 @@ paired_in s (suc n) zero k b e = (same_attempt s k (same_Some (Conciliator s) (C
 paired_in s (suc n) (suc zero) k b e = absurd (no_ratifier k (same_Some Ratifier (Conciliator k) e))
 paired_in s (suc n) (suc (suc o)) k b e = paired_in s n o k b e
 
--- the conciliators of pairs after a fast path
+-- with or without a fast path before these, each conciliator has last attempt s, and a ratifier comes next
 paired_behind : (f : Bool) (s n o k : ℕ) (b : Bool)
     → slice_get (fast_row f ++ (pairs_of s n ++ last_row b)) o ≡ Some (Conciliator k)
     → IsPaired s k o (fast_row f ++ (pairs_of s n ++ last_row b))

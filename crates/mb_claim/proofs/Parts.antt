@@ -1,4 +1,4 @@
--- One consumer's part: what it does on its first object, and what is left of it after that object.
+-- One consumer's steps on a cell, from an object on: its turns on that object, and its steps on the objects after it.
 use Rattle.std.proofs.Common.{◌≡◌, ◌≢◌, ◌<◌, ◌⊎◌, ℕ, suc, true, false, cond, Some, None, List, [], ◌∷◌, ◌++◌, length}
 use Rattle.std.proofs.Common.{◌+◌, length-append, refl, sym, ◌∙◌, ap, subst, inl, inr, arith}
 use Rattle.std.specs.List.{cons_option}
@@ -11,7 +11,7 @@ use Rattle.mb_claim.proofs.ObjectHistories.{turn_at, turns_at}
 use Rattle.mb_claim.proofs.Lists.{append_nils, append_nil_left, append_nil_right, append_nil_parts}
 
 -- ---- the turns of a part on one object
--- the turns on object o, of turns that were all made there, are these turns
+-- if all turns were made on object o, the turns on o are all of them
 pub turns_at-turns_on : (o : ℕ) (ts : List Turn) → turns_at o (turns_on o ts) ≡ ts
 turns_at-turns_on o [] = refl
 turns_at-turns_on o (t ∷ ts) =
@@ -30,11 +30,11 @@ turns_at-turns_on_other o n (t ∷ ts) ne =
     ap (λ b. cons_option (cond b (Some t) None) (turns_at n (turns_on o ts))) (ne_eqb o n ne)
     ∙ turns_at-turns_on_other o n ts ne
 
--- the turns on object n of two lists joined are those of both, joined
+-- the turns on object n in two lists joined are those in the first, joined with those in the second
 pub turns_at-append : (n : ℕ) (xs ys : List ObjectTurn) → turns_at n (xs ++ ys) ≡ turns_at n xs ++ turns_at n ys
 turns_at-append n xs ys = filter_map-append (turn_at n) xs ys
 
--- a part from object o on has no turn before it
+-- a prefix of a path from object o on has no turn on an object before o
 pub nothing_before :
     (t : QuorumTable) (c : ℕ) (ks : List Kind) (o v n : ℕ) (xs : List ObjectTurn) (s : Stage) → n < o
     → IsClaimPrefixFrom t c ks o v xs s → turns_at n xs ≡ []
@@ -49,11 +49,11 @@ nothing_before t c (k ∷ ks) o v n xs s l (inr (inr (u, rest, x, p))) =
     (nothing_before t c ks (suc o) u n rest s (omega arith) p)
     (turns_at-turns_on_other o n x.turns (λ e. omega arith))
 
--- turns on an object that go on are a prefix of a path
+-- turns on an object that are an open prefix of a path are a prefix of one
 pub open_part : (t : QuorumTable) (k : Kind) (v : ℕ) (turns : List Turn) → IsOpen t k v turns → IsPrefix t k v turns
 open_part t k v turns g = (g.0, g.2.0, g.2.1)
 
--- the turns with which object o was passed are all the turns of the part there
+-- the turns with which steps pass object o are all the turns on o among these steps
 pub passed_turns :
     (t : QuorumTable) (c : ℕ) (k : Kind) (ks : List Kind) (o v : ℕ) (xs : List ObjectTurn) (s : Stage) (u : ℕ)
     (rest : List ObjectTurn) (x : Passes t k o v xs u rest)
@@ -65,28 +65,28 @@ passed_turns t c k ks o v xs s u rest x p =
     (nothing_before t c ks (suc o) u o rest s (omega arith) p)
     ∙ turns_at-turns_on o x.turns)
 
--- ---- a part, seen from its first object
--- the turns are consumer c's part from object o on, with this stage. Or there are none and it is going, as it has not
--- come so far
+-- ---- a consumer's steps from object o on, split after o
+-- consumer c's steps from object o on are a prefix of a path with input v, and have the stage s. Or c has not come to o
+-- yet: it has no steps there and is going
 abbrev pub Member : QuorumTable → ℕ → List Kind → ℕ → ℕ → List ObjectTurn → Stage → Type 0
 Member t c ks o v xs s = ((xs ≡ []) × (s ≡ Going)) ⊎ IsClaimPrefixFrom t c ks o v xs s
 
--- the consumer has come to the object after object o, with this value, and what is left of its part there
+-- the consumer has passed object o, which left it undecided with this value, and `rest` are its steps on later objects
 pub record Came (t : QuorumTable) (k : Kind) (ks : List Kind) (o v : ℕ) (xs : List ObjectTurn) (value : ℕ)
     (rest : List ObjectTurn) : Type 0 where
   pub path : IsPath t k v (turns_at o xs) (answer false value)
   pub nonempty : xs ≢ []
   pub enters : (n w : ℕ) → Enters t ks (suc o) value rest n w → Enters t (k ∷ ks) o v xs n w
 
--- the claim is going, or object o decided a value, or it was passed undecided and the stage is that of what follows
+-- the claim is going, or object o decided for it, or o left it undecided and the rest has `stage`, which is s
 abbrev pub Ends : QuorumTable → ℕ → Kind → ℕ → ℕ → List ObjectTurn → Stage → ℕ → Stage → Type 0
 Ends t c k o v xs s value stage =
     (s ≡ Going)
     ⊎ (((a : ℕ) × IsPath t k v (turns_at o xs) (answer true a) × (s ≡ stage_for c a))
     ⊎ (IsPath t k v (turns_at o xs) (answer false value) × (stage ≡ s)))
 
--- one consumer's part, taken one object further: the value with which it leaves object o, what is left of it after that
--- object, and the stage there
+-- a consumer's steps from object o on, split after o: the value with which it left o (0 if it did not go on), the rest
+-- of its steps, and the stage of that rest
 pub record Forward (t : QuorumTable) (c : ℕ) (k : Kind) (ks : List Kind) (o v : ℕ) (xs : List ObjectTurn)
     (s : Stage) : Type 0 where
   pub value : ℕ
@@ -99,13 +99,13 @@ pub record Forward (t : QuorumTable) (c : ℕ) (k : Kind) (ks : List Kind) (o v 
   pub ends : Ends t c k o v xs s value stage
   pub counted : length xs ≡ length (turns_at o xs) + length rest
 
--- ---- each part can be taken one object further
+-- ---- steps from an object on can always be split after that object
 module _ (t : QuorumTable) (c : ℕ) (k : Kind) (ks : List Kind) (o v : ℕ) (xs : List ObjectTurn) (s : Stage) where
-  -- a part on this object alone has as many steps as turns there
+  -- if all steps were made on object o, they are as many as the turns there
   pub counts : (turns : List Turn) → xs ≡ turns_on o turns → turns_at o xs ≡ turns → length xs ≡ length (turns_at o xs)
   counts turns all here = ap length all ∙ length-turns_on o turns ∙ sym (ap length here)
 
-  -- a part that does not come to the next object is taken further with nothing left
+  -- if no step was made on a later object, the split has an empty rest
   abbrev stays :
       ((n : ℕ) → o < n → turns_at n xs ≡ []) → (turns_at o xs ≡ []) ⊎ IsPrefix t k v (turns_at o xs)
       → Ends t c k o v xs s 0 Going
@@ -124,7 +124,7 @@ module _ (t : QuorumTable) (c : ℕ) (k : Kind) (ks : List Kind) (o v : ℕ) (xs
         counted = omega (arith, counted);
       }
 
-  -- a part that passes this object is taken further with what follows
+  -- if the steps pass object o, the steps on later objects are the rest of the split
   abbrev moves :
       (u : ℕ) (rest : List ObjectTurn) → Passes t k o v xs u rest → IsClaimPrefixFrom t c ks (suc o) u rest s
       → Forward t c k ks o v xs s
@@ -158,7 +158,7 @@ module _ (t : QuorumTable) (c : ℕ) (k : Kind) (ks : List Kind) (o v : ℕ) (xs
         );
       }
 
-  -- each part is taken one object further
+  -- steps from object o on can be split after o
   abbrev pub forward : Member t c (k ∷ ks) o v xs s → Forward t c k ks o v xs s
   forward (inl x) = stays (λ n l. ap (turns_at n) x.0) (inl (ap (turns_at o) x.0)) (inl x.1)
       (ap length x.0 ∙ sym (ap (λ zs. length (turns_at o zs)) x.0))

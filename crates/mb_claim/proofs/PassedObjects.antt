@@ -13,7 +13,7 @@ use Rattle.mb_claim.proofs.Unique.{open_closed, same_out, not_ended, not_undecid
 use Rattle.mb_claim.proofs.Family.{Family, step, lawful_here, output, output_holds, next}
 use Rattle.mb_claim.proofs.Lists.{append_nils, append_nil_left}
 
--- whole paths through objects from o on have no turn before it
+-- whole paths through the objects from object o on have no turn on an object before o
 nothing_passed :
     (t : QuorumTable) (ks : List Kind) (o v w n : ℕ) (xs : List ObjectTurn) → n < o → PassesAll t ks o v xs w
     → turns_at n xs ≡ []
@@ -23,17 +23,17 @@ nothing_passed t (k ∷ ks) o v w n xs l (u, later, x, p) =
     ∙ append_nils (turns_at n later) (turns_at n (turns_on o x.turns))
     (nothing_passed t ks (suc o) u w n later (omega arith) p) (turns_at-turns_on_other o n x.turns (λ e. omega arith))
 
--- ---- a part has one way past its first object
+-- ---- steps from object o on that pass o can be split in one way
 module _ (t : QuorumTable) (c : ℕ) (k : Kind) (ks : List Kind) (o v : ℕ) (xs : List ObjectTurn) (s : Stage)
     (law : OfKind t k) (l : v < t.values)
     (u : ℕ) (later : List ObjectTurn) (x : Passes t k o v xs u later) (none : turns_at o later ≡ []) where
-  -- the turns with which the first object was passed are all the turns there
+  -- the turns with which object o was passed are all the turns on o
   pub here : x.turns ≡ turns_at o xs
   here =
       sym (ap (turns_at o) x.all ∙ turns_at-append o later (turns_on o x.turns)
       ∙ append_nil_left (turns_at o later) (turns_at o (turns_on o x.turns)) none ∙ turns_at-turns_on o x.turns)
 
-  -- the value and what is left of the part after that object are those that `forward` finds
+  -- the split after object o (`forward`) gives the value u with which o was passed, and the steps after that
   pub forward_passes :
       (m : Member t c (k ∷ ks) o v xs s)
       → ((forward t c k ks o v xs s m).value ≡ u) × ((forward t c k ks o v xs s m).rest ≡ later)
@@ -64,7 +64,7 @@ pub record LawfulObject (t : QuorumTable) (kind : Kind) (hs : ℕ → List Acces
   pub same : part c (hs o) ≡ turns
   pub within : inputs c < t.values
 
--- in a family, too, a consumer has one way past its first object
+-- in a family, too, the split of a consumer that passed object o gives its output there, and the later steps
 pub step_passes :
     (t : QuorumTable) (k : Kind) (ks : List Kind) (o : ℕ) (hs : ℕ → List Access) (P : ℕ → Type 0)
     (fam : Family t (k ∷ ks) o hs P) (law : OfKind t k) (c : ℕ) → fam.input c < t.values
@@ -74,7 +74,7 @@ unfolding step
 step_passes t k ks o hs P fam law c l u later x none =
     forward_passes t c k ks o (fam.input c) (fam.rest c) (fam.stage c) law l u later x none (fam.member c)
 
--- a consumer that has passed the objects before undecided stands on an object with a lawful history, with its own input
+-- the object after those that a consumer passed has a lawful history, with its input w and its turns
 pub family_at :
     (t : QuorumTable) (hs : ℕ → List Access) (law : AreDeciding t) (before : List Kind) (kind : Kind)
     (after : List Kind) (o : ℕ) (P : ℕ → Type 0)

@@ -1,4 +1,4 @@
--- One more step of a run, and what a board says of the run at its end.
+-- A run with one more step, and what a board says of the run at its end.
 use Rattle.std.proofs.Common.{◌≡◌, ◌≢◌, ◌<◌, ◌⊎◌, ℕ, false, List, [], ◌∷◌, ◌++◌, length, map, refl, sym, ◌∙◌, ap, ap₂}
 use Rattle.std.proofs.Common.{subst, subst₂, inl, inr, get_or, set, get_or-set_other, get_or-set_same, length-set}
 use Rattle.std.proofs.Common.{arith}
@@ -12,7 +12,7 @@ use Rattle.mb_claim.specs.{history_of, IsEntryAfter, AreEntriesOf, IsPlayed}
 use Rattle.mb_claim.proofs.HistorySteps.{other_part}
 
 -- ---- the entries of a longer run
--- one more step and its entry add the entry's access
+-- with one more step and its entry, the history of the run has that entry's access too
 history_from-push :
     (cs : Claims) (h : List ClaimAccess) (steps : List (ℕ × ℕ)) (entries : List ClaimEntry) (step : ℕ
     × ℕ) (e : ClaimEntry)
@@ -24,7 +24,7 @@ history_from-push cs h (x ∷ steps) [] step e all = absurd all
 history_from-push cs h (x ∷ steps) (y ∷ entries) step e all =
     history_from-push cs (with_entry x.1 y h) steps entries step e all.2
 
--- the entries with one more fit the steps with one more, if the new entry fits after the others' accesses
+-- the entries of steps, and one more entry that may come after their accesses, are the entries of one step more
 entries_push :
     (cs : Claims) (h : List ClaimAccess) (steps : List (ℕ × ℕ)) (entries : List ClaimEntry) (step : ℕ
     × ℕ) (e : ClaimEntry)
@@ -45,7 +45,7 @@ module _
   abbrev past : List ClaimAccess
   past = history_of steps board.entries
 
-  -- consumer c has a claim
+  -- the board has a claim of consumer c
   inside : c < length board.claims
   inside = let e = ran.consumers in omega arith
 
@@ -53,7 +53,7 @@ module _
   claim_own : consumer_of claim ≡ c
   claim_own = ap consumer_of is ∙ ran.own c claim inside
 
-  -- the words and the claim fit the history so far
+  -- the words of the board and the claim belong to the history so far, which is lawful
   pub held : IsClaimOn layout 1 0 claim board.words past
   held =
       record {
@@ -63,13 +63,13 @@ module _
             (ran.standing c claim inside);
       }
 
-  -- in the history so far consumer c's claim has the stage of the claim
+  -- in the history so far consumer c's claim has the stage that `claim` has
   has_stage : HasStage (claims_in layout 1) c 0 (claim_stage claim) past
   has_stage =
       subst (λ d. HasStage (claims_in layout 1) d 0 (claim_stage claim) past) claim_own
       (held.standing.known, held.standing.prefix)
 
-  -- with a step of a claim that has ended, which adds the entry `Done`, the board is that of the longer run
+  -- if the claim has ended, the board with the entry `Done` is the board of the run with one more step
   pub board_done :
       claim_stage claim ≢ Going
       → IsBoard layout (steps ++ (c, word) ∷ [])
@@ -86,7 +86,7 @@ module _
         standing = rw same ran.standing;
       }
 
-  -- A step of a claim that is going has made this access, and led to this claim and these words.
+  -- A step of a claim that is going made the access `made`, and led to the claim `after` and to these words.
   module _
       (going : claim_stage claim ≡ Going) (after : Claim) (own : consumer_of after ≡ consumer_of claim)
       (made : ObjectTurn)
@@ -96,7 +96,7 @@ module _
     abbrev made_entry : ClaimEntry
     made_entry = entry.Access c made.object made.turn.act
 
-    -- the history of the longer run is the history so far with the access
+    -- the history of the longer run is the history so far with this access
     same : history_of (steps ++ (c, word) ∷ []) (board.entries ++ made_entry ∷ []) ≡ claim_access claim 0 made ∷ past
     same =
         history_from-push (claims_in layout 1) [] steps board.entries (c, word) made_entry ran.fits
@@ -106,7 +106,7 @@ module _
           step = record { object = made.object; turn = record { act = made.turn.act; word = w } };
         } ∷ past) (sym claim_own) (sym random)
 
-    -- after the step the claim at each place is that consumer's
+    -- after the step the claim at position d is still consumer d's
     own_after :
         (d : ℕ) (e : Claim) → d < length (set board.claims c after) → (d ≡ c) ⊎ (d ≢ c)
         → consumer_of (get_or (set board.claims c after) d e) ≡ d
@@ -117,7 +117,7 @@ module _
         let old : d < length board.claims = rw length-set at below in
         ap consumer_of (get_or-set_other board.claims c d after e other) ∙ ran.own d e old
 
-    -- after the step each claim has made its consumer's part
+    -- after the step each claim is the claim of a consumer that has made its part of the longer history
     standing_after :
         (d : ℕ) (e : Claim) → d < length (set board.claims c after) → (d ≡ c) ⊎ (d ≢ c)
         → IsClaimIn layout (get_or (set board.claims c after) d e) (part_on d 0 (claim_access claim 0 made ∷ past))
@@ -131,7 +131,7 @@ module _
         (sym (other_part d 0 (claim_access claim 0 made) past (λ f g. other (sym f ∙ claim_own))))
         (ran.standing d e old)
 
-    -- with the access of a claim that is going, the board is that of the longer run
+    -- if the claim is going, the board with its access and its new claim is the board of the run with one more step
     pub board_stepped :
         IsBoard layout (steps ++ (c, word) ∷ [])
         (record { words = words; claims = set board.claims c after; entries = board.entries ++ made_entry ∷ [] })
@@ -146,11 +146,11 @@ module _
         }
 
 -- ---- the end of a run
--- a claim that stands for a missing one
+-- any claim, as a default for reading a list of claims past its end
 nobody : Claim
 nobody = record { consumer = 0; object = 0; place = InRatifier (Begin 0); stage = Going; begun = false }
 
--- the entries of a board, and the stages of its claims, are what the steps make of the claims
+-- the entries of a board and the stages of its claims are what a run of the steps comes to (`IsPlayed`)
 pub board_played :
     (layout : Layout) (steps : List (ℕ × ℕ)) (board : BoardState) → IsBoard layout steps board
     → IsPlayed (claims_in layout 1) steps board.entries (map claim_stage board.claims)

@@ -1,4 +1,4 @@
--- The prefixes of claims are exactly the beginnings of whole claim paths. Also the stages of whole paths.
+-- The prefixes of claim paths are exactly the beginnings of whole claim paths. Also the stages of whole paths.
 use Rattle.std.proofs.Common.{◌≡◌, ◌≢◌, ◌+◌, ◌⊎◌, ℕ, suc, Bool, true, false, List, [], ◌∷◌, ◌++◌, refl, sym, ◌∙◌, ap}
 use Rattle.std.proofs.Common.{ap₂, subst, inl, inr, append_assoc, arith}
 use Rattle.std.proofs.lemmas.List.{map-append}
@@ -10,7 +10,7 @@ use Rattle.mb_claim.proofs.Turns.{turns_for, acts-turns_for}
 use Rattle.mb_claim.proofs.Lists.{not_empty, append_nil_left, append_nil_rest, heads, tails}
 
 -- ---- whole paths
--- each object has a whole path of each input
+-- each object has a whole path with any input
 some_path :
     (t : QuorumTable) (kind : Kind) (v : ℕ)
     → (turns : List Turn) × (d : Bool) × (u : ℕ) × IsPath t kind v turns (answer d u)
@@ -23,7 +23,7 @@ some_path t Ratifier v =
 some_path t LastObject v =
     (record { act = Exchange Last (v + 1) 0; word = 0 } ∷ [], true, v, (refl, inl (refl, refl)))
 
--- a whole path of an object leads to a whole path of it and the objects after it, if these have one of each input
+-- each whole path of an object begins one of it and the later objects, if these have a whole path with any input
 path_on :
     (t : QuorumTable) (kind : Kind) (kinds : List Kind) (o v : ℕ)
     → ((u : ℕ) → (xs : List ObjectTurn) × (output : Out) × IsClaimPath t kinds (suc o) u xs output)
@@ -34,7 +34,7 @@ path_on t kind kinds o v behind turns true u path =
 path_on t kind kinds o v behind turns false u path =
     let rest = behind u in (rest.0, rest.1, (turns, rest.0, false, u, refl, path, inr (refl, rest.2)))
 
--- the objects together have a whole path of each input
+-- the objects of a row together have a whole path with any input
 whole_path :
     (t : QuorumTable) (kinds : List Kind) (o v : ℕ)
     → (xs : List ObjectTurn) × (output : Out) × IsClaimPath t kinds o v xs output
@@ -44,8 +44,8 @@ whole_path t (kind ∷ kinds) o v =
     let all = path_on t kind kinds o v (whole_path t kinds (suc o)) first.0 first.1 first.2 first.3 in
     (all.0 ++ turns_on o first.0, all.1, all.2)
 
--- ---- each prefix of a claim begins a whole path
--- a part that has not come to the end of its first object is completed to a whole path
+-- ---- each prefix of a claim path begins a whole path
+-- turns on the first object that are an open prefix of a path there are the beginning of a whole path
 completed_open :
     (t : QuorumTable) (kind : Kind) (kinds : List Kind) (o v : ℕ) (xs : List ObjectTurn) (turns : List Turn)
     → xs ≡ turns_on o turns → IsOpen t kind v turns
@@ -59,7 +59,7 @@ completed_open t kind kinds o v xs turns all (more, ne, (out, path)) =
     ∙ sym (append_assoc whole.0 (turns_on o more) xs) in
     (whole.0 ++ turns_on o more, whole.1, subst P joined whole.2)
 
--- each prefix of a claim is completed to a whole path
+-- each prefix of a claim path is the beginning of a whole path
 pub completed :
     (t : QuorumTable) (c : ℕ) (kinds : List Kind) (o v : ℕ) (xs : List ObjectTurn) (s : Stage)
     → IsClaimPrefixFrom t c kinds o v xs s
@@ -74,21 +74,21 @@ completed t c (kind ∷ kinds) o v xs s (inr (inr (u, rest, x, p))) =
     ap (λ zs. whole.0 ++ zs) x.all ∙ sym (append_assoc whole.0 rest (turns_on o x.turns)) in
     (whole.0, whole.1, (x.turns, whole.0 ++ rest, false, u, all, x.path, inr (refl, whole.2)))
 
--- ---- each beginning of a whole path is a prefix of a claim
--- One list is cut in two ways, each into later and older elements. The first way has all older elements of the second
--- and perhaps more, or it has fewer.
+-- ---- each beginning of a whole path is a prefix of a claim path
+-- One list is cut in two ways, `later ++ xs` and `rest ++ back`. Either xs ends with all of back, or back is longer
+-- than xs and ends with all of it.
 abbrev IsCut : {A : Type 0} → List A → List A → List A → List A → Type 0
 IsCut {A} later xs rest back =
     ((front : List A) × (xs ≡ front ++ back) × (rest ≡ later ++ front))
     ⊎ ((first : A) × (more : List A) × (back ≡ (first ∷ more) ++ xs))
 
--- two ways to cut a list compare in the same way if both later parts have one more element
+-- if one of these cases holds, it holds too with the same element put before `later` and before `rest`
 cut_more :
     {A : Type 0} (y z : A) (ys xs zs back : List A) → y ≡ z → IsCut ys xs zs back → IsCut (y ∷ ys) xs (z ∷ zs) back
 cut_more y z ys xs zs back e (inl (front, p, q)) = inl (front, p, ap₂ (λ a zs. a ∷ zs) (sym e) q)
 cut_more y z ys xs zs back e (inr p) = inr p
 
--- of two ways to cut one list the first has all older elements of the second, or has fewer
+-- of two ways to cut one list, one of these two cases always holds
 cut : {A : Type 0} (later xs rest back : List A) → later ++ xs ≡ rest ++ back → IsCut later xs rest back
 cut [] xs rest back e = inl (rest, e, refl)
 cut (y ∷ ys) xs [] back e = inr (y, ys, sym e)
@@ -109,7 +109,7 @@ cut_turns_on o (turn ∷ turns) (m ∷ mid) xs e =
     cut_turns_on o turns mid xs (tails (record { object = o; turn = turn }) m (turns_on o turns) (mid ++ xs) e) in
     (turn ∷ rest.0, rest.1, ap (λ zs. turn ∷ zs) rest.2, ap₂ (λ a zs. a ∷ zs) (sym first) rest.3, rest.4)
 
--- a beginning that ends within the first object goes on there
+-- a beginning that ends within the path of the first object is a prefix with the stage `Going`
 begun_within :
     (t : QuorumTable) (c : ℕ) (kind : Kind) (kinds : List Kind) (o v : ℕ) (first : ObjectTurn)
     (mid xs : List ObjectTurn) (turns : List Turn) (d : Bool) (u : ℕ)
@@ -126,8 +126,8 @@ begun_within t c kind kinds o v first mid xs turns d u e path =
       is = refl;
     })
 
--- a beginning of a whole path is a prefix of a claim, by where it is cut and how the path goes on after its first
--- object
+-- a beginning of a whole path is a prefix of a claim path. Cases: whether it ends within the path of the first object,
+-- and how the whole path goes on after that object
 begun_by :
     (t : QuorumTable) (c : ℕ) (kind : Kind) (kinds : List Kind) (o v : ℕ) (later xs rest : List ObjectTurn)
     (turns : List Turn) (d : Bool) (u : ℕ) (output : Out)
@@ -148,7 +148,7 @@ begun_by t c kind kinds o v later xs rest turns d u output path behind (inr (und
     let P : Bool → Type 0 = λ b. IsPath t kind v turns (answer b u) in
     (found.0, inr (inr (u, front, record { turns = turns; all = p; path = subst P undecided path }, found.1)))
 
--- each beginning of a whole path is a prefix of a claim
+-- each beginning of a whole path is a prefix of a claim path
 pub begun :
     (t : QuorumTable) (c : ℕ) (kinds : List Kind) (o v : ℕ) (later xs ys : List ObjectTurn) (output : Out)
     → ys ≡ later ++ xs → IsClaimPath t kinds o v ys output
@@ -160,7 +160,7 @@ begun t c (kind ∷ kinds) o v later xs ys output e (turns, rest, d, u, all, pat
     (cut later xs rest (turns_on o turns) (sym e ∙ all))
 
 -- ---- whole paths and their stages
--- a whole path has the stage of its output
+-- a whole path is a prefix with the stage that its output gives
 pub whole_stage :
     (t : QuorumTable) (c : ℕ) (kinds : List Kind) (o v : ℕ) (xs : List ObjectTurn) (output : Out)
     → IsClaimPath t kinds o v xs output
@@ -185,7 +185,7 @@ whole_stage t c (kind ∷ kinds) o v xs output (turns, rest, d, u, all, path, in
       whole_stage t c kinds (suc o) u rest output p,
     ))
 
--- turns with a stage other than `Going` are a whole path, whose output gives the stage
+-- a prefix with a stage other than `Going` is a whole path, whose output gives the stage
 pub ended_path :
     (t : QuorumTable) (c : ℕ) (kinds : List Kind) (o v : ℕ) (xs : List ObjectTurn) (s : Stage)
     → IsClaimPrefixFrom t c kinds o v xs s → s ≢ Going

@@ -17,7 +17,7 @@ before_ahead r [] ys o h = absurd (omega (arith, h))
 before_ahead r (x ∷ xs) ys zero h = refl
 before_ahead r (x ∷ xs) ys (suc o) h = omega (arith, before_ahead r xs ys o (omega (arith, h)))
 
--- before an object of the second row lie the words of the first, too
+-- before an object of the second row lie all words of the first, and those before it in the second
 before_behind :
     (r : ℕ) (xs ys : List Kind) (n o : ℕ) → n ≡ length xs + o
     → words_before r (xs ++ ys) n ≡ row_words r xs + words_before r ys o
@@ -38,7 +38,7 @@ fast_before r true (suc zero) h = omega arith
 fast_before r true (suc (suc o)) h = absurd (omega (arith, h))
 fast_before r false o h = absurd (omega (arith, h))
 
--- a last object has one word
+-- the last object has one word, if there is one
 last_words : (r : ℕ) (b : Bool) → row_words r (last_row b) ≡ length (last_row b)
 last_words r true = omega arith
 last_words r false = omega arith
@@ -61,7 +61,7 @@ row_words-row_of r s n shape =
       last_words r shape.last,
     )
 
--- an address is the words of the cells before, of the objects before in the row, and the position in the object
+-- an address counts the words of the cells before and of the objects before, and then adds the position in the object
 address_in_row :
     (r s n k o : ℕ) (shape : Shape) (reg : Reg) (before : ℕ) → words_before r (row_of shape s n) o ≡ before
     → address_of r (row_of shape s n) k o reg ≡ k * shaped_words r shape n + (before + offset reg)

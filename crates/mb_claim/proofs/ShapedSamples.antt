@@ -18,11 +18,11 @@ use Rattle.mb_claim.proofs.LawfulSamples.{zero_word, one_word, one_put}
 abbrev fast_kinds : List Kind
 fast_kinds = Ratifier ∷ Ratifier ∷ Conciliator 2 ∷ Ratifier ∷ []
 
--- consumer 0 meets no 1 in the first ratifier, so its own number is decided
+-- consumer 0 loads no 1 in the first ratifier, so its own number is decided
 won_there : IsPath (unary_table 2) Ratifier 0 (turns_at 0 (part_on 0 0 lost_at_second)) (answer true 0)
 won_there = (Store Proposal 1 ∷ Load Proposal 0 ∷ Store (Quorum 0) 1 ∷ [], inl (refl, refl), refl)
 
--- consumer 0 has won
+-- in `lost_at_second` consumer 0 has won
 pub fast_won : IsClaimPrefixFrom (unary_table 2) 0 fast_kinds 0 0 (part_on 0 0 lost_at_second) Won
 fast_won =
     inr (inl (record {
@@ -33,7 +33,7 @@ fast_won =
       is = refl;
     }))
 
--- consumer 1 prefers 0 in the first ratifier and meets its own announcement, so it is undecided there
+-- consumer 1 finds 0 proposed in the first ratifier, and then its own announcement, so it is undecided there
 undecided_there : IsPath (unary_table 2) Ratifier 1 (turns_at 0 (part_on 1 0 lost_at_second)) (answer false 0)
 undecided_there = (
   1,
@@ -43,7 +43,7 @@ undecided_there = (
   (Load Proposal 1 ∷ Store (Quorum 1) 1 ∷ [], inr refl, refl),
 )
 
--- consumer 1 goes to the second ratifier with 0, and has lost to consumer 0
+-- consumer 1 comes to the second ratifier with 0, which decides 0, so it has lost to consumer 0
 pub fast_lost : IsClaimPrefixFrom (unary_table 2) 1 fast_kinds 0 1 (part_on 1 0 lost_at_second) (Lost 0)
 fast_lost =
     let xs : List ObjectTurn = part_on 1 0 lost_at_second in
@@ -64,11 +64,11 @@ fast_lost =
 abbrev IsFastPart : ℕ → ℕ → Type 0
 IsFastPart c k = IsClaimPart (two_with true false) c k (part_on c k lost_at_second)
 
--- what consumer 0 did on cell 0 belongs to its claim
+-- in `lost_at_second` what consumer 0 did on cell 0 belongs to its claim
 first : IsFastPart 0 0
 first = ((omega arith), (omega arith), (Won, fast_won))
 
--- what consumer 1 did on cell 0 belongs to its claim
+-- in `lost_at_second` what consumer 1 did on cell 0 belongs to its claim
 second : IsFastPart 1 0
 second = ((omega arith), (omega arith), (Lost 0, fast_lost))
 
@@ -120,7 +120,7 @@ fast_lawful =
       ) some;
     }
 
--- `skip_both_ratifiers` is not lawful: who comes to the conciliator has passed the first ratifier
+-- `skip_both_ratifiers` is not lawful: a consumer comes to the conciliator only past both ratifiers
 pub both_refused : IsClaimLawful (two_with true false) skip_both_ratifiers → ⊥
 both_refused bad =
     let xs : List ObjectTurn = part_on 0 0 skip_both_ratifiers in
@@ -128,7 +128,7 @@ both_refused bad =
     (both_came_undecided (unary_table 2) 0 (Conciliator 2 ∷ Ratifier ∷ []) 0 2 xs mine.2.0 (omega arith) mine.2.1
     (λ none. not_empty _ _ none)).2
 
--- `skip_one_ratifier` is not lawful: who comes to the conciliator has passed the second ratifier
+-- `skip_one_ratifier` is not lawful: a consumer comes to the conciliator only past both ratifiers
 pub one_refused : IsClaimLawful (two_with true false) skip_one_ratifier → ⊥
 one_refused bad =
     let xs : List ObjectTurn = part_on 1 0 skip_one_ratifier in
@@ -141,8 +141,8 @@ one_refused bad =
 abbrev last_kinds : List Kind
 last_kinds = Conciliator 2 ∷ Ratifier ∷ LastObject ∷ []
 
--- if consumer 0 begins as in `both_undecided`, both objects of the pair leave it undecided with its own number, and its
--- part has the stage of what follows
+-- if consumer 0 begins as in `both_undecided`, both objects of the pair leave it undecided with its own number, and it
+-- has the stage that its later steps have
 zero_passes :
     (h : List ClaimAccess) (s : Stage) (later : List ObjectTurn)
     → part_on 0 0 h ≡ later ++ part_on 0 0 both_undecided
@@ -176,8 +176,8 @@ zero_passes h s later is end =
       )),
     ))
 
--- if consumer 1 begins as in `both_undecided`, both objects of the pair leave it undecided with its own number, and its
--- part has the stage of what follows
+-- if consumer 1 begins as in `both_undecided`, both objects of the pair leave it undecided with its own number, and it
+-- has the stage that its later steps have
 one_passes :
     (h : List ClaimAccess) (s : Stage) (later : List ObjectTurn)
     → part_on 1 0 h ≡ later ++ part_on 1 0 both_undecided
@@ -258,11 +258,11 @@ still_going =
 abbrev IsLastPart : ℕ → ℕ → Type 0
 IsLastPart c k = IsClaimPart (two_with false true) c k (part_on c k last_decides)
 
--- what consumer 0 did on cell 0 belongs to its claim, if there is a last object
+-- in `last_decides` what consumer 0 did on cell 0 belongs to its claim
 zero_here : IsLastPart 0 0
 zero_here = ((omega arith), (omega arith), (Won, last_won))
 
--- what consumer 1 did on cell 0 belongs to its claim, if there is a last object
+-- in `last_decides` what consumer 1 did on cell 0 belongs to its claim
 one_here : IsLastPart 1 0
 one_here = ((omega arith), (omega arith), (Lost 0, last_lost))
 
@@ -335,7 +335,7 @@ last_lawful =
 pub empty_refused : IsClaimLawful (two_with false true) last_found_empty_twice → ⊥
 empty_refused bad = let none : ◌≡◌ {A = ℕ} 0 1 = bad.memory.0 in absurd (omega (arith, none))
 
--- `last_comes_first` is not lawful: who comes to the last object has passed the pair
+-- `last_comes_first` is not lawful: a consumer comes to the last object only past the pair
 pub first_refused : IsClaimLawful (two_with false true) last_comes_first → ⊥
 first_refused bad =
     let xs : List ObjectTurn = part_on 0 0 last_comes_first in

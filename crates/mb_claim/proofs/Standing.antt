@@ -1,5 +1,5 @@
--- Where a claim stands: the part with one turn more there, the access that its place names, which may come next, and
--- the part that goes on.
+-- Where a claim stands: its turns with one more there are a prefix of its path, and the access that its place names may
+-- come next.
 use Rattle.std.proofs.Common.{◌≡◌, ◌+◌, ◌<◌, ℕ, suc, Bool, true, false, cond, Some, None, List, [], ◌∷◌, ◌++◌, length}
 use Rattle.std.proofs.Common.{refl, sym, ◌∙◌, ap, ap₂, subst, subst₂, slice_get, inl, inr, append-nil, append_assoc}
 use Rattle.std.proofs.Common.{arith}
@@ -17,8 +17,8 @@ use Rattle.mb_claim.proofs.Turns.{reads_seen}
 use Rattle.mb_claim.proofs.CellFamily.{competes, family}
 use Rattle.mb_claim.proofs.PassedObjects.{LawfulObject, family_at}
 
--- ---- a part from the object on which a claim stands
--- whole paths through the objects before, and then a part of the objects after, are a part of all
+-- ---- a prefix of a claim path, from the object on which the claim stands
+-- whole undecided paths through the objects `before`, joined with a prefix through those `after`, are one through all
 pub passed_then :
     (t : QuorumTable) (c : ℕ) (before after : List Kind) (o v w : ℕ) (front ys : List ObjectTurn) (s : Stage)
     → PassesAll t before o v front w → IsClaimPrefixFrom t c after (o + length before) w ys s
@@ -40,7 +40,7 @@ passed_then t c (k ∷ ks) after o v w front ys s (u, rest, x, p) q =
 
 module _ (t : QuorumTable) (kinds : List Kind) (c object : ℕ) (pc : Pc) (xs : List ObjectTurn)
     (p : StandsAt t kinds c object pc xs) where
-  -- a part from the claim's object on, after the objects passed, is a part of all objects
+  -- a prefix from the claim's object on, joined with the steps on the objects before, is a prefix from object 0 on
   from_here : (ys : List ObjectTurn) (s : Stage) → IsClaimPrefixFrom t c (p.kind ∷ p.after) object p.input ys s
       → IsClaimPrefixFrom t c kinds 0 c (ys ++ p.front) s
   from_here ys s q =
@@ -53,31 +53,31 @@ module _ (t : QuorumTable) (kinds : List Kind) (c object : ℕ) (pc : Pc) (xs : 
     abbrev longer : List ObjectTurn
     longer = record { object = object; turn = x } ∷ xs
 
-    -- the longer turns are those on this object with one more, and those before
+    -- the longer turns are the steps on the objects before, and then the turns on this object with one more
     pub longer_is : longer ≡ turns_on object (x ∷ p.turns) ++ p.front
     longer_is = ap (λ zs. record { object = object; turn = x } ∷ zs) p.all
 
-    -- if the turns on this object with one more are a part from here on, the longer turns are a part of all objects
+    -- if the turns here with one more are a prefix from this object on, the longer turns are one from object 0 on
     then_here : (s : Stage) → IsClaimPrefixFrom t c (p.kind ∷ p.after) object p.input (turns_on object (x ∷ p.turns)) s
         → IsClaimPrefixFrom t c kinds 0 c longer s
     then_here s q = subst (λ zs. IsClaimPrefixFrom t c kinds 0 c zs s) (sym longer_is)
         (from_here (turns_on object (x ∷ p.turns)) s q)
 
-    -- if the turn ends the path on this object, which decides, the claim has ended
+    -- if the turn ends the path on this object with the decided output u, the claim has the stage for u
     pub decided_here : (u : ℕ) → IsPath t p.kind p.input (x ∷ p.turns) (answer true u)
         → IsClaimPrefixFrom t c kinds 0 c longer (stage_for c u)
     decided_here u path =
         then_here (stage_for c u)
         (inr (inl (record { turns = x ∷ p.turns; value = u; all = refl; path = path; is = refl })))
 
-    -- if the object does not decide, the claim's stage is that of the objects after it
+    -- if the turn ends this object's path undecided, the claim has the stage that no turns have on the later objects
     undecided_then :
         (u : ℕ) (s : Stage) → IsPath t p.kind p.input (x ∷ p.turns) (answer false u)
         → IsClaimPrefixFrom t c p.after (suc object) u [] s → IsClaimPrefixFrom t c kinds 0 c longer s
     undecided_then u s path behind =
         then_here s (inr (inr (u, [], record { turns = x ∷ p.turns; all = refl; path = path }, behind)))
 
-    -- if the object does not decide and is the last one, the claim is undecided
+    -- if the turn ends the path on the last object undecided, the claim is undecided
     pub undecided_here :
         (u : ℕ) → IsPath t p.kind p.input (x ∷ p.turns) (answer false u) → p.after ≡ []
         → IsClaimPrefixFrom t c kinds 0 c longer Undecided
@@ -85,7 +85,7 @@ module _ (t : QuorumTable) (kinds : List Kind) (c object : ℕ) (pc : Pc) (xs : 
         undecided_then u Undecided path
         (subst (λ ks. IsClaimPrefixFrom t c ks (suc object) u [] Undecided) (sym last) (refl, refl))
 
-    -- if the object does not decide and another comes after it, the claim is going
+    -- if the turn ends the path on this object undecided and another object comes after it, the claim is going
     passed_here :
         AreDeciding t → (k : Kind) (ks : List Kind) → p.after ≡ k ∷ ks
         → (u : ℕ) → IsPath t p.kind p.input (x ∷ p.turns) (answer false u) → u < t.values
@@ -95,7 +95,7 @@ module _ (t : QuorumTable) (kinds : List Kind) (c object : ℕ) (pc : Pc) (xs : 
         (subst (λ js. IsClaimPrefixFrom t c js (suc object) u [] Going) (sym next)
         (inl (record { turns = []; all = refl; going = (law k (λ p. p)).opens u l; is = refl })))
 
-    -- if the turn ends the path on this object, the claim's part has a stage
+    -- if the turn ends the path on this object, the longer turns are a prefix of the claim's path, with some stage
     ended :
         AreDeciding t → (ks : List Kind) → p.after ≡ ks → (d : Bool) (u : ℕ)
         → IsPath t p.kind p.input (x ∷ p.turns) (answer d u) → u < t.values
@@ -104,7 +104,7 @@ module _ (t : QuorumTable) (kinds : List Kind) (c object : ℕ) (pc : Pc) (xs : 
     ended law [] e false u path l = (Undecided, undecided_here u path e)
     ended law (k ∷ ks) e false u path l = (Going, passed_here law k ks e u path l)
 
-    -- if the turn goes on along a path of the object, the longer turns are a part of all objects
+    -- if the turns here with one more are a prefix of a path on this object, the longer turns are one of a claim path
     pub goes_on :
         AreDeciding t
         → ((u : ℕ) (d : Bool) → IsPath t p.kind p.input (x ∷ p.turns) (answer d u) → u < t.values)
@@ -122,7 +122,7 @@ module _ (t : QuorumTable) (kinds : List Kind) (c object : ℕ) (pc : Pc) (xs : 
     )
 
 -- ---- the access that a place names may come next
--- the objects over a table keep the laws of one step
+-- objects over a table keep the laws of one more access: it goes on with a path, and the history stays lawful
 pub record AreStepping (t : QuorumTable) : Type 0 where
   pub steps :
       (kind : Kind) (inputs : ℕ → ℕ) (h : List Access) (p : ℕ) (pc : Pc) (op : Op) (word : ℕ)
@@ -144,13 +144,13 @@ module _ (t : QuorumTable) (law : AreDeciding t) (stepping : AreStepping t) (kin
     (c o w : ℕ) (turns : List Turn) (at : LawfulObject t kind hs c o w turns)
     (pc : Pc) (op : Op) (word : ℕ) (small : IsInWords (turn_after op word (hs o))) (place : PcIsAt t kind w pc turns)
     (is : IsOpAt t pc op) where
-  -- the turn goes on along a path of its process
+  -- with the turn that the place names, the process's turns on this object are a prefix of a path with its input
   own_step : IsPrefix t kind (at.inputs c) (turn_after op word (hs o) ∷ part c (hs o))
   own_step =
       stepping.steps kind at.inputs (hs o) c pc op word at.lawful
       (subst₂ (λ v ts. PcIsAt t kind v pc ts) (sym at.own) (sym at.same) place) is
 
-  -- the turn goes on along the claim's path on this object
+  -- with that turn, the claim's turns on this object are a prefix of a path there
   pub part_here : IsPrefix t kind w (turn_after op word (hs o) ∷ turns)
   part_here = subst₂ (λ v ts. IsPrefix t kind v (turn_after op word (hs o) ∷ ts)) at.own at.same own_step
 
@@ -160,7 +160,7 @@ module _ (t : QuorumTable) (law : AreDeciding t) (stepping : AreStepping t) (kin
       stepping.longer kind at.inputs (hs o) c (turn_after op word (hs o)) at.lawful at.within small
       (reads_seen op (hs o)) own_step
 
-  -- if the turn ends the path, the output is a value of the table
+  -- if the turn ends the path on this object, its output is a value of the table
   pub output_below :
       (u : ℕ) (d : Bool) → IsPath t kind w (turn_after op word (hs o) ∷ turns) (answer d u) → u < t.values
   output_below u d path =
@@ -172,7 +172,7 @@ module _ (t : QuorumTable) (law : AreDeciding t) (stepping : AreStepping t) (kin
       let from = (law kind at.inputs).validity (record { process = c; turn = turn } ∷ hs o) then c d u output in
       subst (λ n. n < t.values) from.2 (then.parts from.0 from.1).0
 
--- in a lawful history the object on which a claim stands has a lawful history
+-- in a lawful history of claims the accesses to the object on which a claim stands are a lawful history of that object
 stands_here :
     (cs : Claims) → AreDeciding cs.table → (h : List ClaimAccess) (c k object : ℕ) (pc : Pc)
     → IsClaimLawful cs h → (p : HasPlace cs c k object pc h)
@@ -206,7 +206,7 @@ may_follow cs law stepping h c k object pc op word lawful cell p is words =
           (part_here cs.table law stepping p.1.kind hs c object p.1.input p.1.turns at pc op word words p.1.place is);
     }
 
--- the access that a claim's place names finds a value with which the place can go on
+-- after a lawful history the access that a claim's place names finds a value that this place allows (`CanFind`)
 pub finds_there :
     (cs : Claims) → AreDeciding cs.table → AreStepping cs.table
     → (h : List ClaimAccess) (c k object : ℕ) (pc : Pc) (op : Op)
@@ -218,21 +218,21 @@ finds_there cs law stepping h c k object pc op lawful p is =
     (subst₂ (λ v ts. PcIsAt cs.table p.1.kind v pc ts) (sym at.own) (sym at.same) p.1.place) is
 
 -- ---- a claim that stands at a place is going
--- the object on which a claim stands is one of the row's
+-- the object on which a claim stands is one of its cell's
 pub stands_on :
     (t : QuorumTable) (kinds : List Kind) (c object : ℕ) (pc : Pc) (xs : List ObjectTurn)
     (p : StandsAt t kinds c object pc xs)
     → slice_get kinds object ≡ Some p.kind
 stands_on t kinds c object pc xs p = ap₂ (λ ks m. slice_get ks m) p.order p.number ∙ get_at p.before p.kind p.after
 
--- a prefix of a path that is not whole goes on
+-- turns that are a prefix of a path, but no whole path, are an open prefix
 open_by :
     (t : QuorumTable) (kind : Kind) (v : ℕ) (turns : List Turn) → ((out : Out) → IsPath t kind v turns out → ⊥)
     → IsPrefix t kind v turns → IsOpen t kind v turns
 open_by t kind v turns not ([], out, path) = absurd (not out path)
 open_by t kind v turns not (x ∷ more, out, path) = (x ∷ more, not_empty x more, (out, path))
 
--- the turns of a claim at a place are a part that is going
+-- if the turns on a claim's object are an unfinished prefix there, all its turns are a prefix, and it is going
 pub stands_part :
     (t : QuorumTable) (kinds : List Kind) (c object : ℕ) (pc : Pc) (xs : List ObjectTurn)
     (p : StandsAt t kinds c object pc xs)

@@ -24,7 +24,7 @@ module _
   abbrev found : ℕ
   found = found_in cs k object op words
 
-  -- the access, by what it finds in the words
+  -- the access that the op makes on the words
   abbrev access : ClaimAccess
   access = access_in cs c k object op word words
 
@@ -34,11 +34,11 @@ module _
       let a = within cs.table.registers cs.kinds cs.cells k object (reg_of op) place cell in
       let b = memory.room in omega arith
 
-  -- the value found is the one that the history leaves in the word
+  -- the value found is what the history leaves in the word
   seen : found ≡ held_at k object (reg_of op) h
   seen = memory.left k object (reg_of op) cell place
 
-  -- the access made on the words is the one that the op makes after the history
+  -- the access made on the words is the access that the op makes after the history
   pub same_access : access_after c k object op word h ≡ access
   same_access =
       ap (λ x. record {
@@ -53,7 +53,7 @@ module _
   access_adds may = adds cs h access memory.lawful (subst (λ a. MayFollow cs a h) same_access may)
 
   module _ (added : Adds cs access h) where
-    -- after the access each word has what the longer history leaves in it, by whether it is the word of the access
+    -- after the access each word has what the longer history leaves in it. Cases: whether the access is to this word
     held_by :
         (j o : ℕ) (q : Reg) → IsWordIn cs o q → j < cs.cells
         → (address ≡ address_in cs j o q) ⊎ (address ≡ address_in cs j o q → ⊥)
@@ -96,14 +96,14 @@ module _
         memory_after (access_adds (may_follow cs law stepping h c k object pc op word memory.lawful cell stands is
         (subst (λ (a : ClaimAccess). IsInWords a.step.turn) (sym same_access) small)))
 
-    -- the claim's place can go on with the value that is found
+    -- the value found is one that the claim's place allows (`CanFind`)
     pub memory_found : CanFind cs.table pc op found
     memory_found =
         same_find cs.table pc op found (object_history k object h) is seen
         (finds_there cs law stepping h c k object pc op memory.lawful stands is)
 
 -- ---- the words of the empty history, and words after those of the cells
--- words that are all 0 are those of the empty history
+-- words that are all 0 are what the empty history leaves
 pub memory_empty :
     (cs : Claims) (words : List ℕ) → words_in cs ≤ length words → ((i : ℕ) → slice_index words i ≡ 0)
     → IsMemoryOf cs words []
@@ -114,7 +114,7 @@ memory_empty cs words room zeros =
       left = λ k o reg cell place. zeros (address_in cs k o reg);
     }
 
--- a word after those of the cells may be stored to: the others are still those that the history leaves
+-- if a value is stored at an address after those of the cells, the words are still those that the history leaves
 pub memory_beyond :
     (cs : Claims) (at n : ℕ) (words : List ℕ) (h : List ClaimAccess) → words_in cs ≤ at → IsMemoryOf cs words h
     → IsMemoryOf cs (slice_set words at n) h

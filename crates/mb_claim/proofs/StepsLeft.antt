@@ -7,7 +7,7 @@ use Rattle.mb_deciding.specs.Vocabulary.{turns_left, most_turns}
 use Rattle.mb_claim.specs.{Kind, Claim, Layout, Stage, Going, Won, Lost, Undecided, quorums_of, kinds_of}
 use Rattle.mb_claim.specs.{most_on_objects, steps_left, steps_left_at}
 
--- the objects from object o on allow what object o allows and what those after it allow
+-- the objects from object o on allow as many accesses as object o, and then those after it, allow
 pub most_from :
     (t : QuorumTable) (kinds : List Kind) (o : ℕ) (kind : Kind) → slice_get kinds o ≡ Some kind
     → most_on_objects t (drop o kinds) ≡ most_turns t kind + most_on_objects t (drop (suc o) kinds)
@@ -32,7 +32,7 @@ ended_left layout claim Won e ended = ap (λ s. steps_left_at layout s claim.obj
 ended_left layout claim (Lost winner) e ended = ap (λ s. steps_left_at layout s claim.object claim.place) e
 ended_left layout claim Undecided e ended = ap (λ s. steps_left_at layout s claim.object claim.place) e
 
--- the accesses left to a claim that is going are those of its object and place
+-- the accesses left to a claim that is going are counted from its object and its place there
 pub going_left :
     (layout : Layout) (claim : Claim) → claim.stage ≡ Going
     → steps_left layout claim ≡ steps_left_at layout Going claim.object claim.place

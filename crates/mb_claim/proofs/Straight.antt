@@ -1,4 +1,4 @@
--- A claim before its first access to an object, and the accesses to that object that lead it on or end it.
+-- A claim before its first access to an object, and its accesses to that object, after which it goes on or has ended.
 use Rattle.std.proofs.Common.{◌≡◌, ◌≢◌, ◌+◌, ◌<◌, ◌==◌, ◌∙◌, ℕ, suc, Bool, true, false, cond, Option, Some, None, MatchOption, arith}
 use Rattle.std.proofs.Common.{[], List, length, slice_get, get_or, refl, sym, subst, ap}
 use Rattle.std.proofs.lemmas.Bool.{false≢true}
@@ -19,7 +19,7 @@ use Rattle.mb_claim.proofs.LayoutObjects.{length-row_of, fit_in_row, last_turn_s
 use Rattle.mb_claim.proofs.ManyClaimSteps.{ended_on, stood_after, all_go_on, stage_after, object_after, place_after, joined}
 
 -- ---- the first place of an object
--- a process with no turn is at the first place of an object
+-- a process with input v that has made no turn on an object is at the object's first place for v
 pub first_begins :
     (t : QuorumTable) (kind : Kind) (v : ℕ) → IsFitKind kind → v < t.values → PcIsAt t kind v (first_place t kind v) []
 first_begins t (Conciliator s) v fit below =
@@ -28,7 +28,7 @@ first_begins t Ratifier v fit below =
     (below, (refl, (0, omega arith, (λ k. ((λ m. (omega arith, m)), (λ p. p.1))), refl)))
 first_begins t LastObject v fit below = (below, (refl, refl))
 
--- the first place of an object fits the table
+-- the first place of an object, for an input that is a value of the table, is a place over that table
 pub first_fits :
     (t : QuorumTable) (kind : Kind) (v : ℕ) → IsFitKind kind → v < t.values → IsPlace t (first_place t kind v)
 first_fits t (Conciliator s) v fit below = (below, (s, 0, fit, (omega arith, refl, refl)))
@@ -36,7 +36,7 @@ first_fits t Ratifier v fit below = below
 first_fits t LastObject v fit below = below
 
 -- ---- claims before an object
--- an object that a layout has is of some kind, which fits
+-- each object of a layout is of some kind, and if that is a conciliator, its last attempt is at most 63 (`IsFitKind`)
 pub some_kind : (layout : Layout) (o : ℕ) → o < length (kinds_of layout)
     → (kind : Kind) × (slice_get (kinds_of layout) o ≡ Some kind) × IsFitKind kind
 some_kind layout o below =
@@ -48,21 +48,21 @@ some_kind layout o below =
     )
 
 module _ (layout : Layout) (c o v : ℕ) where
-  -- the claim of consumer c before its first access to an object of this kind
+  -- if object o has this kind, the claim `standing` for the kind is one before its first access to object o
   pub is_standing :
       (kind : Kind) (claim : Claim) → slice_get (kinds_of layout) o ≡ Some kind → claim ≡ standing layout c o v kind
       → IsStanding layout c o v claim
   is_standing kind claim at is =
       subst (λ k. MatchOption k ⊥ (λ kind. claim ≡ standing layout c o v kind)) (sym at) is
 
-  -- there is one claim before its first access to an object, by the kind of the object
+  -- if object o has this kind, each claim before its first access to object o is `standing` for the kind
   pub standing_is :
       (kind : Kind) (claim : Claim) → slice_get (kinds_of layout) o ≡ Some kind → IsStanding layout c o v claim
       → claim ≡ standing layout c o v kind
   standing_is kind claim at is =
       subst (λ k. MatchOption k ⊥ (λ kind. claim ≡ standing layout c o v kind)) at is
 
-  -- a claim before its first access to an object fits the layout
+  -- a claim before its first access to an object of the layout may be called with that layout (`FitsLayout`)
   pub standing_fits :
       (kind : Kind) → slice_get (kinds_of layout) o ≡ Some kind → IsFitKind kind → v < consumer_count layout
       → FitsLayout layout (standing layout c o v kind)
@@ -72,7 +72,7 @@ module _ (layout : Layout) (c o v : ℕ) where
         place = first_fits (quorums_of layout) kind v fit below;
       }
 
--- the claim of consumer c that has ended on object o, where its input was v, with this stage
+-- a claim of consumer c that ended on object o with this stage. Its input to the object was v
 abbrev pub closed : Layout → ℕ → ℕ → ℕ → Kind → Stage → Claim
 closed layout c o v kind stage =
     record {
@@ -84,27 +84,27 @@ closed layout c o v kind stage =
     }
 
 -- ---- stages
--- a consumer's claim has ended if a value was decided
+-- a claim for which a value was decided is not going
 pub stage_for_ended : (c u : ℕ) → stage_for c u ≢ Going
 stage_for_ended c u = by_test (c == u)
   where
-    -- either the consumer has won, or it has lost
+    -- neither `Won` nor `Lost` is `Going`, whichever of them the test b picks
     by_test : (b : Bool) → cond b Won (Lost u) ≢ Going
     by_test true = won_ended
     by_test false = lost_ended u
 
--- a claim that is undecided has ended
+-- an undecided claim is not going
 undecided_ended : Undecided ≢ Going
 undecided_ended e = cc
 
--- a claim that has ended is an end of accesses that led to its stage
+-- if a stretch has a stage that is not `Going`, a claim that ended with that stage is the stretch's end (`HasEnd`)
 closed_end :
     (layout : Layout) (c o v : ℕ) (kind : Kind) (stage : Stage) → stage ≢ Going → (stretch : Stretch)
     → stretch.stage ≡ stage → HasEnd layout c stretch (closed layout c o v kind stage)
 closed_end layout c o v kind stage ended stretch is =
     (sym is, refl, (λ g. absurd (ended g)), (λ g. absurd (ended (sym is ∙ g))))
 
--- a claim that stands before an object is an end of accesses that led there
+-- if a stretch is going, a claim before its first access to the stretch's object is the stretch's end (`HasEnd`)
 pub standing_end :
     (layout : Layout) (c : ℕ) (stretch : Stretch) (claim : Claim) → stretch.stage ≡ Going
     → stretch.object < length (kinds_of layout) → stretch.value < consumer_count layout
@@ -124,8 +124,8 @@ standing_end layout c stretch claim going below within stands =
 module _ {M : Type 0} (layout : Layout) (parts : PlacesMakeParts (quorums_of layout) (kinds_of layout))
     (draws : M → ℕ → M → Type 0) (makes : M → ℕ → Op → ℕ → M → Type 0)
     (c o v : ℕ) (kind : Kind) (start now : M) (n u : ℕ) where
-  -- accesses to an object that did not decide lead to the claim before its first access to the next object, if there is
-  -- one
+  -- n accesses to object o that end with the undecided output u are accesses of the claim. If another object comes
+  -- next, the claim is then before its first access there, with input u
   pub passed_on :
       (next : Kind) → slice_get (kinds_of layout) (suc o) ≡ Some next → IsFitKind next → u < consumer_count layout
       → AreSteps (quorums_of layout) (DrawsAndMakes draws makes o) (first_place (quorums_of layout) kind v) start n
@@ -143,7 +143,7 @@ module _ {M : Type 0} (layout : Layout) (parts : PlacesMakeParts (quorums_of lay
       below (reaches p.kind p.input p.turns p.place) (Some next)
       (subst (λ k. slice_get (kinds_of layout) k ≡ Some next) m at) (refl, m, first_begins t next u fit below))
 
-  -- accesses to the last object, if it did not decide, lead to an undecided claim
+  -- n accesses to the last object that end undecided are accesses of the claim, which is then undecided
   pub passed_last :
       slice_get (kinds_of layout) (suc o) ≡ None → u < consumer_count layout
       → AreSteps (quorums_of layout) (DrawsAndMakes draws makes o) (first_place (quorums_of layout) kind v) start n
@@ -160,7 +160,7 @@ module _ {M : Type 0} (layout : Layout) (parts : PlacesMakeParts (quorums_of lay
       refl of.known refl below (reaches p.kind p.input p.turns p.place) None
       (subst (λ k. slice_get (kinds_of layout) k ≡ None) m at) refl)
 
-  -- accesses to an object that decided lead to a claim that is won or lost
+  -- n accesses to object o that end decided are accesses of the claim, which is then won or lost
   pub decided_at :
       AreSteps (quorums_of layout) (DrawsAndMakes draws makes o) (first_place (quorums_of layout) kind v) start n
       (leads.Out (answer true u)) now
@@ -179,7 +179,7 @@ module _ {M : Type 0} (layout : Layout) (parts : PlacesMakeParts (quorums_of lay
     (draws : M → ℕ → M → Type 0) (makes : M → ℕ → Op → ℕ → M → Type 0)
     (c o v : ℕ) (kind : Kind) (at : slice_get (kinds_of layout) o ≡ Some kind) (start : M)
     (begin : ℕ) (site : Site) (same : site ≡ site_of layout begin o) where
-  -- accesses to the object of the site are accesses to the object
+  -- accesses to the object that the site names are accesses to object o
   at_site :
       (pc : Pc) (n : ℕ) (follows : Next) (now : M)
       → AreSteps (quorums_of layout) (DrawsAndMakes draws makes site.object) pc start n follows now
@@ -187,8 +187,8 @@ module _ {M : Type 0} (layout : Layout) (parts : PlacesMakeParts (quorums_of lay
   at_site pc n follows now steps =
       subst (λ s. AreSteps (quorums_of layout) (DrawsAndMakes draws makes s.object) pc start n follows now) same steps
 
-  -- if each next access of the claim may be made, so may each access to the object that a process makes from its first
-  -- place on
+  -- if each next access of the claim may be made, so may each access to object o of a process that began at the first
+  -- place there
   pub site_may :
       (can : M → Site → Op → Type 0)
       → ((claim : Claim) → IsStanding layout c o v claim → (n word : ℕ) (follows : Claim) (before mid : M)
@@ -215,7 +215,7 @@ module _ {M : Type 0} (layout : Layout) (parts : PlacesMakeParts (quorums_of lay
       }))
 
   module _ (claim : Claim) (stands : IsStanding layout c o v claim) (n u : ℕ) (now : M) where
-    -- accesses of the claim before the object are accesses of each claim that stands there
+    -- accesses of the claim `standing` are accesses of this claim, which equals it
     of_claim :
         (follows : Claim) → AreClaimSteps layout (DrawsAndMakesNext draws makes) (standing layout c o v kind) start n
         follows now
@@ -224,7 +224,7 @@ module _ {M : Type 0} (layout : Layout) (parts : PlacesMakeParts (quorums_of lay
         subst (λ d. AreClaimSteps layout (DrawsAndMakesNext draws makes) d start n follows now)
         (sym (standing_is layout c o v kind claim at stands)) steps
 
-    -- if the object did not decide, the claim stands before the next one
+    -- if accesses to the object end undecided, the claim made them and is before its first access to the next object
     pub led_on :
         (m : ℕ) (next : Kind) → m ≡ suc o → slice_get (kinds_of layout) m ≡ Some next → IsFitKind next
         → u < consumer_count layout
@@ -243,7 +243,7 @@ module _ {M : Type 0} (layout : Layout) (parts : PlacesMakeParts (quorums_of lay
               (ap (λ k. standing layout c k u next) (sym e)),
         )
 
-    -- if the last object did not decide, the claim is undecided
+    -- if accesses to the last object end undecided, the claim made them and is undecided
     pub led_out :
         (stretch : Stretch) → stretch.stage ≡ Undecided → slice_get (kinds_of layout) (suc o) ≡ None
         → u < consumer_count layout
@@ -259,7 +259,7 @@ module _ {M : Type 0} (layout : Layout) (parts : PlacesMakeParts (quorums_of lay
           closed_end layout c o v kind Undecided undecided_ended stretch is,
         )
 
-    -- if the object decided, the claim is won or lost
+    -- if accesses to the object end decided, the claim made them and is won or lost
     pub led_to_end :
         (stretch : Stretch) → stretch.stage ≡ stage_for c u
         → AreSteps (quorums_of layout) (DrawsAndMakes draws makes site.object) (first_place (quorums_of layout) kind v)
@@ -275,31 +275,31 @@ module _ {M : Type 0} (layout : Layout) (parts : PlacesMakeParts (quorums_of lay
         )
 
 -- ---- object by object
--- two claims that stand before one object are one
+-- two claims before their first access to the same object are equal
 one_of : (kind : Option Kind) (there : Kind → Claim) (a b : Claim) → MatchOption kind ⊥ (λ k. a ≡ there k)
     → MatchOption kind ⊥ (λ k. b ≡ there k) → a ≡ b
 one_of None there a b p q = absurd p
 one_of (Some k) there a b p q = p ∙ sym q
 
--- a layout has a first object
+-- a layout has at least one object
 has_first : (layout : Layout) → 0 < length (kinds_of layout)
 has_first layout =
     let all = length-row_of layout.shape (spread (quorums_of layout).values) layout.pairs in
     omega (arith, all, layout.some)
 
--- a consumer's new claim stands before the first object
+-- each consumer has a claim before its first access to object 0
 pub first_claim : (layout : Layout) (c : ℕ) → (claim : Claim) × IsStanding layout c 0 c claim
 first_claim layout c =
     let kind = some_kind layout 0 (has_first layout) in
     (standing layout c 0 c kind.0, is_standing layout c 0 c kind.0 (standing layout c 0 c kind.0) kind.1 refl)
 
--- a consumer's new claim has that consumer
+-- a claim of consumer c before its first access to object 0 is c's claim
 pub first_owner : (layout : Layout) (c : ℕ) (claim : Claim) → IsStanding layout c 0 c claim → consumer_of claim ≡ c
 first_owner layout c claim stands =
     let kind = some_kind layout 0 (has_first layout) in
     ap consumer_of (standing_is layout c 0 c kind.0 claim kind.1 stands)
 
--- a new claim has made no access
+-- a claim before its first access to object 0 is the claim of a consumer without turns (`IsClaimIn`)
 pub first_path :
     ((cs : Claims) (c object : ℕ) (pc : Pc) (xs : List ObjectTurn) → ClaimsAreSound cs
     → StandsAt cs.table cs.kinds c object pc xs → IsClaimPrefix cs c xs Going)
@@ -319,8 +319,8 @@ first_path prefix layout c claim below stands =
       stands = λ g. at;
     })
 
--- accesses led each claim that stands before object o, where its input is v, to one of which P holds. What is left
--- of the budget is told
+-- from each claim of consumer c before its first access to object o, with input v, accesses led to a claim of which P
+-- holds. Of `most` accesses that it might make, `left` are left
 abbrev pub AreLed : {M : Type 0} → Layout → (M → ℕ → ClaimOp → ℕ → M → Type 0) → ℕ → ℕ → ℕ → M → ℕ → (Claim → Type 0)
     → M → ℕ → Type 0
 AreLed layout makes c o v start most P now left =
@@ -328,7 +328,7 @@ AreLed layout makes c o v start most P now left =
     → (n : ℕ) × (follows : Claim) × (n + left ≡ most) × AreClaimSteps layout makes claim start n follows now
     × P follows
 
--- accesses that led to a claim of which P holds led to one of which Q holds, if Q follows from P
+-- if Q follows from P, accesses that led to a claim of which P holds led to one of which Q holds
 pub led_as :
     {M : Type 0} (layout : Layout) (makes : M → ℕ → ClaimOp → ℕ → M → Type 0) (c o v : ℕ) (start : M) (most : ℕ)
     (P Q : Claim → Type 0) (now : M) (left : ℕ) → AreLed layout makes c o v start most P now left
@@ -340,7 +340,7 @@ module _ {M : Type 0} (layout : Layout) (draws : M → ℕ → M → Type 0) (ma
     (start : M) (most o v : ℕ) (between : M) (left : ℕ)
     (first : AreLed layout (DrawsAndMakesNext draws makes) c 0 c start most (IsStanding layout c o v) between
     left) where
-  -- accesses from where others led are accesses from the beginning
+  -- accesses that begin where the first ones ended are, together with these, accesses of a new claim
   pub further :
       (P : Claim → Type 0) (now : M) (rest : ℕ)
       → AreLed layout (DrawsAndMakesNext draws makes) c o v between left P now rest
@@ -355,7 +355,7 @@ module _ {M : Type 0} (layout : Layout) (draws : M → ℕ → M → Type 0) (ma
         b.4,
       )
 
-  -- if each next access of a new claim may be made, so may each one that comes after those that were made
+  -- if each next access of a new claim may be made, so may each one that comes after the first accesses
   pub further_may :
       (may : Claim → M → ClaimOp → Type 0)
       → ((claim : Claim) → IsStanding layout c 0 c claim → (n word : ℕ) (follows : Claim) (before mid : M)

@@ -1,4 +1,4 @@
--- Turns, and the acts that they make.
+-- What an op can find after a history. Also facts about turns that mb_deciding proves.
 use Rattle.std.proofs.Common.{ℕ, List, sym, subst}
 use Rattle.mb_quorum.specs.Vocabulary.{QuorumTable}
 use Rattle.mb_deciding.specs.declared.access.Op.TheVariants as to
@@ -7,7 +7,7 @@ pub use Rattle.mb_deciding.proofs.Acts.{acts-append, acts-turns_for, has_turns, 
 pub use Rattle.mb_deciding.proofs.Courses.{reads_seen}
 use Rattle.mb_claim.specs.{Access, Op, Pc}
 
--- an op that found what the history leaves in its word has found what it may find there
+-- if the op can find what the history leaves in its word (`CanFind`), it can find `seen`, which it found there
 pub told_find :
     (t : QuorumTable) (pc : Pc) (op : Op) (seen : ℕ) (h : List Access) → ReadsLast (act_of op seen) h
     → CanFind t pc op (seen_by op h) → CanFind t pc op seen

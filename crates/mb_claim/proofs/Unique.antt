@@ -1,4 +1,4 @@
--- A part has one stage, and an object is used once.
+-- A prefix of a claim path has one stage, and a consumer uses an object once.
 use Rattle.std.proofs.Common.{◌≡◌, ◌⊎◌, append_assoc, ℕ, suc, true, false, List, [], ◌∷◌, ◌++◌, refl, sym, ◌∙◌, ap}
 use Rattle.std.proofs.Common.{subst, subst₂, inl, inr}
 use Rattle.std.proofs.lemmas.Bool.{true≢false}
@@ -13,7 +13,7 @@ use Rattle.mb_claim.proofs.Lists.{append_nil_parts, append_nil_rest}
 use Rattle.mb_claim.proofs.Parts.{turns_at-turns_on, passed_turns}
 
 module _ (t : QuorumTable) (k : Kind) (law : OfKind t k) (v : ℕ) where
-  -- turns that go on are no whole path
+  -- an open prefix of a path is no whole path
   pub open_closed : (xs ys : List Turn) (out : Out) → xs ≡ ys → IsOpen t k v xs → IsPath t k v ys out → ⊥
   open_closed xs ys out e g p =
       g.1 ((law (λ p. p)).unique v xs g.0 out g.2.0 (subst (λ zs. IsPath t k v zs out) (sym e) p) g.2.1).0
@@ -23,7 +23,7 @@ module _ (t : QuorumTable) (k : Kind) (law : OfKind t k) (v : ℕ) where
   same_out xs ys a b e p q =
       ((law (λ p. p)).unique v xs [] a b p (subst (λ zs. IsPath t k v zs b) (sym e) q)).1
 
--- the turns of a part that went to object o alone are its turns on that object
+-- if all steps were made on object o, their turns are the turns on o
 pub only :
     (t : QuorumTable) (k : Kind) (o v : ℕ) (xs : List ObjectTurn) (ts : List Turn) → xs ≡ turns_on o ts
     → ts ≡ turns_at o xs
@@ -31,20 +31,20 @@ only t k o v xs ts e = sym (turns_at-turns_on o ts) ∙ ap (turns_at o) (sym e)
 
 module _ (t : QuorumTable) (k : Kind) (law : OfKind t k) (c o v : ℕ) (xs : List ObjectTurn) (s : Stage)
     (ys : List Turn) (out : Out) (here : ys ≡ turns_at o xs) (path : IsPath t k v ys out) where
-  -- a part with a whole path on its first object does not go on within that object
+  -- if the turns on object o are a whole path, the consumer does not go on within o
   pub not_ended : GoesOnIn t k o v xs s → ⊥
   not_ended x = open_closed t k law v x.turns ys out (only t k o v xs x.turns x.all ∙ sym here) x.going path
 
-  -- a part whose first object decided has the decided output there
+  -- if object o decided, the output of the whole path there is the decided value
   pub decided_as : (x : DecidesIn t c k o v xs s) → answer true x.value ≡ out
   decided_as x =
       same_out t k law v x.turns ys (answer true x.value) out (only t k o v xs x.turns x.all ∙ sym here) x.path path
 
-  -- a part whose first object decided was not left undecided there
+  -- if object o decided, the output of the whole path there is not undecided
   pub not_undecided : DecidesIn t c k o v xs s → out.decided ≡ false → ⊥
   not_undecided x e = true≢false (ap (λ (a : Out). a.decided) (decided_as x) ∙ e)
 
--- a part has one stage
+-- a prefix of a claim path has one stage
 pub one_stage_lem :
     (t : QuorumTable) → AreDeciding t → (c : ℕ) (ks : List Kind) (o v : ℕ) (xs : List ObjectTurn) (s r : Stage)
     → IsClaimPrefixFrom t c ks o v xs s → IsClaimPrefixFrom t c ks o v xs r → s ≡ r

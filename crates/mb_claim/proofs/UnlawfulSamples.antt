@@ -37,7 +37,7 @@ not_again law bad =
     (answer false 0) conciliated refl here)
 
 -- ---- consumer 0 goes on after it has won
--- if a part has passed its first object, its turns on the second are none or a prefix of a path there
+-- if steps from object o on pass o, the turns on the next object are none or a prefix of a path there
 second_here :
     (t : QuorumTable) (c : ℕ) (k j : Kind) (ks : List Kind) (o v : ℕ) (xs : List ObjectTurn) (s : Stage)
     → OfKind t k → v < t.values
@@ -68,14 +68,14 @@ not_after_winning law ratifier bad =
     (turns_at 1 later) (answer true 0) ratified refl here)
 
 -- ---- consumer 1 comes to the second object with its own number
--- the acts of a process with input 0 up to its preference begin with its announcement
+-- the oldest act of a process with input 0 that has its preference is the store of register 0, its announcement
 prefers_last :
     (u : ℕ) (begin : List Act) → Prefers (unary_table 2) 0 u begin
     → (front : List Act) × (begin ≡ front ++ Store (Quorum 0) 1 ∷ [])
 prefers_last u begin (inl p) = (Store Proposal 1 ∷ Load Proposal 0 ∷ [], p.1)
 prefers_last u begin (inr p) = (Load Proposal (u + 1) ∷ [], p)
 
--- the acts of a process with input 0 up to its end begin with its announcement, if its reads met no 1
+-- if a process with input 0 loaded its read quorum and found no 1, the oldest of its acts is its announcement
 clear_last :
     (u bound : ℕ) (made : List Act) → ReadsClear (unary_table 2) 0 u bound made
     → (front : List Act) × (made ≡ front ++ Store (Quorum 0) 1 ∷ [])
@@ -87,7 +87,7 @@ clear_last u bound made (begin, prefers, all) =
           ∙ sym (append_assoc zeros last.0 (Store (Quorum 0) 1 ∷ [])),
     )
 
--- the acts of a process with input 0 up to its end begin with its announcement, if its last read met a 1
+-- if a process with input 0 loaded a 1 from its read quorum, the oldest of its acts is its announcement
 one_last :
     (u : ℕ) (made : List Act) → ReadsOne (unary_table 2) 0 u made
     → (front : List Act) × (made ≡ front ++ Store (Quorum 0) 1 ∷ [])
@@ -95,7 +95,7 @@ one_last u [] p = absurd p
 one_last u (act ∷ older) (r, is, member, below, clear) =
     let last = clear_last u r older clear in (act ∷ last.0, ap (λ acts. act ∷ acts) last.1)
 
--- each whole path of a ratifier with input 0 begins with the announcement of 0
+-- the oldest act of each whole path of a ratifier with input 0 is the announcement of 0
 path_last :
     (made : List Act) (d : Bool) (u : ℕ) → IsRatifierPath (unary_table 2) 0 made d u
     → (front : List Act) × (made ≡ front ++ Store (Quorum 0) 1 ∷ [])
@@ -111,7 +111,7 @@ register_of act = 0
 abbrev stored : Turn
 stored = record { act = Store (Quorum 1) 1; word = 0 }
 
--- no path of the ratifier with input 0 begins with the announcement of 1
+-- on no path of the ratifier with input 0 the oldest act is the announcement of 1
 no_path_behind : (turns : List Turn) (out : Out) → IsPath (unary_table 2) Ratifier 0 (turns ++ stored ∷ []) out → ⊥
 no_path_behind turns out path =
     let last = path_last (acts (turns ++ stored ∷ [])) out.decided out.value path in

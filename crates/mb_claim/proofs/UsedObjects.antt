@@ -15,14 +15,14 @@ use Rattle.mb_claim.proofs.PassedObjects.{step_passes}
 use Rattle.mb_claim.proofs.CellFamily.{competes, family}
 
 -- ---- the input with which a part comes to an object
--- a part comes only to the object on which it begins, and to those after it
+-- a part that begins on object o comes to no object before o
 comes_from :
     (t : QuorumTable) (ks : List Kind) (o v n w : ℕ) (xs : List ObjectTurn) → Enters t ks o v xs n w → o ≤ n
 comes_from t [] o v n w xs q = absurd q
 comes_from t (k ∷ ks) o v n w xs (inl x) = omega (arith, x.0)
 comes_from t (k ∷ ks) o v n w xs (inr (u, later, x, q)) = omega (arith, comes_from t ks (suc o) u n w later q)
 
--- an object to which a part comes, m objects further than the one on which it begins, is of some kind
+-- an object to which a part comes, m objects after the one on which it begins, has a kind in the row
 pub kind_of :
     (t : QuorumTable) (ks : List Kind) (o m v n w : ℕ) (xs : List ObjectTurn) → n ≡ o + m → Enters t ks o v xs n w
     → (kind : Kind) × (slice_get ks m ≡ Some kind)
@@ -42,7 +42,7 @@ first_input t (k ∷ ks) o v n w xs e (inr (u, later, x, q)) =
 
 module _ (t : QuorumTable) (k : Kind) (ks : List Kind) (o : ℕ) (hs : ℕ → List Access) (P : ℕ → Type 0)
     (fam : Family t (k ∷ ks) o hs P) (law : OfKind t k) (c : ℕ) (l : fam.input c < t.values) where
-  -- a consumer that has passed the first object has no turn there after that
+  -- a consumer that has passed object o has no turn there later
   none_more :
       (u : ℕ) (later : List ObjectTurn) → Passes t k o (fam.input c) (fam.rest c) u later → turns_at o later ≡ []
   none_more u later x =
@@ -50,7 +50,7 @@ module _ (t : QuorumTable) (k : Kind) (ks : List Kind) (o : ℕ) (hs : ℕ → L
       (ap (turns_at o) x.all ∙ turns_at-append o later (turns_on o x.turns)
       ∙ ap (λ ts. turns_at o later ++ ts) (turns_at-turns_on o x.turns)) (step t k ks o hs P fam c).here
 
-  -- a consumer that comes to a later object comes to it from the next one on
+  -- a consumer that comes from object o to a later object comes there from the next object on, with the same input
   comes_on :
       (n w : ℕ) → o < n → Enters t (k ∷ ks) o (fam.input c) (fam.rest c) n w
       → Enters t ks (suc o) (step t k ks o hs P fam c).value (step t k ks o hs P fam c).rest n w
@@ -61,7 +61,7 @@ module _ (t : QuorumTable) (k : Kind) (ks : List Kind) (o : ℕ) (hs : ℕ → L
 
 -- ---- each object has a lawful history
 -- object n has a lawful history with some inputs. E says of each consumer with an access there that it comes with its
--- input, and of no other input
+-- input, and with no other
 pub record Used (t : QuorumTable) (kind : Kind) (hs : ℕ → List Access) (E : ℕ → ℕ → Type 0) (n : ℕ) : Type 0 where
   pub inputs : ℕ → ℕ
   pub lawful : IsObjectLawful (object_of t kind inputs) (hs n)
@@ -96,7 +96,7 @@ used t hs law m E kind (k ∷ ks) o P fam enter leave (suc n) e r =
 -- ---- the objects of a cell
 module _ (cs : Claims) (law : AreDeciding cs.table) (h : List ClaimAccess) (lawful : IsClaimLawful cs h)
     (k o : ℕ) (kind : Kind) (is : slice_get cs.kinds o ≡ Some kind) where
-  -- the object of a lawful history of claims has a lawful history, with the inputs of the claim paths
+  -- in a lawful history of claims, object o of cell k has a lawful history with the inputs that claim paths give
   object_used :
       Used cs.table kind (λ n. object_history k n h) (λ c w. Enters cs.table cs.kinds 0 c (part_on c k h) o w) o
   object_used =
@@ -104,11 +104,11 @@ module _ (cs : Claims) (law : AreDeciding cs.table) (h : List ClaimAccess) (lawf
       cs.kinds 0 (competes cs h k law lawful) (family cs h k law lawful) (λ c w ne q. q) (λ c w ne q. q) o
       (omega arith) is
 
-  -- consumers use the object with some inputs
+  -- consumers use object o of cell k with some inputs (`IsUsedWith`)
   pub some_inputs : (inputs : ℕ → ℕ) × IsUsedWith cs k o kind inputs h
   some_inputs = (object_used.inputs, record { is = is; lawful = object_used.lawful; enters = object_used.enters })
 
-  -- a consumer with an access to the object comes to it with one input
+  -- a consumer with an access to object o of cell k comes to it with one input
   pub one_input :
       (c u w : ℕ) → part_at c k o h ≢ [] → Enters cs.table cs.kinds 0 c (part_on c k h) o u
       → Enters cs.table cs.kinds 0 c (part_on c k h) o w → u ≡ w

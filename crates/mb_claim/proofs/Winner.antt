@@ -1,4 +1,4 @@
--- One winner, over every lawful history of claims.
+-- In every lawful history of claims, all claims on a cell have one winner.
 use Rattle.std.proofs.Common.{suc, Bool, true, false, cond, eqb, ◌∷◌, inl, inr, ◌≡◌, ◌≢◌, ◌⊎◌, ℕ, Some, List, [], refl}
 use Rattle.std.proofs.Common.{sym, ◌∙◌, ap, subst, slice_get, arith}
 use Rattle.std.proofs.lemmas.Bool.{cases_eq, eqb-false}
@@ -15,7 +15,7 @@ use Rattle.mb_claim.proofs.Agreeing.{winner_holds, agree}
 use Rattle.mb_claim.proofs.Contest.{Shown, Contest, contention}
 
 -- ---- who has lost names another consumer
--- the winner to whom a stage says that the claim was lost, or 0
+-- the consumer to which a claim with this stage is lost, or 0 if it is not lost
 abbrev lost_to : Stage → ℕ
 lost_to Going = 0
 lost_to Won = 0
@@ -28,7 +28,7 @@ lost_by c u w true e is same = let h : Lost w ≡ Won = is in cc
 lost_by c u w false e is same =
     let named : w ≡ u = ap lost_to is in eqb-false c u e (sym same ∙ named)
 
--- who has lost names another consumer
+-- a prefix of consumer c's path with the stage `Lost w` names another consumer: w is not c
 lost_other :
     (t : QuorumTable) (c : ℕ) (ks : List Kind) (o v : ℕ) (xs : List ObjectTurn) (w : ℕ)
     → IsClaimPrefixFrom t c ks o v xs (Lost w) → w ≢ c
@@ -40,7 +40,7 @@ lost_other t c (k ∷ ks) o v xs w (inr (inr (u, rest, x, p))) same = lost_other
 -- ---- the claims on cell k have one winner
 module _ (cs : Claims) (h : List ClaimAccess) (k : ℕ) (law : AreDeciding cs.table)
     (ratifying : AreRatifying cs.table) (lawful : IsClaimLawful cs h) where
-  -- the winner that a stage of consumer c names is the one that its stage in the family names
+  -- if a stage that consumer c has on the cell names u, the stage of c in the family names u
   named :
       (c u : ℕ) (s : Stage) → HasStage cs c k s h → StageNames c s u
       → StageNames c (start cs h k law lawful c).stage u
@@ -60,17 +60,17 @@ module _ (cs : Claims) (h : List ClaimAccess) (k : ℕ) (law : AreDeciding cs.ta
       (family cs h k law lawful) (λ d n w ne e. e) c o
       ((start cs h k law lawful c).is Undecided q) r)
 
-  -- a value that a process has shown was announced to the object
+  -- if a process has stored in a register of u's write quorum (`Shown`), u was announced to object o of the cell
   shown_announced : (o u : ℕ) → Shown cs.table (λ n. object_history k n h) E o u → IsClaimAnnounced cs k o u h
   shown_announced o u x = (x.process, x.register, x.enters, x.member, x.stored)
 
-  -- a process that has shown a value has an access to the cell
+  -- a process that has stored in a write quorum of an object (`Shown`) has a step on the cell
   some_part : (o u : ℕ) (x : Shown cs.table (λ n. object_history k n h) E o u) → part_on x.process k h ≢ []
   some_part o u x e =
       has_turns (part x.process (object_history k o h)) _ x.stored
       (part-object_history x.process k o h ∙ ap (turns_at o) e)
 
-  -- of two processes that have shown different values one is not consumer c
+  -- of two processes that have announced different values one is not consumer c, and it has a step on the cell
   company_by :
       (c o : ℕ) (x : Contest cs.table (λ n. object_history k n h) E o) → (x.one.process ≡ c) ⊎ (x.one.process ≡ c → ⊥)
       → (d : ℕ) × (d ≢ c) × (part_on d k h ≢ [])

@@ -11,14 +11,14 @@ use Rattle.mb_claim.specs.{Reg, Access, Op, Pc, Value, Proposal, Quorum, Last, L
 use Rattle.mb_claim.specs.{Exchange as Exchanged}
 use Rattle.mb_claim.specs.{after_op}
 
--- a name of a word is the same as itself
+-- each word is the same as itself, by the test `is_same_reg`
 same_reg-refl : (p : Reg) → is_same_reg p p ≡ true
 same_reg-refl Value = refl
 same_reg-refl Proposal = refl
 same_reg-refl (Quorum i) = eq-eqb i i refl
 same_reg-refl Last = refl
 
--- names of words that are the same by the test are equal
+-- two words that are the same by the test are equal
 same_reg-true : (p q : Reg) → is_same_reg p q ≡ true → p ≡ q
 same_reg-true Value Value e = refl
 same_reg-true Proposal Proposal e = refl
@@ -43,13 +43,13 @@ reg_of-act_of (to.Load q) s = refl
 reg_of-act_of (to.Store q m) s = refl
 reg_of-act_of (to.Exchange q m) s = refl
 
--- an act to this word leaves what it stores, if it stores
+-- if the act goes to this word (b), the word holds what the act stores, or still n if it stores nothing
 stored_here : (b : Bool) (stored : Option ℕ) (n : ℕ) → b ≡ true
     → option_map_or (λ value. cond b value n) stored n ≡ option_map_or (λ value. value) stored n
 stored_here b None n e = refl
 stored_here b (Some m) n e = ap (λ a. cond a m n) e
 
--- an act to another word leaves what was there
+-- if the act goes to another word (b is false), this word still holds n
 stored_there : (b : Bool) (stored : Option ℕ) (n : ℕ) → b ≡ false
     → option_map_or (λ value. cond b value n) stored n ≡ n
 stored_there b None n e = refl
@@ -61,7 +61,7 @@ own_word op n =
     stored_here (is_same_reg (reg_of_act (act_of op n)) (reg_of op)) (stored_by (act_of op n)) n
     (ap (λ p. is_same_reg p (reg_of op)) (reg_of-act_of op n) ∙ same_reg-refl (reg_of op))
 
--- in another word an op leaves what was there
+-- after an op each other word of its object still holds n
 other_word : (op : Op) (s n : ℕ) (q : Reg) → is_same_reg (reg_of op) q ≡ false → value_after q (act_of op s) n ≡ n
 other_word op s n q e =
     stored_there (is_same_reg (reg_of_act (act_of op s)) q) (stored_by (act_of op s)) n
@@ -75,13 +75,13 @@ own_place k o s n op e =
     ap₂ (λ a b. cond a (cond b (value_after (reg_of op) (act_of op s) n) n) n) (eq-eqb k k refl) (eq-eqb o o refl)
     ∙ (ap (λ m. value_after (reg_of op) (act_of op m) n) e ∙ own_word op n)
 
--- a value that is n whenever both tests pass is n
+-- if x is n whenever both tests pass, taking x if both pass, and else n, gives n
 same_at : (a b : Bool) (x n : ℕ) → (a ≡ true → b ≡ true → x ≡ n) → cond a (cond b x n) n ≡ n
 same_at true true x n h = h refl refl
 same_at true false x n h = refl
 same_at false b x n h = refl
 
--- in a word of another cell, object or name an op leaves what was there
+-- after an op a word of another cell or object, or with another name, still holds n
 pub other_place :
     (k o s n : ℕ) (op : Op) (j m : ℕ) (q : Reg) → (k ≡ j → o ≡ m → reg_of op ≡ q → ⊥)
     → cond (eqb k j) (cond (eqb o m) (value_after q (act_of op s) n) n) n ≡ n
@@ -91,13 +91,13 @@ other_place k o s n op j m q ne =
     (λ t. absurd (ne (eqb-true k j a) (eqb-true o m b) (same_reg-true (reg_of op) q t))) (λ f. f)
     (cases_Bool (is_same_reg (reg_of op) q))))
 
--- an op that finds what the history leaves makes the same act on the words as after the history
+-- an op that finds n, which the history leaves in its word, makes the same act as after the history
 pub same_act : (op : Op) (n : ℕ) (h : List Access) → n ≡ value_in (reg_of op) h → act_of op (seen_by op h) ≡ act_of op n
 same_act (to.Load q) n h e = ap (λ m. Loaded q m) (sym e)
 same_act (to.Store q m) n h e = refl
 same_act (to.Exchange q m) n h e = ap (λ k. Exchanged q m k) (sym e)
 
--- an op that finds what the history leaves finds what it may find, if it does so after the history
+-- if the op can find what the history leaves in its word (`CanFind`), it can find n, which is the same
 pub same_find :
     (t : QuorumTable) (pc : Pc) (op : Op) (n : ℕ) (h : List Access) → IsOpAt t pc op → n ≡ value_in (reg_of op) h
     → CanFind t pc op (seen_by op h) → CanFind t pc op n

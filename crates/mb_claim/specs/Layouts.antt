@@ -1,5 +1,5 @@
 -- Layouts: the objects that each cell has, where their words lie, and the most turns of a claim. Also where the words
--- of claims lie that are given by their objects alone.
+-- of any `Claims` lie.
 use Rattle.std.specs.Prelude.{ℕ, ◌+◌, ◌*◌, Bool, true, false, List, [], ◌∷◌}
 use Rattle.mb_quorum.specs.Vocabulary.{QuorumTable, chosen_table}
 use Rattle.mb_deciding.specs.Vocabulary.{largest_quorum, most_turns, spread}

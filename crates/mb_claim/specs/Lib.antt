@@ -18,7 +18,7 @@ pub mod Boards
 pub mod Samples
 pub mod ShapedSamples
 pub mod Vocabulary
--- clauses leave out the file of what these lines name: `Rattle.mb_claim.specs.NAME`
+-- for what these lines export, clauses leave out the file: `Rattle.mb_claim.specs.NAME`
 pub use ObjectTypes.*
 pub use Types.*
 pub use History.*

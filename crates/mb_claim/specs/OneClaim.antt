@@ -35,7 +35,7 @@ is_begun claim = claim.begun
 pub record IsOnObject (layout : Layout) (claim : Claim) : Type 0 where
   -- the layout has the object
   pub object : claim.object < length (kinds_of layout)
-  -- the place fits the layout's quorum table
+  -- the place is one over the layout's quorum table: its values and registers are the table's
   pub place : IsPlace (quorums_of layout) claim.place
 
 -- a claim that is going stands on one of the layout's objects, so its calls may be made with this layout
@@ -93,12 +93,12 @@ steps_left layout claim = steps_left_at layout claim.stage claim.object claim.pl
 abbrev pub claim_access : Claim → ℕ → ObjectTurn → ClaimAccess
 claim_access claim k step = record { consumer = consumer_of claim; cell = k; step = step }
 
--- the words, and the claim on cell k, fit one lawful history of the layout's claims on `cells` cells
+-- one lawful history of the layout's claims on `cells` cells leaves the words, and has the claim's accesses on cell k
 pub record IsClaimOn (layout : Layout) (cells k : ℕ) (claim : Claim) (words : List ℕ)
     (h : List ClaimAccess) : Type 0 where
   -- the cell is one of these cells
   pub cell : k < cells
   -- the history leaves the words
   pub memory : IsMemoryOf (claims_in layout cells) words h
-  -- the claim has made its consumer's part on the cell
+  -- the claim is the claim of a consumer that has made its part of the history on the cell
   pub standing : IsClaimIn layout claim (part_on (consumer_of claim) k h)

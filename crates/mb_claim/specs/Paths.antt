@@ -41,7 +41,7 @@ pub record GoesOnIn (t : QuorumTable) (kind : Kind) (o v : ℕ) (xs : List Objec
   pub going : IsOpen t kind v turns
   pub is : s ≡ Going
 
--- object o has decided, and the stage is what its value makes of consumer c
+-- object o has decided a value. The stage of consumer c is `Won` if the value is c, and else `Lost`
 pub record DecidesIn (t : QuorumTable) (c : ℕ) (kind : Kind) (o v : ℕ) (xs : List ObjectTurn)
     (s : Stage) : Type 0 where
   -- all that the consumer did from here on, it did on this object
@@ -52,7 +52,7 @@ pub record DecidesIn (t : QuorumTable) (c : ℕ) (kind : Kind) (o v : ℕ) (xs :
   pub path : IsPath t kind v turns (answer true value)
   pub is : s ≡ stage_for c value
 
--- object o has not decided: its output u is the next input, and later turns follow
+-- object o has not decided: its output u is the input to the next object. The turns after it are `later`
 pub record Passes
     (t : QuorumTable) (kind : Kind) (o v : ℕ) (xs : List ObjectTurn) (u : ℕ)
     (later : List ObjectTurn) : Type 0 where
@@ -62,7 +62,7 @@ pub record Passes
   -- these turns are a whole path with an undecided output
   pub path : IsPath t kind v turns (answer false u)
 
--- the turns are a prefix of a path of consumer c through objects with numbers from o on, with input v. It has the stage
+-- the turns are a prefix of a path of consumer c through objects from object o on, with input v and with this stage
 abbrev pub IsClaimPrefixFrom : QuorumTable → ℕ → List Kind → ℕ → ℕ → List ObjectTurn → Stage
     → Type 0
 IsClaimPrefixFrom t c [] o v xs s = (xs ≡ []) × (s ≡ Undecided)

@@ -37,8 +37,8 @@ abbrev pub IsEntryAfter : Claims → ClaimEntry → List ClaimAccess → Type 0
 IsEntryAfter cs (entry.Access consumer object act) h = HasStage cs consumer 0 Going h
 IsEntryAfter cs (entry.Done consumer) h = (s : Stage) × HasStage cs consumer 0 s h × (s ≢ Going)
 
--- there is one entry for each step. It is of that step's consumer, and fits the history with the accesses of the
--- entries before it
+-- there is one entry for each step. It is of that step's consumer, and may come after the history with the accesses of
+-- the entries before it
 abbrev pub AreEntriesOf : Claims → List (ℕ × ℕ) → List ClaimEntry → List ClaimAccess → Type 0
 AreEntriesOf cs [] [] h = Unit {0}
 AreEntriesOf cs [] (e ∷ entries) h = ⊥
@@ -53,9 +53,9 @@ pub record IsPlayed (cs : Claims) (steps : List (ℕ × ℕ)) (entries : List Cl
     : Type 0 where
   -- the accesses are one lawful history
   pub lawful : IsClaimLawful cs (history_of steps entries)
-  -- there is one entry for each step, which is `Done` exactly if the claim has ended
+  -- there is one entry for each step, which is `Done` exactly if that consumer's claim has ended
   pub fits : AreEntriesOf cs steps entries []
-  -- each consumer has a stage, which is that of its claim in the history
+  -- the list has one stage for each consumer, and its claim has that stage in the history
   pub consumers : length stages ≡ cs.table.values
   pub reached :
       (c : ℕ) (d : Stage) → c < length stages

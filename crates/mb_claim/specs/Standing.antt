@@ -43,7 +43,7 @@ abbrev pub HasPlace : Claims → ℕ → ℕ → ℕ → Pc → List ClaimAccess
 HasPlace cs c k object pc h = (c < cs.table.values)
     × StandsAt cs.table cs.kinds c object pc (part_on c k h)
 
--- the claim is that of a consumer that has made these turns
+-- the claim belongs to a consumer that has made these turns, and says how far it has come
 pub record IsClaimOf (t : QuorumTable) (kinds : List Kind) (claim : Claim)
     (xs : List ObjectTurn) : Type 0 where
   -- the claim's consumer is one of the table's

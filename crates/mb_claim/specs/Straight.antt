@@ -22,19 +22,19 @@ standing layout c o v kind =
       begun = is_past o;
     }
 
--- the claim is that of consumer c before its first access to object o, with input v
+-- the claim is consumer c's before its first access to object o, with input v
 abbrev pub IsStanding : Layout → ℕ → ℕ → ℕ → Claim → Type 0
 IsStanding layout c o v claim =
     MatchOption (slice_get (kinds_of layout) o) ⊥ (λ kind. claim ≡ standing layout c o v kind)
 
--- object o of a cell whose words begin there
+-- the site of object o, on a cell whose words begin at `begin`
 abbrev pub site_of : Layout → ℕ → ℕ → Site
 site_of layout begin o =
     record { object = o; begin = begin + words_before (quorums_of layout).registers (kinds_of layout) o }
 
--- straight accesses of consumer c ended with this claim. It is that consumer's, and has the stage told. If it is going,
--- it stands on one of the layout's objects, at a place there. That is the place before its first access to the object
--- told, where its input is the value told
+-- straight accesses of consumer c ended with this claim. It is c's, and has the stage of the stretch. If it is going,
+-- it stands on one of the layout's objects. It is then before its first access to the object that the stretch names,
+-- with the value of the stretch as input
 abbrev pub HasEnd : Layout → ℕ → Stretch → Claim → Type 0
 HasEnd layout c stretch end = (claim_stage end ≡ stretch.stage) × (consumer_of end ≡ c) × FitsLayout layout end
     × (stretch.stage ≡ Going → IsStanding layout c stretch.object stretch.value end)

@@ -46,8 +46,8 @@ impl<A: Allocator + Drop> ClaimWords<A> {
     }
 
     /// Makes the next access of a claim on its cell, with the random word of this step. It needs a claim that is
-    /// `Going`, and a lawful history that the claim and these words fit (`held`). There is one if the claim was new
-    /// here, and each step of it was made here.
+    /// `Going`, and a lawful history that leaves these words and has the claim's accesses (`held`). There is one if the
+    /// claim was new here, and each step of it was made here.
     #[inline(always)]
     pub fn step(&mut self, layout: &Layout, claim: &mut Claim, cell: u32, word: u64) -> ClaimStep
         requires going { claim_stage claim.old ≡ Going }
@@ -55,7 +55,7 @@ impl<A: Allocator + Drop> ClaimWords<A> {
         requires held { (cells : ℕ) × (h : List ClaimAccess)
             × IsClaimOn layout.now cells cell claim.old self.old h }
 
-        // If the words and the claim fit a lawful history, they then fit that history with the claim's access.
+        // If a lawful history left the words and had the claim's accesses, it still does with the new access added.
         ensures held { (cells : ℕ) (h : List ClaimAccess)
             → IsClaimOn layout.now cells cell claim.old self.old h
             → IsClaimOn layout.now cells cell claim.new self.new

@@ -46,8 +46,8 @@ pub fn objects_have_lawful_histories()
     ensures own { (cs : Claims) (h : List ClaimAccess) (k c : ℕ) (kind : Kind) (inputs : ℕ → ℕ)
         → IsUsedWith cs k 0 kind inputs h → part_at c k 0 h ≢ [] → inputs c ≡ c }
 
-    // Validity and coherence, and of a ratifier what a clear read rules out. They hold at every step, as the history
-    // up to any step is lawful ([`older_histories_are_lawful`]).
+    // Validity and coherence hold, and of a ratifier what follows if registers were found unset (`ChecksKeepOut`). They
+    // hold at every step, as the history up to any step is lawful ([`older_histories_are_lawful`]).
     ensures outputs { (cs : Claims) (h : List ClaimAccess) (k o : ℕ) (kind : Kind) (inputs : ℕ → ℕ)
         → ClaimsAreSound cs → IsUsedWith cs k o kind inputs h
         → let object = object_of cs.table kind inputs in
@@ -101,7 +101,7 @@ pub fn prefixes_begin_whole_claims()
     ensures begun { (cs : Claims) (c : ℕ) (later xs : List ObjectTurn) (output : Out)
         → IsWholeClaim cs c (later ++ xs) output → (s : Stage) × IsClaimPrefix cs c xs s }
 
-    // A whole path has the stage of its output, and each stage but `Going` is that of a whole path.
+    // A whole path has the stage of its output, and a prefix with a stage other than `Going` is a whole path.
     ensures whole { (cs : Claims) (c : ℕ) (xs : List ObjectTurn) (output : Out)
         → IsWholeClaim cs c xs output → IsClaimPrefix cs c xs (stage_of c output) }
     ensures ended { (cs : Claims) (c : ℕ) (xs : List ObjectTurn) (s : Stage)
@@ -117,7 +117,7 @@ pub fn prefixes_have_one_stage()
     objects_keep_their_promises();
 }
 
-/// A claim that has made its consumer's part of a history has the stage of that history.
+/// If a claim has made its consumer's part of a history on a cell, the consumer has the claim's stage there.
 pub fn claims_have_their_stages()
     ensures { (layout : Layout) (cells k : ℕ) (claim : Claim) (h : List ClaimAccess)
         → IsClaimIn layout claim (part_on (consumer_of claim) k h)
@@ -149,7 +149,7 @@ pub fn steps_have_one_play()
     turns_name_the_next_op();
 }
 
-/// In a row that begins with two ratifiers: if the first has decided for one consumer, nobody goes on after the second.
+/// If a row begins with two ratifiers, and the first has decided for one consumer, nobody goes on after the second.
 pub fn fast_paths_take_two_ratifiers()
     ensures decided { (t : QuorumTable) (kinds : List Kind) (cells k c u : ℕ) (h : List ClaimAccess)
         → IsQuorumTable t → IsClaimLawful (claims_of t (Ratifier ∷ Ratifier ∷ kinds) cells) h
@@ -181,8 +181,8 @@ pub fn last_objects_decide_claims()
 {}
 
 /// In a layout with a fast path: if object 0 has decided for one consumer, nobody comes to a conciliator of that cell.
-/// Nobody does either if a consumer has ended its claim before the first access of any other. There `s` is the stage
-/// of that claim, and `i` the conciliator's number.
+/// Nobody does either if a consumer has ended its claim before the first access of any other. In that clause `s` is the
+/// stage of that claim, and `i` the conciliator's last attempt.
 pub fn fast_layouts_avoid_conciliators()
     ensures decided { (layout : Layout) (cells k c u : ℕ) (h : List ClaimAccess)
         → (shape_of layout).fast ≡ true → IsClaimLawful (claims_in layout cells) h
@@ -236,7 +236,7 @@ pub fn layouts_are_sound()
     ensures some { (layout : Layout) → pair_count layout ≡ 0 → (shape_of layout).last ≡ true }
 {}
 
-/// The numbers of the limits.
+/// The limits are these numbers.
 pub fn limits_have_their_numbers()
     ensures pairs { MAX_PAIRS ≡ 8 }
     ensures cells { MAX_CELLS ≡ 256 }

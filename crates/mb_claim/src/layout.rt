@@ -191,7 +191,7 @@ impl Layout {
         }
     }
 
-    /// How many objects a row of this shape has. Only this function and the next know the row.
+    /// How many objects a row of this shape has. Only this function and the next say in which order they come.
     fn objects_of(shape: Shape, pairs: u32) -> u32
         requires { pairs ≤ MAX_PAIRS }
         ensures { (s : ℕ) → result ≡ length (row_of shape s pairs) }
@@ -273,7 +273,7 @@ impl Layout {
         requires { cell < MAX_LARGE_CELLS }
         ensures exact { result ≡ cell * cell_words self.now }
 
-        // The words of the cell can be addressed.
+        // The positions of the cell's words are below 2^64.
         ensures room { result + cell_words self.now < 2 ^ 64 }
     {
         let words = self.words_of_cell();

@@ -5,7 +5,7 @@
 //! Each cell has deciding objects of [`mb_deciding`] in a row: pairs of a conciliator and a ratifier. Its [`Shape`] may
 //! add two ratifiers before them, a *fast path*, and a last object after them. With [`Layout::exchange`] there are no
 //! pairs, but a last object alone. A consumer goes through the objects in order.
-//! Its input to the first is its own number, and its input to each next one is the value that the one before returned.
+//! Its input to the first is its own number, and its input to each next one is what the object before returned.
 //! The first object that decides ends the claim: it is *won* if the value is the consumer's own number, and else *lost*
 //! to that number. If no object of the row has decided, it is *undecided*.
 //!

@@ -64,7 +64,7 @@ pub fn last_objects_come_last()
     // Consumer 0 is not undecided.
     ensures undecided { HasStage (two_with false true) 0 0 Undecided both_undecided → ⊥ }
 
-    // After consumer 0's exchange, that of consumer 1 does not find 0.
+    // After consumer 0's exchange, consumer 1's exchange does not find 0.
     ensures empty { IsClaimLawful (two_with false true) last_found_empty_twice → ⊥ }
 
     // No consumer may begin with the last object.
@@ -83,6 +83,6 @@ pub fn last_objects_stand_alone()
     ensures won { HasStage two_alone 0 0 Won exchanged_once_each }
     ensures lost { HasStage two_alone 1 0 (Lost 0) exchanged_once_each }
 
-    // After consumer 0's exchange, that of consumer 1 does not find 0.
+    // After consumer 0's exchange, consumer 1's exchange does not find 0.
     ensures empty { IsClaimLawful two_alone both_found_empty → ⊥ }
 {}

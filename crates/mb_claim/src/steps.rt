@@ -30,7 +30,7 @@ pub fn history_extends()
         → IsClaimLawful cs h → MayFollow cs a h → Adds cs a h }
 {}
 
-/// What one access more adds to the parts, whether or not it may come next.
+/// What an access adds to the parts of a history, whether or not it may come next there.
 pub fn accesses_lengthen_one_part()
     ensures own { (a : ClaimAccess) (h : List ClaimAccess)
         → part a.consumer (a ∷ h) ≡ a ∷ part a.consumer h }
@@ -44,7 +44,7 @@ pub fn accesses_lengthen_one_part()
         → a.cell ≡ k → ⊥)
         → part_on c k (a ∷ h) ≡ part_on c k h }
 
-    // The part on a cell can be taken from the consumer's whole part.
+    // A consumer's part on a cell depends on that consumer's accesses alone.
     ensures cells { (c k : ℕ) (h : List ClaimAccess) → part_on c k (part c h) ≡ part_on c k h }
 {}
 
@@ -60,7 +60,7 @@ pub fn claims_have_one_next_op()
     ensures going { (cs : Claims) (c : ℕ) (x : ObjectTurn) (xs : List ObjectTurn) (s : Stage)
         → IsClaimPrefix cs c (x ∷ xs) s → IsClaimPrefix cs c xs Going }
 
-    // With the value that memory gives and the same random word, two such accesses are the same.
+    // Two accesses of one consumer on one cell, with one random word, are equal if each may come next.
     ensures access { (cs : Claims) (a b : ClaimAccess) (h : List ClaimAccess) → ClaimsAreSound cs
         → IsClaimLawful cs (a ∷ h) → IsClaimLawful cs (b ∷ h) → a.consumer ≡ b.consumer
         → a.cell ≡ b.cell
@@ -187,9 +187,9 @@ pub fn claims_make_steps()
     words_follow_steps();
 }
 
-/// Different words have different addresses, and the words of `cells` cells lie below their count. In a row of pairs
-/// the words lie cell by cell, pair by pair: the conciliator's word, the proposal, the quorum registers. In a row of
-/// any shape the words of the fast path come first, and the last word comes after those of the pairs.
+/// Different words have different addresses, which are below the number of words. In a row of pairs the words lie cell
+/// by cell, pair by pair: the conciliator's word, the proposal, the quorum registers. In a row of any shape the words
+/// of the fast path come first, and the last word comes after those of the pairs.
 pub fn addresses_are_apart()
     ensures apart { (r : ℕ) (kinds : List Kind) (j k o p : ℕ) (reg other : Reg)
         → IsWordOf r kinds o reg → IsWordOf r kinds p other

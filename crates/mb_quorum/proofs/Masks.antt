@@ -15,12 +15,12 @@ mask_of-same f g (suc n) each =
     (mask_of-same f g n (λ i within. each i (omega (arith, within))))
     (ap (λ r. 2 ^ r) (each n (omega arith)))
 
--- 1 shifted by 2 i and bit i of n is the mask of the register that the bit names
+-- 1 shifted left by 2 i + bit i of n is the mask of register 2 i + bit i of n alone
 shifted_to : (n i : ℕ) → i < 32 → 1 * 2 ^ (2 * i + bit_and (n / 2 ^ i) 1) % 2 ^ 64 ≡ 2 ^ named_register n i
 shifted_to n i within =
     rw (shr_and_one n i) (one_shl (named_register n i) 64 (omega (arith, within, bit_at-lt n i)))
 
--- a pass of the loop adds the register that bit i names to the mask
+-- each pass of the loop adds register 2 i + bit i to the mask
 pub mask_of-next :
     (bits i mask : ℕ) → i < 32 → mask ≡ mask_of (named_register bits) i
     → bit_or mask (1 * 2 ^ (2 * i + bit_and (bits / 2 ^ i) 1) % 2 ^ 64) ≡ mask_of (named_register bits) (i + 1)

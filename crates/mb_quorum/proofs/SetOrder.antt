@@ -18,7 +18,7 @@ one_one =
       | inr some ↦ omega (arith, ones_le_self 1, some)
     ]
 
--- a set of n and of lower registers has one register more than those
+-- if x has only registers below n, the mask 2 ^ n + x has one register more than x
 ones_with_last : (n x : ℕ) → x < 2 ^ n → count_ones (2 ^ n + x) ≡ suc (count_ones x)
 ones_with_last n x small =
     let shape : 2 ^ n + x ≡ 1 * 2 ^ n + x = omega arith in
@@ -43,7 +43,7 @@ set_size (suc n) (suc h) v known =
           ))
     ]
 
--- of two sets the one with the larger number has the larger mask
+-- of two sets of h registers among n, the set with the larger number has the larger mask
 pub set_rises : (n h v w : ℕ) → v < w → w < choose n h → set_number n h v < set_number n h w
 set_rises zero zero v w less known = absurd (omega (arith, less, known))
 set_rises zero (suc h) v w less known = absurd (omega (arith, known))
@@ -68,15 +68,15 @@ set_rises (suc n) (suc h) v w less known =
       ]
     ]
 
--- x is the mask of a numbered set of h registers among n
+-- x is the mask of a set of h registers among n, which has a number
 abbrev pub HasNumber : ℕ → ℕ → ℕ → Type 0
 HasNumber n h x = (v : ℕ) × (v < choose n h) × (x ≡ set_number n h v)
 
--- a numbered set among n registers has a number among n + 1
+-- a set that has a number among n registers has one among n + 1
 number_without : (n h x : ℕ) → HasNumber n (suc h) x → HasNumber (suc n) (suc h) x
 number_without n h x (v, known, is) = (v, omega (arith, known), is ∙ sym (without_last n h v known))
 
--- a numbered set, with register n as one register more, has a number among n + 1
+-- a set that has a number among n registers, with register n added, has one among n + 1
 number_with : (n h x : ℕ) → HasNumber n h x → HasNumber (suc n) (suc h) (2 ^ n + x)
 number_with n h x (v, known, is) =
     let all : ℕ = choose n (suc h) + v in

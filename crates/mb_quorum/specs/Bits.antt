@@ -5,11 +5,11 @@ use Rattle.mb_quorum.specs.Quorum.{QuorumTable}
 use Rattle.mb_quorum.specs.Width.{width_of}
 use Rattle.mb_quorum.specs.Mask.{mask_of}
 
--- the one of the two registers for bit i that bit i of v names
+-- of the two registers for bit i, 2 i and 2 i + 1, the one that bit i of v names: 2 i + bit i of v
 abbrev pub named_register : ℕ → ℕ → ℕ
 named_register v i = 2 * i + bit_at v i
 
--- the one of the two registers for bit i that bit i of v does not name
+-- of the two registers for bit i, 2 i and 2 i + 1, the one that bit i of v does not name
 abbrev pub other_register : ℕ → ℕ → ℕ
 other_register v i = 2 * i + 1 - bit_at v i
 

@@ -10,7 +10,7 @@ use Rattle.mb_quorum.specs.WidthLaw.{width_is_least}
 use Rattle.mb_quorum.specs.MaskLaw.{mask_of-has, mask_of-only, mask_of-lt}
 use Rattle.mb_quorum.specs.Bits.{bits_table, named_register, other_register}
 
--- the quorums of one value share no register
+-- the write quorum and the read quorum of one value share no register
 apart : (m v w : ℕ) → v ≡ w → AreDisjoint ((bits_table m).write v) ((bits_table m).read w)
 apart m v w one r in_write in_read =
     let written = mask_of-only (named_register v) (width_of m) r in_write in
@@ -21,7 +21,7 @@ apart m v w one r in_write in_read =
     let bit : bit_at v written.0 ≡ bit_at w seen.0 = ap₂ bit_at one place in
     omega (arith, place, bit, written.2, seen.2, there)
 
--- if the quorums of two values share no register, the values have the same bits
+-- if v's write quorum and w's read quorum share no register, bit i of v is bit i of w
 same_bit :
     (m v w i : ℕ) → i < width_of m → AreDisjoint ((bits_table m).write v) ((bits_table m).read w)
     → bit_at v i ≡ bit_at w i
@@ -36,7 +36,7 @@ same_bit m v w i within disjoint =
           absurd (disjoint (named_register v i) written (subst (IsMember ((bits_table m).read w)) shared seen)))
     ]
 
--- if the quorums of two values share no register, the values are one
+-- if v's write quorum and w's read quorum share no register, v is w
 meet : (m v w : ℕ) → v < m → w < m → AreDisjoint ((bits_table m).write v) ((bits_table m).read w) → v ≡ w
 meet m v w written seen disjoint =
     let enough = (width_is_least m).enough in

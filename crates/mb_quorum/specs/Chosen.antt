@@ -3,6 +3,6 @@ use Rattle.mb_quorum.specs.declared.table.Table.{Table}
 use Rattle.mb_quorum.specs.Quorum.{QuorumTable}
 use Rattle.mb_quorum.specs.Tables.{table_of}
 
--- the chosen table: the one of its name, with its number of values
+-- the chosen table: the table of its name, with its number of values
 abbrev pub chosen_table : Table → QuorumTable
 chosen_table table = table_of table.name table.values

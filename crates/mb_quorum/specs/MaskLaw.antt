@@ -8,7 +8,7 @@ use Rattle.std.proofs.lemmas.Bool.{cases_eq}
 use Rattle.mb_quorum.specs.Mask.{mask_of}
 use Rattle.mb_quorum.specs.Quorum.{IsMember}
 
--- each named register is a member of the mask
+-- each of the registers `register 0`, .., `register (n - 1)` is a member of their mask
 pub mask_of-has : (register : ℕ → ℕ) (n i : ℕ) → i < n → IsMember (mask_of register n) (register i)
 mask_of-has register zero i within = absurd (omega (arith, within))
 mask_of-has register (suc n) i within =
@@ -23,7 +23,7 @@ mask_of-has register (suc n) i within =
           omega (arith, both, there, bit_at-lt (2 ^ register n) (register i)))
     ]
 
--- each member of the mask is a named register
+-- each member of the mask of `register 0`, .., `register (n - 1)` is one of these registers
 pub mask_of-only :
     (register : ℕ → ℕ) (n r : ℕ) → IsMember (mask_of register n) r → (i : ℕ) × (i < n) × (r ≡ register i)
 mask_of-only register zero r member = absurd (omega (arith, bit_at-zero r, member))
@@ -38,7 +38,7 @@ mask_of-only register (suc n) r member =
           (found.0, omega (arith, found.1), found.2))
     ]
 
--- if each named register is below k, the mask is below 2 ^ k
+-- if each of `register 0`, .., `register (n - 1)` is below k, their mask is below 2 ^ k
 pub mask_of-lt :
     (register : ℕ → ℕ) (n k : ℕ) → ((i : ℕ) → i < n → register i < k) → mask_of register n < 2 ^ k
 mask_of-lt register zero k each = pow_pos k
@@ -47,7 +47,7 @@ mask_of-lt register (suc n) k each =
     (mask_of-lt register n k (λ i within. each i (omega (arith, within))))
     (pow-lt (each n (omega arith)))
 
--- the members of the mask are exactly the named registers
+-- the members of the mask of `register 0`, .., `register (n - 1)` are exactly these registers
 pub mask_of-member :
     (register : ℕ → ℕ) (n r : ℕ) → IsMember (mask_of register n) r ↔ ((i : ℕ) × (i < n) × (r ≡ register i))
 mask_of-member register n r =

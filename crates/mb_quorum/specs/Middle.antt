@@ -17,7 +17,7 @@ abbrev pub halves_below : ℕ → ℕ → ℕ
 halves_below zero m = 0
 halves_below (suc n) m = if nat_lt (halves n) m then suc (halves_below n m) else halves_below n m
 
--- the least n with m ≤ halves n. It is how many of the first m numbers of halves are below m, since they never fall
+-- the least n with m ≤ halves n. It is how many of `halves 0`, .., `halves (m - 1)` are below m, as halves never fall
 abbrev pub breadth_of : ℕ → ℕ
 breadth_of m = halves_below m m
 

@@ -12,17 +12,17 @@ use Rattle.mb_quorum.specs.Quorum.{IsQuorumTable, IsMember, AreDisjoint}
 use Rattle.mb_quorum.specs.Middle.{choose, halves, halves_below, breadth_of, IsLeastBreadth, set_number, middle_table}
 
 -- ---- sets with and without the last register
--- a power of two is twice the one before
+-- a power of two is twice the one with an exponent lower by 1
 pub double : (n : ℕ) → 2 ^ suc n ≡ 2 * 2 ^ n
 double n = rw one-add at (pow-add 2 1 n)
 
--- a set without the last register is the set of this number among the other registers
+-- if v is below `choose n (h + 1)`, set v lacks register n, and is set v of the n registers below it
 pub without_last :
     (n h v : ℕ) → v < choose n (suc h) → set_number (suc n) (suc h) v ≡ set_number n (suc h) v
 without_last n h v less =
     sym (cond_below v (choose n (suc h)) (set_number n (suc h) v) (2 ^ n + set_number n h (v - choose n (suc h))) less)
 
--- a set with the last register is that register, and a set of the others with one register less
+-- if v is not below `choose n (h + 1)`, set v is register n, and a set of h of the registers below it
 pub with_last :
     (n h v : ℕ) → choose n (suc h) ≤ v
     → set_number (suc n) (suc h) v ≡ 2 ^ n + set_number n h (v - choose n (suc h))
@@ -30,7 +30,7 @@ with_last n h v more =
     let rest : ℕ = 2 ^ n + set_number n h (v - choose n (suc h)) in
     sym (cond_above v (choose n (suc h)) (set_number n (suc h) v) rest rest more refl)
 
--- the registers of a set are among the n
+-- each set of h registers among n has only registers below n
 pub set_below : (n h v : ℕ) → set_number n h v < 2 ^ n
 set_below zero h v = pow_pos 0
 set_below (suc n) zero v = pow_pos (suc n)
@@ -45,14 +45,14 @@ set_below (suc n) (suc h) v =
 out_of : (n h v : ℕ) → IsMember (set_number n h v) n → ⊥
 out_of n h v member = omega (arith, member, bit_at_above (set_number n h v) n n (set_below n h v) (omega arith))
 
--- register n is in a set of n and of lower registers
+-- if x has only registers below n, register n is in the mask 2 ^ n + x
 last_in : (n x : ℕ) → x < 2 ^ n → IsMember (2 ^ n + x) n
 last_in n x small =
     let shape : 2 ^ n + x ≡ 1 * 2 ^ n + x = omega arith in
     let same : n - n ≡ 0 = omega arith in
     ap (λ k. bit_at k n) shape ∙ bit_at_cat_high 1 n x n small (omega arith) ∙ ap (bit_at 1) same ∙ bit_at_lowest 1
 
--- a register below n is in a set of n and of lower registers exactly if it is in the rest of that set
+-- a register below n is in the mask 2 ^ n + x exactly if it is in x
 other_in : (n x r : ℕ) → r < n → bit_at (2 ^ n + x) r ≡ bit_at x r
 other_in n x r below =
     let shape : 2 ^ n + x ≡ 1 * 2 ^ n + x = omega arith in
@@ -63,7 +63,7 @@ other_in n x r below =
 abbrev IsWithin : ℕ → ℕ → Type 0
 IsWithin a b = (r : ℕ) → IsMember a r → IsMember b r
 
--- if each register of x below n is in y, x lies within y
+-- for masks below 2 ^ n: if each register of x below n is in y, each register of x is in y
 rests_within :
     (n x y : ℕ) → x < 2 ^ n → y < 2 ^ n → ((r : ℕ) → r < n → IsMember x r → IsMember y r) → IsWithin x y
 rests_within n x y small little within r member =
@@ -72,7 +72,7 @@ rests_within n x y small little within r member =
       | inr above ↦ absurd (omega (arith, member, bit_at_above x n r small above))
     ]
 
--- a set within another has no more registers, and if it has as many, both have one number
+-- a set within another has no more registers, and if it has as many, both have the same number
 pub one_within :
     (n a b v w : ℕ) → v < choose n a → w < choose n b → IsWithin (set_number n a v) (set_number n b w)
     → (a ≤ b) × (a ≡ b → v ≡ w)
@@ -229,7 +229,7 @@ counted n m h = sym (cond_below (halves n) m (suc (halves_below n m)) (halves_be
 passed_over : (n m : ℕ) → m ≤ halves n → halves_below (suc n) m ≡ halves_below n m
 passed_over n m h = sym (cond_above (halves n) m (suc (halves_below n m)) (halves_below n m) (halves_below n m) h refl)
 
--- at most n of the first n numbers of halves are below m
+-- at most n of `halves 0`, .., `halves (n - 1)` are below m
 halves_below-le : (n m : ℕ) → halves_below n m ≤ n
 halves_below-le zero m = omega arith
 halves_below-le (suc n) m =
@@ -238,7 +238,7 @@ halves_below-le (suc n) m =
       | inr h ↦ omega (arith, passed_over n m h, halves_below-le n m)
     ]
 
--- if `halves n` is below m, so are the n numbers of halves before it
+-- if `halves n` is below m, so are `halves 0`, .., `halves (n - 1)`
 all_below : (n m : ℕ) → halves n < m → halves_below n m ≡ n
 all_below zero m h = refl
 all_below (suc n) m h =
@@ -256,7 +256,7 @@ enough_halves (suc n) m h =
       | inr reached ↦ rw (passed_over n m reached) (enough_halves n m reached)
     ]
 
--- if c registers have more sets of their half than n registers, c is larger than n
+-- if c registers have more sets of half of them than n registers have, c is larger than n
 registers_below : (n c : ℕ) → halves n < halves c → n < c
 registers_below n c lower =
     elim (cases_lt n c) [
@@ -285,7 +285,7 @@ breadth_is_least m = record { enough = enough_halves m m (self_within m); least 
 pub one_breadth : (m a b : ℕ) → IsLeastBreadth m a → IsLeastBreadth m b → a ≡ b
 one_breadth m a b x y = omega (arith, x.least b y.enough, y.least a x.enough)
 
--- n is the least number, if n registers have m sets of half of them and fewer registers have not
+-- if n registers have m sets of half of them, and no fewer registers have so many, n is `breadth_of m`
 pub least_so_far : (m n : ℕ) → m ≤ halves n → ((c : ℕ) → c < n → halves c < m) → n ≡ breadth_of m
 least_so_far m n enough smaller =
     one_breadth m n (breadth_of m)
@@ -337,7 +337,7 @@ not_read m w r below out =
       | inr isnt ↦ absurd (out (omega (arith, other, isnt, bit_at-lt x r)))
     ]
 
--- the quorums of one value share no register
+-- the write quorum and the read quorum of one value share no register
 apart : (m v w : ℕ) → v ≡ w → AreDisjoint ((middle_table m).write v) ((middle_table m).read w)
 apart m v w one r in_write in_read =
     let k : ℕ = breadth_of m in
@@ -347,7 +347,7 @@ apart m v w one r in_write in_read =
     let written : IsMember x r = subst (λ u. IsMember (set_number k (k / 2) u) r) one in_write in
     omega (arith, other, written, in_read)
 
--- if the quorums of two values share no register, the values are one
+-- if v's write quorum and w's read quorum share no register, v is w
 meet : (m v w : ℕ) → v < m → w < m → AreDisjoint ((middle_table m).write v) ((middle_table m).read w) → v ≡ w
 meet m v w written seen disjoint =
     let k : ℕ = breadth_of m in

@@ -11,7 +11,7 @@ use Rattle.mb_quorum.specs.Quorum.{IsQuorumTable, IsMember, AreDisjoint}
 use Rattle.mb_quorum.specs.Unary.{unary_table}
 
 -- ---- the bits of a read quorum
--- what `others_cat` subtracts, with any numbers in place of its powers of two
+-- the subtraction that `others_cat` makes, with any numbers in place of its powers of two
 cat_numbers : (a x y z : ℕ) → x ≡ suc a * y → y ≡ 2 * z → 0 < z → x - 1 - z ≡ a * y + (z - 1)
 cat_numbers a x y z product double low = omega arith
 
@@ -57,7 +57,7 @@ read_own m v value member =
     subst (λ n. bit_at (2 ^ n - 1 - 2 ^ v) v ≡ 0) sum (others_same (m - suc v) v) in
     omega (arith, none, member)
 
--- the read quorum of v holds registers of the table alone
+-- each register in the read quorum of v is below m
 pub read_within : (m v r : ℕ) → IsMember ((unary_table m).read v) r → r < m
 read_within m v r member =
     let small : 2 ^ m - 1 - 2 ^ v < 2 ^ m = omega (arith, pow_pos m, pow_pos v) in
@@ -79,13 +79,13 @@ write_only m v r member =
     ]
 
 -- ---- the law
--- the quorums of one value share no register
+-- the write quorum and the read quorum of one value share no register
 apart : (m v w : ℕ) → v < m → v ≡ w → AreDisjoint ((unary_table m).write v) ((unary_table m).read w)
 apart m v w value same r in_write in_read =
     let own : r ≡ w = write_only m v r in_write ∙ same in
     read_own m w (omega (arith, value, same)) (subst (IsMember ((unary_table m).read w)) own in_read)
 
--- if the quorums of two values share no register, the values are one
+-- if v's write quorum and w's read quorum share no register, v is w
 meet : (m v w : ℕ) → v < m → w < m → AreDisjoint ((unary_table m).write v) ((unary_table m).read w) → v ≡ w
 meet m v w written seen disjoint =
     elim (cases_eq v w) [

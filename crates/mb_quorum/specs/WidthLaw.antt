@@ -13,7 +13,7 @@ counted i m h = sym (cond_below (2 ^ i) m (suc (powers_below i m)) (powers_below
 passed_over : (i m : ℕ) → m ≤ 2 ^ i → powers_below (suc i) m ≡ powers_below i m
 passed_over i m h = sym (cond_above (2 ^ i) m (suc (powers_below i m)) (powers_below i m) (powers_below i m) h refl)
 
--- at most n of the first n powers are below m
+-- at most n of the powers 2 ^ 0, .., 2 ^ (n - 1) are below m
 powers_below-le : (n m : ℕ) → powers_below n m ≤ n
 powers_below-le zero m = omega arith
 powers_below-le (suc i) m =
@@ -22,7 +22,7 @@ powers_below-le (suc i) m =
       | inr h ↦ omega (arith, passed_over i m h, powers_below-le i m)
     ]
 
--- if 2 ^ n is below m, so are the n powers before it
+-- if 2 ^ n is below m, so are 2 ^ 0, .., 2 ^ (n - 1)
 all_below : (n m : ℕ) → 2 ^ n < m → powers_below n m ≡ n
 all_below zero m h = refl
 all_below (suc i) m h =

@@ -15,7 +15,7 @@ ghost use Rattle.mb_quorum.specs.Vocabulary.{choose, set_number, IsLeastBreadth}
 
 use crate::Quorums;
 
-/// Every value of a table's type keeps the law of quorum tables.
+/// Each table of a type that is `Quorums` keeps the law of quorum tables.
 pub fn every_table_is_lawful<Q: Quorums>(table: &Q)
     ensures { IsQuorumTable (Q.table table.now) }
 {}

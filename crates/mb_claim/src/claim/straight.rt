@@ -55,7 +55,7 @@ impl Claim {
 
     /// Makes the accesses of a new claim on a cell whose words begin at `begin`. It goes object by object, as long as
     /// 10 accesses and 2 for each quorum register are left. For a last object one is enough. It makes at most `most`
-    /// accesses, those of as many calls of [`Claim::step`]. It needs a consumer of the layout, words whose positions
+    /// accesses, the same as so many calls of [`Claim::step`]. It needs a consumer of the layout, words whose positions
     /// are below 2^64, and a memory that can make each access.
     #[inline(always)]
     pub fn straight<M: Drawing>(
@@ -76,17 +76,17 @@ impl Claim {
         ensures object { result.stage ≡ Going → result.object < length (kinds_of layout.now) }
         ensures value { result.value < consumer_count layout.now }
 
-        // These are accesses of the claim, and they ended there.
+        // The accesses made are accesses of the claim, and they ended as the result says.
         ensures steps { (start : Claim) → IsStanding layout.now consumer 0 consumer start
             → (n : ℕ) × (end : Claim) × (n + result.left ≡ most)
             × AreClaimSteps layout.now (DrawsAndMakesNext M.draws M.makes) start memory.old n
             end memory.new
             × HasEnd layout.now consumer result end }
 
-        // It did not stop before it had to.
+        // If the claim is still going, too few accesses are left for the next object.
         ensures goes { HasStopped layout.now result }
     {
-        // With an ample budget no room is asked for.
+        // With an ample budget there is always room, so `room` is 0.
         let ample = is_ample(most);
         let room = Claim::room(layout, ample);
         let mut at = Stretch {

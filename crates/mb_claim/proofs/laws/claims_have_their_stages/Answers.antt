@@ -1,5 +1,5 @@
--- Proof of `laws::claims_have_their_stages`: a claim that has made its consumer's part of a history has the stage of
--- that history.
+-- Proof of `laws::claims_have_their_stages`: if a claim has made its consumer's part of a history on a cell, the
+-- consumer has the claim's stage there.
 use Rattle.mb_claim.proofs.laws.claims_have_their_stages.Goals as goal
 
 pub returns : goal.returns

@@ -10,7 +10,7 @@ use Rattle.mb_claim.proofs.ObjectHistories.{turns_at, part-object_history}
 use Rattle.mb_claim.proofs.PassedRatifiers.{both_came_undecided}
 use Rattle.mb_claim.proofs.laws.fast_layouts_avoid_conciliators.Goals as goal
 
--- the objects after the fast path
+-- the objects of a layout's row after the fast path
 abbrev behind : Layout → List Kind
 behind layout = pairs_of (spread (quorums_of layout).values) layout.pairs ++ last_row layout.shape.last
 

@@ -1,5 +1,5 @@
--- Proof of `laws::fast_paths_take_two_ratifiers`: in a row that begins with two ratifiers: if the first has decided for
--- one consumer, nobody goes on after the second.
+-- Proof of `laws::fast_paths_take_two_ratifiers`: if a row begins with two ratifiers, and the first has decided for one
+-- consumer, nobody goes on after the second.
 use Rattle.std.proofs.Common.{refl}
 use Rattle.mb_deciding.specs.Vocabulary.{object_of}
 use Rattle.mb_claim.specs.{Ratifier}

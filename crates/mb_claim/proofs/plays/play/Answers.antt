@@ -7,7 +7,7 @@ use Rattle.mb_deciding.proofs.FirstPlaces.{below_by_test, none_inside}
 use Rattle.mb_claim.proofs.LayoutObjects.{quorums_lawful}
 use Rattle.mb_claim.proofs.plays.play.Goals as goal
 
--- if no step is of a stranger, each is of a consumer below the bound
+-- if no step is of a consumer at or above the bound, each step's consumer is below it
 all_known : (bound : ℕ) (steps : List (ℕ × ℕ)) → None ≡ stranger_in bound steps → (k : ℕ) (d : ℕ × ℕ) → k < length steps
     → (get_or steps k d).0 < bound
 all_known bound steps none k d inside =

@@ -1,5 +1,5 @@
--- Proof of `steps::accesses_lengthen_one_part`: what one access more adds to the parts, whether or not it may come
--- next.
+-- Proof of `steps::accesses_lengthen_one_part`: what an access adds to the parts of a history, whether or not it may
+-- come next there.
 use Rattle.mb_claim.proofs.ConsumerParts.{part_own, part_other, part_on-part}
 use Rattle.mb_claim.proofs.HistorySteps.{own_part, other_part}
 use Rattle.mb_claim.proofs.steps.accesses_lengthen_one_part.Goals as goal

@@ -5,7 +5,7 @@ use Rattle.mb_claim.specs.{Claims, ClaimsAreSound}
 use Rattle.mb_claim.proofs.Standing.{AreStepping, may_follow, finds_there}
 use Rattle.mb_claim.proofs.steps.places_make_steps.Goals as goal
 
--- the objects over the claims' table keep the laws of one step
+-- objects over the claims' table keep the laws of one more access (`AreStepping`)
 stepping : goal.After-history_extends → (cs : Claims) → ClaimsAreSound cs → AreStepping cs.table
 stepping c cs quorum =
     record {

@@ -6,7 +6,7 @@ use Rattle.mb_claim.proofs.Standing.{AreStepping, stands_on}
 use Rattle.mb_claim.proofs.States.{memory_step, memory_found}
 use Rattle.mb_claim.proofs.steps.words_follow_steps.Goals as goal
 
--- the objects over the claims' table keep the laws of one step
+-- objects over the claims' table keep the laws of one more access (`AreStepping`)
 stepping : goal.After-places_are_unfinished → (cs : Claims) → ClaimsAreSound cs → AreStepping cs.table
 stepping c cs quorum =
     record {

@@ -28,7 +28,7 @@ returns-clause-registers c = breadth_is_least
 pub returns-clause-write : goal.returns-clause-write
 returns-clause-write c m v value = refl
 
--- a read quorum, as a complement, has no register past the last one
+-- the read quorum is the complement of the write quorum among the table's registers
 pub returns-clause-read : goal.returns-clause-read
 returns-clause-read c m v r value =
     let k = breadth_of m in

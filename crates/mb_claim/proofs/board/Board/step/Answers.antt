@@ -6,11 +6,11 @@ use Rattle.mb_claim.specs.{Stage, Going, BoardState, IsBoard}
 use Rattle.mb_claim.proofs.PlaySteps.{board_done, board_stepped, held}
 use Rattle.mb_claim.proofs.board.Board.step.Goals as goal
 
--- a claim for which the test returned true is going
+-- if the test `is_going` of a claim's stage returned true, the claim is going
 is_going : (b : Bool) (s r : Stage) → r ≡ s → (IsTrue b ↔ (r ≡ Going)) → b ≡ true → s ≡ Going
 is_going b s r e test is = sym e ∙ test.0 is
 
--- a claim for which the test returned false is not going
+-- if the test `is_going` of a claim's stage returned false, the claim has ended
 is_ended : (b : Bool) (s r : Stage) → r ≡ s → (IsTrue b ↔ (r ≡ Going)) → b ≡ false → s ≢ Going
 is_ended b s r e test is going = false≢true (sym is ∙ test.1 (e ∙ going))
 

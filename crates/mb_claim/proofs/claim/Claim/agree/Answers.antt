@@ -30,7 +30,7 @@ returns-in-Conciliator-clause-few g c =
     c.in-Conciliator.ensures.exact in
     omega (arith, last, c.through_conciliator-at.ensures.few)
 
--- a ratifier comes next
+-- after the conciliator a ratifier comes next
 next_is : goal.returns-in-Conciliator-clause-next
 next_is g c t =
     let o = c.args.at.now.object in

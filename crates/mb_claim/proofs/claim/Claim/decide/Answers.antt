@@ -33,7 +33,7 @@ returns-clause-few g c goes =
     let quorum = quorums_lawful layout in
     omega (arith, most, quorum.limit, c.through_ratifier-out.ensures.few)
 
--- the object is one of the layout's
+-- an object that is a ratifier of the layout has a number below the layout's number of objects
 in_row : (layout : Layout) (o : ℕ) → slice_get (kinds_of layout) o ≡ Some Ratifier → o < length (kinds_of layout)
 in_row layout o at = slice_get_within (kinds_of layout) o Ratifier at
 
@@ -43,7 +43,7 @@ overflow_add-at g c =
     let few = objects_few layout.shape (spread (quorums_of layout).values) layout.pairs layout.few in
     omega (arith, in_row layout c.args.at.now.object c.requires.object, few)
 
--- another object comes next
+-- if that ratifier is not the last of the n objects, there is an object with the next number
 below_end : (layout : Layout) (o n : ℕ) → slice_get (kinds_of layout) o ≡ Some Ratifier
     → n ≡ length (kinds_of layout) → o + 1 ≢ n → o + 1 < length (kinds_of layout)
 below_end layout o n at all ne = omega (arith, in_row layout o at, all, ne)

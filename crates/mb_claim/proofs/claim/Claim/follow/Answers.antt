@@ -15,7 +15,7 @@ use Rattle.mb_claim.proofs.ClaimSteps.{PlacesMakeParts, same_object, claim_going
 use Rattle.mb_claim.proofs.StepsLeft.{fewer_here, fewer_passed, fewer_ended}
 use Rattle.mb_claim.proofs.claim.Claim.follow.Goals as goal
 
--- two arms of a match have the same output
+-- an output that is `Some a` and also `Some b` shows that a is b
 same_out : (out : Option Out) (a b : Out) → out ≡ Some a → out ≡ Some b → a ≡ b
 same_out out a b e f = let is : Some a ≡ Some b = sym e ∙ f in cc
 
@@ -24,7 +24,7 @@ as_answer : (t : QuorumTable) (kind : Kind) (v : ℕ) (turns : List Turn) (out :
     → IsPath t kind v turns out → IsPath t kind v turns (answer d out.value)
 as_answer t kind v turns out d e path = subst (λ b. IsPath t kind v turns (answer b out.value)) e path
 
--- ---- the claim has made the longer turns: `None` is a place, `Some` an undecided output, `Some-2` a decided one
+-- ---- the new claim belongs to the longer turns: `None` is a place, `Some` an undecided output, `Some-2` a decided one
 -- Each proof begins with where the claim stood (`p`) and what the access led to there (`reached`, `come`).
 pub returns-in-None-clause-path : goal.returns-in-None-clause-path
 returns-in-None-clause-path c pc begun xs x of reaches =

@@ -33,7 +33,7 @@ returns-in-LastObject-clause-steps g c claim stands =
     c.stage_for.ensures.exact made.2 in
     (made.0, ends.0, made.1, ends.1, ends.2)
 
--- without an access the claim is where it was
+-- if no access is left, the claim stays where it is
 pub returns-then-at-eq0-clause-steps : goal.returns-then-at-eq0-clause-steps
 returns-then-at-eq0-clause-steps g c claim stands =
     let end = standing_end c.args.layout.now c.args.consumer c.args.at claim c.requires.going c.requires.object

@@ -10,19 +10,19 @@ use Rattle.mb_claim.proofs.LayoutObjects.{objects_few, quorums_lawful}
 use Rattle.mb_claim.proofs.Straight.{further, further_may, led_as, standing_end}
 use Rattle.mb_claim.proofs.claim.Claim.straight.Goals as goal
 
--- either way of a choice
+-- what follows if a test passes, and also if it fails, holds
 by_choice : {X : Type 0} (b : Bool) → (b ≡ true → X) → (b ≡ false → X) → X
 by_choice true so else = so refl
 by_choice false so else = else refl
 
--- an ample budget has room for one more object, since a cell has few of them
+-- if the budget is ample, at least `LONGEST` accesses are left before each object, since a cell has few of them
 still_ample : (layout : Layout) (most left o : ℕ) → AMPLE ≤ most → o < length (kinds_of layout)
     → most ≤ left + LONGEST * o → LONGEST ≤ left
 still_ample layout most left o ample low few =
     let all = objects_few layout.shape (spread (quorums_of layout).values) layout.pairs layout.few in
     omega (arith, ample, low, few, all)
 
--- before an object there is room for a conciliator
+-- before each object at least 10 accesses are left, which are enough for a conciliator
 has_room : (layout : Layout) (most left o room : ℕ) (ample : Bool) → (ample ≡ true → AMPLE ≤ most)
     → (ample ≡ false → 2 * (quorums_of layout).registers + 10 ≤ room) → room ≤ left → o < length (kinds_of layout)
     → most ≤ left + LONGEST * o → 10 ≤ left
@@ -31,7 +31,7 @@ has_room layout most left o room ample wide enough within low few =
     (λ is. let much = still_ample layout most left o (wide is) low few in omega (arith, much))
     (λ not. omega (arith, enough not, within))
 
--- what cannot be another number than 0 is 0
+-- a number that cannot differ from 0 is 0
 zero_if : (n : ℕ) → (n ≢ 0 → ⊥) → n ≡ 0
 zero_if zero never = refl
 zero_if (suc n) never = absurd (never (λ e. omega (arith, e)))
@@ -60,7 +60,7 @@ agree-requires-clause-may g c =
     at.object at.value c.objects.memory at.left c.objects.invariant.steps
     (λ claim mid next. g.M.Drawing.can_make_at mid (site_of layout c.args.begin next.object) next.op) c.requires.may
 
--- Below, `first` are the accesses up to the object that `agree` leads to.
+-- In the proofs below, `first` are the accesses up to the object to which `agree` leads.
 pub decide-requires-clause-may : goal.decide-requires-clause-may
 decide-requires-clause-may g c =
     let layout = c.args.layout.now in
@@ -163,7 +163,7 @@ returns-clause-steps g c =
     c.objects.memory at.left c.objects.invariant.steps (HasEnd layout c.args.consumer c.settle-2.result)
     c.settle-2.new.memory c.settle-2.result.left c.settle-2.ensures.steps
 
--- before a last object the claim ends, as an access is left
+-- if the next object is a last object, the claim has ended, since an access was left for it
 pub returns-then-not-agree-clause-goes : goal.returns-then-not-agree-clause-goes
 returns-then-not-agree-clause-goes g c going =
     let layout = c.args.layout.now in
@@ -182,7 +182,7 @@ returns-then-not-agree-clause-goes g c going =
 ratifier_first : Ratifier ≡ LastObject → ⊥
 ratifier_first e = cc
 
--- before a ratifier too few accesses are left
+-- if the claim stops before a ratifier, fewer accesses are left than `room`
 pub returns-then-at-room-clause-goes : goal.returns-then-at-room-clause-goes
 returns-then-at-room-clause-goes g c going = (
   omega (arith, c.if-at-room.true, c.room-room.ensures.few),

@@ -7,7 +7,7 @@ use Rattle.mb_claim.proofs.claim.Claim.straight.Given as goal
 abbrev pub decreases-objects : goal.decreases-objects
 decreases-objects g l = length (kinds_of l.layout) - l.at.object
 
--- The claim stands before an object.
+-- Before each object: the claim is going there, and made at most `LONGEST` accesses for each object that it passed.
 abbrev pub invariant-objects : goal.invariant-objects
 invariant-objects g l = record {
   going : l.at.stage ≡ Going;

@@ -11,7 +11,7 @@ use Rattle.mb_claim.proofs.LayoutObjects.{objects_few, cell_small}
 use Rattle.mb_claim.proofs.layout.Layout.address.Goals as goal
 
 module _ (layout : Layout) (o : ℕ) (reg : Reg) (word : IsWordInLayout layout o reg) where
-  -- the object is one of the layout's row
+  -- the layout has the object
   in_row : o < length (kinds_of layout)
   in_row = slice_get_within (kinds_of layout) o word.0 word.1
 
@@ -19,7 +19,7 @@ module _ (layout : Layout) (o : ℕ) (reg : Reg) (word : IsWordInLayout layout o
   begin_is : slice_index layout.begins o ≡ words_before (quorums_of layout).registers (kinds_of layout) o
   begin_is = let below = in_row in layout.begin o (omega (arith, below, layout.counted))
 
-  -- the word lies within its cell
+  -- the position of the word in its cell is below the number of the cell's words
   in_cell : slice_index layout.begins o + offset reg < row_words (quorums_of layout).registers (kinds_of layout)
   in_cell =
       let h = within (quorums_of layout).registers (kinds_of layout) 1 0 o reg word (omega arith) in

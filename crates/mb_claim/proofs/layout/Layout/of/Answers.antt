@@ -86,7 +86,7 @@ loop-object-preserved c =
       );
     }
 
--- the number s with which the row was made is the one of the table's values
+-- `last_turn`, with which the row was made, is the number s of the table's values (`spread`)
 last_turn_is : (c : goal.After-loop-object) → c.spread-last_turn.result ≡ spread (chosen_table c.args.table).values
 last_turn_is c = c.spread-last_turn.ensures.exact ∙ ap spread (c.from.ensures ∙ c.values.ensures)
 

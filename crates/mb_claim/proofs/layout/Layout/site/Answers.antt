@@ -1,4 +1,4 @@
--- Proof of `Layout::site`: an object of a cell whose words begin there.
+-- Proof of `Layout::site`: the site of an object, on a cell whose words begin at `begin`.
 use Rattle.std.proofs.Common.{arith}
 use Rattle.mb_claim.specs.{quorums_of, kinds_of}
 use Rattle.mb_claim.proofs.Addresses.{words_before-within}
