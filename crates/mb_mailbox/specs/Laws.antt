@@ -12,7 +12,7 @@ use Rattle.mb_mailbox.specs.Imports.{HasStageIn, History, IsClaimPrefix, IsOnceE
 use Rattle.mb_mailbox.specs.Imports.{Link, MayLookPast, ObjectTurn, Parts, PoolAccess, PoolSize, Reader, Stage}
 use Rattle.mb_mailbox.specs.Imports.{cells_met, linked_cells, load, part, part_on, place_past, with_load, with_step}
 
--- the laws on which a consumer's moves stand. The laws of this crate itself are in `src/laws.rt`
+-- the laws from which the proofs of a consumer's moves follow. The laws of this crate itself are in `src/laws.rt`
 pub record Laws : Type 0 where
   -- ---- lawful histories of cells
   pub start : (size : PoolSize) (h : History) (r p : ℕ) (ks : List ℕ) → IsPoolLawful size h
