@@ -140,7 +140,7 @@ module _ (own : OwnCell) (one : OneStage) (meets : MeetsCell) (tells : TellsCell
   all [] lead = inl (omega arith)
   all (a ∷ done) lead = one_more a done lead.0 (all done lead.1)
 
-  -- if they met at most one cell, and no claim has made more than `most` accesses, they are at most `most` and two
+  -- if these accesses met at most one cell, and no claim has made more than `most`, they are at most `most + 2`
   pub few_made : (most : ℕ) (answer : Option Poll) (done : WorldHistory) → LeadTo p answer done old
       → length (met done) ≤ suc (length (met [])) → ((k : ℕ) → length ((x done).claimed k) ≤ most)
       → length done ≤ most + 2

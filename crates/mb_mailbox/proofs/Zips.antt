@@ -1,4 +1,4 @@
--- Two lists place by place, and what is said of each element.
+-- Two lists of one length, and relations that hold of them place by place.
 use Rattle.std.proofs.Common.{◌≡◌, List, [], ◌∷◌, ◌++◌, length, sym, ap, ◌∙◌, append-nil, append_assoc}
 use Rattle.std.specs.List.{AllZip}
 use Rattle.std.proofs.lemmas.Slice.Zip.{AllZip-long}
@@ -35,7 +35,7 @@ pub zip_length : {A B : Type 0} (R : A → B → Type 0) (xs : List A) (ys : Lis
     → length xs ≡ length ys
 zip_length R xs ys z = sym (AllZip-long R xs ys z)
 
--- one more element goes from the rest to those seen
+-- if the first element not yet seen goes to the end of those seen, those seen and the rest still make up all
 pub next_seen : {A : Type 0} (seen : List A) (x : A) (rest was all : List A) → seen ++ was ≡ all
     → was ≡ x ∷ rest → (seen ++ x ∷ []) ++ rest ≡ all
 next_seen seen x rest was all whole first = append_assoc seen (x ∷ []) rest ∙ ap (λ l. seen ++ l) (sym first) ∙ whole

@@ -30,7 +30,7 @@ loop-at-preserved g c =
       since = omega (arith, since);
     }
 
--- before a run, the note of the last mark is in the diary of its lane
+-- if the loop ends since losses on one lane may follow, the note of the last mark read is in the diary of its lane
 pub returns-then-is_run-clause-filed : goal.returns-then-is_run-clause-filed
 returns-then-is_run-clause-filed g c =
     let ms = c.args.marks.now in
