@@ -10,7 +10,7 @@ file_mark-requires g c =
     let read = c.loop-at.invariant.read in
     omega (arith, few, read)
 
--- the note of the next mark and the next word goes to the diary of its lane
+-- the note of the next mark and the next word is added to the diary of its lane
 pub loop-at-preserved : goal.loop-at-preserved
 loop-at-preserved g c =
     let ms = c.args.marks.now in

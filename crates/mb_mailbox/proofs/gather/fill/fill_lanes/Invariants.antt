@@ -10,6 +10,6 @@ invariant-loop-kept g l = record {
       ≡ changed_from with_items 0 l.initial.puts.items l.initial.lanes.items;
 }
 
--- each turn takes one put list away
+-- each pass of the loop takes one put list off the list
 abbrev pub decreases-loop-kept : goal.decreases-loop-kept
 decreases-loop-kept g l = length l.puts.items
