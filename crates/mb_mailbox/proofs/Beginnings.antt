@@ -15,14 +15,14 @@ use Rattle.mb_mailbox.specs.Imports.{Claim, IsClaimIn, IsStanding, Layout, Objec
 use Rattle.mb_mailbox.proofs.Lists.{get_some, some_same}
 
 -- ---- which claim it is
--- if the claim is f of the kind in x, if there is one, then there is a kind in x
+-- if `MatchOption` says that x has a kind and the claim is f of it, there is this kind
 picked : (x : Option Kind) (f : Kind → Claim) (claim : Claim) → MatchOption x ⊥ (λ kind. claim ≡ f kind)
     → (kind : Kind) × (x ≡ Some kind) × (claim ≡ f kind)
 picked None f claim is = absurd is
 picked (Some kind) f claim is = (kind, refl, is)
 
 module _ (layout : Layout) (c o v : ℕ) (claim : Claim) (is : IsStanding layout c o v claim) where
-  -- object o of the layout has some kind, and by this kind the claim is `standing`
+  -- object o of the layout has some kind, and the claim is what `standing` makes of this kind
   standing_is : (kind : Kind) × (slice_get (kinds_of layout) o ≡ Some kind) × (claim ≡ standing layout c o v kind)
   standing_is = picked (slice_get (kinds_of layout) o) (standing layout c o v) claim is
 
@@ -33,7 +33,7 @@ module _ (layout : Layout) (c o v : ℕ) (claim : Claim) (is : IsStanding layout
   pub standing_going : claim_stage claim ≡ stage.Going
   standing_going = ap claim_stage standing_is.2
 
-  -- there is one such claim only
+  -- consumer c has only one claim that stands before object o with input v
   pub standing_same : (other : Claim) → IsStanding layout c o v other → claim ≡ other
   standing_same other also =
       let x = picked (slice_get (kinds_of layout) o) (standing layout c o v) other also in
@@ -55,7 +55,7 @@ module _ (layout : Layout) (c o v : ℕ) (claim : Claim) (is : IsStanding layout
       value_at t LastObject at = at
 
 -- ---- the claim of a consumer that has made no access
--- a consumer whose claim stands before the first object has made no access
+-- a consumer whose claim on a cell stands before the first object has made no access there
 pub standing_fresh :
     (layout : Layout) (c v : ℕ) (claim : Claim) → IsStanding layout c 0 v claim → (xs : List ObjectTurn)
     → IsClaimIn layout claim xs → xs ≡ []

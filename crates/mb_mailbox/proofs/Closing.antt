@@ -71,7 +71,7 @@ data Found (old : LaneSeatView) (x : ℕ) (now : LaneSeatView) : Type 0 where
       }
       → Found old x now
 
--- if a fetch-add was made and the offer returned `Full`, the number found is past the cells
+-- if a fetch-add was made and the offer returned `Full`, the number found is no number of a cell
 found_by : (old : LaneSeatView) (x n : ℕ) (now : LaneSeatView) (b : Bool)
     → stage_offer_refusal old.place.stage ≡ None → nat_lt n old.table.size.cells ≡ b
     → offer.Full ≡ cond b (offer.Cell n) offer.Full

@@ -77,7 +77,7 @@ is_noted plan hs r is c p j n e =
       here = t.2;
     }
 
--- if a list begins with another, counted from the first on, the other's elements keep their places
+-- both lists have the last cell first. If ls is ks with more cells after it, each cell has the same position in both
 pub at_start : (ks ls : List ℕ) (j k : ℕ) → IsStart ks ls → slice_get (reverse ks) j ≡ Some k
     → slice_get (reverse ls) j ≡ Some k
 at_start ks ls j k s e =

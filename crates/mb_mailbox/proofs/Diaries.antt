@@ -129,11 +129,11 @@ get_past [] ys i j e = let same : i ≡ j = omega (arith, e) in ap (slice_get ys
 get_past (x ∷ xs) ys zero j e = absurd (omega (arith, e))
 get_past (x ∷ xs) ys (suc i) j e = get_past xs ys i j (omega (arith, e))
 
--- w diaries more than those of the first c consumers are those of the first c + 1
+-- c + 1 consumers with w diaries each have w diaries more than c consumers
 pub next_row : (c w : ℕ) → (c + 1) * w ≡ c * w + w
 next_row c w = grind arith
 
--- the places from c * w on are those of consumer c or a later one, and those before (c + 1) * w of c or an earlier one
+-- a diary of consumer e at place c * w or later has no e below c. By `not_past`, one before (c + 1) * w has none above
 not_before : (w c e q : ℕ) → q < w → c * w ≤ e * w + q → e < c → ⊥
 not_before w c e q low from less =
     let most : (e + 1) * w ≤ c * w = mul-le-mul_right w (omega (arith, less)) in
@@ -154,7 +154,7 @@ row_is w c e q low from to = elim (cases_lt e c) [
   ]
 ]
 
--- if the diaries of the first c consumers are followed by those of consumer c, they are those of the first c + 1
+-- the diaries of the first c consumers, and then those of consumer c, are the diaries of the first c + 1 consumers
 rows_more : (w c : ℕ) (h : HubView) (ds row : List DiaryView) → AreDiaries w h (c * w) ds → IsRow c w h row
     → AreDiaries w h ((c + 1) * w) (ds ++ row)
 rows_more w c h ds row old new = record {
@@ -180,7 +180,7 @@ part_past xs ys zs first end e at all =
     ap (λ us. take (end - first) (drop first us)) e ∙ ap (take (end - first)) (drop_at xs ys first (sym at))
     ∙ take_all (end - first) ys (omega (arith, count, at, all))
 
--- if all elements from the end of xs on are written, the list is xs and what was written
+-- if all elements after xs are overwritten by ws, the list is xs and then ws
 rewritten : {X Z : Type 0} (v : Vec X Z) (xs ys ws : List X) (first : ℕ) → v.items ≡ xs ++ ys → first ≡ length xs
     → length ws ≡ length ys → (with_items_from v first ws).items ≡ xs ++ ws
 rewritten {X} v xs ys ws first e at same =
@@ -202,7 +202,7 @@ rewritten {X} v xs ys ws first e at same =
     is = (λ j. front j ++ (ws ++ end j)) ∙ ap (λ (zs : List X). xs ++ zs) (append-nil ws)
 
 -- ---- one consumer more
--- if the outline of lane p is added after the outlines of the first p lanes, they are those of the first p + 1
+-- the outlines of the first p lanes, and then that of lane p, are the outlines of the first p + 1 lanes
 pub outlines_more : (c p : ℕ) (kept : Option ConsumerRecordView) (old now new : List DiaryView) (made : DiaryView)
     → new ≡ now ++ made ∷ [] → now ≡ old ++ outline_row c kept p → made ≡ diary_outline c p kept
     → new ≡ old ++ outline_row c kept (p + 1)
@@ -214,7 +214,7 @@ outlines_more c p kept old now new made more before is =
     next : suc p ≡ p + 1
     next = omega arith
 
--- outlines made by `told`, which is the hub's record of a consumer, are those made by that record, here `kept`
+-- if `told` and `kept` are the same record of a consumer, outlines made by the first are those made by the second
 pub outlined : (c n : ℕ) (ds all : List DiaryView) (told kept here : Option ConsumerRecordView)
     → all ≡ ds ++ outline_row c told n → told ≡ here → kept ≡ here → all ≡ ds ++ outline_row c kept n
 outlined c n ds all told kept here is e f =

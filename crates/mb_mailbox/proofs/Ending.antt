@@ -27,7 +27,7 @@ pub not_no_lane : (p n most left : ℕ) (x : Poll) (t u : Stream) (from new : Co
     → IsPursuit p n most left x t u from new → x ≡ poll.NoLane → ⊥
 not_no_lane p n most left x t u from new so e = subst IsOfClaim e so.kind
 
--- the n accesses before the pursuit of a claim and those of the pursuit make a poll
+-- if `IsPursuit` holds after n accesses of a poll, these and the accesses of the pursuit together make the poll
 pub poll_by : (p n most left budget : ℕ) (x : Poll) (t u : Stream) (from new : ConsumerView) → most + n
     ≡ budget → IsPursuit p n most left x t u from new
     → IsPollOf p budget x t u from new
@@ -66,7 +66,7 @@ tells_by p poll.Ended old new kind has = absurd kind
 tells_by p poll.Spent old new kind has = tells_none p old new
 tells_by p poll.NoLane old new kind has = absurd kind
 
--- `AnswerTells` holds of the answer of a pursuit
+-- `AnswerTells` holds of the answer of a poll if `IsPursuit` does
 pub pursuit_tells : (p n most left : ℕ) (x : Poll) (t u : Stream) (from old new : ConsumerView)
     → IsPursuit p n most left x t u from new
     → AnswerTells p (outcome x) old new

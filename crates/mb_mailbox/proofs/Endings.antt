@@ -28,7 +28,7 @@ has_more (b ∷ later) h a has = inr (has_more later h a has)
 met_more : (r p : ℕ) (later : History) (ks : List ℕ) (h : History) → HasMet r p ks h → HasMet r p ks (later ++ h)
 met_more r p later ks h met = HasMet-more r p h (later ++ h) ks (has_more later h) met
 
--- ---- what a poll of a lane leaves alone
+-- ---- what a poll of a lane does not change
 -- a note on another lane leaves the notes on this one as they are
 notes_kept : (p q : ℕ) (o : Option Note) (notes : List (List Note)) → q ≢ p
     → notes_on q (with_note p o notes) ≡ notes_on q notes

@@ -22,7 +22,7 @@ not_ended look.Nothing n = refl
 not_ended look.Ended n = absurd (n refl)
 not_ended (look.Cell k) n = refl
 
--- a load of the link past cells loads an end mark if its look says so
+-- a load of the link past these cells loads an end mark exactly if its look is `Ended`
 past_told : (c p : ℕ) (ks : List ℕ) (v : ℕ) → told_by (link_load c p ks v) ≡ is_ended (look_of v)
 past_told c p [] v = refl
 past_told c p (k ∷ ks) v = refl

@@ -54,7 +54,7 @@ module _ (s : ConsumerView) (p k : ℕ) (claim : Claim) (i : IsConsumer s) (e : 
   pub stage_held : claim_stage claim ≢ stage.Won → claim_stage claim ≡ stage.Going
   stage_held ne = goes_on (claim_stage claim) (holds s p k claim i e).2.unnoted ne
 
-  -- the cell was met on this lane
+  -- the consumer met the cell on lane p
   has_here : Has (cells_met p s.reader.part) k
   has_here = subst (λ ks. Has ks k) (sym (holds s p k claim i e).2.met) (inl refl)
 
@@ -71,7 +71,7 @@ module _ (s : ConsumerView) (p k : ℕ) (claim : Claim) (i : IsConsumer s) (e : 
     pub within : k < s.reader.table.size.cells
     within = known.within p k has_here
 
-    -- each list has at most as many notes as cells were met on its lane. The list of this lane has fewer
+    -- on each lane the consumer has at most as many notes as it met cells
     noted : (q : ℕ) (ns : List Note) → slice_get s.notes q ≡ Some ns → length ns ≤ length (cells_met q s.reader.part)
     noted q ns f = by t.0 (i.lanes q t.0 ns t.1 f)
       where
@@ -90,7 +90,7 @@ module _ (s : ConsumerView) (p k : ℕ) (claim : Claim) (i : IsConsumer s) (e : 
             let long : length (cells_met q s.reader.part) ≡ length (j ∷ a.cells) = ap length a.met in
             omega (arith, same, long, turned)
 
-    -- on this lane there are fewer notes than cells met
+    -- on lane p the consumer has fewer notes than it met cells
     noted_here : (ns : List Note) → slice_get s.notes p ≡ Some ns → length ns < length (cells_met p s.reader.part)
     noted_here ns f =
         let o : ConsumerIsAt i.size.layout cs c p x ns k claim = i.lanes p (At k claim) ns e f in
@@ -111,7 +111,7 @@ module _ (s : ConsumerView) (p k : ℕ) (claim : Claim) (i : IsConsumer s) (e : 
         ap (total (λ q. length (cells_met q s.reader.part))) i.notes_count in
         omega (arith, less, share, same)
 
-    -- the cells before this one are other cells
+    -- the cells that the consumer met before on lane p are other cells than k
     before_else : (ns : List Note) (o : ConsumerIsAt i.size.layout cs c p x ns k claim) (j : ℕ)
         → Has o.cells j → j ≡ k → ⊥
     before_else ns o j has f =

@@ -28,7 +28,7 @@ longer xs ys x y e =
     let b = length-append ys (y ∷ []) in
     omega arith
 
--- an empty list has nothing at any place
+-- an empty list has no element at any place
 none_there : {X : Type 0} (p : ℕ) (x : X) → slice_get [] p ≡ Some x → ⊥
 none_there p x e = cc
 

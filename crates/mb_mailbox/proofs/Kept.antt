@@ -1,4 +1,4 @@
--- The end of each worker is that of its job, whether its thread ran it or not.
+-- What each worker gives back is an end of its job, whether it got a thread or not.
 use Rattle.std.proofs.Common.{◌≡◌, ℕ, true, refl, sym, subst}
 use Rattle.mb_mailbox.specs.Imports.{Stream}
 use Rattle.mb_mailbox.specs.Begun.{Keeps, Promises}

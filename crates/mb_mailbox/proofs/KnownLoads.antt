@@ -59,7 +59,7 @@ pub known : Laws → (size : PoolSize) (r : ℕ) (h reads : History) → IsPoolL
     → part (Reader r) h ≡ reads → Known size reads
 known laws size r h reads lawful is = subst (Known size) is (known_of laws size r h lawful)
 
--- different lanes have different links past their cells
+-- if lanes p and q differ and have no cell in common, the links past their cells differ
 pub past_apart : (p q : ℕ) (ks js : List ℕ) → ((k : ℕ) → Has ks k → Has js k → p ≡ q) → p ≢ q
     → place_past p ks ≡ place_past q js → ⊥
 past_apart p q [] [] one ne e = ne (cc)

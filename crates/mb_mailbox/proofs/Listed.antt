@@ -7,7 +7,7 @@ use Rattle.mb_world.specs.Theorem.{items_where}
 use Rattle.mb_mailbox.specs.Gathering.{count_missing}
 
 -- ---- what is missing
--- a list with one more at its end has as many missing as the list and that one
+-- with one more element at the end of a list, those missing are those of the list, and this one if it is missing
 count_end : {X : Type 0} (xs : List (Option X)) (x : Option X) → count_missing (xs ++ x ∷ [])
     ≡ count_missing xs + count_missing (x ∷ [])
 count_end [] x = omega arith

@@ -55,7 +55,7 @@ pub map_get : {X Y : Type 0} (f : X → Y) (xs : List X) (i : ℕ) (a : X) → s
     → slice_get (map f xs) i ≡ Some (f a)
 map_get f xs i a e = slice_get-map f xs i ∙ ap (option_map f) e
 
--- an element set before a list is mapped is the mapped one set after it
+-- to set an element and then map the list is to map the list and then set the mapped element
 pub map_set : {X Y : Type 0} (f : X → Y) (xs : List X) (i : ℕ) (a : X)
     → map f (slice_set xs i a) ≡ slice_set (map f xs) i (f a)
 map_set f [] i a = refl

@@ -1,4 +1,4 @@
--- A poll loads the head of no other lane.
+-- A poll of a lane loads the head of no other lane.
 use Rattle.std.proofs.Common.{◌≡◌, ◌⊎◌, ⊎_elim, ℕ, ◌+◌, ◌<◌, ◌≤◌, List, [], ◌∷◌, ◌++◌, Option, Some, None, inl, inr, length, sym, ap, ◌∙◌, subst, arith}
 use Rattle.mb_mailbox.specs.Imports.{Claims, Has, Head, History, Item, Parts, PoolAccess, ReaderSeatView, Stream, ToCells, ToClaims, Word, WorldAccess}
 use Rattle.mb_mailbox.specs.Imports.{WorldHistory, cells_met, place_past, pool_accesses}
@@ -13,7 +13,7 @@ abbrev pub word_in : WorldAccess → Option Word
 word_in (ToCells a) = Some a.word
 word_in (ToClaims a) = None
 
--- the link past cells of lane p is the head of no other lane
+-- if the word past some cells of lane p is the head of a lane, it is the head of lane p
 past_head : (p q : ℕ) (ks : List ℕ) → place_past p ks ≡ Head q → q ≡ p
 past_head p q [] e = cc
 past_head p q (k ∷ ks) e = absurd (cc)

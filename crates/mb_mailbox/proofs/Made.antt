@@ -1,4 +1,4 @@
--- What the steps of a consumer come to, from the contracts of the two tables.
+-- The calls of the two tables make the steps of a consumer. This follows from the contracts of these calls.
 use Rattle.std.proofs.Common.{◌≡◌, ◌<◌, ℕ, List, refl, sym, ap, ◌∙◌, subst, arith}
 use Rattle.std.specs.Prelude.{Option, Some, None, slice_set}
 use Rattle.mb_claim.specs.declared.access.Stage.TheVariants as stage
@@ -113,7 +113,7 @@ pub room_stays : (p cells : ℕ) (o : Option Note) (old new : NotesView) → Not
 room_stays p cells o old new g wide = let same = g.room in omega (arith, same, wide)
 
 -- ---- a consumer of the mailbox
--- the sizes of the consumer's tables are those of the mailbox: of the claims', and by `cells_size` of the cells'
+-- the consumer's table of claims has the size of the mailbox's. By `cells_size` this holds of its table of cells, too
 pub claims_size : (m : MailboxView) (s now : ConsumerView) → s ≡ now → IsConsumerOf m now
     → s.seat.table.size ≡ Some (record { layout = m.claims.layout; cells = m.claims.cells })
 claims_size m s now is belongs =

@@ -51,12 +51,12 @@ told_last ms m ws =
     told_end 0 ms m ws ∙ ap (λ (n : ℕ). all_told ms ws ++ told m (word_at ws n) ∷ []) same
 
 -- ---- losses at the end
--- losses on a lane need no words
+-- the marks of losses on a lane need no words
 among_only : (p : ℕ) (to : List ℕ) → words_among (map (λ (w : ℕ). mark.Lost p w) to) ≡ 0
 among_only p [] = refl
 among_only p (w ∷ to) = let rest = among_only p to in omega (arith, rest)
 
--- losses at the end need no words
+-- marks with losses on a lane added at the end need as many words as before
 pub among_losses : (ms : List Mark) (p : ℕ) (to : List ℕ) → words_among (ms ++ map (λ (w : ℕ). mark.Lost p w) to)
     ≡ words_among ms
 among_losses [] p to = among_only p to

@@ -26,13 +26,13 @@ apart (x ∷ xs) zero (suc p) e f = λ h. omega (arith, h)
 apart (x ∷ xs) (suc k) zero e f = λ h. omega (arith, h)
 apart (x ∷ xs) (suc k) (suc p) e f = λ h. apart xs k p e f (omega (arith, h))
 
--- nothing is marked
+-- no place of this list is marked
 abbrev pub AreClear : List Bool → Type 0
 AreClear [] = Unit {0}
 AreClear (false ∷ xs) = AreClear xs
 AreClear (true ∷ xs) = ⊥
 
--- if nothing is marked, no place is
+-- if `AreClear` holds of a list, the mark at each place is `false`, also past the end
 pub clear : (xs : List Bool) (p : ℕ) → AreClear xs → slice_index_or xs p false ≡ true → ⊥
 clear [] p a e = absurd (cc)
 clear (true ∷ xs) p a e = absurd a
@@ -70,7 +70,7 @@ marks_most (false ∷ xs) from end m =
     (λ p e. (let t = (m (suc p) e).0 in omega (arith, t), let t = (m (suc p) e).1 in omega (arith, t))) in
     omega (arith, rest)
 
--- if each place within these bounds is marked, there are no fewer marks than places
+-- if each place within these bounds is marked, there are no fewer marks than places within them
 marks_least : (xs : List Bool) (from end : ℕ)
     → ((p : ℕ) → from ≤ p → p < end → slice_index_or xs p false ≡ true)
     → end ≤ from + count_marks xs

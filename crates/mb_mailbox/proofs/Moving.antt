@@ -70,7 +70,7 @@ done_with laws layout cells c k Undecided x e = record {
       (x.claimed k) stage.Undecided stage.Won (laws.table layout) e won in absurd (cc);
 }
 
--- if the claims on all these cells have ended, the consumer may look past the last of them
+-- if the claims on all these cells have ended, the consumer may load the link past the last of them
 pub may_past : Laws → (layout : Layout) (cells c : ℕ) (ks : List ℕ) (ns : List Note) (x : Parts)
     → AreEnds (claims_in layout cells) c ks ns x
     → MayLookPast (claims_in layout cells) c ks x
@@ -107,7 +107,7 @@ module _ (laws : Laws) (s : ConsumerView) (p : ℕ) (at : Cursor) (i : IsConsume
       laws.looks cs c s.reader.reader p v x i.fit
       (may_past laws i.size.layout i.size.cells c ks (reverse b.0) x b.2.ended)
 
-  -- this link is another one than that before which the consumer stands on another lane
+  -- on another lane the consumer stands before another link than this one
   elsewhere : (q : ℕ) → q ≢ p → place_past p ks ≡ place_past q (cells_met q s.reader.part) → ⊥
   elsewhere q ne = past_apart p q ks (cells_met q s.reader.part)
       (λ k m n. (loads_known laws s h).apart p q k m n) (λ f. ne (sym f))

@@ -55,7 +55,7 @@ module _ {R Z : Type 0} (may_stop may_pass : Who → ℕ → Type 0) (stream : R
         polled = t.polled;
       }
 
-  -- if the producer or consumer of a job is one of the mailbox, so is that of the job's end
+  -- if the producer or consumer of a job is one of the mailbox, so is the producer or consumer of the job's end
   end_at : (m : MailboxView) (j : Job R Z) (d : Done Z) → IsJobOf m j → IsEnd may_stop may_pass stream lanes j d
       → IsDoneOf m d
   end_at m (job.Put j) (done.Put d) o e = record { table = e.same.table ∙ o.table }

@@ -57,7 +57,7 @@ took_by old x k n new true low told m =
     })
 took_by old x k n new false low told m = absurd (cc)
 
--- what an offer that returned a cell did, by the stage of the producer's place
+-- `Took` holds of an offer that returned a cell, if it was made from this stage of the producer's place
 took_at : (old : LaneSeatView) (x k : ℕ) (new : LaneSeatView) (at : LaneStage)
     → OfferBy (stage_offer_refusal at) old x (offer.Cell k) new → Took old x k new
 took_at old x k new stage.Open m = took_by old x k m.0 new (nat_lt m.0 old.table.size.cells) refl m.1 m.2

@@ -10,8 +10,7 @@ abbrev pub OwnCell : Type 0
 OwnCell = (a : ClaimAccess) (h : List ClaimAccess)
     → part_on a.consumer a.cell (a ∷ h) ≡ a.step ∷ part_on a.consumer a.cell h
 
--- the part on a cell is the same by a consumer's whole part as by all accesses. By `IsBounded` the layout limits its
--- length. Both are clauses of laws of mb_claim
+-- a consumer's own part has all that it did on a cell, and by `IsBounded` that is bounded: clauses of laws of mb_claim
 abbrev pub CutPart : Type 0
 CutPart = (c k : ℕ) (h : List ClaimAccess) → part_on c k (part c h) ≡ part_on c k h
 
@@ -38,7 +37,7 @@ kept layout k zero claim now seat after s t (is, keeps, e) = ap (λ (z : SeatVie
 kept layout k (suc n) claim now seat after s t (at, before, u, word, older, going, drawn, step, still, stands) =
     ap (λ (z : SeatView). z.table) step.adds ∙ kept layout k n claim at seat before s u older
 
--- what a seat has done on a cell is no more than the layout allows
+-- a seat has made no more accesses on a cell than the layout allows
 pub few_on : CutPart → IsBounded → (layout : Layout) (cells k : ℕ) (seat : SeatView)
     → seat.table.size ≡ Some (record { layout = layout; cells = cells })
     → IsLawfulPart (claims_at seat.table) seat.consumer seat.part

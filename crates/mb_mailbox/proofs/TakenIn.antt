@@ -156,7 +156,7 @@ module _ (m : MailboxView) (h : HubView) (pool : History) (i : IsHub h) (belongs
     (ended : (p : ℕ) → has_ended p pool ≡ has_ended p (part (Producer p) pool))
     (linked : (p : ℕ) → linked_cells p pool ≡ linked_cells p (part (Producer p) pool))
     (all : (who : Process) (a : PoolAccess) → Has pool a → a.process ≡ who → Has (part who pool) a) where
-  -- the values put by a producer's part are those of the history
+  -- a producer's part puts the same values into its lane as the whole history does
   values : (p : ℕ) (done : History) → part (Producer p) pool ≡ done → values_put p done ≡ values_put p pool
   values p done e = ap (λ (l : List Entry). map (λ (z : Entry). z.value) l) (ap (put_list p) (sym e) ∙ sym (put p))
 

@@ -13,7 +13,7 @@ use Rattle.mb_mailbox.specs.declared.consumer.Poll.TheVariants as poll
 use Rattle.mb_mailbox.proofs.Grown.{grown_by}
 use Rattle.mb_mailbox.proofs.Polls.{told_from}
 
--- a poll of what is left is within the budget, and leaves none of it if it is spent
+-- after a poll of what is left, the accesses since `start` are at most `most`, and by `spent_by` just `most` if spent
 pub within_by : (p most : ℕ) (answer : Poll) (s t : Stream) (start old new : ConsumerView)
     → IsPollOfRest p most answer s t start old new → accesses_made new ≤ accesses_made start + most
 within_by p most answer s t start old new i =
@@ -81,7 +81,7 @@ passed_grows p most (w ∷ older) s t start new (u, mid, was, last) =
     let more = lost_grows p last.left w u t mid new last.poll in
     omega (arith, before, more)
 
--- the lanes of which a consumer knows what was put stay the same while it passes items
+-- a consumer that has passed items knows the same parts of lanes as before
 pub passed_known : (p most : ℕ) (winners : List ℕ) (s t : Stream) (start new : ConsumerView)
     → HasPassed p most winners s t start new → new.reader.known ≡ start.reader.known
 passed_known p most [] s t start new (drawn, is) = ap (λ (v : ConsumerView). v.reader.known) is

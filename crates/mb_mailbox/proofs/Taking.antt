@@ -65,7 +65,7 @@ module _ (b : ConsumerView) (p k : ℕ) (claim : Claim) where
       most left made n refl sum (next mid p k v now is at won) (on mid p k v now is loads at won)
 
   -- ---- the claim goes on
-  -- if accesses of the claim led to one that goes on, the consumer holds that claim
+  -- if accesses of the claim led to a claim that goes on, the consumer holds that claim
   module _ (n : ℕ) (now : Claim) (t u : Stream) (from : ConsumerView) (seat : SeatView)
       (going : claim_stage now ≡ stage.Going) (so : HasCompeted p k n now t u from (holding p k claim b) seat) where
     -- the consumer with the claim as it is then
@@ -85,7 +85,7 @@ module _ (b : ConsumerView) (p k : ℕ) (claim : Claim) where
         (seen_at b p k claim now stage.Going seat (slice_set b.places p (At k now)) b.notes going so.same refl refl)
         so.is
 
--- if a pursuit follows a accesses of the claim, with what they left of `most`, all of them together are a pursuit
+-- if `IsPursuit` holds after `a` accesses of the claim, with what they left of `most`, it holds before them with `most`
 pub pursued_on : (p a n rest most left : ℕ) (x : Poll) (t u : Stream) (from new : ConsumerView) → a + rest ≡ most
     → IsPursuit p (a + n) rest left x t u from new → IsPursuit p n most left x t u from new
 pursued_on p a n rest most left x t u from new sum so =
@@ -108,7 +108,7 @@ IsOneAccess layout k seat s st after t =
     (start : Claim) × IsStanding layout seat.consumer 0 seat.consumer start
     × (end : Claim) × AreSeatSteps layout k start seat s 1 end after t × (claim_stage end ≡ st)
 
--- a claim that has ended, is decided and is not lost is won
+-- a stage that is not `Going`, `Undecided` or `Lost` is `Won`
 pub only_won : (st : Stage) → st ≢ stage.Going → st ≢ stage.Undecided → ((w : ℕ) → st ≢ stage.Lost w)
     → st ≡ stage.Won
 only_won stage.Going ended decided never = absurd (ended refl)

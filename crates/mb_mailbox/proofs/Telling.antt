@@ -14,7 +14,7 @@ use Rattle.mb_world.specs.declared.place.Place.TheVariants.{Before}
 use Rattle.mb_mailbox.proofs.Moving.{before}
 use Rattle.mb_mailbox.proofs.Standings.{same_length}
 
--- before a link the consumer has a note on each cell that it met on the lane
+-- a consumer that stands before a link of a lane has a note on each cell that it met there
 pub noted : (s : ConsumerView) (p : ℕ) (at : Cursor) → IsConsumer s → HasPlace p (Before at) s → HasNoteOnEach p s
 noted s p at i e =
     let b = before s p at i e in

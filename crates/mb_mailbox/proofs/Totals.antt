@@ -5,7 +5,7 @@ use Rattle.std.proofs.lemmas.List.Sums.{sum_by-cons}
 use Rattle.mb_cells.specs.Vocabulary.{items_put, put_list}
 use Rattle.mb_mailbox.specs.Imports.{History}
 
--- the sum of f over the first n numbers
+-- the sum of f over the numbers below n
 pub total : (ℕ → ℕ) → ℕ → ℕ
 total f zero = 0
 total f (suc n) = f n + total f n
@@ -29,13 +29,13 @@ summed g f (x ∷ xs) each =
     let next = sum_by-cons g x xs in
     omega (arith, rest, here, whole, next)
 
--- the items put on n lanes are the sum of those on each
+-- the number of items put on the first n lanes is the sum over these lanes
 pub put_total : (n : ℕ) (pool : History) → items_put n pool ≡ total (λ p. length (put_list p pool)) n
 unfolding total
 put_total zero pool = refl
 put_total (suc n) pool = ap (λ k. length (put_list n pool) + k) (put_total n pool)
 
--- if each term of a sum is at most that of another sum, so is the sum
+-- if f is at most g at each number, the sum of f is at most the sum of g
 pub total_most : (f g : ℕ → ℕ) (n : ℕ) → ((j : ℕ) → f j ≤ g j) → total f n ≤ total g n
 unfolding total
 total_most f g zero each = omega arith

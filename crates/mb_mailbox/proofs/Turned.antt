@@ -9,7 +9,7 @@ use Rattle.mb_world.proofs.Positions.{get-last, get-front, get-snoc}
 pub get_end : {X : Type 0} (xs : List X) (y : X) (i : ℕ) → i ≡ length xs → slice_get (xs ++ y ∷ []) i ≡ Some y
 get_end xs y i e = subst (λ j. slice_get (xs ++ y ∷ []) j ≡ Some y) (sym e) (get-last xs y)
 
--- x is the element at place j from the end
+-- x is the element at place j from the end of the list, whose last element is at place 0
 abbrev pub FromEnd : {X : Type 0} → List X → ℕ → X → Type 0
 FromEnd [] j x = ⊥
 FromEnd (y ∷ ys) j x = ((j ≡ length ys) × (y ≡ x)) ⊎ FromEnd ys j x
@@ -30,7 +30,7 @@ at_end {X} (y ∷ ys) j x (inr h) =
     subst (λ (zs : List X). slice_get zs j ≡ Some x) (sym (reverse-cons y ys))
     (get-front (reverse ys) (y ∷ []) j x (at_end ys j x h))
 
--- a place from the end is within the list
+-- if there is an element at place j from the end, j is below the length of the list
 pub end_within : {X : Type 0} (xs : List X) (j : ℕ) (x : X) → FromEnd xs j x → j < length xs
 end_within [] j x h = absurd h
 end_within (y ∷ ys) j x (inl h) = let e = h.0 in omega arith

@@ -51,7 +51,7 @@ abbrev pub count_marks : List Bool → ℕ
 count_marks [] = 0
 count_marks (b ∷ bs) = from_bool b + count_marks bs
 
--- whether a look says that the lane has ended
+-- whether a look, which says what a load of a head or link found, says that it found the end mark
 abbrev pub is_ended : Look → Bool
 is_ended look.Nothing = false
 is_ended look.Ended = true

@@ -1,5 +1,5 @@
--- The laws of the crates below on which a consumer's moves stand, one name for each. They are of lawful histories of
--- cells, of parts, of claims, of the cells that loads met, and of two parts that fit with one access more.
+-- The laws of other crates that the proofs of a consumer's moves use, one name for each. They are of lawful histories
+-- of cells, of parts, of claims, of the cells that loads met, and of two parts that fit with one access more.
 use Rattle.std.specs.Prelude.{ℕ, ◌≡◌, ◌≢◌, ◌⊎◌, ◌+◌, ◌<◌, ◌≤◌, List, ◌∷◌, ◌++◌, length}
 use Rattle.mb_quorum.specs.Vocabulary.{IsQuorumTable}
 use Rattle.mb_claim.specs.Vocabulary.{quorums_of}

@@ -12,7 +12,7 @@ use Rattle.mb_mailbox.specs.declared.gate.Who.{Who}
 use Rattle.mb_mailbox.specs.declared.gate.Who.TheVariants as who
 use Rattle.mb_mailbox.specs.declared.crew.Worked.{Worked}
 
--- there are more lists than lanes that were not given yet, or more sources than numbers of consumers that were not
+-- there are more lists than lanes not issued yet, or more sources than consumers not issued yet
 abbrev pub AsksTooMany : MailboxView → ℕ → ℕ → HubView → Type 0
 AsksTooMany m lists sources h =
     (m.cells.size.lanes - length h.puts < lists) ⊎ (consumer_count m.claims.layout - length h.records < sources)
@@ -23,14 +23,14 @@ pub record ProducerEnd : Type 0 where
   pub part : History
   pub stopped : Bool
 
--- what a consumer of a run came to: what the hub keeps of it, its two parts, and whether it was stopped
+-- what a consumer of a run came to: the hub's record of it, its two parts, and whether it was stopped
 pub record ConsumerEnd : Type 0 where
   pub kept : ConsumerRecordView
   pub reads : History
   pub claimed : List ClaimAccess
   pub stopped : Bool
 
--- what the hub keeps of a producer that has ended its lane
+-- what the hub records of a producer that has ended its lane
 abbrev pub ended_list : ProducerEnd → PutListView
 ended_list l = record { items = l.put; ended = true }
 

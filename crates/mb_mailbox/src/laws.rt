@@ -21,8 +21,8 @@ use mb_claim::steps::accesses_lengthen_one_part;
 use mb_world::laws::{last_objects_settle_items, shaped_setups_have_last_objects};
 use mb_world::steps::loads_meet_cells;
 
-/// Whatever its budget, a poll makes no more accesses than a whole claim, the load of its link and that of its item. The
-/// poll and its consumer are as [`Consumer::poll`](crate::Consumer::poll) and
+/// Whatever its budget, a poll makes at most as many accesses as a whole claim may have, the load of a link, and the
+/// load of an item. The poll and its consumer are as [`Consumer::poll`](crate::Consumer::poll) and
 /// [`keeps_its_parts`](crate::Consumer::keeps_its_parts) say.
 pub fn polls_are_short()
     ensures { (m : MailboxView) (p budget : ℕ) (answer : Poll) (s t : Stream)

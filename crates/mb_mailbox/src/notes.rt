@@ -89,7 +89,7 @@ impl<A: Allocator + Drop> Notes<A> {
     ghost use Rattle.std.specs.Prelude.{◌≡◌, ◌≤◌, Some};
     ghost use Rattle.mb_mailbox.specs.NoteLists.{HasRoom, NotesGrow};
 
-    /// Adds a note to those of this lane.
+    /// Adds a note on this lane.
     #[inline(always)]
     pub(crate) fn push(&mut self, lane: u32, note: Note)
         requires { HasRoom lane self.old }
@@ -151,8 +151,7 @@ impl<A: Allocator + Clone + Drop> Notes<A> {
         })
     }
 
-    /// Adds the notes to these diaries, each to that of its lane. The diaries are those of the lanes in order, and have
-    /// no note yet.
+    /// Adds each note to the diary of its lane. `row` has a diary for each lane, in order. None of them has a note yet.
     // It is not inlined, so that its loops have all registers of the processor.
     #[inline(never)]
     pub(crate) fn fill(&self, alloc: A, row: &mut [Diary<A>]) -> Result<(), NoMemory>

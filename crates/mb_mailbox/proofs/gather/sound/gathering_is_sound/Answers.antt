@@ -27,7 +27,7 @@ fits : (m : MailboxView) (h : HubView) (hs : Histories) (d : ℕ) → Fits (plan
 fits m h hs d none (Keeps.was_in l e places lists fit stands) = fit
 fits m h hs d none (Keeps.never e empty) = subst (λ (x : Parts). Fits (plan_at m).claims d x) empty none
 
--- the turns of a claim of consumer d are a prefix of a claim of d
+-- the turns that a claim of consumer d has made are a prefix of a whole claim of d
 path : (m : MailboxView) (d : ℕ) (claim : Claim) (xs : List ObjectTurn)
     → IsClaimIn m.claims.layout claim xs → consumer_of claim ≡ d
     → IsClaimPrefix (plan_at m).claims d xs (claim_stage claim)
