@@ -222,7 +222,7 @@ finish_still laws s answer now i m = by s.seat.place.stage m
     by (stage.Stored c) m = same m.1
     by (stage.Ended f) m = same m.1
 
--- a finish never returns `Busy`, since no item is in a cell that is not linked yet
+-- a finish never returns `Busy`, since no item of the producer is pending
 pub finish_not_busy : (s : ProducerView) (now : LaneSeatView) → IsProducer s → FinishMakes s.seat finish.Busy now → ⊥
 finish_not_busy s now i m = by s.seat.place.stage m i.idle
   where

@@ -189,7 +189,7 @@ module _ {R Z : Type 0} (m : MailboxView) (may_stop may_pass : Who → ℕ → T
         let lists = few in
         omega (arith, stopped, all, putting, polling, most, others, lists, each, small)
 
-    -- the run has the lanes from the next number on, one for each list
+    -- `lanes.end` is the number of lanes issued before the run, plus the number of lists
     far : lanes.end ≡ length h.puts + length (lists_in items)
     far = last ∙ ap (λ (n : ℕ). length h.puts + n) (sym (length-map items (λ (v : Vec ℕ Z). v.items)))
 

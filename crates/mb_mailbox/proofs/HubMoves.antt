@@ -70,7 +70,7 @@ gave_producer h i low = record {
   taken = i.taken;
 }
 
--- if the hub of the cells has no part of producer p yet, the mailbox's hub has no put list of it
+-- if producer p was issued and its part was not returned, the hub has no put list of it
 pub is_out : (h : HubView) (p : ℕ) → IsHub h → slice_get h.cells.roll.lanes p ≡ Some None
     → slice_get h.puts p ≡ Some None
 is_out h p i out =
@@ -84,7 +84,7 @@ is_out h p i out =
         let f : None ≡ Some t.0 = some_same None (Some t.0) (sym out ∙ t.1) in
         absurd (cc)
 
--- if a producer has linked each cell that it got, the put list that the hub records of it is right by its part
+-- if a producer has linked each cell that it got, the put list that the hub records of it agrees with its part
 pub kept_list : (s : ProducerView) → IsProducer s
     → ((e : Entry) → Has s.seat.part (fetch s.seat.lane e) → e.cell < s.seat.table.size.cells
     → Has (linked_cells s.seat.lane s.seat.part) e.cell)
@@ -141,7 +141,7 @@ gave_consumer h i low = record {
   put = i.put;
 }
 
--- if the hub of the claims has no part of consumer c yet, the mailbox's hub has no record of it
+-- if consumer c was issued and its part at the claims was not returned, the hub has no record of it
 pub seat_is_out : (h : HubView) (c : ℕ) → IsHub h → slice_get h.claims.roll c ≡ Some None
     → slice_get h.records c ≡ Some None
 seat_is_out h c i out =

@@ -43,7 +43,7 @@ told_end t (x ∷ ms) m ws =
     (told_end (t + words_in x) ms m ws
     ∙ ap (λ (n : ℕ). told_from (t + words_in x) ms ws ++ told m (word_at ws n) ∷ []) same)
 
--- the lemma before for all marks, whose words begin at place 0
+-- in `all_told`, too, a mark at the end adds one note at the end, with the word after those of the marks before
 pub told_last : (ms : List Mark) (m : Mark) (ws : List ℕ)
     → all_told (ms ++ m ∷ []) ws ≡ all_told ms ws ++ told m (word_at ws (words_among ms)) ∷ []
 told_last ms m ws =

@@ -221,7 +221,7 @@ offer_is_over laws s x answer now h m over =
     ((laws.closed s.seat.table.size g p s.seat.place h.history.1 place).1
     (laws.ended g p ∙ ap (has_ended p) h.history.2 ∙ over)) m
 
--- an offer never returns `Busy`, since no item is in a cell that is not linked yet
+-- an offer never returns `Busy`, since no item of the producer is pending
 pub not_busy : (s : ProducerView) (x : ℕ) (now : LaneSeatView) → IsProducer s → OfferMakes s.seat x offer.Busy now → ⊥
 not_busy s x now i m = by s.seat.place.stage m i.idle
   where

@@ -26,7 +26,7 @@ met_at from end c s is r = record {
   once = r.once;
 }
 
--- if `full` and the items put add up to the list, unless the producer was stopped, `full` counts the items not put
+-- if `full` is the rest of the list after the items put, or 0 if the producer was stopped, it is `items_behind`
 pub behind : (stopped : Bool) (list put : List ℕ) (full : ℕ) → (stopped ≡ false → length put + full ≡ length list)
     → (stopped ≡ true → full ≡ 0) → full ≡ items_behind stopped list put
 behind true list put full rest none = none refl

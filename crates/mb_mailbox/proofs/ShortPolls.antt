@@ -70,7 +70,7 @@ module _ (own : OwnCell) (one : OneStage) (meets : MeetsCell) (tells : TellsCell
   abbrev AreFew : ℕ → WorldHistory → Type 0
   AreFew k done = length done + length (met []) ≤ length (met done) + length ((x done).claimed k)
 
-  -- after these accesses, which are few, the consumer is not done with the last cell that it met
+  -- `AreFew` holds of these accesses, and after them the consumer is not done with the last cell that it met
   record IsOnClaim (done : WorldHistory) : Type 0 where
     pub cell : ℕ
     pub cells : List ℕ

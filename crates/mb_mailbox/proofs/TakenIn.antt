@@ -1,4 +1,4 @@
--- What a hub records of those returned is right by the two histories that have their parts.
+-- What a hub records of those returned agrees with the two histories that have their parts.
 use Rattle.std.proofs.Common.{◌≡◌, ℕ, zero, suc, ◌<◌, ◌≤◌, false, List, [], ◌∷◌, length, map, refl, sym, ap, ◌∙◌, subst, arith}
 use Rattle.std.specs.Prelude.{Option, Some, None, slice_get}
 use Rattle.std.specs.Option.{option_map_or}
@@ -69,7 +69,7 @@ abbrev pub kept_of : {X : Type 0} → Option (Option X) → Option X
 kept_of {X} o = option_map_or (λ (z : Option X). z) o None
 
 -- ---- consumers
--- the hub's record of consumer c is right by c's parts of the histories. If c was never issued, it has no record, and
+-- the hub's record of consumer c agrees with c's parts of the histories. If c was never issued, it has no record, and
 -- its parts have no access
 pub data Keeps (m : MailboxView) (h : HubView) (hs : Histories) (c : ℕ) : Type 0 where
   was_in : (l : ConsumerRecordView) → kept_at h.records c ≡ Some l
@@ -98,7 +98,7 @@ module _ (m : MailboxView) (h : HubView) (claims : List ClaimAccess) (pool : His
       → part_on c k done ≡ part_on c k claims
   steps c done e k = ap (λ l. part_on c k l) (sym (made c ∙ e)) ∙ cut c k claims
 
-  -- the hub's record of a consumer that was returned is right by the histories
+  -- the hub's record of a consumer that was returned agrees with the histories
   kept : (c : ℕ) (l : ConsumerRecordView) (reads : History) (done : List ClaimAccess)
       → slice_get h.records c ≡ Some (Some l)
       → part (Reader c) pool ≡ reads → taken_part h.claims.roll c ≡ done
@@ -144,7 +144,7 @@ all_in h i all = none_out h.claims.roll (λ c low. by c low (at h.records c all)
     by c low (past e most) = let same = i.seats in absurd (omega arith)
 
 -- ---- producers
--- what the hub records of the producer of lane p is right by the pool's history
+-- what the hub records of the producer of lane p agrees with the pool's history
 pub record Tells (m : MailboxView) (h : HubView) (pool : History) (p : ℕ) : Type 0 where
   pub items : items_in p h ≡ values_put p pool
   pub ended : ended_in p h ≡ has_ended p pool
@@ -160,7 +160,7 @@ module _ (m : MailboxView) (h : HubView) (pool : History) (i : IsHub h) (belongs
   values : (p : ℕ) (done : History) → part (Producer p) pool ≡ done → values_put p done ≡ values_put p pool
   values p done e = ap (λ (l : List Entry). map (λ (z : Entry). z.value) l) (ap (put_list p) (sym e) ∙ sym (put p))
 
-  -- what the hub records of a producer that was returned is right by the history
+  -- what the hub records of a producer that was returned agrees with the history
   told : (p : ℕ) (l : PutListView) (done : History) → slice_get h.puts p ≡ Some (Some l) → part (Producer p) pool ≡ done
       → IsPutList h.cells.table.size.cells p done l → Tells m h pool p
   told p l done e d k = record {

@@ -33,7 +33,7 @@ pub record HubView : Type 0 where
   pub puts : List (Option PutListView)
   pub records : List (Option ConsumerRecordView)
 
--- put list `l` is right for the producer of lane p, whose part is `done`, in a pool of this many cells
+-- put list `l` has the items that part `done` of lane p's producer puts, and says whether this part ends the lane
 pub record IsPutList (cells p : ℕ) (done : History) (l : PutListView) : Type 0 where
   pub items : l.items ≡ values_put p done
   pub ended : l.ended ≡ has_ended p done
@@ -41,8 +41,8 @@ pub record IsPutList (cells p : ℕ) (done : History) (l : PutListView) : Type 0
   pub linked : (e : Entry) → Has done (fetch p e) → e.cell < cells
       → Has (linked_cells p done) e.cell
 
--- record `l` is right for consumer c, whose two parts are `reads` and `done`, if there are `count` lanes. The two parts
--- fit. They determine the consumer's place on each lane and its notes there
+-- record `l` agrees with the two parts `reads` and `done` of consumer c, if there are `count` lanes. The two parts fit.
+-- They determine the consumer's place on each lane and its notes there
 pub record IsConsumerRecord
     (table : ClaimTable) (count c : ℕ) (reads : History) (done : List ClaimAccess) (l : ConsumerRecordView)
     : Type 0 where

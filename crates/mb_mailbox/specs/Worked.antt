@@ -39,7 +39,7 @@ abbrev pub lists_in : {Z : Type 0} → List (Vec ℕ Z) → List (List ℕ)
 lists_in vs = map (λ v. v.items) vs
 
 -- the hub issued a producer for each list and a consumer for each source, with the next numbers, and all were returned.
--- Each producer put a beginning of its list and ended its lane. What was returned before them is as it was
+-- Each producer put a beginning of its list and ended its lane. What the hub has of earlier numbers is as it was
 pub record IsRunOf (lists : List (List ℕ)) (sources : ℕ) (lanes : List ProducerEnd) (consumers : List ConsumerEnd)
     (old new : HubView) : Type 0 where
   pub puts : new.puts ≡ old.puts ++ map (λ l. Some (ended_list l)) lanes
