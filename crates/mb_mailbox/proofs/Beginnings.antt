@@ -64,7 +64,7 @@ standing_fresh layout c v claim is (x ∷ xs) path =
     let begun : claim.begun ≡ false = ap (λ (z : Claim). z.begun) (standing_is layout c 0 v claim is).2 in
     absurd (false≢true (sym begun ∙ path.begun.1 (λ none. cc)))
 
--- the first place in an object is right for a process that has made no turn there
+-- a process that has made no turn in an object stands at its first place there
 begins : (t : QuorumTable) (kind : Kind) (v : ℕ) → IsFitKind kind → v < t.values
     → PcIsAt t kind v (first_place t kind v) []
 begins t (Conciliator s) v fit low =

@@ -34,7 +34,7 @@ module _ (cs : Claims) (c : ℕ) (x : Parts) where
   has_end (j ∷ ks) (n ∷ ns) k e (inl is) = (n, subst (λ i. EndsAs cs c i n x) is e.0)
   has_end (j ∷ ks) (n ∷ ns) k e (inr has) = has_end ks ns k e.1 has
 
-  -- in the order of time, note j says how the claim on the cell met as number j has ended
+  -- in the order of time and from 0 on, note j says how the claim on the j-th cell met has ended
   noted : (ks : List ℕ) (notes : List Note) (j : ℕ) (n : Note) → AreEnds cs c ks (reverse notes) x
       → slice_get notes j ≡ Some n
       → (k : ℕ) × FromEnd ks j k × EndsAs cs c k n x
@@ -43,7 +43,7 @@ module _ (cs : Claims) (c : ℕ) (x : Parts) where
       (from_end (reverse notes) j n (subst (λ (l : List Note). slice_get l j ≡ Some n)
       (sym (reverse-reverse notes)) at))
 
-  -- if a cell was met as number j, there is a note number j
+  -- if there is a j-th cell met, there is a j-th note
   short : (ks : List ℕ) (notes : List Note) (j k : ℕ) → AreEnds cs c ks (reverse notes) x
       → FromEnd ks j k → j < length notes
   short ks notes j k e at =

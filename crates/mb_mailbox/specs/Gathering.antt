@@ -21,7 +21,7 @@ count_missing (Some x ∷ xs) = count_missing xs
 count_missing (None ∷ xs) = suc (count_missing xs)
 
 -- ---- what was returned, by numbers. At the number of one that was not returned is `None`
--- what the list has of the one with this number, or `None` if it was not returned or not issued
+-- what was returned with this number, or `None` if nothing was
 abbrev pub kept_at : {X : Type 0} → List (Option X) → ℕ → Option X
 kept_at xs n = option_map_or (λ o. o) (slice_get xs n) None
 

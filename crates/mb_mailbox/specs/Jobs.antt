@@ -1,4 +1,4 @@
--- What the workers of a run are given, and what they give back.
+-- The workers of a run: before which call they stop, what consumers have read, and the ends that they give back.
 use Rattle.std.specs.Prelude.{ℕ, suc, ◌≡◌, ◌≢◌, ◌+◌, ◌-◌, ◌*◌, ◌^◌, ◌<◌, ◌≤◌, ◌⊎◌, ◌++◌, Bool, List, [], ◌∷◌, false, length, slice_index_or, true}
 use Rattle.mb_mailbox.specs.Imports.{END, Has, HasLoaded, HasMet, Head, History, Link, Load, Look, PoolAccess, PoolAct, Stream, Word, look_of, place_past}
 use Rattle.mb_cells.specs.declared.answer.Look.TheVariants as look

@@ -108,8 +108,8 @@ HasNoteOnEach p s = length (notes_on p s.notes) ≡ length (cells_met p s.reader
 abbrev pub HasLoadedEnd : ℕ → ConsumerView → Type 0
 HasLoadedEnd p s = HasRead (place_past p (cells_met p s.reader.part)) END s.reader.part
 
--- the consumer has met all cells of lane p. The lane's producer did `theirs`, and the consumer has as many notes
--- there as that put items. `over` says whether the lane has ended
+-- the consumer has met all cells of lane p. The part of the lane's producer is `theirs`, and the consumer has one note
+-- there for each item that this part puts. `over` says whether the lane has ended
 pub record HasReadWhole (p : ℕ) (theirs : History) (over : Bool) (s : ConsumerView) : Type 0 where
   pub cells : cells_met p s.reader.part ≡ linked_cells p theirs
   pub notes : length (notes_on p s.notes) ≡ length (values_put p theirs)

@@ -1,4 +1,4 @@
-//! What a worker is given, what it promises, and what it gives back.
+//! The job of a worker, what the worker's thread promises, and the end that it gives back.
 ghost use Rattle.std.specs.Prelude.{◌≡◌, ◌<◌, ◌≤◌, [], false};
 ghost use Rattle.mb_mailbox.specs.Producers.{is_over};
 
