@@ -79,7 +79,7 @@ module _ (layout : Layout) (c : ℕ) (low : c < consumer_count layout) where
       let all = length-row_of layout.shape (spread (quorums_of layout).values) layout.pairs in
       get_some (kinds_of layout) 0 (omega (arith, all, layout.some))
 
-  -- by no turns at all the consumer stands at the first place of the first object
+  -- a consumer that has made no turn on a cell stands at the first place of the first object
   stands : StandsAt (quorums_of layout) (kinds_of layout) c 0 (first_place (quorums_of layout) first_kind.0 c) []
   stands =
       stands_first (quorums_of layout) (kinds_of layout) first_kind.0 c (first_place (quorums_of layout) first_kind.0 c)

@@ -96,7 +96,7 @@ diary_is d e same notes = λ j. record {
   begun = (same j).begun;
 }
 
--- diaries with the notes of a consumer's record that are its outlines in all else are its diaries
+-- if diaries have the notes of a consumer's record, and are its outlines in all else, they are its diaries
 row_with : (c n : ℕ) (h : HubView) (l : ConsumerRecordView) (ds : List DiaryView) → Some l ≡ kept_at h.records c
     → map (λ (d : DiaryView). d.notes) ds ≡ l.notes
     → map (with_notes []) ds ≡ map (with_notes []) (outline_row c (Some l) n) → IsRow c n h ds
@@ -252,7 +252,7 @@ among_told w n c p h ds all known low =
     ap (λ (z : Option DiaryView). option_map_or (λ (d : DiaryView). d.notes) z [])
     (all.each c p low (within_grid w n c p known low))
 
--- if `told` says whether an item was taken by the diaries, it says so by the hub's records
+-- if `told` says by the diaries whether an item was taken, the hub's records say the same
 pub taken_told : (w n p j : ℕ) (h : HubView) (ds : List DiaryView) (told : Bool) → AreDiaries w h (n * w) ds → p < w
     → told ≡ any_below n (λ c. is_took (slice_get (notes_among w c p ds) j)) → told ≡ is_taken_in n p j h
 taken_told w n p j h ds told all low is =

@@ -73,7 +73,7 @@ one_told p (ToCells b ∷ older) s lead =
     omega (arith, one, rest)
 one_told p (ToClaims b ∷ older) s lead = let no : false ≡ true = step_end _ _ p _ (ToClaims b) lead.0 in absurd (cc)
 
--- two histories joined load as many end marks as both of them add up to
+-- the number of end marks that two histories joined load is the sum of their two numbers
 ends_append : (xs ys : History) → ends_met (xs ++ ys) ≡ ends_met xs + ends_met ys
 ends_append [] ys = omega arith
 ends_append (x ∷ xs) ys = let rest = ends_append xs ys in omega (arith, rest)

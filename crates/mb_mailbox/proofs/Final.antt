@@ -242,7 +242,7 @@ module _ {R Z : Type 0} (m : MailboxView) (may_stop may_pass : Who → ℕ → T
     gave = sym (put_count m (length h.puts) items given.puts given.are_puts)
         ∙ sym (length-map items (λ (v : Vec ℕ Z). v.items))
 
-    -- and `IsCalled` holds of it, with the workers of `worked`
+    -- if the run is not aborted, `IsCalled` holds of it, too, with the workers of `worked`
     pub called : IsHubOf m h → IsCalled may_stop may_pass lanes.budget (lists_in items) (map stream rngs) w h now
     unfolding worked
     called was = record {

@@ -135,7 +135,7 @@ module _ (s : ConsumerView) (p k : ℕ) (claim : Claim) (i : IsConsumer s) (e : 
       else : (j : ℕ) → (j ≡ k → ⊥) → part_on c j made ≡ part_on c j s.seat.part
       else j ne = laws.other_cells c j a s.seat.part (λ u v. ne (sym v))
 
-      -- on each cell, the part before with the access added if it is on this cell is the part after the access
+      -- on each cell j, the part before, with the access added if j is k, is the part after the access
       stepped : (j : ℕ) → cond (nat_eq j k) (a.step ∷ x.claimed j) (x.claimed j) ≡ part_on c j made
       stepped j = ⊎_elim
           (λ (same : j ≡ k).

@@ -40,7 +40,7 @@ notes_are lanes consumers h r is c p known low =
     (lt-ltb p (length r.lanes) (subst (λ z. p < z) (sym n) low))
     ∙ ap (λ z. slice_get r.diaries (c * z + p)) n ∙ is.diary c p known low
 
--- an item was taken by the notes in the hub's records exactly if it was by the report's
+-- the notes in the hub's records and those in the report say the same of whether an item was taken
 taken_same : (lanes consumers : ℕ) (h : HubView) (r : ReportView) → IsReportIn lanes consumers h r
     → (p j : ℕ) → p < lanes
     → is_taken_in consumers p j h ≡ is_taken consumers p j r

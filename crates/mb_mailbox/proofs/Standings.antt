@@ -15,7 +15,7 @@ use Rattle.mb_world.specs.declared.place.Place.TheVariants.{At, Before}
 use Rattle.mb_mailbox.proofs.Lists.{get_some, set_get, some_same}
 
 -- ---- claims that have ended with notes
--- if for each of these cells the end of its claim holds by y, too, all ends hold by y
+-- if each claim on these cells that ended with a note by x did so by y, then `AreEnds` holds by y if it does by x
 pub ends_more : (cs : Claims) (c : ℕ) (x y : Parts) (ks : List ℕ) (ns : List Note)
     → ((k : ℕ) (n : Note) → Has ks k → EndsAs cs c k n x → EndsAs cs c k n y) → AreEnds cs c ks ns x
     → AreEnds cs c ks ns y

@@ -81,7 +81,7 @@ pub data Keeps (m : MailboxView) (h : HubView) (hs : Histories) (c : ℕ) : Type
       → Keeps m h hs c
   never : kept_at h.records c ≡ None → no_parts ≡ parts_in c hs → Keeps m h hs c
 
--- the two histories, if each consumer has the same number as a reader
+-- the two histories, in which consumer c is the reader with the same number c
 abbrev pub histories_in : List ClaimAccess → History → Histories
 histories_in claims pool = record { claims = claims; pool = pool; reader_of = λ c. c }
 
