@@ -30,7 +30,7 @@ counted plan hs r is =
         let same : l ≡ lane_view plan p hs r = some_same l (lane_view plan p hs r) (sym e ∙ is.lane p low) in
         ap (λ (v : LaneView). length v.put) same ∙ length-map (put_list p hs.pool) (λ (z : Entry). z.value)
 
--- ---- the place of a note
+-- ---- which diary has a note, and where
 -- if the choice of o if a test holds, and else of `None`, is x, then the test holds, and o is x
 some_chosen : {X : Type 0} (b : Bool) (o : Option X) (x : X) → (if b then o else None) ≡ Some x
     → (b ≡ true) × (o ≡ Some x)

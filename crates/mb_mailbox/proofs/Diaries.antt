@@ -133,7 +133,7 @@ get_past (x ∷ xs) ys (suc i) j e = get_past xs ys i j (omega (arith, e))
 pub next_row : (c w : ℕ) → (c + 1) * w ≡ c * w + w
 next_row c w = grind arith
 
--- a diary of consumer e at place c * w or later has no e below c. By `not_past`, one before (c + 1) * w has none above
+-- if diary q of consumer e is at place c * w or later, e is at least c. Before (c + 1) * w it is at most c (`not_past`)
 not_before : (w c e q : ℕ) → q < w → c * w ≤ e * w + q → e < c → ⊥
 not_before w c e q low from less =
     let most : (e + 1) * w ≤ c * w = mul-le-mul_right w (omega (arith, less)) in

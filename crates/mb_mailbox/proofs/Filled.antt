@@ -40,7 +40,7 @@ turned change n ys zs y xs rest i x new e at low is made same =
     (set_changed xs i (change y) x new low is made ∙ ap (λ j. changed_at xs j (change y)) at)
     ∙ sym (last_first change n ys y xs) ∙ ap (λ us. changed_from change n us xs) (sym e) ∙ same
 
--- ---- the lengths stay
+-- ---- changes leave the length of a list as it is
 changed_length : {X : Type 0} (xs : List X) (i : ℕ) (f : X → X) → length (changed_at xs i f) ≡ length xs
 changed_length [] i f = refl
 changed_length (x ∷ xs) zero f = refl

@@ -114,7 +114,7 @@ module _ (b : ConsumerView) (p k : ℕ) (claim : Claim) where
           is = took_is i;
         }
 
-  -- ---- the claim has ended otherwise, or goes on
+  -- ---- the claim is lost or undecided, or the poll is spent
   -- if the claim is lost or undecided, `IsPursuit` holds of the poll, and the consumer stands past the cell
   pub pursued_past : (most left made n : ℕ) (now : Claim) (st : Stage) (note : Note) (answer : Poll)
       (t u : Stream) (from : ConsumerView)

@@ -63,7 +63,7 @@ pub record Laws : Type 0 where
       → IsOnceEach (cells_met p (part (Reader q) h))
   pub has_met_all : (size : PoolSize) (q p : ℕ) (h : History) → IsPoolLawful size h
       → FollowsLinks (part (Reader q) h) → HasMetAll q p (cells_met p (part (Reader q) h)) h
-  -- ---- parts that fit on
+  -- ---- two parts that fit, and still fit with one access more
   pub looks : (cs : Claims) (c q p v : ℕ) (x : Parts) → Fits cs c x
       → MayLookPast cs c (cells_met p x.reads) x
       → Fits cs c (with_load (load q (place_past p (cells_met p x.reads)) v) x)

@@ -53,7 +53,7 @@ abbrev pub with_note : ℕ → Option Note → List (List Note) → List (List N
 with_note p None notes = notes
 with_note p (Some n) notes = slice_set notes p (notes_on p notes ++ n ∷ [])
 
--- ---- what accesses make of a consumer
+-- ---- what a consumer is after accesses
 -- the consumer made these accesses on lane p, the newest first, and nothing else. Its parts have just these more. Its
 -- notes have just the one more that comes with the answer, if one does
 pub record HasDone (p : ℕ) (done : WorldHistory) (answer : Option Poll) (old new : ConsumerView)
