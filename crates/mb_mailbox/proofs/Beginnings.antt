@@ -15,25 +15,25 @@ use Rattle.mb_mailbox.specs.Imports.{Claim, IsClaimIn, IsStanding, Layout, Objec
 use Rattle.mb_mailbox.proofs.Lists.{get_some, some_same}
 
 -- ---- which claim it is
--- if there is an object, the claim is the one that stands before it
+-- if `MatchOption` says that x has a kind and the claim is f of it, there is this kind
 picked : (x : Option Kind) (f : Kind → Claim) (claim : Claim) → MatchOption x ⊥ (λ kind. claim ≡ f kind)
     → (kind : Kind) × (x ≡ Some kind) × (claim ≡ f kind)
 picked None f claim is = absurd is
 picked (Some kind) f claim is = (kind, refl, is)
 
 module _ (layout : Layout) (c o v : ℕ) (claim : Claim) (is : IsStanding layout c o v claim) where
-  -- the object's kind, and the claim by it
+  -- object o of the layout has some kind, and the claim is what `standing` makes of this kind
   standing_is : (kind : Kind) × (slice_get (kinds_of layout) o ≡ Some kind) × (claim ≡ standing layout c o v kind)
   standing_is = picked (slice_get (kinds_of layout) o) (standing layout c o v) claim is
 
-  -- the claim is its consumer's, and goes on
+  -- the claim is consumer c's, and by the next lemma it goes on
   pub standing_own : consumer_of claim ≡ c
   standing_own = ap consumer_of standing_is.2
 
   pub standing_going : claim_stage claim ≡ stage.Going
   standing_going = ap claim_stage standing_is.2
 
-  -- there is one such claim only
+  -- consumer c has only one claim that stands before object o with input v
   pub standing_same : (other : Claim) → IsStanding layout c o v other → claim ≡ other
   standing_same other also =
       let x = picked (slice_get (kinds_of layout) o) (standing layout c o v) other also in
@@ -55,7 +55,7 @@ module _ (layout : Layout) (c o v : ℕ) (claim : Claim) (is : IsStanding layout
       value_at t LastObject at = at
 
 -- ---- the claim of a consumer that has made no access
--- a consumer whose claim stands before the first object has made no access
+-- a consumer whose claim on a cell stands before the first object has made no access there
 pub standing_fresh :
     (layout : Layout) (c v : ℕ) (claim : Claim) → IsStanding layout c 0 v claim → (xs : List ObjectTurn)
     → IsClaimIn layout claim xs → xs ≡ []
@@ -64,7 +64,7 @@ standing_fresh layout c v claim is (x ∷ xs) path =
     let begun : claim.begun ≡ false = ap (λ (z : Claim). z.begun) (standing_is layout c 0 v claim is).2 in
     absurd (false≢true (sym begun ∙ path.begun.1 (λ none. cc)))
 
--- the first place in an object is that of a process that has made no turn there
+-- a process that has made no turn in an object stands at its first place there
 begins : (t : QuorumTable) (kind : Kind) (v : ℕ) → IsFitKind kind → v < t.values
     → PcIsAt t kind v (first_place t kind v) []
 begins t (Conciliator s) v fit low =
@@ -73,13 +73,13 @@ begins t Ratifier v fit low = (low, (refl, (0, omega arith, (λ k. (λ m. (omega
 begins t LastObject v fit low = (low, (refl, refl))
 
 module _ (layout : Layout) (c : ℕ) (low : c < consumer_count layout) where
-  -- the first object
+  -- the layout has a first object, of some kind
   pub first_kind : (kind : Kind) × (slice_get (kinds_of layout) 0 ≡ Some kind)
   first_kind =
       let all = length-row_of layout.shape (spread (quorums_of layout).values) layout.pairs in
       get_some (kinds_of layout) 0 (omega (arith, all, layout.some))
 
-  -- the consumer stands there
+  -- a consumer that has made no turn on a cell stands at the first place of the first object
   stands : StandsAt (quorums_of layout) (kinds_of layout) c 0 (first_place (quorums_of layout) first_kind.0 c) []
   stands =
       stands_first (quorums_of layout) (kinds_of layout) first_kind.0 c (first_place (quorums_of layout) first_kind.0 c)
@@ -88,7 +88,7 @@ module _ (layout : Layout) (c : ℕ) (low : c < consumer_count layout) where
       (fit_in_row (shape_of layout) (spread (quorums_of layout).values) (pair_count layout) 0 first_kind.0
       (last_turn_small layout) first_kind.1) low)
 
-  -- its claim begins the first object, and has made no turn
+  -- there is a claim of the consumer before the first object, which has made no turn
   pub new_claim : (StandsAt (quorums_of layout) (kinds_of layout) c 0
       (first_place (quorums_of layout) first_kind.0 c) []
       → IsClaimPrefix (claims_in layout 0) c [] stage.Going)

@@ -14,14 +14,14 @@ module _ (may_pass : Who → ℕ → Type 0) where
   pub none_passed : (w : Who) (calls : ℕ) → calls ≡ 0 → ArePassed may_pass w calls
   none_passed w calls none n low high = absurd (omega (arith, none, low, high))
 
-  -- the gate let one call more through
+  -- if the gate let one call more through, it let all of them through
   pub passed_more : (w : Who) (calls now : ℕ) → now ≡ suc calls → ArePassed may_pass w calls
       → may_pass w now → ArePassed may_pass w now
   passed_more w calls now e was one n low high =
       ⊎_elim (λ (h : n ≤ calls). was n low h) (λ (h : n ≡ suc calls). subst (λ (k : ℕ). may_pass w k) (e ∙ sym h) one)
       (le-suc_iff.0 (subst (λ (k : ℕ). n ≤ k) e high))
 
-  -- a consumer has made no call
+  -- a consumer that did nothing has made no call
   pub none_called : (from end budget calls : ℕ) (s : Stream) (old : ConsumerView) → calls ≡ 0
       → HasCalled may_pass from end budget calls s s old old
   none_called from end budget calls s old none = record {
@@ -31,7 +31,7 @@ module _ (may_pass : Who → ℕ → Type 0) where
     passed = none_passed (who.Consumer old.seat.consumer) calls none;
   }
 
-  -- a consumer has made one more call
+  -- if a consumer has made these calls, and then one poll more that the gate let through, it has made one call more
   pub called_more : (from end budget calls now lane : ℕ) (answer : Poll) (s u t : Stream)
       (old mid new : ConsumerView) → now ≡ suc calls
       → HasCalled may_pass from end budget calls s u old mid → from ≤ lane → lane < end

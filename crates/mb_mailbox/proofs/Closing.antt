@@ -1,4 +1,4 @@
--- What a producer's offer makes of it if it returns `Full`, and what a finish does.
+-- What a producer is after an offer that returned `Full`, and what a finish does.
 use Rattle.std.proofs.Common.{◌≡◌, ℕ, ◌≤◌, Bool, true, false, cond, List, [], ◌∷◌, map, refl, sym, ap, ◌∙◌, subst, inl, inr}
 use Rattle.std.specs.Prelude.{Option, Some, None, nat_lt}
 use Rattle.std.proofs.lemmas.Bool.{eq-eqb, ltb-false}
@@ -47,7 +47,7 @@ none_by laws s h e =
       past = none.past;
     }
 
--- after a fetch-add that found no cell, an offer is refused
+-- after a fetch-add that found no cell, the producer's place refuses an offer
 refused_one : PutLaws → (s : ProducerView) (h : HasPart s.seat) → FoundNoCell s → offer_refusal s.seat.place ≡ None → ⊥
 refused_one laws s h none unrefused = by (has_ended s.seat.lane h.history.0) refl
   where
@@ -60,7 +60,7 @@ refused_one laws s h none unrefused = by (has_ended s.seat.lane h.history.0) ref
         (there s h)).1 (e, in_all laws s h none) in
         let f : None ≡ Some offer.Full = sym unrefused ∙ full in absurd (cc)
 
--- an offer that found no cell was refused, or its fetch-add found none
+-- an offer that returned `Full`: the producer's place refused it, or its fetch-add found no cell
 data Found (old : LaneSeatView) (x : ℕ) (now : LaneSeatView) : Type 0 where
   was : old.place.stage ≡ stage.Full → now ≡ old → Found old x now
   finds : (n : ℕ) → stage_offer_refusal old.place.stage ≡ None → old.table.size.cells ≤ n
@@ -71,7 +71,7 @@ data Found (old : LaneSeatView) (x : ℕ) (now : LaneSeatView) : Type 0 where
       }
       → Found old x now
 
--- if a fetch-add was made and the offer returned `Full`, the number found is past the cells
+-- if a fetch-add was made and the offer returned `Full`, the number found is no number of a cell
 found_by : (old : LaneSeatView) (x n : ℕ) (now : LaneSeatView) (b : Bool)
     → stage_offer_refusal old.place.stage ≡ None → nat_lt n old.table.size.cells ≡ b
     → offer.Full ≡ cond b (offer.Cell n) offer.Full
@@ -83,7 +83,7 @@ found_by : (old : LaneSeatView) (x n : ℕ) (now : LaneSeatView) (b : Bool)
 found_by old x n now true unrefused low told m = absurd (cc)
 found_by old x n now false unrefused low told m = finds n unrefused (ltb-false n old.table.size.cells low) m.0 m.1
 
--- what an offer that returned `Full` did, by the stage of the producer's place
+-- `Found` holds of an offer that returned `Full`, if it was made from this stage of the producer's place
 found_at : (old : LaneSeatView) (x : ℕ) (now : LaneSeatView) (at : LaneStage) → old.place.stage ≡ at
     → OfferBy (stage_offer_refusal at) old x offer.Full now → Found old x now
 found_at old x now stage.Open e m = found_by old x m.0 now (nat_lt m.0 old.table.size.cells)
@@ -93,7 +93,7 @@ found_at old x now (stage.Stored c) e m = absurd (cc)
 found_at old x now stage.Full e m = was e m.1
 found_at old x now (stage.Ended f) e m = absurd (cc)
 
--- what an offer that returned `Full` did
+-- `Found` holds of an offer that returned `Full`
 found : (s : ProducerView) (x : ℕ) (now : LaneSeatView) → OfferMakes s.seat x offer.Full now → Found s.seat x now
 found s x now m = found_at s.seat x now s.seat.place.stage refl m
 
@@ -164,7 +164,7 @@ full_stays s x now m = by (found s x now m)
     by (finds n unrefused past after is) = ap (λ (v : LaneSeatView). has_ended v.lane v.part) is
         ∙ rw (eq-eqb s.seat.lane s.seat.lane refl) refl
 
--- after an offer that returned `Full` the producer keeps what producers keep
+-- after an offer that returned `Full`, `IsProducer` still holds of the producer
 pub full_still : PutLaws → (s : ProducerView) (x : ℕ) (now : LaneSeatView) → IsProducer s
     → OfferMakes s.seat x offer.Full now → IsProducer (with_seat now s)
 full_still laws s x now i m = by (found s x now m)
@@ -198,7 +198,7 @@ is_end s now m = by s.seat.place.stage m
     by (stage.Stored c) m = absurd (cc)
     by (stage.Ended f) m = absurd (cc)
 
--- after a finish the producer keeps what producers keep
+-- after a finish `IsProducer` still holds of the producer
 pub finish_still : PutLaws → (s : ProducerView) (answer : Finish) (now : LaneSeatView)
     → IsProducer s → FinishMakes s.seat answer now → IsProducer (with_seat now s)
 finish_still laws s answer now i m = by s.seat.place.stage m
@@ -222,7 +222,7 @@ finish_still laws s answer now i m = by s.seat.place.stage m
     by (stage.Stored c) m = same m.1
     by (stage.Ended f) m = same m.1
 
--- a finish is never `Busy`, since no item waits for its link
+-- a finish never returns `Busy`, since no item of the producer is pending
 pub finish_not_busy : (s : ProducerView) (now : LaneSeatView) → IsProducer s → FinishMakes s.seat finish.Busy now → ⊥
 finish_not_busy s now i m = by s.seat.place.stage m i.idle
   where
@@ -234,7 +234,7 @@ finish_not_busy s now i m = by s.seat.place.stage m i.idle
     by (stage.Stored c) m e = absurd (cc)
     by (stage.Ended f) m e = absurd (cc)
 
--- if the end mark was stored in a head or a link, the lane has ended
+-- after its producer has stored the end mark in a head or a link, a lane has ended
 marks : (p : ℕ) (w : Word) (h : History) → IsLinkWord w → has_ended p (store p w END ∷ h) ≡ true
 marks p (Head q) h l = rw (eq-eqb p p refl) refl
 marks p (Link q) h l = rw (eq-eqb p p refl) refl

@@ -17,8 +17,8 @@ use Rattle.mb_mailbox.proofs.Lists.{set_here, set_same, set_twice, some_same}
 use Rattle.mb_mailbox.proofs.Made.{claim_made}
 use Rattle.mb_mailbox.proofs.Polls.{steps_more}
 
--- after an access of its claim the consumer keeps what consumers keep, and by `IsNext` that access is its next one.
--- These are clauses of src/consumer/moves.rt
+-- `IsConsumer` still holds after an access of the consumer's claim, and by `IsNext` that access is its next one on the
+-- lane. Both are clauses of laws in src/consumer/moves.rt
 abbrev pub MovesOn : Type 0
 MovesOn = (s : ConsumerView) (p k word seen : ℕ) (claim now : Claim) (next : ClaimOp)
     → IsConsumer s → HasLoads s → HasPlace p (At k claim) s
@@ -35,14 +35,14 @@ IsNext = (s : ConsumerView) (p k word seen : ℕ) (claim now : Claim) (next : Cl
     → ConsumerStep (claims_at s.seat.table) s.seat.consumer p (parts_of s.reader s.seat)
     (ToClaims (access_of s.seat.consumer k next seen word)) (stage_answer (claim_stage now))
 
--- a claim that has no note and is not going is won
+-- a stage without a note that is not `Going` is `Won`
 unnoted : (st : Stage) → note_of st ≡ None → (st ≡ stage.Going → ⊥) → st ≡ stage.Won
 unnoted stage.Going e ne = absurd (ne refl)
 unnoted stage.Won e ne = refl
 unnoted (stage.Lost w) e ne = absurd (cc)
 unnoted stage.Undecided e ne = absurd (cc)
 
--- before the first access the consumer is as it was, and there is no answer
+-- if the claim's stage has no note, to move the consumer to the place of that stage changes nothing. There is no answer
 still : (p k : ℕ) (claim : Claim) (st : Stage) (s : ConsumerView) → HasPlace p (At k claim) s → note_of st ≡ None
     → (moved_to p (place_after k claim st) (note_of st) s.reader.part s.seat.part s ≡ s) × (stage_answer st ≡ None)
 still p k claim stage.Going s e none =
@@ -52,7 +52,7 @@ still p k claim stage.Won s e none =
 still p k claim (stage.Lost w) s e none = absurd (cc)
 still p k claim stage.Undecided s e none = absurd (cc)
 
--- before the claim's first access the consumer is at the claim, after the steps that led there
+-- `HasCompeted` holds before the claim's first access, if steps led to the consumer at its claim
 pub competed_none : (p k n : ℕ) (claim : Claim) (t u : Stream) (from s : ConsumerView) (seat : SeatView) → s.seat ≡ seat
     → HasPlace p (At k claim) s → note_of (claim_stage claim) ≡ None → IsConsumer s → AreSteps p n None t u from s
     → HasCompeted p k n claim t u from s seat
@@ -65,7 +65,7 @@ competed_none p k n claim t u from s seat is e none i m =
       is = subst IsConsumer (sym same.0) i;
     })
 
--- after one more access of the claim, the steps are one more
+-- `HasCompeted` still holds after one more access of the claim, with one step more
 pub competed_more : MovesOn → IsNext → (s from : ConsumerView) (p k n word seen : ℕ)
     (was now : Claim) (next : ClaimOp) (seat new : SeatView) (size : TableSize)
     (there : Place) (t u v : Stream) → slice_get s.places p ≡ Some there → HasLoads s → s.seat.table.size ≡ Some size

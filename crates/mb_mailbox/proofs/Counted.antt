@@ -1,4 +1,4 @@
--- How many items a report has on all lanes together, and in which diary and at which place a note stands.
+-- How many items a report has on all lanes together, and which diary has a note, and where.
 use Rattle.std.proofs.Common.{◌≡◌, ℕ, ◌+◌, ◌*◌, ◌<◌, ◌≤◌, Bool, true, false, List, [], length, refl, sym, ◌∙◌, ap, subst, inl, inr, arith}
 use Rattle.std.specs.Prelude.{Option, Some, None, if◌then◌else◌, nat_lt, reverse, slice_get}
 use Rattle.std.specs.Option.{option_map_or}
@@ -30,21 +30,21 @@ counted plan hs r is =
         let same : l ≡ lane_view plan p hs r = some_same l (lane_view plan p hs r) (sym e ∙ is.lane p low) in
         ap (λ (v : LaneView). length v.put) same ∙ length-map (put_list p hs.pool) (λ (z : Entry). z.value)
 
--- ---- the place of a note
--- if a choice between o and `None` is x, the test holds, and o is x
+-- ---- which diary has a note, and where
+-- if the choice of o if a test holds, and else of `None`, is x, then the test holds, and o is x
 some_chosen : {X : Type 0} (b : Bool) (o : Option X) (x : X) → (if b then o else None) ≡ Some x
     → (b ≡ true) × (o ≡ Some x)
 some_chosen true o x e = (refl, e)
 some_chosen false o x e = absurd (cc)
 
--- a note is in a diary
+-- if there is a note at position j of a diary that may be missing, the diary is not missing
 in_diary : (o : Option DiaryView) (j : ℕ) (n : Note)
     → slice_get (option_map_or (λ (d : DiaryView). d.notes) o []) j ≡ Some n
     → (d : DiaryView) × (o ≡ Some d) × (slice_get d.notes j ≡ Some n)
 in_diary None j n e = absurd (cc)
 in_diary (Some d) j n e = (d, refl, e)
 
--- this note stands in the report: in the diary of consumer c on lane p, at position j
+-- the report has this note in the diary of consumer c on lane p, at position j
 pub record IsNoted (plan : Plan) (r : ReportView) (c p j : ℕ) (n : Note) : Type 0 where
   pub consumer : c < consumers_of plan
   pub lane : p < plan.lanes
@@ -52,7 +52,7 @@ pub record IsNoted (plan : Plan) (r : ReportView) (c p j : ℕ) (n : Note) : Typ
   pub there : slice_get r.diaries (c * plan.lanes + p) ≡ Some diary
   pub here : slice_get diary.notes j ≡ Some n
 
--- a note that the report has at a position stands in a diary there
+-- `IsNoted` holds of each note that `note` finds in a report
 pub is_noted : (plan : Plan) (hs : Histories) (r : ReportView) → IsReportOf plan hs r
     → (c p j : ℕ) (n : Note) → note c p j r ≡ Some n
     → IsNoted plan r c p j n
@@ -77,7 +77,7 @@ is_noted plan hs r is c p j n e =
       here = t.2;
     }
 
--- if a list begins with another, counted from the first on, the other's elements keep their places
+-- both lists have the last cell first. If ls is ks with more cells after it, each cell has the same position in both
 pub at_start : (ks ls : List ℕ) (j k : ℕ) → IsStart ks ls → slice_get (reverse ks) j ≡ Some k
     → slice_get (reverse ls) j ≡ Some k
 at_start ks ls j k s e =

@@ -20,7 +20,7 @@ use Rattle.mb_mailbox.proofs.Lists.{get_some, map_get, some_same}
 use Rattle.mb_mailbox.proofs.Turned.{get_end}
 
 -- ---- one consumer
--- the notes on lane p, if this is kept of the consumer
+-- the notes on lane p in the hub's record of a consumer, or none if there is no record
 abbrev notes_of : ℕ → Option ConsumerRecordView → List Note
 notes_of p kept =
     option_map_or (λ (l : ConsumerRecordView). option_map_or (λ (ns : List Note). ns) (slice_get l.notes p) []) kept []
@@ -30,7 +30,7 @@ record IsRow (c n : ℕ) (h : HubView) (ds : List DiaryView) : Type 0 where
   pub count : length ds ≡ n
   pub each : (p : ℕ) → p < n → slice_get ds p ≡ Some (diary_in c p h)
 
--- there is an outline for each lane
+-- `outline_row` has an outline for each of n lanes
 outlines_count : (c n : ℕ) (kept : Option ConsumerRecordView) → length (outline_row c kept n) ≡ n
 outlines_count c zero kept = refl
 outlines_count c (suc n) kept =
@@ -38,7 +38,7 @@ outlines_count c (suc n) kept =
     let rest = outlines_count c n kept in
     omega (arith, more, rest)
 
--- the outline for each lane stands at its place
+-- element p of `outline_row` is the outline of the diary on lane p
 outline_at : (c n p : ℕ) (kept : Option ConsumerRecordView) → p < n
     → slice_get (outline_row c kept n) p ≡ Some (diary_outline c p kept)
 outline_at c zero p kept low = absurd (omega (arith, low))
@@ -63,19 +63,19 @@ outlines_empty c n m kept same = record {
       ap (λ (z : DiaryView). z.notes) (some_same d (diary_outline c p kept) (sym at ∙ outline_at c n p kept low));
 }
 
--- what is kept of one stands in the list
+-- if `kept_at` gives x for number n, element n of the list is x
 kept_there : {X : Type 0} (xs : List (Option X)) (n : ℕ) (x : X) → Some x ≡ kept_at xs n
     → slice_get xs n ≡ Some (Some x)
 kept_there [] n x e = absurd (cc)
 kept_there (o ∷ xs) zero x e = ap Some (sym e)
 kept_there (o ∷ xs) (suc n) x e = kept_there xs n x e
 
--- each consumer that a hub has taken back has notes on each lane
+-- the record of each consumer that was returned has a list of notes for each lane
 pub notes_full : (h : HubView) (c : ℕ) (l : ConsumerRecordView) → IsHub h → Some l ≡ kept_at h.records c
     → length l.notes ≡ h.cells.table.size.lanes
 notes_full h c l i e = (i.taken c l (kept_there h.records c l e)).2.2.notes_count
 
--- a consumer of which nothing is kept has no notes, so its outlines are its diaries
+-- a consumer without a record has no notes, so its outlines are its diaries
 row_without : (c n : ℕ) (h : HubView) → None ≡ kept_at h.records c → IsRow c n h (outline_row c None n)
 row_without c n h none = record {
   count = outlines_count c n None;
@@ -96,7 +96,7 @@ diary_is d e same notes = λ j. record {
   begun = (same j).begun;
 }
 
--- diaries that are the outlines with the notes that are kept of the consumer are its diaries
+-- if diaries have the notes of a consumer's record, and are its outlines in all else, they are its diaries
 row_with : (c n : ℕ) (h : HubView) (l : ConsumerRecordView) (ds : List DiaryView) → Some l ≡ kept_at h.records c
     → map (λ (d : DiaryView). d.notes) ds ≡ l.notes
     → map (with_notes []) ds ≡ map (with_notes []) (outline_row c (Some l) n) → IsRow c n h ds
@@ -123,17 +123,17 @@ row_with c n h l ds kept notes same = record { count = count; each = each }
         t.1 ∙ ap Some (diary_is t.0 (diary_in c p h) (outline ∙ ap (diary_outline c p) kept) told)
 
 -- ---- one consumer after the other
--- an element of the second of two joined lists stands past the first
+-- element j of the second of two joined lists comes j places after the end of the first
 get_past : {X : Type 0} (xs ys : List X) (i j : ℕ) → i ≡ length xs + j → slice_get (xs ++ ys) i ≡ slice_get ys j
 get_past [] ys i j e = let same : i ≡ j = omega (arith, e) in ap (slice_get ys) same
 get_past (x ∷ xs) ys zero j e = absurd (omega (arith, e))
 get_past (x ∷ xs) ys (suc i) j e = get_past xs ys i j (omega (arith, e))
 
--- the diaries of the next consumer begin past those of this one
+-- c + 1 consumers with w diaries each have w diaries more than c consumers
 pub next_row : (c w : ℕ) → (c + 1) * w ≡ c * w + w
 next_row c w = grind arith
 
--- the places from c * w on are those of consumer c or a later one, and those before (c + 1) * w of c or an earlier one
+-- if diary q of consumer e is at place c * w or later, e is at least c. Before (c + 1) * w it is at most c (`not_past`)
 not_before : (w c e q : ℕ) → q < w → c * w ≤ e * w + q → e < c → ⊥
 not_before w c e q low from less =
     let most : (e + 1) * w ≤ c * w = mul-le-mul_right w (omega (arith, less)) in
@@ -154,7 +154,7 @@ row_is w c e q low from to = elim (cases_lt e c) [
   ]
 ]
 
--- with the diaries of the next consumer at their end, these are the diaries of one consumer more
+-- the diaries of the first c consumers, and then those of consumer c, are the diaries of the first c + 1 consumers
 rows_more : (w c : ℕ) (h : HubView) (ds row : List DiaryView) → AreDiaries w h (c * w) ds → IsRow c w h row
     → AreDiaries w h ((c + 1) * w) (ds ++ row)
 rows_more w c h ds row old new = record {
@@ -172,7 +172,7 @@ rows_more w c h ds row old new = record {
 }
 
 -- ---- a list whose last elements are written
--- the part of a list from the end of xs on
+-- the part of the list xs ++ ys from the end of xs on is ys
 pub part_past : {X : Type 0} (xs ys zs : List X) (first end : ℕ) → zs ≡ xs ++ ys → first ≡ length xs
     → end ≡ length zs → take (end - first) (drop first zs) ≡ ys
 part_past xs ys zs first end e at all =
@@ -180,7 +180,7 @@ part_past xs ys zs first end e at all =
     ap (λ us. take (end - first) (drop first us)) e ∙ ap (take (end - first)) (drop_at xs ys first (sym at))
     ∙ take_all (end - first) ys (omega (arith, count, at, all))
 
--- if all elements from the end of xs on are written, the list is xs and what was written
+-- if all elements after xs are overwritten by ws, the list is xs and then ws
 rewritten : {X Z : Type 0} (v : Vec X Z) (xs ys ws : List X) (first : ℕ) → v.items ≡ xs ++ ys → first ≡ length xs
     → length ws ≡ length ys → (with_items_from v first ws).items ≡ xs ++ ws
 rewritten {X} v xs ys ws first e at same =
@@ -202,7 +202,7 @@ rewritten {X} v xs ys ws first e at same =
     is = (λ j. front j ++ (ws ++ end j)) ∙ ap (λ (zs : List X). xs ++ zs) (append-nil ws)
 
 -- ---- one consumer more
--- what a loop keeps that adds outlines lane by lane
+-- the outlines of the first p lanes, and then that of lane p, are the outlines of the first p + 1 lanes
 pub outlines_more : (c p : ℕ) (kept : Option ConsumerRecordView) (old now new : List DiaryView) (made : DiaryView)
     → new ≡ now ++ made ∷ [] → now ≡ old ++ outline_row c kept p → made ≡ diary_outline c p kept
     → new ≡ old ++ outline_row c kept (p + 1)
@@ -214,14 +214,14 @@ outlines_more c p kept old now new made more before is =
     next : suc p ≡ p + 1
     next = omega arith
 
--- the outlines by what was told of a consumer are those by what is kept of it
+-- if `told` and `kept` are the same record of a consumer, outlines made by the first are those made by the second
 pub outlined : (c n : ℕ) (ds all : List DiaryView) (told kept here : Option ConsumerRecordView)
     → all ≡ ds ++ outline_row c told n → told ≡ here → kept ≡ here → all ≡ ds ++ outline_row c kept n
 outlined c n ds all told kept here is e f =
     is ∙ ap (λ (o : Option ConsumerRecordView). ds ++ outline_row c o n) (e ∙ sym f)
 
--- if the outlines `part` of a consumer that was returned are written over by `filled`, which has its notes, its diaries
--- are added
+-- if the outlines `part` of a consumer that was returned are replaced by `filled`, which has its notes, the list has
+-- its diaries at the end
 pub row_filled : {Z : Type 0} (w c : ℕ) (h : HubView) (l : ConsumerRecordView) (v : Vec DiaryView Z)
     (ds part filled : List DiaryView) (first : ℕ) (notes : List (List Note)) → AreDiaries w h (c * w) ds
     → Some l ≡ kept_at h.records c → v.items ≡ ds ++ outline_row c (Some l) w → first ≡ length ds
@@ -237,7 +237,7 @@ row_filled w c h l v ds part filled first notes old kept more at is told its sam
     row : IsRow c w h filled
     row = row_with c w h l filled kept (told ∙ its) (same ∙ ap (map (with_notes [])) is)
 
--- if nothing is kept of a consumer, its diaries are added with its outlines
+-- if a consumer has no record, the list has its diaries at the end once its outlines are added
 pub row_kept : (w c : ℕ) (h : HubView) (ds all : List DiaryView) → AreDiaries w h (c * w) ds
     → None ≡ kept_at h.records c → all ≡ ds ++ outline_row c None w → AreDiaries w h ((c + 1) * w) all
 row_kept w c h ds all old none more =
@@ -245,14 +245,14 @@ row_kept w c h ds all old none more =
     (rows_more w c h ds (outline_row c None w) old (row_without c w h none))
 
 -- ---- what was taken
--- the notes that the hub keeps stand in the diaries
+-- the notes of a consumer in the diaries are those in the hub's record of it
 among_told : (w n c p : ℕ) (h : HubView) (ds : List DiaryView) → AreDiaries w h (n * w) ds → c < n → p < w
     → notes_among w c p ds ≡ notes_in c p h
 among_told w n c p h ds all known low =
     ap (λ (z : Option DiaryView). option_map_or (λ (d : DiaryView). d.notes) z [])
     (all.each c p low (within_grid w n c p known low))
 
--- what the diaries tell of an item, the notes that the hub keeps tell
+-- if `told` says by the diaries whether an item was taken, the hub's records say the same
 pub taken_told : (w n p j : ℕ) (h : HubView) (ds : List DiaryView) (told : Bool) → AreDiaries w h (n * w) ds → p < w
     → told ≡ any_below n (λ c. is_took (slice_get (notes_among w c p ds) j)) → told ≡ is_taken_in n p j h
 taken_told w n p j h ds told all low is =

@@ -17,7 +17,7 @@ use Rattle.mb_mailbox.proofs.Lists.{set_same}
 use Rattle.mb_mailbox.proofs.Polls.{poll_of}
 use Rattle.mb_mailbox.proofs.Telling.{tells_item, tells_none}
 
--- a consumer that stands at a claim holds it
+-- if the consumer's place on lane p is at this claim already, to set it there changes nothing
 pub holds_it : (p k : ℕ) (claim : Claim) (s : ConsumerView) → slice_get s.places p
     ≡ Some (At k claim) → holding p k claim s ≡ s
 holds_it p k claim s e = ap (λ (ps : List Place). record s { places = ps }) (set_same s.places p (At k claim) e)
@@ -27,7 +27,7 @@ pub not_no_lane : (p n most left : ℕ) (x : Poll) (t u : Stream) (from new : Co
     → IsPursuit p n most left x t u from new → x ≡ poll.NoLane → ⊥
 not_no_lane p n most left x t u from new so e = subst IsOfClaim e so.kind
 
--- the accesses before the claim and those after it make the poll
+-- if `IsPursuit` holds after n accesses of a poll, these and the accesses of the pursuit together make the poll
 pub poll_by : (p n most left budget : ℕ) (x : Poll) (t u : Stream) (from new : ConsumerView) → most + n
     ≡ budget → IsPursuit p n most left x t u from new
     → IsPollOf p budget x t u from new
@@ -36,7 +36,7 @@ poll_by p n most left budget x t u from new sum so =
     poll_of p (so.made + n) budget x t u from new so.steps (omega (arith, all, sum))
     (λ e. let none = so.spent e in omega (arith, all, none, sum))
 
--- with what is left, the accesses before the claim and those after it are the budget
+-- the accesses that the poll made and what it left add up to the budget
 pub left_by : (p n most left budget : ℕ) (x : Poll) (t u : Stream) (from new : ConsumerView) → most + n
     ≡ budget → IsPursuit p n most left x t u from new
     → accesses_made new + left ≡ accesses_made from + budget
@@ -45,7 +45,7 @@ left_by p n most left budget x t u from new sum so =
     let grown = steps_grow p (so.made + n) (outcome x) t u from new so.steps in
     omega (arith, all, grown, sum)
 
--- what the answer of a poll that has held a claim says
+-- `AnswerTells` holds of the answer of a poll that has held a claim
 tells_by : (p : ℕ) (x : Poll) (old new : ConsumerView) → IsOfClaim x
     → (x ≢ poll.Spent → HasNoteOnEach p new) → AnswerTells p (outcome x) old new
 tells_by p (poll.Took v) old new kind has = tells_item p v old new (has (λ f. cc))
@@ -66,7 +66,7 @@ tells_by p poll.Ended old new kind has = absurd kind
 tells_by p poll.Spent old new kind has = tells_none p old new
 tells_by p poll.NoLane old new kind has = absurd kind
 
--- what the rest of a poll says of the lane
+-- `AnswerTells` holds of the answer of a poll if `IsPursuit` does
 pub pursuit_tells : (p n most left : ℕ) (x : Poll) (t u : Stream) (from old new : ConsumerView)
     → IsPursuit p n most left x t u from new
     → AnswerTells p (outcome x) old new

@@ -1,4 +1,4 @@
--- What a poll keeps and adds, and a consumer that has read a lane to its end.
+-- What a poll leaves as it was, and when a consumer has read a lane to its end.
 use Rattle.std.proofs.Common.{◌≡◌, ◌≢◌, ℕ, List, [], ◌∷◌, ◌++◌, length, refl, sym, ap, ◌∙◌, subst, inr}
 use Rattle.std.specs.Prelude.{Option, Some, None, slice_get}
 use Rattle.std.specs.Option.{option_map_or}
@@ -18,18 +18,18 @@ use Rattle.mb_mailbox.specs.Steps.{HasLoadedEnd, HasNoteOnEach, IsPollOf, note_w
 use Rattle.mb_mailbox.specs.declared.consumer.Poll.{Poll}
 use Rattle.mb_mailbox.proofs.Lists.{set_else}
 
--- ---- what a part has, a longer one has
--- a longer part has each access of the part
+-- ---- what a part has, it still has after later accesses
+-- each access of a part is in the part with later accesses added
 has_more : (later : History) (h : History) (a : PoolAccess) → Has h a → Has (later ++ h) a
 has_more [] h a has = has
 has_more (b ∷ later) h a has = inr (has_more later h a has)
 
--- a longer part has the loads by which cells were met
+-- the loads by which cells were met are in the part with later accesses added
 met_more : (r p : ℕ) (later : History) (ks : List ℕ) (h : History) → HasMet r p ks h → HasMet r p ks (later ++ h)
 met_more r p later ks h met = HasMet-more r p h (later ++ h) ks (has_more later h) met
 
--- ---- what a poll of a lane leaves alone
--- a note on another lane leaves the notes on this one
+-- ---- what a poll of a lane does not change
+-- a note on another lane leaves the notes on this one as they are
 notes_kept : (p q : ℕ) (o : Option Note) (notes : List (List Note)) → q ≢ p
     → notes_on q (with_note p o notes) ≡ notes_on q notes
 notes_kept p q None notes ne = refl
@@ -37,7 +37,7 @@ notes_kept p q (Some n) notes ne =
     ap (λ (o : Option (List Note)). option_map_or (λ (l : List Note). l) o [])
     (set_else notes p q (notes_on p notes ++ n ∷ []) ne)
 
--- a poll leaves the consumer's tables and numbers
+-- a poll leaves the consumer's tables and numbers as they are
 pub same_by : (p budget : ℕ) (answer : Poll) (s t : Stream) (old new : ConsumerView)
     → IsPollOf p budget answer s t old new → IsSameConsumer old new
 same_by p budget answer s t old new i = record {
@@ -47,7 +47,7 @@ same_by p budget answer s t old new i = record {
   consumer = ap (λ r. r.consumer) i.done.seat;
 }
 
--- a lane that was read to its end still is, after a poll of another lane
+-- if a consumer had read a lane to its end, it still has after a poll of another lane
 pub kept_by : (p q budget : ℕ) (answer : Poll) (s t : Stream) (old new : ConsumerView)
     → IsPollOf p budget answer s t old new → q ≢ p
     → HasReadToEnd q old → HasReadToEnd q new
@@ -85,7 +85,7 @@ module _ (met : (q p : ℕ) (h : History) → HasMet q p (cells_met p (part (Rea
         notes = noted;
       }
 
--- ---- a lane and a consumer that were taken in
+-- ---- a lane whose producer was returned, and a consumer that was returned
 module _ (whole : (h : History) (r p : ℕ) (ks : List ℕ) → HasMet r p ks (part (Reader r) h) → HasMet r p ks h)
     (only : (h : History) (who : Process) (a : PoolAccess) → Has (part who h) a → Has h a × (a.process ≡ who))
     (last : (size : PoolSize) (h : History) (r p : ℕ) (ks : List ℕ) → IsPoolLawful size h

@@ -1,4 +1,4 @@
--- A poll loads one end mark if it returns `Ended`, and else none.
+-- A poll loads one end mark if it returns `Ended`, and else none. A *look* says what a load of a head or link found.
 use Rattle.std.proofs.Common.{◌≡◌, ◌≢◌, ℕ, ◌+◌, Bool, true, false, List, [], ◌∷◌, ◌++◌, Option, Some, None, length, refl, subst, ap, ◌∙◌, arith}
 use Rattle.std.specs.Int.{from_bool}
 use Rattle.mb_cells.specs.declared.answer.Look.TheVariants as look
@@ -22,7 +22,7 @@ not_ended look.Nothing n = refl
 not_ended look.Ended n = absurd (n refl)
 not_ended (look.Cell k) n = refl
 
--- a load of the link past cells loads an end mark if its look says so
+-- a load of the link past these cells loads an end mark exactly if its look is `Ended`
 past_told : (c p : ℕ) (ks : List ℕ) (v : ℕ) → told_by (link_load c p ks v) ≡ is_ended (look_of v)
 past_told c p [] v = refl
 past_told c p (k ∷ ks) v = refl
@@ -73,12 +73,12 @@ one_told p (ToCells b ∷ older) s lead =
     omega (arith, one, rest)
 one_told p (ToClaims b ∷ older) s lead = let no : false ≡ true = step_end _ _ p _ (ToClaims b) lead.0 in absurd (cc)
 
--- two parts together load as many end marks as each of them
+-- the number of end marks that two histories joined load is the sum of their two numbers
 ends_append : (xs ys : History) → ends_met (xs ++ ys) ≡ ends_met xs + ends_met ys
 ends_append [] ys = omega arith
 ends_append (x ∷ xs) ys = let rest = ends_append xs ys in omega (arith, rest)
 
--- if accesses come to `Ended`, this is the poll's answer
+-- if the accesses of a poll come to `Ended`, the poll returns `Ended`
 ended : (answer : Poll) → outcome answer ≡ Some poll.Ended → answer ≡ poll.Ended
 ended poll.Spent e = absurd (cc)
 ended (poll.Took x) e = absurd (cc)
@@ -109,7 +109,7 @@ module _ (p budget : ℕ) (answer : Poll) (s t : Stream) (old new : ConsumerView
       let one = one_told p i.accesses old (subst (λ (a : Poll). LeadTo p (outcome a) i.accesses old) is i.lead) in
       omega (arith, sum, one)
 
--- a part without an access loads no end mark
+-- if a history's length and n add up to 0, it loads no end mark
 no_end : (h : History) (n : ℕ) → length h + n ≡ 0 → ends_met h ≡ 0
 no_end [] n e = refl
 no_end (x ∷ h) n e = absurd (omega (arith, e))

@@ -13,7 +13,7 @@ use Rattle.mb_mailbox.proofs.Lists.{some_same}
 use Rattle.mb_mailbox.proofs.TakenIn.{kept_of}
 
 -- ---- changes that are made from the last one on
--- of a longer list of changes the last is made before all others
+-- if the list of changes gets one more at its end, that one is made before all others
 last_first : {X Y : Type 0} (change : Y → X → X) (n : ℕ) (ys : List Y) (y : Y) (xs : List X)
     → changed_from change n (ys ++ y ∷ []) xs
     ≡ changed_from change n ys (changed_at xs (n + length ys) (change y))
@@ -23,7 +23,7 @@ last_first change n (z ∷ ys) y xs =
     ap (λ us. changed_at us n (change z)) (last_first change (suc n) ys y xs
     ∙ ap (λ i. changed_from change (suc n) ys (changed_at xs i (change y))) same)
 
--- an element that is set to what a change makes of it is a change at its place
+-- to set element i to what f makes of it is to change element i by f
 set_changed : {X : Type 0} (xs : List X) (i : ℕ) (f : X → X) (x new : X) → i < length xs → x ≡ get_or xs i x
     → new ≡ f x → set xs i new ≡ changed_at xs i f
 set_changed [] i f x new low is made = absurd (omega arith)
@@ -31,7 +31,7 @@ set_changed (y ∷ xs) zero f x new low is made = ap (λ z. z ∷ xs) (made ∙ 
 set_changed (y ∷ xs) (suc i) f x new low is made =
     ap (λ zs. y ∷ zs) (set_changed xs i f x new (omega (arith, low)) is made)
 
--- what a loop keeps that takes the last element of its list at each turn, and changes the element at its place
+-- if the last of the changes is taken off the list and made, the other changes lead to the same list as all of them
 pub turned : {X Y : Type 0} (change : Y → X → X) (n : ℕ) (ys zs : List Y) (y : Y) (xs rest : List X) (i : ℕ) (x new : X)
     → zs ≡ ys ++ y ∷ [] → i ≡ n + length ys → i < length xs → x ≡ get_or xs i x → new ≡ change y x
     → changed_from change n zs xs ≡ rest → changed_from change n ys (set xs i new) ≡ rest
@@ -40,7 +40,7 @@ turned change n ys zs y xs rest i x new e at low is made same =
     (set_changed xs i (change y) x new low is made ∙ ap (λ j. changed_at xs j (change y)) at)
     ∙ sym (last_first change n ys y xs) ∙ ap (λ us. changed_from change n us xs) (sym e) ∙ same
 
--- ---- the lengths stay
+-- ---- changes leave the length of a list as it is
 changed_length : {X : Type 0} (xs : List X) (i : ℕ) (f : X → X) → length (changed_at xs i f) ≡ length xs
 changed_length [] i f = refl
 changed_length (x ∷ xs) zero f = refl
@@ -86,7 +86,7 @@ module _ {X Y : Type 0} (change : Y → X → X) where
       changed_else (changed_from change (suc n) ys xs) n k (change y) other
       ∙ past (suc n) k ys xs (omega (arith, high))
 
-  -- an element within the changes is changed by the one at its place
+  -- an element within the changes is changed by the change at its place
   within : (n j k : ℕ) (ys : List Y) (xs : List X) (y : Y) → slice_get ys j ≡ Some y → k ≡ n + j
       → slice_get (changed_from change n ys xs) k ≡ option_map (change y) (slice_get xs k)
   within n j k [] xs y e at = absurd (cc)
@@ -101,14 +101,14 @@ module _ {X Y : Type 0} (change : Y → X → X) where
       changed_else (changed_from change (suc n) ys xs) n k (change z) other
       ∙ within (suc n) j k ys xs y e (omega (arith, at))
 
--- if there is nothing at a place, the place is past the list
+-- if a list has no element at a place, the place is past its end
 none_past : {X : Type 0} (xs : List X) (k : ℕ) → slice_get xs k ≡ None → length xs ≤ k
 none_past [] k e = omega arith
 none_past (x ∷ xs) zero e = absurd (cc)
 none_past (x ∷ xs) (suc k) e = let low = none_past xs k e in omega (arith, low)
 
 -- ---- the lanes of the report
--- the outline of a lane with the items put is the lane
+-- the outline of a lane, with the items put added, is the lane of the report
 put_is : (n p : ℕ) (h : HubView) (z : Option (Option PutListView)) → slice_get h.puts p ≡ z → (xs : List ℕ)
     → xs ≡ option_map_or (λ (l : PutListView). l.items) (kept_of z) []
     → record (lane_in n p h) { put = xs } ≡ lane_in n p h
@@ -116,7 +116,7 @@ put_is n p h z e xs is =
     ap (λ (ys : List ℕ). record (lane_in n p h) { put = ys })
     (is ∙ ap (λ o. option_map_or (λ (l : PutListView). l.items) (kept_of o) []) (sym e))
 
--- after the items are moved in, the lane stands in the report
+-- after the items are moved in, element p of the list is lane p of the report
 lane_told : (n p : ℕ) (h : HubView) (ls : List LaneView) → slice_get ls p ≡ Some (lane_outline n p h)
     → slice_get (changed_from with_items 0 h.puts ls) p ≡ Some (lane_in n p h)
 lane_told n p h ls out = by (slice_get h.puts p) refl
@@ -146,7 +146,7 @@ report_filled lanes consumers h o ls out is = record {
   diary = λ c p known low. out.each_diary.each c p low (within_grid lanes consumers c p known low);
 }
 
--- the outline with all items moved in is the report of this mailbox's hub
+-- the outline with all items moved in is the report, with the mailbox's numbers of lanes and of consumers
 pub report_of : (m : MailboxView) (h : HubView) (o : ReportView) (ls : List LaneView) → IsHubOf m h
     → IsOutlineIn h.cells.table.size.lanes (claims_at h.claims.table).table.values h o
     → ls ≡ changed_from with_items 0 h.puts o.lanes

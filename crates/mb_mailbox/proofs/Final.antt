@@ -1,5 +1,5 @@
--- What a run of workers comes to. It follows from the numbers given, from the ends of the workers, and from what the
--- hub has taken in.
+-- What a run of workers comes to. It follows from what the hub issued, from the ends of the workers, and from what was
+-- returned to the hub.
 use Rattle.std.proofs.Common.{◌≡◌, ℕ, suc, Bool, true, ◌+◌, ◌-◌, ◌^◌, ◌≤◌, List, [], ◌∷◌, length, map, min, refl, sym, ap, ◌∙◌, subst, false, arith, ◌<◌, Vec, Some, slice_get, All, sum_by}
 use Rattle.std.specs.{Int.{from_bool}, List.{AllZip}, Prelude.{Err, IfOk, Ok, Result}}
 use Rattle.std.proofs.lemmas.List.{append-nil, length-append, length-map, map-append, Sums.{sum_by-cons}}
@@ -19,7 +19,7 @@ use Rattle.mb_mailbox.proofs.Parted.{Parted, all_parted, full_parted, parted, st
 use Rattle.mb_mailbox.proofs.Runs.{lanes_of, consumer_ends, consumers, nums, producers, run_beyond, run_cut, run_ends}
 use Rattle.mb_mailbox.proofs.Runs.{run_met, run_of, run_only, run_passes, run_poll_stops, run_polled, run_stops, run_unread}
 
--- there is a job for each list
+-- there are as many jobs as lists
 pub put_count : {Z : Type 0} (m : MailboxView) (p : ℕ) (vs : List (Vec ℕ Z)) (js : List (PutJob Z))
     → ArePutJobs m p vs js → length vs ≡ length js
 put_count m p [] [] a = refl
@@ -27,8 +27,8 @@ put_count m p [] (j ∷ js) a = absurd a
 put_count m p (v ∷ vs) [] a = absurd a
 put_count m p (v ∷ vs) (j ∷ js) a = ap suc (put_count m (suc p) vs js a.2)
 
--- ---- if nothing was given
--- a run for which nothing was given has taken in all that was given
+-- ---- if nothing was issued
+-- if the hub is as before, the run issued nothing, so all that it issued were returned
 pub nothing_taken : (lists : List (List ℕ)) (sources : ℕ) (h : HubView) → WereTakenInEarly lists sources h h
 nothing_taken lists sources h = record {
   front = [];
@@ -56,7 +56,7 @@ at_most_one : (b : Bool) → from_bool b ≤ 1
 at_most_one true = omega arith
 at_most_one false = omega arith
 
--- at most as many elements pass a test as there are
+-- no more elements of a list pass a test than the list has
 at_most_each : {X : Type 0} (f : X → Bool) (xs : List X) → sum_by (λ x. from_bool (f x)) xs ≤ length xs
 at_most_each f [] = omega arith
 at_most_each f (x ∷ xs) =
@@ -66,7 +66,7 @@ at_most_each f (x ∷ xs) =
     omega (arith, all, one, rest)
 
 -- ---- how many sources a run has
--- a run with this many sources is one with as many, by whatever name the number goes. Its workers are the same
+-- a run with n sources is a run with k sources, if n is k
 sourced : {may_stop : Who → ℕ → Type 0} {budget n k : ℕ} {lists : List (List ℕ)} {w : Worked} {old now : HubView}
     → n ≡ k → IsWorked may_stop budget lists n w old now → IsWorked may_stop budget lists k w old now
 sourced same is = record {
@@ -93,7 +93,7 @@ sourced same is = record {
   noted = is.noted;
 }
 
--- if a run is that of these calls, this is what it came to
+-- if `IsCalled` holds of a run, then so does `IsWorked`
 pub worked_of : (may_stop may_pass : Who → ℕ → Type 0) (budget k : ℕ) (lists : List (List ℕ)) (sources : List Stream)
     (old now : HubView) (r : Result Worked WorkFault) → length sources ≡ k
     → IfOk r (λ w. IsCalled may_stop may_pass budget lists sources w old now)
@@ -108,7 +108,7 @@ module _ {R Z : Type 0} (m : MailboxView) (may_stop may_pass : Who → ℕ → T
     (hub : IsHub h) (given : AreGiven m items jobs h mid)
     (came : AllZip (IsEnd may_stop may_pass stream lanes) jobs ends)
     (is : now ≡ with_taken ends mid) where
-  -- the ends of producers, and then those of consumers
+  -- the ends of the producers' jobs come first, and then those of the consumers' jobs
   pub split : Parted may_stop may_pass stream lanes given.puts given.polls ends
   split = parted may_stop may_pass stream lanes given.puts given.polls ends
       (subst (λ (l : List (Job R Z)). AllZip (IsEnd may_stop may_pass stream lanes) l ends) given.whole came)
@@ -119,7 +119,7 @@ module _ {R Z : Type 0} (m : MailboxView) (may_stop may_pass : Who → ℕ → T
   abbrev polls : List ConsumerEnd
   polls = consumer_ends m may_stop may_pass split.polls
 
-  -- this is a run for these lists
+  -- `IsRunOf` holds for these lists
   run : IsRunOf (lists_in items) (length given.polls) puts polls h now
   run = subst (λ (n : HubView). IsRunOf (lists_in items) (length given.polls) puts polls h n)
       (sym (is ∙ ap (λ (l : List (Done Z)). with_taken l mid) split.whole
@@ -129,15 +129,15 @@ module _ {R Z : Type 0} (m : MailboxView) (may_stop may_pass : Who → ℕ → T
       (run_of m may_stop may_pass stream h lanes.from lanes.end lanes.budget items given.puts split.puts
       given.polls split.polls hub given.are_puts given.are_polls split.put split.polled)
 
-  -- so all that was given was taken in
+  -- so all producers and consumers that were issued were returned
   pub taken : WereTakenIn (lists_in items) (length given.polls) h now
   taken = record { lanes = puts; consumers = polls; run = run }
 
-  -- there are as many lanes as lists, and as many consumers as their jobs
+  -- there are as many producers' ends as lists
   few : length puts ≡ length items
   few = sym (zip_length _ (lists_in items) puts run.fronts) ∙ length-map items (λ (v : Vec ℕ Z). v.items)
 
-  -- if a worker has come to an end, there was a list or a consumer
+  -- if there is an end of a worker, there is a list or a consumer's job
   pub some_worker : 0 < length ends → 0 < length items + length given.polls
   some_worker some =
       let all = zip_length _ jobs ends came in
@@ -158,7 +158,7 @@ module _ {R Z : Type 0} (m : MailboxView) (may_stop may_pass : Who → ℕ → T
       (s : ConsumerView) → IsRollOf size roll h
       → slice_get roll.lanes p ≡ Some (Some done) → slice_get roll.readers s.reader.reader ≡ Some (Some s.reader.part)
       → HasReadToEnd p s → length (notes_on p s.notes) ≡ length (values_put p done)) where
-    -- the sources of the jobs are those that were passed in
+    -- the jobs' streams of random words are those of the sources that were passed in
     streams : map (λ (j : PollJob R Z). stream j.rng) given.polls ≡ map stream rngs
     streams = sym (map-map stream (λ (j : PollJob R Z). j.rng) given.polls)
         ∙ ap (λ (l : List R). map stream l) sources
@@ -189,14 +189,14 @@ module _ {R Z : Type 0} (m : MailboxView) (may_stop may_pass : Who → ℕ → T
         let lists = few in
         omega (arith, stopped, all, putting, polling, most, others, lists, each, small)
 
-    -- the run's lanes end past as many lanes as there are lists
+    -- `lanes.end` is the number of lanes issued before the run, plus the number of lists
     far : lanes.end ≡ length h.puts + length (lists_in items)
     far = last ∙ ap (λ (n : ℕ). length h.puts + n) (sym (length-map items (λ (v : Vec ℕ Z). v.items)))
 
     cells : m.cells.size.cells ≡ now.cells.table.size.cells
     cells = ap (λ t. t.size.cells) (sym belongs.cells)
 
-    -- if the run is not aborted, this is what it comes to
+    -- if the run is not aborted, `IsWorked` holds of it
     worked : IsWorked may_stop lanes.budget (lists_in items) (length (map stream rngs)) w h now
     worked = record {
       lanes = puts;
@@ -237,12 +237,12 @@ module _ {R Z : Type 0} (m : MailboxView) (may_stop may_pass : Who → ℕ → T
           given.polls split.polls hub given.are_puts given.are_polls split.put split.polled);
     }
 
-    -- the hub gave as many producers as there are lists
+    -- the hub issued as many producers as there are lists
     gave : length given.puts ≡ length (lists_in items)
     gave = sym (put_count m (length h.puts) items given.puts given.are_puts)
         ∙ sym (length-map items (λ (v : Vec ℕ Z). v.items))
 
-    -- and these are its calls. Its workers are those of `worked`
+    -- if the run is not aborted, `IsCalled` holds of it, too, with the workers of `worked`
     pub called : IsHubOf m h → IsCalled may_stop may_pass lanes.budget (lists_in items) (map stream rngs) w h now
     unfolding worked
     called was = record {
@@ -256,7 +256,7 @@ module _ {R Z : Type 0} (m : MailboxView) (may_stop may_pass : Who → ℕ → T
           given.polls split.polls hub given.are_puts given.are_polls split.put split.polled was all_on.1);
     }
 
--- all that was given was taken in, also if the hub could not give all numbers
+-- all that were issued were returned, also if the hub could not issue a producer for each list and all consumers
 pub early : {R Z : Type 0} (m : MailboxView) (may_stop may_pass : Who → ℕ → Type 0) (stream : R → Stream)
     (items : List (Vec ℕ Z)) (lanes : Lanes) (jobs : List (Job R Z)) (ends : List (Done Z)) (h mid now : HubView)
     (hub : IsHub h) (sources : ℕ) (g : AreGivenEarly m items sources jobs h mid)

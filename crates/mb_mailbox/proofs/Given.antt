@@ -1,4 +1,4 @@
--- The numbers of new consumers, and the hub that gives them.
+-- The numbers of new consumers, and the hub that issues them.
 use Rattle.std.proofs.Common.{◌≡◌, ℕ, suc, ◌+◌, List, [], ◌∷◌, length, refl, ap, ◌∙◌, arith}
 use Rattle.std.specs.Prelude.{None}
 use Rattle.std.proofs.lemmas.List.{length-append}
@@ -24,7 +24,7 @@ new_number m h c s e i = record {
   none = λ j. length (i.reader j).part + length (i.seat j).part;
 }
 
--- with one consumer more, the hub has given one number more
+-- with one consumer more, the hub has issued one number more
 pub one_more : (h : HubView) (c : ℕ) → length h.records ≡ c → length (with_consumer h).records ≡ suc c
 one_more h c e = let all = length-append h.records (None ∷ []) in omega (arith, all, e)
 
@@ -33,7 +33,7 @@ pub still_of : (m : MailboxView) (h : HubView) → IsHubOf m h → IsHubOf m (wi
 still_of m h belongs = record { cells = belongs.cells; claims = belongs.claims }
 
 module _ {X : Type 0} where
-  -- producers leave the hub one of the mailbox, and leave the number of consumers
+  -- after producers were issued, the hub is still the mailbox's. By the next lemma it has as many consumers as before
   pub of_by_producers : (m : MailboxView) (xs : List X) (h : HubView) → IsHubOf m h → IsHubOf m (with_producers xs h)
   of_by_producers m xs h belongs = record {
     cells = same_by_producers (λ v. v.cells.table) (λ v. refl) xs h ∙ belongs.cells;
@@ -43,7 +43,7 @@ module _ {X : Type 0} where
   pub count_by_producers : (xs : List X) (h : HubView) → length (with_producers xs h).records ≡ length h.records
   count_by_producers xs h = ap length (same_by_producers (λ v. v.records) (λ v. refl) xs h)
 
--- if two lists have the same length, a hub that gives a producer for each element is the same for both
+-- if two lists have the same length, a hub that issues a producer for each element is the same for both
 pub producers_alike : {X Y : Type 0} (xs : List X) (ys : List Y) (h : HubView) → length xs ≡ length ys
     → with_producers xs h ≡ with_producers ys h
 producers_alike [] [] h e = refl

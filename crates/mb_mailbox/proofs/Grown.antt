@@ -26,7 +26,7 @@ none_made p budget poll.Nothing s lead spent = absurd (cc)
 none_made p budget poll.Ended s lead spent = absurd (cc)
 none_made p budget poll.NoLane s lead spent = absurd (cc)
 
--- a poll with a budget makes an access
+-- a poll with a budget above 0 makes an access
 some_made : (p budget : ℕ) (answer : Poll) (done : WorldHistory) (s : ConsumerView) → 0 < budget
     → LeadTo p (outcome answer) done s
     → (answer ≡ poll.Spent → length done ≡ budget) → 0 < length done
@@ -34,7 +34,7 @@ some_made p budget answer [] s able lead spent = let none = none_made p budget a
     in omega (arith, able, none)
 some_made p budget answer (a ∷ older) s able lead spent = omega arith
 
--- a consumer has made as many accesses more as it made on the lane
+-- after accesses on a lane, the consumer has made as many accesses more as these are
 pub grown_by : (p : ℕ) (done : WorldHistory) (answer : Option Poll) (old new : ConsumerView)
     → HasDone p done answer old new → accesses_made new ≡ accesses_made old + length done
 grown_by p done answer old new h =
@@ -45,7 +45,7 @@ grown_by p done answer old new h =
     let all = both done in
     omega (arith, reads, claimed, all)
 
--- steps add as many accesses to the consumer's
+-- after n steps the consumer has made n accesses more
 pub steps_grow : (p n : ℕ) (answer : Option Poll) (t u : Stream) (from new : ConsumerView)
     → AreSteps p n answer t u from new → accesses_made new ≡ accesses_made from + n
 steps_grow p n answer t u from new so =
@@ -53,7 +53,7 @@ steps_grow p n answer t u from new so =
     let grown = grown_by p so.accesses answer from new so.done in
     omega (arith, count, grown)
 
--- a poll with a budget adds an access to the consumer's
+-- after a poll with a budget above 0 the consumer has made more accesses than before
 pub made_by : (p budget : ℕ) (answer : Poll) (s t : Stream) (old new : ConsumerView) → 0 < budget
     → IsPollOf p budget answer s t old new
     → accesses_made old < accesses_made new
@@ -62,7 +62,7 @@ made_by p budget answer s t old new able i =
     let grown = grown_by p i.accesses (outcome answer) old new i.done in
     omega (arith, some, grown)
 
--- a poll adds no more accesses than its budget
+-- after a poll the consumer has made at most the budget more accesses than before
 pub most_by : (p budget : ℕ) (answer : Poll) (s t : Stream) (old new : ConsumerView)
     → IsPollOf p budget answer s t old new
     → accesses_made new ≤ accesses_made old + budget

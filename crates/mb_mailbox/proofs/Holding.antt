@@ -19,11 +19,11 @@ use Rattle.mb_mailbox.proofs.Moving.{holds, loads_known}
 use Rattle.mb_mailbox.proofs.Standings.{Leaves, end_kept, ends_more, moves, same_length, with_one}
 use Rattle.mb_mailbox.proofs.Totals.{sum_less, total}
 
--- a note at the end of a list is the first of the list turned round
+-- a note added at the end of a list comes first in the reversed list
 snoc_back : (ns : List Note) (n : Note) → reverse (ns ++ n ∷ []) ≡ n ∷ reverse ns
 snoc_back ns n = reverse-append ns (n ∷ [])
 
--- a claim that is held and not won is going
+-- a stage without a note that is not `Won` is `Going`
 pub goes_on : (st : Stage) → note_of st ≡ None → st ≢ stage.Won → st ≡ stage.Going
 goes_on stage.Going e ne = refl
 goes_on stage.Won e ne = absurd (ne refl)
@@ -54,16 +54,16 @@ module _ (s : ConsumerView) (p k : ℕ) (claim : Claim) (i : IsConsumer s) (e : 
   pub stage_held : claim_stage claim ≢ stage.Won → claim_stage claim ≡ stage.Going
   stage_held ne = goes_on (claim_stage claim) (holds s p k claim i e).2.unnoted ne
 
-  -- the cell was met on this lane
+  -- the consumer met the cell on lane p
   has_here : Has (cells_met p s.reader.part) k
   has_here = subst (λ ks. Has ks k) (sym (holds s p k claim i e).2.met) (inl refl)
 
   module _ (laws : Laws) (h : HasLoads s) where
-    -- what is known of the consumer's loads
+    -- `Known` holds of the consumer's loads
     abbrev known : Known s.reader.table.size s.reader.part
     known = loads_known laws s h
 
-    -- the consumer's loads gave it the cell
+    -- one of the consumer's loads found the cell
     pub given : Gave k s.reader.part
     given = known.given p k has_here
 
@@ -71,7 +71,7 @@ module _ (s : ConsumerView) (p k : ℕ) (claim : Claim) (i : IsConsumer s) (e : 
     pub within : k < s.reader.table.size.cells
     within = known.within p k has_here
 
-    -- each list has at most as many notes as cells were met on its lane. The list of this lane has fewer
+    -- on each lane the consumer has at most as many notes as it met cells
     noted : (q : ℕ) (ns : List Note) → slice_get s.notes q ≡ Some ns → length ns ≤ length (cells_met q s.reader.part)
     noted q ns f = by t.0 (i.lanes q t.0 ns t.1 f)
       where
@@ -90,7 +90,7 @@ module _ (s : ConsumerView) (p k : ℕ) (claim : Claim) (i : IsConsumer s) (e : 
             let long : length (cells_met q s.reader.part) ≡ length (j ∷ a.cells) = ap length a.met in
             omega (arith, same, long, turned)
 
-    -- on this lane there are fewer notes than cells met
+    -- on lane p the consumer has fewer notes than it met cells
     noted_here : (ns : List Note) → slice_get s.notes p ≡ Some ns → length ns < length (cells_met p s.reader.part)
     noted_here ns f =
         let o : ConsumerIsAt i.size.layout cs c p x ns k claim = i.lanes p (At k claim) ns e f in
@@ -111,7 +111,7 @@ module _ (s : ConsumerView) (p k : ℕ) (claim : Claim) (i : IsConsumer s) (e : 
         ap (total (λ q. length (cells_met q s.reader.part))) i.notes_count in
         omega (arith, less, share, same)
 
-    -- the cells before this one are other cells
+    -- the cells that the consumer met before on lane p are other cells than k
     before_else : (ns : List Note) (o : ConsumerIsAt i.size.layout cs c p x ns k claim) (j : ℕ)
         → Has o.cells j → j ≡ k → ⊥
     before_else ns o j has f =
@@ -135,7 +135,7 @@ module _ (s : ConsumerView) (p k : ℕ) (claim : Claim) (i : IsConsumer s) (e : 
       else : (j : ℕ) → (j ≡ k → ⊥) → part_on c j made ≡ part_on c j s.seat.part
       else j ne = laws.other_cells c j a s.seat.part (λ u v. ne (sym v))
 
-      -- with the access at its head, the part on this cell is the part after the access
+      -- on each cell j, the part before, with the access added if j is k, is the part after the access
       stepped : (j : ℕ) → cond (nat_eq j k) (a.step ∷ x.claimed j) (x.claimed j) ≡ part_on c j made
       stepped j = ⊎_elim
           (λ (same : j ≡ k).
@@ -155,7 +155,7 @@ module _ (s : ConsumerView) (p k : ℕ) (claim : Claim) (i : IsConsumer s) (e : 
           })) (λ z j. stepped j z)
           (laws.claims cs c k a.step x i.fit given (holds s p k claim i e).2.left)
 
-      -- the access leaves each other lane alone
+      -- the access changes nothing on each other lane
       others : (q : ℕ) → q ≢ p → Leaves q x y
       others q ne = record {
         met = refl;
@@ -165,20 +165,20 @@ module _ (s : ConsumerView) (p k : ℕ) (claim : Claim) (i : IsConsumer s) (e : 
         left = λ j has l. l;
       }
 
-      -- the claims on the cells before this one end as they did
+      -- the claims on the cells met before this one have ended with the same notes as before the access
       ends : (ns : List Note) (o : ConsumerIsAt i.size.layout cs c p x ns k claim) → AreEnds cs c o.cells (reverse ns) y
       ends ns o = ends_more cs c x y o.cells (reverse ns)
           (λ j n has. end_kept cs c j n x y (sym (else j (before_else ns o j has))) (λ u r. r)) o.ended
 
-      -- the claim after the access is the one of the longer part
+      -- after the access the claim has made the turns of the consumer's part on the cell
       path : IsClaimIn i.size.layout now (y.claimed k)
       path = turns_now i.size i.table
 
-      -- the stage of that claim is the one of the longer part
+      -- after the access the consumer's part on the cell has the stage that the claim says
       prefix : HasStageIn cs c k (claim_stage now) y
       prefix = subst (λ d. IsClaimPrefix cs d (y.claimed k) (claim_stage now)) own_now path.prefix
 
-      -- the consumer stands at the place, and has the note, that the stage says
+      -- after the access the consumer stands at the place to which the claim's stage leads, and has its note, if any
       stands : (st : Stage) → claim_stage now ≡ st → (ns : List Note) → slice_get s.notes p ≡ Some ns
           → StandsOn i.size.layout cs c p y (with_one (note_of st) ns) (place_after k now st)
       stands stage.Going is ns f = held ns f (ap note_of is)
@@ -231,7 +231,7 @@ module _ (s : ConsumerView) (p k : ℕ) (claim : Claim) (i : IsConsumer s) (e : 
                     (λ j. (sym o.met j, sym (snoc_back ns n) j)) (end, ends ns o);
               }
 
-      -- after the access the consumer keeps what consumers keep
+      -- after the access `IsConsumer` still holds of the consumer
       pub competes : IsConsumer (moved_to p (place_after k now (claim_stage now))
           (note_of (claim_stage now)) s.reader.part made s)
       competes = moves s p (At k claim) (place_after k now (claim_stage now))
@@ -254,15 +254,15 @@ module _ (s : ConsumerView) (p k : ℕ) (claim : Claim) (i : IsConsumer s) (e : 
           subst (λ st. IsClaimPrefix cs c (x.claimed k) st) won
           (subst (λ d. IsClaimPrefix cs d (x.claimed k) (claim_stage claim)) o.own o.path.prefix)
 
-      -- the item is not the link before which the consumer stands on a lane
+      -- the word of the item is not the link before which the consumer stands on a lane
       no_link : (q : ℕ) → Item k ≢ place_past q (cells_met q s.reader.part)
       no_link q f = past_item q k (cells_met q s.reader.part) (sym f)
 
-      -- equal items are those of equal cells
+      -- if the item words of two cells are equal, so are the cells
       same_item : (j : ℕ) → Item k ≡ Item j → k ≡ j
       same_item j f = cc
 
-      -- the load leaves each other lane alone
+      -- the load changes nothing on each other lane
       left_else : (q : ℕ) → q ≢ p → Leaves q x z
       left_else q ne = record {
         met = laws.elsewhere q b s.reader.part (no_link q);
@@ -278,7 +278,7 @@ module _ (s : ConsumerView) (p k : ℕ) (claim : Claim) (i : IsConsumer s) (e : 
         );
       }
 
-      -- after the load the consumer keeps what consumers keep, and stands past the cell with a note
+      -- after the load the consumer stands past the cell, with a note there, and `IsConsumer` still holds of it
       pub takes : IsConsumer (moved_to p (Before (Past k)) (Some (Took v)) (reads_with_item s k v) s.seat.part s)
       takes =
           let same : cells_met p (b ∷ s.reader.part)

@@ -1,4 +1,4 @@
--- A hub issues a producer or a consumer, and takes it back.
+-- `IsHub` still holds of a hub after it issues a producer or a consumer, and after it takes one back.
 use Rattle.std.proofs.Common.{◌≡◌, ◌≢◌, ◌⊎◌, ℕ, ◌<◌, ◌≤◌, List, [], ◌∷◌, ◌++◌, length, refl, sym, ap, ◌∙◌, subst, inl, inr, ⊎_elim, arith}
 use Rattle.std.specs.Prelude.{Option, Some, None, slice_get, slice_set}
 use Rattle.std.proofs.lemmas.List.{length-append, length-set}
@@ -15,12 +15,12 @@ use Rattle.mb_mailbox.specs.Producers.{IsProducer, ProducerView}
 use Rattle.mb_mailbox.proofs.Lists.{get_some, set_else, set_get, set_here, some_same}
 
 -- ---- lists with one more at their end
--- an element of a list with one more at its end is an element of the list, or is the last
+-- an element of `xs ++ x ∷ []` is the element of xs at that place, or is x
 get_older : {X : Type 0} (xs : List X) (x : X) (p : ℕ) (a : X) → slice_get (xs ++ x ∷ []) p ≡ Some a
     → (slice_get xs p ≡ Some a) ⊎ (x ≡ a)
 get_older xs x p a e = ⊎_elim (λ h. inl h) (λ h. inr h.1) (get-snoc xs x p a e)
 
--- two lists of one length have one length with one more each
+-- two lists of one length still have one length if each gets one element more
 longer : {X Y : Type 0} (xs : List X) (ys : List Y) (x : X) (y : Y) → length xs ≡ length ys
     → length (xs ++ x ∷ []) ≡ length (ys ++ y ∷ [])
 longer xs ys x y e =
@@ -28,7 +28,7 @@ longer xs ys x y e =
     let b = length-append ys (y ∷ []) in
     omega arith
 
--- an empty list has nothing at any place
+-- an empty list has no element at any place
 none_there : {X : Type 0} (p : ℕ) (x : X) → slice_get [] p ≡ Some x → ⊥
 none_there p x e = cc
 
@@ -36,7 +36,7 @@ none_at : {X : Type 0} (xs : List X) (p : ℕ) (x : X) → xs ≡ [] → slice_g
 none_at {X} xs p x none e = none_there p x (subst (λ (ys : List X). slice_get ys p ≡ Some x) none e)
 
 -- ---- a new hub, and producers
--- a hub that has issued nothing keeps what hubs keep
+-- `IsHub` holds of a hub that has issued nothing
 pub new_hub : (cells : CellHubView) (claims : ClaimHubView) (puts : List (Option PutListView))
     (records : List (Option ConsumerRecordView))
     → cells.roll ≡ empty_roll → claims.roll ≡ [] → puts ≡ [] → records ≡ []
@@ -54,7 +54,7 @@ new_hub cells claims puts records roll seats no_puts no_records =
       taken = λ c l e. absurd (none_at records c (Some l) no_records e);
     }
 
--- a hub that has issued one producer more keeps what hubs keep
+-- `IsHub` still holds after the hub has issued one more producer
 pub gave_producer : (h : HubView) → IsHub h → length h.puts < h.cells.table.size.lanes → IsHub (with_producer h)
 gave_producer h i low = record {
   lanes = longer h.puts h.cells.roll.lanes None None i.lanes;
@@ -70,7 +70,7 @@ gave_producer h i low = record {
   taken = i.taken;
 }
 
--- a producer whose seat is out is not returned
+-- if producer p was issued and its part was not returned, the hub has no put list of it
 pub is_out : (h : HubView) (p : ℕ) → IsHub h → slice_get h.cells.roll.lanes p ≡ Some None
     → slice_get h.puts p ≡ Some None
 is_out h p i out =
@@ -84,14 +84,14 @@ is_out h p i out =
         let f : None ≡ Some t.0 = some_same None (Some t.0) (sym out ∙ t.1) in
         absurd (cc)
 
--- the part of a producer determines its put list
+-- if a producer has linked each cell that it got, the put list that the hub records of it agrees with its part
 pub kept_list : (s : ProducerView) → IsProducer s
     → ((e : Entry) → Has s.seat.part (fetch s.seat.lane e) → e.cell < s.seat.table.size.cells
     → Has (linked_cells s.seat.lane s.seat.part) e.cell)
     → IsPutList s.seat.table.size.cells s.seat.lane s.seat.part (put_list_of s)
 kept_list s own linked = record { items = own.items; ended = refl; linked = linked }
 
--- a hub that has taken back a producer keeps what hubs keep
+-- `IsHub` still holds after the hub has taken back a producer
 pub took_producer : (h : HubView) (s : ProducerView) → IsHub h
     → IsPutList h.cells.table.size.cells s.seat.lane s.seat.part (put_list_of s)
     → slice_get h.cells.roll.lanes s.seat.lane ≡ Some None
@@ -120,7 +120,7 @@ took_producer h s i own out =
     }
 
 -- ---- consumers
--- a hub that has issued one consumer more keeps what hubs keep
+-- `IsHub` still holds after the hub has issued one more consumer
 pub gave_consumer : (h : HubView) → IsHub h
     → length h.records < (claims_at h.claims.table).table.values → IsHub (with_consumer h)
 gave_consumer h i low = record {
@@ -141,7 +141,7 @@ gave_consumer h i low = record {
   put = i.put;
 }
 
--- a consumer whose seat is out is not returned
+-- if consumer c was issued and its part at the claims was not returned, the hub has no record of it
 pub seat_is_out : (h : HubView) (c : ℕ) → IsHub h → slice_get h.claims.roll c ≡ Some None
     → slice_get h.records c ≡ Some None
 seat_is_out h c i out =
@@ -155,7 +155,7 @@ seat_is_out h c i out =
         let f : None ≡ Some t.2.0 = some_same None (Some t.2.0) (sym out ∙ t.2.1) in
         absurd (cc)
 
--- a hub that has taken back a consumer keeps what hubs keep
+-- `IsHub` still holds after the hub has taken back a consumer
 pub took_consumer : (h : HubView) (s : ConsumerView) → IsHub h → IsConsumer s → s.seat.table ≡ h.claims.table
     → s.reader.table ≡ h.cells.table → slice_get h.cells.roll.readers s.reader.reader ≡ Some None
     → slice_get h.claims.roll s.seat.consumer ≡ Some None

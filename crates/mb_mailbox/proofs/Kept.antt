@@ -1,4 +1,4 @@
--- The end of each worker is that of its job, whether its thread ran it or not.
+-- What each worker gives back is an end of its job, whether it got a thread or not.
 use Rattle.std.proofs.Common.{◌≡◌, ℕ, true, refl, sym, subst}
 use Rattle.mb_mailbox.specs.Imports.{Stream}
 use Rattle.mb_mailbox.specs.Begun.{Keeps, Promises}
@@ -15,7 +15,7 @@ use Rattle.mb_mailbox.specs.declared.crew.jobs.Pledge.{Pledge}
 
 module _ {G R Z : Type 0} (may_stop may_pass : G → Who → ℕ → Type 0) (stream : R → Stream) (gate : G) (lanes : Lanes)
   where
-    -- a worker's end is that of its job, by what the worker promised
+    -- if a worker promised an end of job j, and `d` is what it gave back, `d` is an end of job j
     pub kept : (j : Job R Z) (b : Worker (Done Z) (Pledge G R Z)) (d : Done Z)
         → Promises may_stop may_pass stream gate lanes j b
         → Keeps (λ p d. IsEnd (may_stop p.gate.value) (may_pass p.gate.value) stream p.lanes p.job.value d) b d
@@ -26,7 +26,7 @@ module _ {G R Z : Type 0} (may_stop may_pass : G → Who → ℕ → Type 0) (st
     kept j (worker.Inline e) d p k =
         subst (λ (e : Done Z). IsEnd (may_stop gate) (may_pass gate) stream lanes j e) (sym k) p.0
 
--- an end stays right if it says, too, that the run is aborted: less is said of it then
+-- an end of a job is still one after it is changed to say that the run is aborted: `IsEnd` says less of it then
 pub still_off : {R Z : Type 0} (may_stop may_pass : Who → ℕ → Type 0) (stream : R → Stream) (lanes : Lanes)
     (j : Job R Z) (d : Done Z) → IsEnd may_stop may_pass stream lanes j d
     → IsEnd may_stop may_pass stream lanes j (with_abort d) × (is_aborted (with_abort d) ≡ true)

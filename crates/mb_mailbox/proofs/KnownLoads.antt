@@ -19,7 +19,7 @@ pub record Known (size : PoolSize) (reads : History) : Type 0 where
   pub link : (k v : ℕ) → HasRead (Link k) v reads → Gave k reads
   pub item : (k v : ℕ) → HasRead (Item k) v reads → Gave k reads
 
--- in a lawful history this is known of each reader's part
+-- `Known` holds of each reader's part of a lawful history
 known_of : Laws → (size : PoolSize) (r : ℕ) (h : History) → IsPoolLawful size h → Known size (part (Reader r) h)
 known_of laws size r h lawful =
     let on : (p k : ℕ) → Has (cells_met p (part (Reader r) h)) k
@@ -54,12 +54,12 @@ known_of laws size r h lawful =
       item = λ k v read. laws.item size h r k v lawful (loaded-read r h (Item k) v read);
     }
 
--- this is known of loads that are a reader's part of a lawful history
+-- `Known` holds of loads `reads` that are a reader's part of a lawful history
 pub known : Laws → (size : PoolSize) (r : ℕ) (h reads : History) → IsPoolLawful size h
     → part (Reader r) h ≡ reads → Known size reads
 known laws size r h reads lawful is = subst (Known size) is (known_of laws size r h lawful)
 
--- different lanes have different links past their cells
+-- if lanes p and q differ and have no cell in common, the links past their cells differ
 pub past_apart : (p q : ℕ) (ks js : List ℕ) → ((k : ℕ) → Has ks k → Has js k → p ≡ q) → p ≢ q
     → place_past p ks ≡ place_past q js → ⊥
 past_apart p q [] [] one ne e = ne (cc)
@@ -67,7 +67,7 @@ past_apart p q [] (j ∷ js) one ne e = absurd (cc)
 past_apart p q (k ∷ ks) [] one ne e = absurd (cc)
 past_apart p q (k ∷ ks) (j ∷ js) one ne e = let same : k ≡ j = cc in ne (one k (inl refl) (inl (sym same)))
 
--- a cell that is newly found was not given before
+-- if the load of the link past the cells met finds a cell, no load before it gave that cell, and `Known` still holds
 pub fresh : Laws → (size : PoolSize) (r p k : ℕ) (h reads : History) → FollowsLinks reads → k + 1 ≢ END
     → let a = load r (place_past p (cells_met p reads)) (k + 1) in
     IsPoolLawful size (a ∷ h) → part (Reader r) h ≡ reads → (Gave k reads → ⊥) × Known size (a ∷ reads)

@@ -1,4 +1,4 @@
--- A list of notes with their lanes, cut by lane: how it grows by a note, and how the notes are filed into diaries.
+-- A list of notes with their lanes, cut by lane: `by_lane` makes a list for each lane. How these grow and fill diaries.
 use Rattle.std.proofs.Common.{◌≡◌, ℕ, zero, suc, ◌+◌, ◌<◌, ◌≤◌, List, [], ◌∷◌, ◌++◌, length, map, take, get_or, refl, sym, ap, ◌∙◌, append-nil, append_assoc, length-set, Bool, true, false, arith}
 use Rattle.std.specs.Prelude.{Option, Some, if◌then◌else◌, nat_eq, slice_get, slice_set, sum_by}
 use Rattle.std.specs.Option.{option_map_or}
@@ -16,7 +16,7 @@ use Rattle.mb_mailbox.proofs.Lists.{map_get, map_set, set_here, set_same, set_tw
 use Rattle.mb_mailbox.proofs.Marked.{among_end, among_losses, few_words, told_last, told_length, told_losses}
 
 -- ---- how many lanes there are
--- a list that is cut has as many lists as lanes
+-- cut by lane, a list becomes one list for each of n lanes
 lanes_count : (p n : ℕ) (xs : List Noted) → length (on_lanes p n xs) ≡ n
 lanes_count p zero xs = refl
 lanes_count p (suc n) xs = ap suc (lanes_count (suc p) n xs)
@@ -25,7 +25,7 @@ pub lanes_counted : (n : ℕ) (xs : List Noted) → length (by_lane n xs) ≡ n
 lanes_counted n xs = lanes_count 0 n xs
 
 -- ---- an empty list, cut by lane
--- each lane's list is empty
+-- cut by lane, the empty list becomes an empty list for each lane
 no_list : (p n q : ℕ) (l : List Note) → slice_get (on_lanes p n []) q ≡ Some l → l ≡ []
 no_list p zero q l e = absurd (cc)
 no_list p (suc n) zero l e = sym (some_same [] l e)
@@ -34,7 +34,7 @@ no_list p (suc n) (suc q) l e = no_list (suc p) n q l e
 pub no_lists : (n q : ℕ) (l : List Note) → slice_get (by_lane n []) q ≡ Some l → l ≡ []
 no_lists n q l e = no_list 0 n q l e
 
--- all lanes together have no note
+-- cut by lane, the empty list has no note on all lanes together
 no_sum : (p n : ℕ) → sum_by length (on_lanes p n []) ≡ 0
 no_sum p zero = refl
 no_sum p (suc n) =
@@ -46,7 +46,7 @@ pub none_counted : (n : ℕ) → sum_by length (by_lane n []) ≡ 0
 none_counted n = no_sum 0 n
 
 -- ---- a list with one note more, cut by lane
--- a note at the end of a list comes to the end of its lane's list, if it is of this lane
+-- a note added at the end of a list comes to the end of this lane's list if it is on this lane, and else not into it
 on_end : (q : ℕ) (xs : List Noted) (x : Noted) → on_lane q (xs ++ x ∷ []) ≡ on_lane q xs ++ on_lane q (x ∷ [])
 on_end q [] x = refl
 on_end q (y ∷ ys) x = by (nat_eq q y.lane) (on_end q ys x)
@@ -57,27 +57,27 @@ on_end q (y ∷ ys) x = by (nat_eq q y.lane) (on_end q ys x)
     by true rest = ap (λ zs. y.note ∷ zs) rest
     by false rest = rest
 
--- a note of this lane is added to the lane's list
+-- a note on this lane is added to the lane's list
 on_here : (q : ℕ) (xs : List Noted) (x : Noted) → x.lane ≡ q → on_lane q (xs ++ x ∷ [])
     ≡ on_lane q xs ++ x.note ∷ []
 on_here q xs x e =
     on_end q xs x
     ∙ ap (λ b. on_lane q xs ++ (if b then x.note ∷ [] else [])) (eq-eqb q x.lane (sym e))
 
--- a note of another lane changes nothing on this one
+-- a note on another lane changes nothing on this one
 on_other : (q : ℕ) (xs : List Noted) (x : Noted) → (x.lane ≡ q → ⊥) → on_lane q (xs ++ x ∷ []) ≡ on_lane q xs
 on_other q xs x ne =
     on_end q xs x
     ∙ ap (λ b. on_lane q xs ++ (if b then x.note ∷ [] else [])) (ne_eqb q x.lane (λ e. ne (sym e)))
     ∙ append-nil (on_lane q xs)
 
--- a note changes nothing on lanes past its own
+-- a note changes nothing on the lanes from p on, if its lane is before p
 on_rest : (p n : ℕ) (xs : List Noted) (x : Noted) → x.lane < p → on_lanes p n (xs ++ x ∷ []) ≡ on_lanes p n xs
 on_rest p zero xs x low = refl
 on_rest p (suc n) xs x low = λ i.
     on_other p xs x (λ e. omega (arith, low, e)) i ∷ on_rest (suc p) n xs x (omega (arith, low)) i
 
--- among the lanes from p on, a note is added to the list of its lane
+-- among the lanes from p on, a note on lane p + q is added to list q
 on_more : (p n q : ℕ) (xs : List Noted) (x : Noted) → x.lane ≡ p + q
     → on_lanes p n (xs ++ x ∷ []) ≡ with_note q (Some x.note) (on_lanes p n xs)
 on_more p zero q xs x e = refl
@@ -99,7 +99,7 @@ pub noted_more : (n p : ℕ) (note : Note) (xs : List Noted) → by_lane n (xs +
 noted_more n p note xs = cut_more n xs (noted p note)
 
 -- ---- how many notes there are on all lanes together
--- with one note more there is one more
+-- with one note more on some lane, there is one note more on all lanes together
 pub sum_more : (ls : List (List Note)) (p : ℕ) (n : Note) → p < length ls
     → sum_by length (with_note p (Some n) ls) ≡ suc (sum_by length ls)
 sum_more [] p n low = absurd (omega (arith, low))
@@ -115,13 +115,13 @@ sum_more (l ∷ ls) (suc p) n low =
     omega (arith, new, old, rest)
 
 -- ---- the list after one note more
--- what a push keeps: the note is added to the list of its lane
+-- after one more note is pushed, the note is added to the list of its lane
 pub grown : (lanes p : ℕ) (note : Note) (x : Noted) (xs ys : List Noted) → ys ≡ xs ++ x ∷ [] → x ≡ noted p note
     → by_lane lanes ys ≡ with_note p (Some note) (by_lane lanes xs)
 grown lanes p note x xs ys e f =
     ap (by_lane lanes) (e ∙ ap (λ (z : Noted). xs ++ z ∷ []) f) ∙ noted_more lanes p note xs
 
--- what a push keeps: there are as many notes on all lanes as in the one list
+-- after one more note is pushed, there still are as many notes on all lanes together as in the one list
 pub counted_on : (lanes p : ℕ) (note : Note) (x : Noted) (xs ys : List Noted) → ys ≡ xs ++ x ∷ [] → x ≡ noted p note
     → p < length (by_lane lanes xs) → length xs ≡ sum_by length (by_lane lanes xs) → length ys
     ≡ sum_by length (by_lane lanes ys)
@@ -181,7 +181,7 @@ none_from p (suc n) [] e each = absurd (omega (arith, e))
 none_from p (suc n) (d ∷ ds) e each = λ i.
     each 0 d refl i ∷ none_from (suc p) n ds (omega (arith, e)) (λ q w f. each (suc q) w f) i
 
--- diaries without notes have the notes of no mark
+-- `AreFiled` holds of diaries without notes and of the first 0 marks
 pub none_filed : (n : ℕ) (ms : List Mark) (ws : List ℕ) (ds : List DiaryView) → AreEmptyDiaries n ds
     → AreFiled ms ws 0 ds
 none_filed n ms ws ds none = record {
@@ -189,14 +189,14 @@ none_filed n ms ws ds none = record {
   notes = none_from 0 (length ds) ds refl none.empty;
 }
 
--- the notes on a lane are those of the diary at its place
+-- among the notes of all diaries, those on lane p are those of diary p
 on_own : (ds : List DiaryView) (p : ℕ) (d : DiaryView) → slice_get ds p ≡ Some d
     → notes_on p (map (λ (d : DiaryView). d.notes) ds) ≡ d.notes
 on_own ds p d e =
     ap (λ (o : Option (List Note)). option_map_or (λ (l : List Note). l) o [])
     (map_get (λ (d : DiaryView). d.notes) ds p d e)
 
--- a note goes to the diary of its lane
+-- if diary p gets one more note, the notes of all diaries get that note on lane p
 pub filed_on : (ds : List DiaryView) (p : ℕ) (n : Note) (d e : DiaryView) → slice_get ds p ≡ Some d
     → e ≡ with_notes (d.notes ++ n ∷ []) d
     → map (λ (d : DiaryView). d.notes) (slice_set ds p e) ≡ with_note p (Some n) (map (λ (d : DiaryView). d.notes) ds)
@@ -205,7 +205,7 @@ filed_on ds p n d e at put =
     ∙ ap (λ (l : List Note). slice_set (map (λ (d : DiaryView). d.notes) ds) p l)
     (ap (λ (d : DiaryView). d.notes) put ∙ ap (λ (l : List Note). l ++ n ∷ []) (sym (on_own ds p d at)))
 
--- a diary that changes in its notes only leaves all that is beside the notes
+-- if a diary changes in its notes only, the diaries without their notes are as before
 pub same_beside : (ds : List DiaryView) (p : ℕ) (d e : DiaryView) → slice_get ds p ≡ Some d
     → with_notes [] e ≡ with_notes [] d → map (with_notes []) (slice_set ds p e) ≡ map (with_notes []) ds
 same_beside ds p d e at same =
@@ -213,22 +213,22 @@ same_beside ds p d e at same =
     ∙ ap (λ (z : DiaryView). slice_set (map (with_notes []) ds) p z) same
     ∙ set_same (map (with_notes []) ds) p (with_notes [] d) (map_get (with_notes []) ds p d at)
 
--- rows that are the same beside the notes have as many diaries
+-- two lists of diaries that are the same without their notes have the same length
 pub same_count : (new old : List DiaryView) → map (with_notes []) new ≡ map (with_notes []) old
     → length new ≡ length old
 same_count new old same = sym (length-map new (with_notes [])) ∙ ap length same ∙ length-map old (with_notes [])
 
 -- ---- marks that are filed one after the other
--- there are no more words than marks before this place
+-- the first k marks need at most k words
 pub few_read : (k : ℕ) (ms : List Mark) → words_among (take k ms) ≤ k
 few_read k ms = let few = few_words (take k ms) in let long = length-take k ms in omega (arith, few, long)
 
--- one mark more needs its words
+-- the first k + 1 marks need the words of the first k, and those of mark k
 pub read_more : (ms : List Mark) (k : ℕ) (d : Mark) → k < length ms
     → words_among (take (k + 1) ms) ≡ words_among (take k ms) + words_in (get_or ms k d)
 read_more ms k d low = ap words_among (take_more ms k d low) ∙ among_end (take k ms) (get_or ms k d)
 
--- the note of the next mark, with the next word, goes to the diary of its lane
+-- `AreFiled` holds of one mark more after the note of that mark and the next word is added to the diary of its lane
 pub filed_more : (ms : List Mark) (ws : List ℕ) (k read : ℕ) (m d : Mark) (old new : List DiaryView) → k < length ms
     → m ≡ get_or ms k d → read ≡ words_among (take k ms) → AreFiled ms ws k old
     → map (λ (d : DiaryView). d.notes) new ≡ with_note (told m (word_at ws read)).lane
@@ -248,14 +248,14 @@ filed_more ms ws k read m d old new low is words before put same =
           ∙ (λ j. by_lane (sym (same_count new old same) j) (sym all j));
     }
 
--- if all marks are filed, the diaries have the notes of all
+-- if all marks are filed, the diaries have the notes of all marks
 pub all_filed : (lanes : ℕ) (ms : List Mark) (ws : List ℕ) (k : ℕ) (ds : List DiaryView) → AreFiled ms ws k ds
     → length ms ≤ k → length ds ≡ lanes → map (λ (d : DiaryView). d.notes) ds ≡ by_lane lanes (all_told ms ws)
 all_filed lanes ms ws k ds filed all count =
     filed.notes ∙ (λ j. by_lane (count j) (all_told (take_all k ms all j) ws))
 
 -- ---- losses that are filed together
--- no mark is no loss
+-- `AreLosses` holds of no marks at all, and of notes that did not change
 pub no_losses : (p from k : ℕ) (ms : List Mark) (old : List Note) → from ≤ length ms → k ≡ from
     → AreLosses p from k ms old old
 no_losses p from k ms old low same = record {
@@ -266,7 +266,7 @@ no_losses p from k ms old low same = record {
   notes = sym (append-nil old);
 }
 
--- the next mark is a loss too
+-- `AreLosses` holds of one mark more, if that is a loss on the lane and its note is added
 pub loss_more : (p from k j w : ℕ) (ms : List Mark) (d : Mark) (old new all : List Note) → AreLosses p from k ms old new
     → k < length ms → get_or ms k d ≡ mark.Lost p w → j ≡ k + 1 → all ≡ new ++ Lost w ∷ []
     → AreLosses p from j ms old all
@@ -287,12 +287,12 @@ loss_more p from k j w ms d old new all before low is next put =
           ∙ ap (λ (ns : List Note). old ++ ns) (sym (map_push note ws w));
     }
 
--- losses need no words
+-- the marks before the losses need as many words as those up to the end of the losses
 pub losses_read : (p from k : ℕ) (ms : List Mark) (old new : List Note) → AreLosses p from k ms old new
     → words_among (take k ms) ≡ words_among (take from ms)
 losses_read p from k ms old new are = ap words_among are.marks ∙ among_losses (take from ms) p are.winners
 
--- a diary has no more notes than there are marks before this place
+-- a diary has no more notes than marks were filed
 pub filed_few : (ms : List Mark) (ws : List ℕ) (k p : ℕ) (ds : List DiaryView) (d : DiaryView) → AreFiled ms ws k ds
     → slice_get ds p ≡ Some d → length d.notes ≤ k
 filed_few ms ws k p ds d filed at =
@@ -304,7 +304,7 @@ filed_few ms ws k p ds d filed at =
     let long = length-take k ms in
     omega (arith, few, same, long)
 
--- the notes of losses go to the diary of their lane
+-- `AreFiled` holds of all losses, too, after their notes are added to the diary of their lane
 pub losses_filed : (ms : List Mark) (ws : List ℕ) (p from k : ℕ) (ds : List DiaryView) (d e : DiaryView)
     → slice_get ds p ≡ Some d → AreLosses p from k ms d.notes e.notes → AreFiled ms ws from ds
     → AreFiled ms ws k (slice_set ds p e)

@@ -7,14 +7,14 @@ use Rattle.mb_world.specs.Theorem.{items_where}
 use Rattle.mb_mailbox.specs.Gathering.{count_missing}
 
 -- ---- what is missing
--- a list with one more at its end has as many missing as the list and that one
+-- with one more element at the end of a list, those missing are those of the list, and this one if it is missing
 count_end : {X : Type 0} (xs : List (Option X)) (x : Option X) → count_missing (xs ++ x ∷ [])
     ≡ count_missing xs + count_missing (x ∷ [])
 count_end [] x = omega arith
 count_end (Some y ∷ xs) x = count_end xs x
 count_end (None ∷ xs) x = omega (arith, count_end xs x)
 
--- what a loop keeps that counts what is missing
+-- the first i + 1 elements have as many missing as the first i, and one more if element i is missing
 pub count_more : {X : Type 0} (xs : List (Option X)) (i : ℕ) (x : Option X) → i < length xs → x ≡ get_or xs i x
     → count_missing (take (i + 1) xs) ≡ count_missing (take i xs) + count_missing (x ∷ [])
 count_more xs i x low is =
@@ -22,7 +22,7 @@ count_more xs i x low is =
     ∙ ap (λ y. count_missing (take i xs) + count_missing (y ∷ [])) (sym is)
 
 -- ---- items at chosen positions
--- of a list with one more at its end the items of the list are chosen, and that one if it is
+-- with one more item at the end of a list, the chosen ones are those of the list, and this one if it is chosen
 chosen_end : (f : ℕ → Bool) (xs : List ℕ) (x : ℕ) → items_where f (xs ++ x ∷ []) ≡ items_where f xs
     ++ (if f (length xs) then x ∷ [] else [])
 chosen_end f [] x = refl
@@ -36,14 +36,14 @@ chosen_end f (y ∷ xs) x = by (f 0) (chosen_end (λ j. f (suc j)) xs x)
     by true rest = ap (λ zs. y ∷ zs) rest
     by false rest = rest
 
--- what a loop keeps that chooses items
+-- the chosen ones of the first i + 1 items are those of the first i, and item i if it is chosen
 chosen_more : (f : ℕ → Bool) (xs left : List ℕ) (i : ℕ) → i < length xs → left ≡ items_where f (take i xs)
     → left ++ (if f i then get_or xs i 0 ∷ [] else []) ≡ items_where f (take (i + 1) xs)
 chosen_more f xs left i low old =
     sym (ap (items_where f) (take_more xs i 0 low) ∙ chosen_end f (take i xs) (get_or xs i 0)
     ∙ (λ j. sym old j ++ (if f (length-take-le i xs (omega arith) j) then get_or xs i 0 ∷ [] else [])))
 
--- at this turn of the loop the item is chosen, and by `chosen_none` it is not
+-- if item i is chosen, it is added to those chosen before. By `chosen_none`, if it is not, nothing is added
 pub chosen_one : (f : ℕ → Bool) (xs left : List ℕ) (i : ℕ) → i < length xs → left
     ≡ items_where f (take i xs) → f i ≡ true
     → left ++ get_or xs i 0 ∷ [] ≡ items_where f (take (i + 1) xs)
@@ -58,7 +58,7 @@ chosen_none f xs left i low old e =
     ∙ chosen_more f xs left i low old
 
 -- ---- places in a grid, row by row
--- a row and a column below their numbers are a place within the grid
+-- in n rows of w places each, place p of row c has a number below n * w
 pub within_grid : (w n c p : ℕ) → c < n → p < w → c * w + p < n * w
 within_grid w n c p known low =
     let most : suc c * w ≤ n * w = mul-le-mul_right w known in

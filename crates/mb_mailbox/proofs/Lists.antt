@@ -7,7 +7,7 @@ use Rattle.std.proofs.lemmas.Option.{slice_get-map}
 pub some_same : {X : Type 0} (a b : X) → Some a ≡ Some b → a ≡ b
 some_same a b e = cc
 
--- an element of a list with one set is that one, or stands elsewhere in the list
+-- after element i is set to a, element k is a if k is i, and else what it was before
 pub set_get : {X : Type 0} (xs : List X) (i k : ℕ) (a b : X) → slice_get (slice_set xs i a) k ≡ Some b
     → ((k ≡ i) × (a ≡ b)) ⊎ ((k ≢ i) × (slice_get xs k ≡ Some b))
 set_get [] i k a b e = absurd (cc)
@@ -23,20 +23,20 @@ set_same [] i a e = refl
 set_same (x ∷ xs) zero a e = let f : x ≡ a = cc in ap (λ y. y ∷ xs) (sym f)
 set_same (x ∷ xs) (suc i) a e = ap (λ ys. x ∷ ys) (set_same xs i a e)
 
--- of two elements set at one place the last counts
+-- if two elements are set at one place, one after the other, the list is as if only the second was set
 pub set_twice : {X : Type 0} (xs : List X) (i : ℕ) (a b : X) → slice_set (slice_set xs i a) i b ≡ slice_set xs i b
 set_twice [] i a b = refl
 set_twice (x ∷ xs) zero a b = refl
 set_twice (x ∷ xs) (suc i) a b = ap (λ ys. x ∷ ys) (set_twice xs i a b)
 
--- an element that is set stands at its place
+-- after element i is set to a, element i is a
 pub set_here : {X : Type 0} (xs : List X) (i : ℕ) (a b : X) → slice_get xs i ≡ Some b
     → slice_get (slice_set xs i a) i ≡ Some a
 set_here [] i a b e = absurd (cc)
 set_here (x ∷ xs) zero a b e = refl
 set_here (x ∷ xs) (suc i) a b e = set_here xs i a b e
 
--- if another element is set, an element stays
+-- to set element i leaves each other element as it is
 pub set_else : {X : Type 0} (xs : List X) (i k : ℕ) (a : X) → k ≢ i → slice_get (slice_set xs i a) k ≡ slice_get xs k
 set_else [] i k a ne = refl
 set_else (x ∷ xs) zero zero a ne = absurd (ne refl)
@@ -55,7 +55,7 @@ pub map_get : {X Y : Type 0} (f : X → Y) (xs : List X) (i : ℕ) (a : X) → s
     → slice_get (map f xs) i ≡ Some (f a)
 map_get f xs i a e = slice_get-map f xs i ∙ ap (option_map f) e
 
--- an element set before a list is mapped is the mapped one set after it
+-- to set an element and then map the list is to map the list and then set the mapped element
 pub map_set : {X Y : Type 0} (f : X → Y) (xs : List X) (i : ℕ) (a : X)
     → map f (slice_set xs i a) ≡ slice_set (map f xs) i (f a)
 map_set f [] i a = refl

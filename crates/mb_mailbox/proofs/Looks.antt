@@ -1,4 +1,4 @@
--- A poll loads the head of no other lane.
+-- A poll of a lane loads the head of no other lane.
 use Rattle.std.proofs.Common.{◌≡◌, ◌⊎◌, ⊎_elim, ℕ, ◌+◌, ◌<◌, ◌≤◌, List, [], ◌∷◌, ◌++◌, Option, Some, None, inl, inr, length, sym, ap, ◌∙◌, subst, arith}
 use Rattle.mb_mailbox.specs.Imports.{Claims, Has, Head, History, Item, Parts, PoolAccess, ReaderSeatView, Stream, ToCells, ToClaims, Word, WorldAccess}
 use Rattle.mb_mailbox.specs.Imports.{WorldHistory, cells_met, place_past, pool_accesses}
@@ -13,7 +13,7 @@ abbrev pub word_in : WorldAccess → Option Word
 word_in (ToCells a) = Some a.word
 word_in (ToClaims a) = None
 
--- the link past cells of lane p is the head of no other lane
+-- if the word past some cells of lane p is the head of a lane, it is the head of lane p
 past_head : (p q : ℕ) (ks : List ℕ) → place_past p ks ≡ Head q → q ≡ p
 past_head p q [] e = cc
 past_head p q (k ∷ ks) e = absurd (cc)
@@ -44,13 +44,13 @@ on_lane p answer (ToCells b ∷ older) s a q lead (inl is) w = step_on _ _ p _ b
 on_lane p answer (ToCells b ∷ older) s a q lead (inr has) w = on_lane p None older s a q lead.1 has w
 on_lane p answer (ToClaims b ∷ older) s a q lead has w = on_lane p None older s a q lead.1 has w
 
--- an access of two parts together is of one of them
+-- an access of two histories joined is in one of them
 had : (xs ys : History) (a : PoolAccess) → Has (xs ++ ys) a → Has xs a ⊎ Has ys a
 had [] ys a h = inr h
 had (x ∷ xs) ys a (inl is) = inl (inl is)
 had (x ∷ xs) ys a (inr h) = ⊎_elim (λ (t : Has xs a). inl (inr t)) (λ (t : Has ys a). inr t) (had xs ys a h)
 
--- a poll of lane p loads no other lane's head
+-- if a consumer has loaded no head but of these lanes, this still holds after a poll of one of these lanes
 pub only_by : (p budget : ℕ) (answer : Poll) (s t : Stream) (old new : ConsumerView)
     → IsPollOf p budget answer s t old new
     → (from end : ℕ) → from ≤ p → p < end → IsOnLanes from end old.reader.part → IsOnLanes from end new.reader.part
@@ -64,7 +64,7 @@ only_by p budget answer s t old new i from end low high was a q has w =
     (λ (t : Has old.reader.part a). was a q t w)
     (had (pool_accesses i.accesses) old.reader.part a there)
 
--- a part without an access has no access
+-- if a history's length and n add up to 0, it has no access
 no_access : (h : History) (n : ℕ) (a : PoolAccess) → length h + n ≡ 0 → Has h a → ⊥
 no_access [] n a e has = has
 no_access (x ∷ h) n a e has = omega (arith, e)

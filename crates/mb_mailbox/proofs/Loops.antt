@@ -1,4 +1,4 @@
--- What the loops of a run keep when one more element is done.
+-- The invariants of the loops of a run still hold after one more element is done.
 use Rattle.std.proofs.Common.{◌≡◌, ℕ, zero, suc, ◌+◌, ◌<◌, ◌||◌, Bool, true, false, refl, List, [], ◌∷◌, ◌++◌, ◌-◌, ◌*◌, ◌≤◌, length, map, min, sym, ap, ◌∙◌, subst, arith}
 use Rattle.std.specs.Prelude.{Vec}
 use Rattle.std.proofs.Math.Nat.{mul-suc}
@@ -18,9 +18,9 @@ use Rattle.mb_mailbox.specs.declared.crew.jobs.Job.TheVariants as job
 use Rattle.mb_mailbox.specs.declared.crew.jobs.PollJob.{PollJob}
 use Rattle.mb_mailbox.specs.declared.crew.jobs.PutJob.{PutJob}
 
--- ---- jobs for which numbers are given
+-- ---- jobs whose producers and consumers are issued
 module _ {Z : Type 0} (m : MailboxView) where
-  -- the next producer and the next list are one more job
+  -- `ArePutJobs` still holds with one job more, that of the next producer and the next list
   pub put_jobs_more : (p n : ℕ) (vs : List (Vec ℕ Z)) (js : List (PutJob Z)) (v : Vec ℕ Z)
       (j : PutJob Z) → ArePutJobs m p vs js
       → n ≡ p + length js → j.producer ≡ new_producer m n → j.list ≡ v → ArePutJobs m p (vs ++ v ∷ []) (js ++ j ∷ [])
@@ -31,14 +31,14 @@ module _ {Z : Type 0} (m : MailboxView) where
   put_jobs_more p n (w ∷ ws) (i ∷ js) v j a e is list =
       (a.0, a.1, put_jobs_more (suc p) n ws js v j a.2 (omega (arith, e)) is list)
 
-  -- the next consumer is one more job
+  -- `ArePollJobs` still holds with one job more, that of the next consumer
   pub poll_jobs_more : {R : Type 0} (h : HubView) (js : List (PollJob R Z)) (j : PollJob R Z) → ArePollJobs m h js
       → IsNewConsumer m (with_consumers js h) j.consumer → ArePollJobs m h (js ++ j ∷ [])
   poll_jobs_more h [] j a new = (new, tt)
   poll_jobs_more h (i ∷ js) j a new = (a.0, poll_jobs_more (with_consumer h) js j a.1 new)
 
 module _ {R Z : Type 0} (m : MailboxView) (h was now : HubView) where
-  -- the hub has given one producer more
+  -- `ArePutsGiven` still holds after the hub has issued one more producer, for one more list
   pub puts_given_more : (vs : List (Vec ℕ Z)) (js : List (Job R Z)) (v : Vec ℕ Z) (j : PutJob Z)
       → ArePutsGiven m vs js h was → length was.puts ≡ length h.puts + length js
       → j.producer ≡ new_producer m (length was.puts) → j.list ≡ v → now ≡ with_producer was
@@ -53,7 +53,7 @@ module _ {R Z : Type 0} (m : MailboxView) (h was now : HubView) where
         hub = e ∙ ap with_producer g.hub ∙ sym (producers_snoc g.puts j h);
       }
 
-  -- the hub has given one consumer more
+  -- `ArePollsGiven` still holds after the hub has issued one more consumer, for one more source
   pub polls_given_more : (rs : List R) (first js : List (Job R Z)) (r : R) (j : PollJob R Z)
       → ArePollsGiven m rs true first js h was → IsNewConsumer m was j.consumer → j.rng ≡ r → now ≡ with_consumer was
       → ArePollsGiven m (rs ++ r ∷ []) true first (js ++ job.Poll j ∷ []) h now
@@ -72,7 +72,7 @@ module _ {R Z : Type 0} (m : MailboxView) (h was now : HubView) where
         hub = e ∙ ap with_consumer g.hub ∙ sym (consumers_snoc g.polls j h);
       }
 
-  -- the consumers for a beginning of these sources are some of those for all
+  -- if `ArePollsGiven` holds for a beginning of these sources, it holds for all of them, but with `false` for `all`
   pub polls_given_early : (rs rest all : List R) (first js : List (Job R Z)) → rs ++ rest ≡ all
       → ArePollsGiven m rs true first js h now → ArePollsGiven m all false first js h now
   polls_given_early rs rest all first js whole g =
@@ -87,7 +87,7 @@ module _ {R Z : Type 0} (m : MailboxView) (h was now : HubView) where
         hub = g.hub;
       }
 
-  -- the hub has given no consumer yet
+  -- the hub has issued no consumer yet
   abbrev pub no_polls_given : (first : List (Job R Z)) → now ≡ h → ArePollsGiven m [] true first first h now
   no_polls_given first e = record {
     polls = [];
@@ -98,7 +98,7 @@ module _ {R Z : Type 0} (m : MailboxView) (h was now : HubView) where
     hub = e;
   }
 
-  -- the hub has given producers, and then consumers
+  -- if the hub has issued producers, and then consumers, `AreGiven` holds
   abbrev pub both_given : (vs : List (Vec ℕ Z)) (rs : List R) (all : Bool) (first js : List (Job R Z))
       → ArePutsGiven m vs first h was → ArePollsGiven m rs all first js was now → AreGiven m vs js h now
   both_given vs rs all first js p q = record {
@@ -110,8 +110,8 @@ module _ {R Z : Type 0} (m : MailboxView) (h was now : HubView) where
     hub = q.hub ∙ ap (with_consumers q.polls) p.hub;
   }
 
--- ---- what is taken in
--- the hub has taken in one more
+-- ---- what is taken back
+-- the hub has taken back the producer or consumer of one end more
 pub took_more : {Z : Type 0} (ds : List (Done Z)) (d : Done Z) (h was now : HubView) → was ≡ with_taken ds h
     → now ≡ with_taken_one d was → now ≡ with_taken (ds ++ d ∷ []) h
 took_more [] d h was now e is = is ∙ ap (with_taken_one d) e
@@ -119,7 +119,7 @@ took_more (c ∷ ds) d h was now e is = took_more ds d (with_taken_one c h) was 
 
 -- ---- producers' jobs come first
 module _ {R Z : Type 0} where
-  -- in a list that begins with this job, and by `first_more` in the rest of that list
+  -- if producers' jobs come first in a list, they do so in its first job alone, and by `first_more` in the rest of it
   pub first_of : (n : ℕ) (j : Job R Z) (js : List (Job R Z)) → ArePutsFirst n (j ∷ js) → ArePutsFirst n (j ∷ [])
   first_of zero (job.Put j) js a = absurd a
   first_of (suc n) (job.Put j) js a = tt
@@ -133,7 +133,7 @@ module _ {R Z : Type 0} where
   first_more zero k (job.Poll j) js e a = subst (λ (i : ℕ). ArePutsFirst i js) (omega (arith, e)) a
   first_more (suc n) k (job.Poll j) js e a = absurd a
 
-  -- in a list of them that goes on with consumers' jobs
+  -- producers' jobs come first in a list of producers' jobs and then consumers' jobs
   pub puts_first : (ps : List (PutJob Z)) (qs : List (PollJob R Z))
       → ArePutsFirst (length ps) (map job.Put ps ++ map job.Poll qs)
   puts_first [] [] = tt
@@ -141,7 +141,7 @@ module _ {R Z : Type 0} where
   puts_first (p ∷ ps) qs = puts_first ps qs
 
 -- ---- what is done and what is to come
--- one more is done, and one less is to come
+-- what is done and what is to come still make up all, if one more is done and one less is to come
 pub left_more : (was now before after all : ℕ) → was + before ≡ all → now ≡ was + 1
     → after + 1 ≡ before → now + after ≡ all
 left_more was now before after all e one step = omega (arith, e, one, step)
@@ -150,12 +150,12 @@ left_more was now before after all e one step = omega (arith, e, one, step)
 pub left_none : (done left all : ℕ) → done + left ≡ all → left ≡ 0 → done ≡ all
 left_none done left all e none = omega (arith, e, none)
 
--- the room stays
+-- if there is room for all and the room stays the same, there still is room for all
 pub room_still : (all was now : ℕ) → all ≤ was → now ≡ was → all ≤ now
 room_still all was now few same = omega (arith, few, same)
 
--- ---- a sum that stays at its bound
--- a sum that stops at its bound is still so with one more
+-- ---- a sum that is cut off at a bound
+-- if a sum is cut off at a bound after each element, the outcome is the whole sum, cut off once
 pub full_more : {X : Type 0} (f : X → ℕ) (most was now : ℕ) (xs : List X) (x : X) → was ≡ min most (sum_by f xs)
     → now ≡ min (was + f x) most → now ≡ min most (sum_by f (xs ++ x ∷ []))
 full_more f most was now xs x e is =
@@ -164,7 +164,7 @@ full_more f most was now xs x e is =
     omega (arith, e, is, whole, last)
 
 -- ---- accesses with a budget for each call
--- with one call more, the accesses are at most one budget more
+-- if the accesses of the calls before were at most the budget for each, so they are with one call more
 pub budget_more : (budget call base old new : ℕ) → 1 ≤ call → old ≤ base + budget * (call - 1) → new ≤ old + budget
     → new ≤ base + budget * (call + 1 - 1)
 budget_more budget call base old new first was step =
@@ -198,7 +198,7 @@ all_but_last P (y ∷ ys) x a =
     let rest = all_but_last P ys x (All-tail P y (ys ++ x ∷ []) a)
     in (All-cons P y ys (All-head P y (ys ++ x ∷ []) a) rest.0, rest.1)
 
--- if neither test holds, `or` of them does not
+-- if `now` is `was || aborted`, and both of these are false, `now` is false
 neither : (was aborted now : Bool) → now ≡ (was || aborted) → was ≡ false → aborted ≡ false → now ≡ false
 neither was aborted now is a b = is ∙ (λ i. a i || b i)
 

@@ -1,4 +1,4 @@
--- What the steps of a consumer come to, from the contracts of the two tables.
+-- The calls of the two tables make the steps of a consumer. This follows from the contracts of these calls.
 use Rattle.std.proofs.Common.{◌≡◌, ◌<◌, ℕ, List, refl, sym, ap, ◌∙◌, subst, arith}
 use Rattle.std.specs.Prelude.{Option, Some, None, slice_set}
 use Rattle.mb_claim.specs.declared.access.Stage.TheVariants as stage
@@ -21,7 +21,7 @@ use Rattle.mb_world.specs.declared.place.Place.{Place}
 abbrev pub at_views : ReaderSeatView → SeatView → List Place → List (List Note) → ConsumerView
 at_views reader seat places notes = record { reader = reader; seat = seat; places = places; notes = notes }
 
--- what holds of the consumer after its move holds of the consumer with these fields
+-- what holds of `moved_to`, the consumer after its move, holds of the consumer with the same seats, places and notes
 pub moved_has : (P : ConsumerView → Type 0)
     → (s : ConsumerView) (p : ℕ) (place : Place) (o : Option Note) (reads : History)
     (made : List ClaimAccess)
@@ -73,7 +73,7 @@ item_made s old p k v reader places notes is m put next t =
     })
 
 -- ---- accesses of claims
--- the answer of a claim's access has the note of the stage
+-- the note that comes with the answer of a claim's access is the note of the claim's stage
 note_of_answer : (st : Stage) → note_with (stage_answer st) ≡ note_of st
 note_of_answer stage.Going = refl
 note_of_answer stage.Won = refl
@@ -107,13 +107,13 @@ claim_made s old p word a st seat places notes answer is made drawn_word tells p
     })
 
 -- ---- room for notes
--- there is as much room as before
+-- if there was room for as many notes as cells, there still is after the notes have grown by one, or by none
 pub room_stays : (p cells : ℕ) (o : Option Note) (old new : NotesView) → NotesGrow p o old new
     → HasAllRoom cells old → HasAllRoom cells new
 room_stays p cells o old new g wide = let same = g.room in omega (arith, same, wide)
 
 -- ---- a consumer of the mailbox
--- the sizes of the consumer's tables are those of the mailbox: of the claims', and by `cells_size` of the cells'
+-- the consumer's table of claims has the size of the mailbox's. By `cells_size` this holds of its table of cells, too
 pub claims_size : (m : MailboxView) (s now : ConsumerView) → s ≡ now → IsConsumerOf m now
     → s.seat.table.size ≡ Some (record { layout = m.claims.layout; cells = m.claims.cells })
 claims_size m s now is belongs =
@@ -124,7 +124,7 @@ pub cells_size : (m : MailboxView) (s now : ConsumerView) → s ≡ now → IsCo
 cells_size m s now is belongs =
     ap (λ (v : ConsumerView). v.reader.table.size) is ∙ ap (λ (t : CellsName). t.size) belongs.cells
 
--- a number of the seat's consumer that is one of its table's is one of the mailbox's
+-- if the consumer's number is below the number of values of its table, it is below the mailbox's number of consumers
 pub known_in : (m : MailboxView) (s now : ConsumerView) → s ≡ now → IsConsumerOf m now
     → (n : ℕ) → n ≡ s.seat.consumer → n < (claims_at s.seat.table).table.values
     → s.seat.consumer < consumer_count m.claims.layout

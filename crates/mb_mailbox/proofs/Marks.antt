@@ -26,13 +26,13 @@ apart (x ∷ xs) zero (suc p) e f = λ h. omega (arith, h)
 apart (x ∷ xs) (suc k) zero e f = λ h. omega (arith, h)
 apart (x ∷ xs) (suc k) (suc p) e f = λ h. apart xs k p e f (omega (arith, h))
 
--- nothing is marked
+-- no place of this list is marked
 abbrev pub AreClear : List Bool → Type 0
 AreClear [] = Unit {0}
 AreClear (false ∷ xs) = AreClear xs
 AreClear (true ∷ xs) = ⊥
 
--- if nothing is marked, no place is
+-- if `AreClear` holds of a list, the mark at each place is `false`, also past the end
 pub clear : (xs : List Bool) (p : ℕ) → AreClear xs → slice_index_or xs p false ≡ true → ⊥
 clear [] p a e = absurd (cc)
 clear (true ∷ xs) p a e = absurd a
@@ -47,7 +47,7 @@ within (x ∷ xs) zero low e = e
 within (x ∷ xs) (suc p) low e = within xs p (omega (arith, low)) e
 
 -- ---- how many are marked
--- one more mark is one more
+-- after a place without a mark is marked, one more is marked
 pub marks_more : (xs : List Bool) (k : ℕ) → slice_index_or xs k true ≡ false
     → count_marks (slice_set xs k true) ≡ count_marks xs + 1
 marks_more [] k e = absurd (cc)
@@ -55,7 +55,7 @@ marks_more (true ∷ xs) zero e = absurd (cc)
 marks_more (false ∷ xs) zero e = omega arith
 marks_more (x ∷ xs) (suc k) e = let rest = marks_more xs k e in omega (arith, rest)
 
--- if all marks are within these bounds, there are no more marks than places
+-- if all marks are within these bounds, there are no more marks than places within them
 pub marks_most : (xs : List Bool) (from end : ℕ)
     → ((p : ℕ) → slice_index_or xs p false ≡ true → (from ≤ p) × (p < end))
     → count_marks xs ≤ end - from
@@ -70,7 +70,7 @@ marks_most (false ∷ xs) from end m =
     (λ p e. (let t = (m (suc p) e).0 in omega (arith, t), let t = (m (suc p) e).1 in omega (arith, t))) in
     omega (arith, rest)
 
--- if each place within these bounds is marked, there are no fewer marks than places
+-- if each place within these bounds is marked, there are no fewer marks than places within them
 marks_least : (xs : List Bool) (from end : ℕ)
     → ((p : ℕ) → from ≤ p → p < end → slice_index_or xs p false ≡ true)
     → end ≤ from + count_marks xs
@@ -87,7 +87,7 @@ marks_least (x ∷ xs) (suc from) (suc end) m =
     let rest = marks_least xs from end (λ p low high. m (suc p) (omega (arith, low)) (omega (arith, high))) in
     omega (arith, rest)
 
--- if all marks are within these bounds, and each place there has one, there are as many marks as places
+-- if all marks are within these bounds, and each place there has one, there are as many marks as places there
 pub marks_all : (xs : List Bool) (from end : ℕ) → ((p : ℕ) → slice_index_or xs p false ≡ true → (from ≤ p) × (p < end))
     → ((p : ℕ) → from ≤ p → p < end → slice_index_or xs p false ≡ true) → count_marks xs ≡ end - from
 marks_all xs from end only all =
@@ -95,7 +95,7 @@ marks_all xs from end only all =
     let least = marks_least xs from end all in
     omega (arith, most, least)
 
--- if all marks are within these bounds, and one place there has none, there are fewer
+-- if all marks are within these bounds, and one place there has none, there are fewer marks than places there
 pub marks_fewer : (xs : List Bool) (from end k : ℕ)
     → ((p : ℕ) → slice_index_or xs p false ≡ true → (from ≤ p) × (p < end))
     → slice_index_or xs k true ≡ false → from ≤ k → k < end → count_marks xs < end - from

@@ -8,20 +8,20 @@ use Rattle.mb_mailbox.specs.ConsumerStep.{link_answer}
 use Rattle.mb_mailbox.specs.Consumers.{ConsumerView}
 use Rattle.mb_mailbox.specs.Steps.{AnswerTells, note_with}
 
--- it adds no note
+-- the load adds no note
 pub quiet : (l : Look) → note_with (link_answer l) ≡ None
 quiet look.Nothing = refl
 quiet look.Ended = refl
 quiet (look.Cell k) = refl
 
--- if it has an answer, it found no cell
+-- if the load comes to an answer, it found no cell
 pub no_cell : ((v : ℕ) → look_of v ≡ look.Nothing → v ≡ 0) → ((v : ℕ) → look_of v ≡ look.Ended → v ≡ END)
     → (l : Look) (v : ℕ) → l ≡ look_of v → link_answer l ≢ None → (v ≡ 0) ⊎ (v ≡ END)
 no_cell nothing ended look.Nothing v e some = inl (nothing v (sym e))
 no_cell nothing ended look.Ended v e some = inr (ended v (sym e))
 no_cell nothing ended (look.Cell k) v e some = absurd (some refl)
 
--- what the answer says of the lane
+-- if the load comes to an answer, `AnswerTells` holds of it, since it does for `Nothing` and for `Ended`
 pub look_tells : (p : ℕ) (at : Cursor) (s new : ConsumerView) (now : ReaderSeatView)
     → (LookMakes s.reader at look.Nothing now → AnswerTells p (link_answer look.Nothing) s new)
     → (LookMakes s.reader at look.Ended now → AnswerTells p (link_answer look.Ended) s new)

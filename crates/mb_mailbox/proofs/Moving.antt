@@ -16,17 +16,17 @@ use Rattle.mb_mailbox.proofs.KnownLoads.{Known, fresh, known, past_apart}
 use Rattle.mb_mailbox.proofs.Lists.{get_some}
 use Rattle.mb_mailbox.proofs.Standings.{Leaves, end_kept, ends_more, moves}
 
--- what is known of the consumer's loads
+-- `Known` holds of the consumer's loads
 pub loads_known : Laws → (s : ConsumerView) → HasLoads s → Known s.reader.table.size s.reader.part
 loads_known laws s h = known laws s.reader.table.size s.reader.reader h.0 s.reader.part h.1 h.2
 
--- if it has a place on a lane, it has a list of notes there
+-- if a consumer has a place on a lane, it has a list of notes there
 list_there : (s : ConsumerView) (p : ℕ) (place : Place) → (i : IsConsumer s) → slice_get s.places p ≡ Some place
     → (ns : List Note) × (slice_get s.notes p ≡ Some ns)
 list_there s p place i e =
     get_some s.notes p (subst (λ n. p < n) (i.places_count ∙ sym i.notes_count) (slice_get_within s.places p place e))
 
--- what a place before a link says of the consumer's parts, and by `holds` what a place with a claim says
+-- if a consumer's place is before a link, `ConsumerIsBefore` holds. If it is at a claim, `holds` gives `ConsumerIsAt`
 pub before : (s : ConsumerView) (p : ℕ) (at : Cursor) (i : IsConsumer s) → slice_get s.places p ≡ Some (Before at)
     → (ns : List Note) × (slice_get s.notes p ≡ Some ns)
     × ConsumerIsBefore (claims_in i.size.layout i.size.cells) s.seat.consumer p
@@ -70,7 +70,7 @@ done_with laws layout cells c k Undecided x e = record {
       (x.claimed k) stage.Undecided stage.Won (laws.table layout) e won in absurd (cc);
 }
 
--- if the claims on all these cells have ended, the consumer may look past the last of them
+-- if the claims on all these cells have ended, the consumer may load the link past the last of them
 pub may_past : Laws → (layout : Layout) (cells c : ℕ) (ks : List ℕ) (ns : List Note) (x : Parts)
     → AreEnds (claims_in layout cells) c ks ns x
     → MayLookPast (claims_in layout cells) c ks x
@@ -107,12 +107,12 @@ module _ (laws : Laws) (s : ConsumerView) (p : ℕ) (at : Cursor) (i : IsConsume
       laws.looks cs c s.reader.reader p v x i.fit
       (may_past laws i.size.layout i.size.cells c ks (reverse b.0) x b.2.ended)
 
-  -- the link is not the one before which the consumer stands on another lane
+  -- on another lane the consumer stands before another link than this one
   elsewhere : (q : ℕ) → q ≢ p → place_past p ks ≡ place_past q (cells_met q s.reader.part) → ⊥
   elsewhere q ne = past_apart p q ks (cells_met q s.reader.part)
       (λ k m n. (loads_known laws s h).apart p q k m n) (λ f. ne (sym f))
 
-  -- the load leaves each other lane alone
+  -- the load changes nothing on each other lane
   others : (v q : ℕ) → q ≢ p → Leaves q x (y v)
   others v q ne = record {
     met = laws.elsewhere q (a v) s.reader.part (elsewhere q ne);
@@ -125,7 +125,7 @@ module _ (laws : Laws) (s : ConsumerView) (p : ℕ) (at : Cursor) (i : IsConsume
     );
   }
 
-  -- the claims on the cells met end as they did
+  -- the claims on the cells met have ended with the same notes as before the load
   ends : (v : ℕ) (ns : List Note) → slice_get s.notes p ≡ Some ns → AreEnds cs c ks (reverse ns) (y v)
   ends v ns f =
       ends_more cs c x (y v) ks (reverse ns)
@@ -137,14 +137,14 @@ module _ (laws : Laws) (s : ConsumerView) (p : ℕ) (at : Cursor) (i : IsConsume
   word : word_of at ≡ place_past p ks
   word = (before s p at i e).2.word
 
-  -- what holds after a load of that link holds after a load at the cursor
+  -- if `IsConsumer` holds after a load of the link past the cells met, it holds after a load at the cursor `at`
   with_word : (v : ℕ) (place : Place) → IsConsumer (moved_to p place None (a v ∷ s.reader.part) s.seat.part s)
       → IsConsumer (moved_to p place None (reads_with_link s at v) s.seat.part s)
   with_word v place done =
       subst (λ w. IsConsumer (moved_to p place None (load s.reader.reader w v ∷ s.reader.part)
       s.seat.part s)) (sym word) done
 
-  -- if the link leads to no cell, the consumer stays, and keeps what consumers keep
+  -- if the link leads to no cell, the consumer stays where it is, and `IsConsumer` still holds of it
   pub waits : (v : ℕ) → (v ≡ 0) ⊎ (v ≡ END)
       → IsConsumer (moved_to p (Before at) None (reads_with_link s at v) s.seat.part s)
   waits v says =
@@ -157,7 +157,7 @@ module _ (laws : Laws) (s : ConsumerView) (p : ℕ) (at : Cursor) (i : IsConsume
       })
       (others v))
 
-  -- if the link leads to a cell, the consumer holds a new claim there, and keeps what consumers keep
+  -- if the link leads to a cell, the consumer holds a new claim there, and `IsConsumer` still holds of it
   pub finds : (k : ℕ) (claim : Claim) → k + 1 ≢ END
       → IsAccessAfter s.reader.table.size s.reader.known (load s.reader.reader (word_of at) (k + 1)) s.reader.part
       → consumer_of claim ≡ c → claim_stage claim ≡ stage.Going → HasTurns s claim []

@@ -18,7 +18,7 @@ abbrev pub new_seat : MailboxView → ℕ → SeatView
 new_seat m n = record { table = name_of m.claims; consumer = n; part = [] }
 
 module _ (lanes cells : ℕ) (fresh : NotesView) (none : AreNoNotes lanes cells fresh) where
-  -- a consumer that has done nothing keeps what consumers keep
+  -- `IsConsumer` holds of a consumer that has done nothing
   pub is_new : ((cs : Claims) (c : ℕ) → Fits cs c no_parts)
       → (m : MailboxView) (n : ℕ) (known : PartList) (places : List Place) → AreHeads lanes places
       → lanes ≡ m.cells.size.lanes → IsConsumer (at_views (new_reader m n known) (new_seat m n) places fresh.lists)

@@ -15,7 +15,8 @@ use Rattle.mb_mailbox.specs.Laws.{Laws}
 use Rattle.mb_mailbox.specs.Moves.{HasPlace, HasTurns}
 use Rattle.mb_mailbox.proofs.Moving.{before, holds, may_past}
 
--- an access that is the next one by the size of the table is the next one by the table's name
+-- the size that a consumer knows of its table of claims gives the same claims as the table's name. So the next access
+-- by the one is the next by the other
 named : (s : ConsumerView) (p : ℕ) (a : WorldAccess) (answer : Option Poll) (i : IsConsumer s)
     → ConsumerStep (claims_in i.size.layout i.size.cells) s.seat.consumer p (parts_of s.reader s.seat) a answer
     → ConsumerStep (claims_at s.seat.table) s.seat.consumer p (parts_of s.reader s.seat) a answer
@@ -24,7 +25,7 @@ named s p a answer i =
     ap (λ (z : Option TableSize). claims_at (record { id = s.seat.table.id; size = z })) (sym i.table) in
     subst (λ (cs : Claims). ConsumerStep cs s.seat.consumer p (parts_of s.reader s.seat) a answer) is
 
--- before a link the load of that link is the next access
+-- if the consumer stands before a link of the lane, the load of that link is its next access there
 pub looks_next : Laws → (s : ConsumerView) (p v : ℕ) (at : Cursor) → IsConsumer s → HasPlace p (Before at) s
     → ConsumerStep (claims_at s.seat.table) s.seat.consumer p (parts_of s.reader s.seat)
     (ToCells (load s.reader.reader (word_of at) v)) (link_answer (look_of v))
@@ -42,7 +43,7 @@ last : (s : ConsumerView) (p k : ℕ) (claim : Claim) (i : IsConsumer s) → Has
     → IsLastMet p k (parts_of s.reader s.seat)
 last s p k claim i e = let o = holds s p k claim i e in record { cells = o.2.cells; met = o.2.met; left = o.2.left }
 
--- the stage of the claim by the parts
+-- the consumer's part on the cell has the stage that the claim says
 stage_held : (s : ConsumerView) (p k : ℕ) (claim : Claim) (now : Stage) (i : IsConsumer s)
     → HasPlace p (At k claim) s → claim_stage claim ≡ now
     → IsClaimPrefix (claims_in i.size.layout i.size.cells) s.seat.consumer (part_on s.seat.consumer k s.seat.part) now
@@ -52,7 +53,7 @@ stage_held s p k claim now i e is =
     (part_on s.seat.consumer k s.seat.part) z.1)
     (λ j. (o.2.own j, is j)) o.2.path.prefix
 
--- with a claim that goes on the claim's access is the next one
+-- if the consumer holds a claim that goes on, the claim's next access is the consumer's next one on the lane
 pub competes_next : Laws → (s : ConsumerView) (p k word seen : ℕ) (claim now : Claim)
     (next : ClaimOp) → IsConsumer s → HasPlace p (At k claim) s
     → claim_stage claim ≡ stage.Going → consumer_of now ≡ s.seat.consumer
@@ -71,7 +72,7 @@ competes_next laws s p k word seen claim now next i e going own turns =
     (subst (λ xs. IsClaimPrefix cs s.seat.consumer xs (claim_stage now))
     (laws.own_cell a s.seat.part) prefix) refl refl)
 
--- with a claim that is won the load of the item is the next access
+-- if the consumer holds a claim that is won, the load of the item is its next access on the lane
 pub takes_next : (s : ConsumerView) (p k v : ℕ) (claim : Claim) → IsConsumer s
     → HasPlace p (At k claim) s → claim_stage claim ≡ stage.Won
     → ConsumerStep (claims_at s.seat.table) s.seat.consumer p (parts_of s.reader s.seat)

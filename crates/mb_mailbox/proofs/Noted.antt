@@ -1,4 +1,4 @@
--- Each consumer of a run that was not stopped has a note at each item.
+-- Each consumer of a run that was not stopped has a note on each item of the run's lanes.
 use Rattle.std.proofs.Common.{◌≡◌, ℕ, zero, suc, ◌+◌, ◌<◌, ◌≤◌, false, List, [], ◌∷◌, ◌++◌, length, map, refl, sym, ap, ◌∙◌, append_assoc, arith}
 use Rattle.std.specs.Prelude.{Option, Some, slice_get}
 use Rattle.std.specs.List.{All}
@@ -35,7 +35,7 @@ module _ (now : HubView) (hub : IsHub now) (pool : History) (roll : IsRollOf now
     (s : ConsumerView) → IsRollOf size roll h
     → slice_get roll.lanes p ≡ Some (Some done) → slice_get roll.readers s.reader.reader ≡ Some (Some s.reader.part)
     → HasReadToEnd p s → length (notes_on p s.notes) ≡ length (values_put p done)) where
-  -- a consumer that has read these lanes to their ends has a note at each of their items
+  -- a consumer that has read these lanes to their ends has a note on each of their items
   noted_by : (s : ConsumerView) → slice_get now.cells.roll.readers s.reader.reader ≡ Some (Some s.reader.part)
       → (ls : List ProducerEnd) (base : List (Option PutListView)) (p : ℕ) → length base ≡ p
       → now.puts ≡ base ++ map (λ (l : ProducerEnd). Some (ended_list l)) ls
@@ -59,7 +59,7 @@ module _ (now : HubView) (hub : IsHub now) (pool : History) (roll : IsRollOf now
       (old : List (Option PutListView)) (ls : List ProducerEnd)
       (is : now.puts ≡ old ++ map (λ (l : ProducerEnd). Some (ended_list l)) ls)
       (from end budget : ℕ) (first : from ≡ length old) (last : end ≡ length old + length ls) where
-    -- each consumer of the run that was not stopped has a note at each item
+    -- each consumer of the run that was not stopped has a note on each item of the run's lanes
     pub all_noted : (es : List (PollDone Z)) (base : List (Option History)) (c : ℕ) → length base ≡ c
         → now.cells.roll.readers ≡ base ++ map (λ (x : ConsumerEnd). Some x.reads)
         (consumer_ends m may_stop may_pass es) → AreNumbered m may_stop may_pass from end budget c es

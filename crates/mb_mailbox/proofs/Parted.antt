@@ -38,7 +38,7 @@ module _ {R Z : Type 0} (may_stop may_pass : Who → ℕ → Type 0) (stream : R
   polls_parted (k ∷ ks) (done.Poll d ∷ ds) z =
       let t = polls_parted ks ds z.1 in (d ∷ t.0, ap (λ l. done.Poll d ∷ l) t.1, (z.0, t.2))
 
-  -- if producers' jobs come first, so do their ends
+  -- if the producers' jobs come first, and then the consumers', their ends come in the same order
   pub parted : (js : List (PutJob Z)) (ks : List (PollJob R Z)) (ends : List (Done Z))
       → AllZip (IsEnd may_stop may_pass stream lanes) (map job.Put js ++ map job.Poll ks) ends → Parted js ks ends
   parted [] ks ends z =
@@ -55,7 +55,7 @@ module _ {R Z : Type 0} (may_stop may_pass : Who → ℕ → Type 0) (stream : R
         polled = t.polled;
       }
 
-  -- the producer or consumer of a job is one of the mailbox at the end, too
+  -- if the producer or consumer of a job is one of the mailbox, so is the producer or consumer of the job's end
   end_at : (m : MailboxView) (j : Job R Z) (d : Done Z) → IsJobOf m j → IsEnd may_stop may_pass stream lanes j d
       → IsDoneOf m d
   end_at m (job.Put j) (done.Put d) o e = record { table = e.same.table ∙ o.table }
@@ -75,8 +75,8 @@ module _ {R Z : Type 0} (may_stop may_pass : Who → ℕ → Type 0) (stream : R
       All-cons (IsDoneOf m) d ds (end_at m j d (All-head (IsJobOf m) j js a) z.0)
       (ends_at m js ds (All-tail (IsJobOf m) j js a) z.1)
 
--- ---- what such ends say together
--- a sum over a mapped list is the sum over the list, if each element counts the same
+-- ---- what the ends of both kinds say together
+-- if x counts by f as h x does by g, the sum over a list is the sum over the list mapped by h
 pub sum_same : {X Y : Type 0} (f : X → ℕ) (g : Y → ℕ) (h : X → Y) → ((x : X) → f x ≡ g (h x))
     → (xs : List X) → sum_by f xs ≡ sum_by g (map h xs)
 sum_same f g h e [] = refl
@@ -84,7 +84,7 @@ sum_same f g h e (x ∷ xs) = sum_by-cons f x xs ∙ (λ i. e x i + sum_same f g
     ∙ sym (sum_by-cons g (h x) (map h xs))
 
 module _ {Z : Type 0} where
-  -- a sum over all ends is that over the producers' ends, and that over the consumers'
+  -- a sum over all ends is the sum over the producers' ends plus the sum over the consumers' ends
   sum_parted : (f : Done Z → ℕ) (ds : List (PutDone Z)) (es : List (PollDone Z))
       → sum_by f (map done.Put ds ++ map done.Poll es)
       ≡ sum_by (λ d. f (done.Put d)) ds + sum_by (λ d. f (done.Poll d)) es
@@ -128,7 +128,7 @@ module _ {Z : Type 0} where
       let rest = all_parted P ds es (All-tail P (done.Put d) later a) in
       (All-cons (λ d. P (done.Put d)) d ds (All-head P (done.Put d) later a) rest.0, rest.1)
 
-  -- the hub has taken in the producers, and then the consumers
+  -- a hub that takes back the ends in this order takes back the producers, and then the consumers
   pub taken_parted : (ds : List (PutDone Z)) (es : List (PollDone Z)) (h : HubView)
       → with_taken (map done.Put ds ++ map done.Poll es) h
       ≡ with_taken_consumers (map (λ d. d.consumer) es) (with_taken_producers (map (λ d. d.producer) ds) h)

@@ -8,7 +8,7 @@ use Rattle.mb_mailbox.specs.Consumers.{ConsumerView, parts_of}
 use Rattle.mb_mailbox.specs.ConsumerStep.{ConsumerStep}
 use Rattle.mb_mailbox.specs.Steps.{AnswerTells, AreDrawn, AreSteps, HasDone, IsPollOf, IsStep, LeadTo, note_with, outcome, with_note, drawn_words}
 
--- after one more access the parts and notes are those with it
+-- if `HasDone` holds of accesses without an answer, and then of one more access, it holds of all of them
 done_more : (p : ℕ) (a : WorldAccess) (done : WorldHistory) (answer : Option Poll)
     (old now new : ConsumerView) → HasDone p done None old now
     → HasDone p (a ∷ []) answer now new → HasDone p (a ∷ done) answer old new
@@ -23,7 +23,7 @@ done_more p (ToClaims b) done answer old now new was h = record {
   notes = h.notes ∙ ap (with_note p (note_with answer)) was.notes;
 }
 
--- after one more access each access is still the next one by the parts before it
+-- with one more access, each access is still the next one by the parts before it
 lead_more : (p : ℕ) (a : WorldAccess) (done : WorldHistory) (answer : Option Poll)
     (old now : ConsumerView) → HasDone p done None old now
     → LeadTo p None done old → LeadTo p answer (a ∷ []) now → LeadTo p answer (a ∷ done) old
@@ -34,7 +34,7 @@ lead_more p a done answer old now was lead step = (
   lead,
 )
 
--- after one more access the words drawn are those with its word
+-- with one more access, the words drawn are those drawn before and then its word, if it draws one
 drawn_more : (a : WorldAccess) (done : WorldHistory) (s t u : Stream) → AreDrawn s (drawn_words done) t
     → AreDrawn t (drawn_words (a ∷ [])) u
     → AreDrawn s (drawn_words (a ∷ done)) u
@@ -55,7 +55,7 @@ steps_more p n answer s t u old now new m st =
       count = omega arith;
     }
 
--- no step changes nothing
+-- a consumer that made no step is as before
 pub no_steps : (p : ℕ) (s : Stream) (old : ConsumerView) → AreSteps p 0 None s s old old
 no_steps p s old = record {
   accesses = [];
@@ -69,13 +69,13 @@ no_steps p s old = record {
   count = refl;
 }
 
--- one step is a row of one
+-- one step alone makes `AreSteps` with n = 1
 pub history_extends : (p : ℕ) (answer : Option Poll) (s t : Stream) (old new : ConsumerView)
     → IsStep p answer s t old new → AreSteps p 1 answer s t old new
 history_extends p answer s t old new st = steps_more p 0 answer s s t old old new (no_steps p s old) st
 
 -- ---- polls
--- steps within the budget make a poll, if they are as many as the budget when the poll is spent
+-- steps make a poll if they are at most the budget, and just as many as the budget if the poll is spent
 pub poll_of : (p n budget : ℕ) (x : Poll) (s t : Stream) (old new : ConsumerView)
     → AreSteps p n (outcome x) s t old new → n ≤ budget
     → (x ≡ poll.Spent → n ≡ budget) → IsPollOf p budget x s t old new
@@ -88,7 +88,7 @@ poll_of p n budget x s t old new m few all = record {
   spent = λ e. m.count ∙ all e;
 }
 
--- an answer says of a lane what it said, if the consumer knew the same parts of lanes before
+-- `AnswerTells` from `now` on holds from `old` on, too, if the consumer knew the same parts of lanes then
 pub told_from : (p : ℕ) (answer : Option Poll) (old now new : ConsumerView) → now.reader.known ≡ old.reader.known
     → AnswerTells p answer now new → AnswerTells p answer old new
 told_from p answer old now new same tells = record {

@@ -1,4 +1,4 @@
--- What a poll that kept a claim in a variable comes to: it stands past the cell, or is at the cell again.
+-- What a poll with its claim in a variable comes to: the consumer stands past the cell, or is at the cell again.
 use Rattle.std.proofs.Common.{◌≡◌, ◌≢◌, ℕ, ◌+◌, List, refl, sym, ap, ◌∙◌, subst, arith}
 use Rattle.std.specs.Prelude.{Option, Some, None, slice_get, slice_set}
 use Rattle.mb_claim.specs.declared.access.Stage.TheVariants as stage
@@ -20,13 +20,13 @@ use Rattle.mb_mailbox.proofs.Made.{at_views, item_made}
 use Rattle.mb_mailbox.proofs.Polls.{steps_more}
 use Rattle.mb_mailbox.proofs.Telling.{noted}
 
--- `b` has the consumer's fields with a place on lane p that is out of date. The consumer holds this claim there
+-- `b` has the consumer's fields, in which the place on lane p is out of date: the consumer holds this claim there
 module _ (b : ConsumerView) (p k : ℕ) (claim : Claim) where
   -- the consumer that holds the claim
   abbrev s : ConsumerView
   s = holding p k claim b
 
-  -- if accesses of the claim led to this stage, these fields are those of the consumer
+  -- if accesses of the claim led to this stage, these places and notes are those of the consumer then
   pub seen_at : (now : Claim) (st : Stage) (seat : SeatView) (places : List Place)
       (notes : List (List Note)) → claim_stage now ≡ st
       → seat ≡ record b.seat { part = seat.part }
@@ -49,11 +49,11 @@ module _ (b : ConsumerView) (p k : ℕ) (claim : Claim) where
     abbrev mid : ConsumerView
     mid = moved_to p (At k now) None b.reader.part seat.part s
 
-    -- accesses of the claim led to the consumer before the load
+    -- the consumer after accesses of the claim is `mid`
     mid_is : competed p k now seat s ≡ mid
     mid_is = ap (λ z. moved_to p (place_after k now z) (note_of z) b.reader.part seat.part s) won
 
-    -- before the load the consumer keeps what consumers keep, and stands at the cell (`mid_at`)
+    -- `IsConsumer` holds of the consumer before the load, and it stands at the cell (`mid_at`)
     pub mid_consumer : IsConsumer mid
     mid_consumer = subst IsConsumer mid_is so.is
 
@@ -65,11 +65,11 @@ module _ (b : ConsumerView) (p k : ℕ) (claim : Claim) where
     abbrev new : ConsumerView
     new = at_views reader seat places notes
 
-    -- that consumer has the seat of the claims that the accesses made
+    -- that consumer has the seat of the claims as it is after the accesses of the claim
     new_is : at_views reader (record b.seat { part = seat.part }) places notes ≡ new
     new_is = ap (λ (z : SeatView). at_views reader z places notes) (sym so.same)
 
-    -- the load is one more step, and comes to the item
+    -- with the load there is one step more, and the steps come to `Took` with the item
     pub took_steps : ConsumerStep (claims_at mid.seat.table) mid.seat.consumer p
         (parts_of mid.reader mid.seat) (ToCells (load mid.reader.reader (Item k) v))
         (Some (poll.Took v))
@@ -83,7 +83,7 @@ module _ (b : ConsumerView) (p k : ℕ) (claim : Claim) where
         (at_views reader (record b.seat { part = seat.part }) places notes) was
         (item_made mid mid p k v reader places notes refl makes f next u))
 
-    -- after the load the consumer keeps what consumers keep
+    -- after the load `IsConsumer` still holds of the consumer
     pub took_is : IsConsumer (moved_to p (Before (Past k)) (Some (Took v)) (reads_with_item mid k v)
         mid.seat.part mid) → IsConsumer new
     took_is i =
@@ -96,7 +96,7 @@ module _ (b : ConsumerView) (p k : ℕ) (claim : Claim) where
     pub took_noted : IsConsumer new → HasNoteOnEach p new
     took_noted i = noted new p (Past k) i (ap (λ ps. slice_get ps p) e ∙ set_here b.places p (Before (Past k)) there at)
 
-    -- the poll ends with the item
+    -- `IsPursuit` holds of the poll, which ends with the item
     pub pursued_took : (most left made m : ℕ) → n ≡ made + m → made + 1 + left ≡ most
         → ConsumerStep (claims_at mid.seat.table) mid.seat.consumer p (parts_of mid.reader mid.seat)
         (ToCells (load mid.reader.reader (Item k) v)) (Some (poll.Took v))
@@ -114,8 +114,8 @@ module _ (b : ConsumerView) (p k : ℕ) (claim : Claim) where
           is = took_is i;
         }
 
-  -- ---- the claim has ended otherwise, or goes on
-  -- if the claim is lost or undecided, the poll ends past the cell
+  -- ---- the claim is lost or undecided, or the poll is spent
+  -- if the claim is lost or undecided, `IsPursuit` holds of the poll, and the consumer stands past the cell
   pub pursued_past : (most left made n : ℕ) (now : Claim) (st : Stage) (note : Note) (answer : Poll)
       (t u : Stream) (from : ConsumerView)
       (seat : SeatView) (places : List Place) (notes : List (List Note)) (there : Place)
@@ -143,7 +143,7 @@ module _ (b : ConsumerView) (p k : ℕ) (claim : Claim) where
         is = end;
       }
 
-  -- if the claim goes on or is won, the poll leaves it for the next poll
+  -- if the claim goes on or is won and no budget is left, the poll is spent, and the consumer still holds the claim
   pub pursued_spent : (most left n : ℕ) (now : Claim) (st : Stage) (t u : Stream) (from : ConsumerView)
       (seat : SeatView) (places : List Place)
       → left ≡ 0 → claim_stage now ≡ st → note_of st ≡ None → stage_answer st ≡ None → place_after k now st ≡ At k now

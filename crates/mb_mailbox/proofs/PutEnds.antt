@@ -1,4 +1,4 @@
--- The end of a producer's worker: what it put is a beginning of its list, and what a finish keeps of the fetch-adds.
+-- The end of a producer's job: what was put is a beginning of the list, and a finish makes no fetch-add.
 use Rattle.std.proofs.Common.{◌≡◌, ◌≢◌, ◌≤◌, ⊎_elim, ℕ, Bool, true, false, List, take, drop, refl, sym, ap, subst, inr}
 use Rattle.std.proofs.lemmas.List.{take-append-drop}
 use Rattle.mb_cells.specs.declared.answer.Finish.{Finish}
@@ -16,7 +16,7 @@ use Rattle.mb_mailbox.specs.Producers.{FoundNoCell, IsEndOfLane, ProducerView}
 pub front_take : (n : ℕ) (xs : List ℕ) → IsFront (take n xs) xs
 front_take n xs = (drop n xs, take-append-drop n xs)
 
--- if a fetch-add found no cell before a finish, one has found none after it
+-- if a fetch-add of the producer had found no cell before a finish, this still holds after it
 pub found_still : (r : Finish) (old new : ProducerView) → (r ≡ finish.Ended → IsEndOfLane old new)
     → (r ≡ finish.Closed → new ≡ old) → r ≢ finish.Busy
     → FoundNoCell old → FoundNoCell new

@@ -1,4 +1,4 @@
--- What a producer's offer and its two pushes make of it, and what an offer does that is refused.
+-- What a producer is after an offer and two pushes, and what an offer does that is refused.
 use Rattle.std.proofs.Common.{◌≡◌, ◌≢◌, ℕ, ◌+◌, ◌<◌, Bool, true, false, cond, List, [], ◌∷◌, ◌++◌, length, map, refl, sym, ap, ◌∙◌, subst, arith}
 use Rattle.std.specs.Prelude.{Option, Some, None, nat_lt}
 use Rattle.std.proofs.lemmas.Bool.{ltb-true, eq-eqb, ne_eqb}
@@ -23,7 +23,7 @@ use Rattle.mb_mailbox.proofs.Lists.{some_same}
 abbrev pub producer_at : LaneSeatView → List ℕ → ProducerView
 producer_at seat items = record { seat = seat; items = items }
 
--- a link to a cell is no end mark
+-- to store a link to a cell does not end a lane
 no_mark : (p k : ℕ) (w : Word) (h : History) → IsLinkWord w → k + 1 ≢ END
     → has_ended p (store p w (k + 1) ∷ h) ≡ has_ended p h
 no_mark p k (Head q) h l ne = rw (eq-eqb p p refl) (rw (ne_eqb (k + 1) END ne) refl)
@@ -57,7 +57,7 @@ took_by old x k n new true low told m =
     })
 took_by old x k n new false low told m = absurd (cc)
 
--- what an offer that returned a cell did, by the stage of the producer's place
+-- `Took` holds of an offer that returned a cell, if it was made from this stage of the producer's place
 took_at : (old : LaneSeatView) (x k : ℕ) (new : LaneSeatView) (at : LaneStage)
     → OfferBy (stage_offer_refusal at) old x (offer.Cell k) new → Took old x k new
 took_at old x k new stage.Open m = took_by old x k m.0 new (nat_lt m.0 old.table.size.cells) refl m.1 m.2
@@ -66,7 +66,7 @@ took_at old x k new (stage.Stored c) m = absurd (cc)
 took_at old x k new stage.Full m = absurd (cc)
 took_at old x k new (stage.Ended f) m = absurd (cc)
 
--- a fetch-add puts nothing
+-- a fetch-add leaves the put list of its lane as it is
 pub fetch_keeps : PutLaws → (old : LaneSeatView) (e : Entry)
     → IsAccessAfter old.table.size [] (fetch old.lane e) old.part
     → put_list old.lane (fetch old.lane e ∷ old.part) ≡ put_list old.lane old.part
@@ -97,7 +97,7 @@ module _ (laws : PutLaws) (s : ProducerView) (x k : ℕ) (one two : Push) (a b n
   abbrev linked_part : History
   linked_part = store p (next_link p s.seat.place) (k + 1) ∷ h
 
-  -- what the offer did
+  -- the offer made a fetch-add that found cell k
   took : Took s.seat x k a
   took = took_at s.seat x k a s.seat.place.stage o
 
@@ -126,7 +126,7 @@ module _ (laws : PutLaws) (s : ProducerView) (x k : ℕ) (one two : Push) (a b n
     items = refl;
   }
 
-  -- the put list has the entry at its end
+  -- after the put, the lane's put list has entry e at its end
   grown : put_list p linked_part ≡ put_list p s.seat.part ++ e ∷ []
   grown =
       let size = s.seat.table.size in
@@ -136,13 +136,13 @@ module _ (laws : PutLaws) (s : ProducerView) (x k : ℕ) (one two : Push) (a b n
       laws.link h p k (next_link p s.seat.place) (link_word p s.seat.place.last) no_end
       ∙ (λ j. (laws.item (fetch p e ∷ s.seat.part) p p k x ∙ fetch_keeps laws s.seat e took.after) j ++ entry j ∷ [])
 
-  -- the values put are the producer's items and this one
+  -- after the put, the values put are the producer's items before, and x
   values : values_put p linked_part ≡ s.items ++ x ∷ []
   values = ap (λ (l : List Entry). map (λ (z : Entry). z.value) l) grown
       ∙ map-append (λ (z : Entry). z.value) (put_list p s.seat.part) (e ∷ [])
       ∙ ap (λ (l : List ℕ). l ++ x ∷ []) (sym i.items)
 
-  -- after the put the producer keeps what producers keep
+  -- after the put `IsProducer` still holds of the producer
   pub still : IsProducer (record { seat = now; items = s.items ++ x ∷ [] })
   still = record {
     items = sym values ∙ ap (λ (v : LaneSeatView). values_put v.lane v.part) (sym second.1);
@@ -165,7 +165,7 @@ module _ (laws : PutLaws) (s : ProducerView) (x k : ℕ) (one two : Push) (a b n
       ∙ length-map (put_list p s.seat.part) (λ (z : Entry). z.value) in
       omega arith
 
-  -- none of the three accesses stores an end mark
+  -- the lane has ended after the put exactly if it had before: none of the three accesses stores an end mark
   pub over_stays : is_over (record { seat = now; items = s.items ++ x ∷ [] }) ≡ is_over s
   over_stays =
       let no_end : k + 1 ≢ END = let low = took.low in let few = first.0.lawful.sized in λ z. omega arith in
@@ -221,7 +221,7 @@ offer_is_over laws s x answer now h m over =
     ((laws.closed s.seat.table.size g p s.seat.place h.history.1 place).1
     (laws.ended g p ∙ ap (has_ended p) h.history.2 ∙ over)) m
 
--- an offer never returns `Busy`, since no item waits for its link
+-- an offer never returns `Busy`, since no item of the producer is pending
 pub not_busy : (s : ProducerView) (x : ℕ) (now : LaneSeatView) → IsProducer s → OfferMakes s.seat x offer.Busy now → ⊥
 not_busy s x now i m = by s.seat.place.stage m i.idle
   where

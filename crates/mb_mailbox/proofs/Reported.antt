@@ -1,4 +1,4 @@
--- The report of what was returned is the report of the histories that have its parts.
+-- The report of what was returned to a hub is the report of the two histories that have the parts returned.
 use Rattle.std.proofs.Common.{◌≡◌, ℕ, zero, suc, ◌+◌, ◌*◌, ◌<◌, Bool, true, false, not, ◌||◌, List, [], length, refl, sym, ap, ◌∙◌, subst, arith}
 use Rattle.std.proofs.lemmas.Bool.{false≢true, lt-ltb}
 use Rattle.std.specs.Prelude.{Option, Some, None, if◌then◌else◌, nat_lt, slice_get}
@@ -26,11 +26,11 @@ any_same : (n : ℕ) (f g : ℕ → Bool) → ((c : ℕ) → c < n → f c ≡ g
 any_same zero f g same = refl
 any_same (suc n) f g same = λ i. same n (omega arith) i || any_same n f g (λ c low. same c (omega arith)) i
 
--- if a test holds, the first of two is chosen
+-- if b is true, a choice by b is the first of the two
 chosen : {X : Type 0} (b : Bool) (x y : X) → b ≡ true → (if b then x else y) ≡ x
 chosen b x y e = ap (λ z. if z then x else y) e
 
--- the report's diary of a consumer on a lane is what the hub keeps
+-- the report's diary of consumer c on lane p is the one by the hub's records
 pub notes_are : (lanes consumers : ℕ) (h : HubView) (r : ReportView)
     → IsReportIn lanes consumers h r → (c p : ℕ) → c < consumers → p < lanes
     → diary c p r ≡ Some (diary_in c p h)
@@ -40,7 +40,7 @@ notes_are lanes consumers h r is c p known low =
     (lt-ltb p (length r.lanes) (subst (λ z. p < z) (sym n) low))
     ∙ ap (λ z. slice_get r.diaries (c * z + p)) n ∙ is.diary c p known low
 
--- an item is taken by the hub's notes if it is so by the report's
+-- the notes in the hub's records and those in the report say the same of whether an item was taken
 taken_same : (lanes consumers : ℕ) (h : HubView) (r : ReportView) → IsReportIn lanes consumers h r
     → (p j : ℕ) → p < lanes
     → is_taken_in consumers p j h ≡ is_taken consumers p j r
@@ -49,7 +49,7 @@ taken_same lanes consumers h r is p j low =
     (λ c known. ap (λ (o : Option DiaryView). is_took (slice_get (option_map_or (λ d. d.notes) o []) j))
     (sym (notes_are lanes consumers h r is c p known low)))
 
--- the hub's lane is that of the histories
+-- lane p by the hub's records is lane p by the histories
 pub lane_is : (m : MailboxView) (h : HubView) (hs : Histories) (r : ReportView) (p : ℕ) → p < m.cells.size.lanes
     → IsReportIn m.cells.size.lanes (consumers_of (plan_at m)) h r → Tells m h hs.pool p
     → lane_in (consumers_of (plan_at m)) p h ≡ lane_view (plan_at m) p hs r
@@ -69,7 +69,7 @@ module _ (plan : Plan) (c p : ℕ) (hs : Histories) (empty : no_parts ≡ parts_
   no_cells : cells_met p (parts_in c hs).reads ≡ []
   no_cells = ap (λ (x : Parts). cells_met p x.reads) (sym empty)
 
-  -- the empty diary is that of the histories
+  -- the histories say, too, that the consumer's diary is empty
   pub silent_diary : IsDiaryOf plan c p hs (record { consumer = c; lane = p; notes = []; begun = false })
   silent_diary = record {
     consumer = refl;
@@ -81,7 +81,7 @@ module _ (plan : Plan) (c p : ℕ) (hs : Histories) (empty : no_parts ≡ parts_
     begun = (λ e. absurd (false≢true e), λ t. absurd t.1);
   }
 
--- what the hub keeps of a consumer is its diary in the histories
+-- the diary of consumer c by the hub's records is its diary by the histories
 pub diary_told : (m : MailboxView) (h : HubView) (hs : Histories) (c p : ℕ) → p < m.cells.size.lanes
     → ((xs : List ObjectTurn) (s r : Stage) → IsClaimPrefix (plan_at m).claims c xs s
     → IsClaimPrefix (plan_at m).claims c xs r → s ≡ r)
@@ -116,7 +116,7 @@ diary_told m h hs c p low one path met (Keeps.never e empty) =
     (λ i. record { consumer = c; lane = p; notes = noted i; begun = begun i })
     (silent_diary (plan_at m) c p hs empty met)
 
--- the hub's report is that of the histories
+-- the report by the hub's records is the report by the histories
 pub report_is : (m : MailboxView) (h : HubView) (hs : Histories) (r : ReportView)
     → IsReportIn m.cells.size.lanes (consumers_of (plan_at m)) h r
     → ((p : ℕ) → Tells m h hs.pool p)

@@ -12,7 +12,7 @@ abbrev pub consumer_end : ConsumerView → Bool → ConsumerEnd
 consumer_end s stopped =
     record { kept = record_of s; reads = s.reader.part; claimed = s.seat.part; stopped = stopped }
 
--- a consumer that has read lanes to their end marks has met these end marks, under its number c
+-- a consumer of number c that has read some lanes to their end marks has loaded each of these end marks once
 pub met_at : (from end c : ℕ) (s : ConsumerView) → s.reader.reader ≡ c → HasReadEnds from end s
     → HasMetEnds from end c s.reader.part
 met_at from end c s is r = record {
@@ -26,7 +26,7 @@ met_at from end c s is r = record {
   once = r.once;
 }
 
--- `full` counts the items that the producer did not put
+-- if `full` is the rest of the list after the items put, or 0 if the producer was stopped, it is `items_behind`
 pub behind : (stopped : Bool) (list put : List ℕ) (full : ℕ) → (stopped ≡ false → length put + full ≡ length list)
     → (stopped ≡ true → full ≡ 0) → full ≡ items_behind stopped list put
 behind true list put full rest none = none refl

@@ -1,4 +1,4 @@
--- From the jobs of a run, through their ends, to what the hub has then.
+-- What the ends of a run's jobs say, and what the hub has after it took back all producers and consumers.
 use Rattle.std.proofs.Common.{◌≡◌, ◌≢◌, ℕ, suc, ◌+◌, ◌-◌, ◌<◌, ◌≤◌, Bool, true, false, List, [], ◌∷◌, ◌++◌, length, map, refl, sym, ap, ◌∙◌, subst, arith}
 use Rattle.std.specs.Prelude.{Some, Vec}
 use Rattle.std.specs.List.{All, AllZip, sum_by}
@@ -28,7 +28,7 @@ module _ {Z : Type 0} (m : MailboxView) (may_stop may_pass : Who → ℕ → Typ
   abbrev pub lanes_of : List (PutDone Z) → List ProducerEnd
   lanes_of ds = map (λ d. producer_end d.producer d.stopped) ds
 
-  -- the end of the job of lane p
+  -- `d` is the end of a job of a new producer of lane p, whose list is `v`
   pub record IsPutEndAt (p : ℕ) (v : Vec ℕ Z) (d : PutDone Z) : Type 0 where
     pub lane : d.producer.seat.lane ≡ p
     pub table : d.producer.seat.table ≡ m.cells
@@ -47,7 +47,7 @@ module _ {Z : Type 0} (m : MailboxView) (may_stop may_pass : Who → ℕ → Typ
   AreAt p (v ∷ vs) (d ∷ ds) = IsPutEndAt p v d × AreAt (suc p) vs ds
   AreAt p _ _ = ⊥
 
-  -- the end of a new producer's job is such an end
+  -- `IsPutEndAt` holds of the end of the job of a new producer
   end_at : (p : ℕ) (v : Vec ℕ Z) (j : PutJob Z) (d : PutDone Z) → j.producer ≡ new_producer m p → j.list ≡ v
       → IsPutEnd may_stop may_pass j d → IsPutEndAt p v d
   end_at p v j d is list e =
@@ -82,7 +82,7 @@ module _ {Z : Type 0} (m : MailboxView) (may_stop may_pass : Who → ℕ → Typ
         };
       }
 
-  -- the ends of new producers' jobs are such ends
+  -- `AreAt` holds of the ends of the jobs of new producers
   are_at : (p : ℕ) (vs : List (Vec ℕ Z)) (js : List (PutJob Z)) (ds : List (PutDone Z)) → ArePutJobs m p vs js
       → AllZip (IsPutEnd may_stop may_pass) js ds → AreAt p vs ds
   are_at p [] [] [] a z = tt
@@ -92,7 +92,7 @@ module _ {Z : Type 0} (m : MailboxView) (may_stop may_pass : Who → ℕ → Typ
   are_at p (v ∷ vs) (j ∷ js) [] a z = absurd z
   are_at p (v ∷ vs) (j ∷ js) (d ∷ ds) a z = (end_at p v j d a.0 a.1 z.0, are_at (suc p) vs js ds a.2 z.1)
 
-  -- the producers of such ends are those of the lanes from p on
+  -- the producers of these ends are those of the lanes from p on
   count_lanes : (p : ℕ) (vs : List (Vec ℕ Z)) (ds : List (PutDone Z)) → AreAt p vs ds
       → CountFrom (λ (s : ProducerView). s.seat.lane) p (producers ds)
   count_lanes p [] [] a = tt
@@ -108,7 +108,7 @@ module _ {Z : Type 0} (m : MailboxView) (may_stop may_pass : Who → ℕ → Typ
   fronts_of p (v ∷ vs) [] a = absurd a
   fronts_of p (v ∷ vs) (d ∷ ds) a = (a.0.front, fronts_of (suc p) vs ds a.1)
 
-  -- what the hub keeps of each of these producers says that its lane has ended
+  -- what the hub records of each of these producers has its items, and says that its lane has ended
   ended_of : (p : ℕ) (vs : List (Vec ℕ Z)) (ds : List (PutDone Z)) → AreAt p vs ds
       → map (λ (s : ProducerView). Some (put_list_of s)) (producers ds)
       ≡ map (λ (l : ProducerEnd). Some (ended_list l)) (lanes_of ds)
@@ -118,14 +118,14 @@ module _ {Z : Type 0} (m : MailboxView) (may_stop may_pass : Who → ℕ → Typ
   ended_of p (v ∷ vs) (d ∷ ds) a =
       λ i. Some (record { items = d.producer.items; ended = a.0.over i }) ∷ ended_of (suc p) vs ds a.1 i
 
-  -- what these producers came to has their parts
+  -- `lanes_of` has the parts of these producers
   parts_of_lanes : (ds : List (PutDone Z))
       → map (λ (s : ProducerView). Some s.seat.part) (producers ds) ≡ map (λ (l : ProducerEnd). Some l.part)
       (lanes_of ds)
   parts_of_lanes [] = refl
   parts_of_lanes (d ∷ ds) = ap (λ l. Some d.producer.seat.part ∷ l) (parts_of_lanes ds)
 
-  -- together the ends count in `full` all items that were not put
+  -- the fields `full` of the ends add up to the items not put by producers that were not stopped
   beyond_of : (p : ℕ) (vs : List (Vec ℕ Z)) (ds : List (PutDone Z)) → AreAt p vs ds
       → sum_by (λ (d : PutDone Z). d.full) ds ≡ items_beyond (lists_in vs) (lanes_of ds)
   beyond_of p [] [] a = refl
@@ -135,7 +135,7 @@ module _ {Z : Type 0} (m : MailboxView) (may_stop may_pass : Who → ℕ → Typ
       let one = behind d.stopped v.items d.producer.items d.full a.0.full a.0.none in
       sum_by-cons (λ (d : PutDone Z). d.full) d ds ∙ (λ i. one i + beyond_of (suc p) vs ds a.1 i)
 
-  -- if one of these producers was not stopped and put less than its list, it found no cell
+  -- if one of these producers was not stopped and put less than its list, a fetch-add of it found no cell
   cut_of : (p : ℕ) (vs : List (Vec ℕ Z)) (ds : List (PutDone Z)) → AreAt p vs ds
       → AreCutByCells m.cells.size.cells p (lists_in vs) (lanes_of ds)
   cut_of p [] [] a = tt
@@ -144,7 +144,7 @@ module _ {Z : Type 0} (m : MailboxView) (may_stop may_pass : Who → ℕ → Typ
   cut_of p (v ∷ vs) (d ∷ ds) a =
       (λ f short. let here = a.0.full f in a.0.found f (λ z. omega (arith, here, z, short)), cut_of (suc p) vs ds a.1)
 
-  -- which producers were stopped, if the run is not aborted
+  -- if the run is not aborted, each producer that was stopped was stopped before the put of its list's next item
   stops_of : (p : ℕ) (vs : List (Vec ℕ Z)) (ds : List (PutDone Z)) → AreAt p vs ds
       → All (λ (d : PutDone Z). d.aborted ≡ false) ds
       → AreStoppedPuts may_stop m.cells.size.cells p (lists_in vs) (lanes_of ds)
@@ -155,7 +155,7 @@ module _ {Z : Type 0} (m : MailboxView) (may_stop may_pass : Who → ℕ → Typ
       let F = λ (d : PutDone Z). d.aborted ≡ false in
       (λ t. a.0.stop t (All-head F d ds on), stops_of (suc p) vs ds a.1 (All-tail F d ds on))
 
-  -- which calls of producers were let through, if the run is not aborted
+  -- if the run is not aborted, the gate let each of these producers through before each of its calls
   passes_of : (p : ℕ) (vs : List (Vec ℕ Z)) (ds : List (PutDone Z)) → AreAt p vs ds
       → All (λ (d : PutDone Z). d.aborted ≡ false) ds → WerePassed may_pass p (lists_in vs) (lanes_of ds)
   passes_of p [] [] a on = tt
@@ -170,7 +170,7 @@ module _ {Z : Type 0} (m : MailboxView) (may_stop may_pass : Who → ℕ → Typ
   abbrev pub consumers : List (PollDone Z) → List ConsumerView
   consumers ds = map (λ d. d.consumer) ds
 
-  -- the end of the job of consumer c, which read the lanes from `from` on and below `end`
+  -- `d` is the end of the job of a new consumer c, which polls the lanes from `from` on and below `end`
   pub record IsPollEndAt (from end budget c : ℕ) (d : PollDone Z) : Type 0 where
     pub reader : d.consumer.reader.reader ≡ c
     pub consumer : d.consumer.seat.consumer ≡ c
@@ -181,12 +181,12 @@ module _ {Z : Type 0} (m : MailboxView) (may_stop may_pass : Who → ℕ → Typ
     pub unread : d.stopped ≡ true → d.aborted ≡ false → ends_met d.consumer.reader.part < end - from
     pub only : d.aborted ≡ false → IsOnLanes from end d.consumer.reader.part
 
-  -- these are the ends of the jobs of consumers with the numbers from c on
+  -- these are the ends of the jobs of new consumers, with the numbers from c on
   abbrev pub AreNumbered : ℕ → ℕ → ℕ → ℕ → List (PollDone Z) → Type 0
   AreNumbered from end budget c [] = Unit {0}
   AreNumbered from end budget c (d ∷ ds) = IsPollEndAt from end budget c d × AreNumbered from end budget (suc c) ds
 
-  -- the ends of the jobs of new consumers are such ends
+  -- `AreNumbered` holds of the ends of the jobs of new consumers
   numbered : {R : Type 0} (stream : R → Stream) (h : HubView) (from end budget c : ℕ) (js : List (PollJob R Z))
       (ds : List (PollDone Z)) → length h.records ≡ c → ArePollJobs m h js
       → AllZip (λ j d. IsPollEnd may_stop may_pass from end budget (stream j.rng) j.consumer d) js ds
@@ -210,7 +210,7 @@ module _ {Z : Type 0} (m : MailboxView) (may_stop may_pass : Who → ℕ → Typ
         numbered stream _ from end budget (suc c) js ds (one_more h c e) a.1 z.1,
       )
 
-  -- the consumers of such ends have the numbers from c on, at the claims and as readers
+  -- the seats of these consumers at the claims have the numbers from c on. The next lemma says so of the readers' seats
   count_seats : (from end budget c : ℕ) (ds : List (PollDone Z)) → AreNumbered from end budget c ds
       → CountFrom (λ (s : ConsumerView). s.seat.consumer) c (consumers ds)
   count_seats from end budget c [] a = tt
@@ -224,7 +224,7 @@ module _ {Z : Type 0} (m : MailboxView) (may_stop may_pass : Who → ℕ → Typ
   abbrev pub consumer_ends : List (PollDone Z) → List ConsumerEnd
   consumer_ends ds = map (λ d. consumer_end d.consumer d.stopped) ds
 
-  -- which consumers were stopped, if the run is not aborted
+  -- if the run is not aborted, each consumer that was stopped was stopped before a call, as `IsStoppedPoll` says
   poll_stops_of : (from end budget c : ℕ) (ds : List (PollDone Z)) → AreNumbered from end budget c ds
       → All (λ (d : PollDone Z). d.aborted ≡ false) ds
       → AreStoppedPolls may_stop budget c (consumer_ends ds)
@@ -233,11 +233,11 @@ module _ {Z : Type 0} (m : MailboxView) (may_stop may_pass : Who → ℕ → Typ
       let F = λ (d : PollDone Z). d.aborted ≡ false in
       (λ t. a.0.stop t (All-head F d ds on), poll_stops_of from end budget (suc c) ds a.1 (All-tail F d ds on))
 
-  -- the sources of jobs
+  -- the random words of each of these jobs, as a stream
   abbrev pub sources_of : {R : Type 0} → (R → Stream) → List (PollJob R Z) → List Stream
   sources_of stream js = map (λ j. stream j.rng) js
 
-  -- each consumer polls with the words of its own source
+  -- if the run is not aborted, each consumer made its calls with the words of its own source
   polled_of : {R : Type 0} (stream : R → Stream) (h : HubView) (from end budget c : ℕ) (js : List (PollJob R Z))
       (ds : List (PollDone Z)) → IsHubOf m h → length h.records ≡ c → ArePollJobs m h js
       → AllZip (λ j d. IsPollEnd may_stop may_pass from end budget (stream j.rng) j.consumer d) js ds
@@ -267,7 +267,7 @@ module _ {Z : Type 0} (m : MailboxView) (may_stop may_pass : Who → ℕ → Typ
             (All-tail F d ds on),
       )
 
-  -- if the run is not aborted, each consumer has looked at the heads of these lanes alone
+  -- if the run is not aborted, each consumer has loaded no head of another lane than of these
   only_of : (from end budget c : ℕ) (ds : List (PollDone Z)) → AreNumbered from end budget c ds
       → All (λ (d : PollDone Z). d.aborted ≡ false) ds
       → All (λ (x : ConsumerEnd). IsOnLanes from end x.reads) (consumer_ends ds)
@@ -278,7 +278,7 @@ module _ {Z : Type 0} (m : MailboxView) (may_stop may_pass : Who → ℕ → Typ
       (consumer_ends ds) (a.0.only (All-head F d ds on))
       (only_of from end budget (suc c) ds a.1 (All-tail F d ds on))
 
-  -- a consumer that was not stopped has loaded as many end marks as there are lanes
+  -- a consumer that was not stopped has loaded as many end marks as there are lanes in the run
   ends_of : (from end budget c : ℕ) (ds : List (PollDone Z)) → AreNumbered from end budget c ds
       → All (λ (x : ConsumerEnd). x.stopped ≡ false → ends_met x.reads ≡ end - from) (consumer_ends ds)
   ends_of from end budget c [] a = λ k d low. absurd (omega (arith, low))
@@ -287,7 +287,7 @@ module _ {Z : Type 0} (m : MailboxView) (may_stop may_pass : Who → ℕ → Typ
       (consumer_end d.consumer d.stopped) (consumer_ends ds) a.0.ends
       (ends_of from end budget (suc c) ds a.1)
 
-  -- each consumer has met the end marks of the lanes that it has read to their ends
+  -- each consumer has loaded the end mark of each lane that it has read to its end once, and no other end mark
   mets_of : (from end budget c : ℕ) (ds : List (PollDone Z)) → AreNumbered from end budget c ds
       → HaveMetEnds from end c (consumer_ends ds)
   mets_of from end budget c [] a = tt
@@ -328,7 +328,7 @@ module _ {Z : Type 0} (m : MailboxView) (may_stop may_pass : Who → ℕ → Typ
         zip_length (λ j d. IsPollEnd may_stop may_pass from end budget (stream j.rng) j.consumer d) ks es polled
         ∙ sym (length-map es (λ (d : PollDone Z). d.consumer))
 
-    -- the run is one for these lists and as many sources as consumers' jobs
+    -- `IsRunOf` holds for these lists, with as many sources as there are consumers' jobs
     pub run_of : IsRunOf (lists_in vs) (length ks) (lanes_of ds) (consumer_ends es) h now
     run_of = record {
       puts = run_puts js ks (producers ds) (consumers es) h puts_count (count_lanes (length h.puts) vs ds ats)

@@ -19,7 +19,7 @@ use Rattle.mb_mailbox.proofs.Standings.{same_length}
 use Rattle.mb_mailbox.proofs.Straight.{OwnCell}
 use Rattle.mb_mailbox.proofs.Telling.{noted}
 
--- clauses of laws of mb_claim, mb_world and mb_cells
+-- laws of mb_claim, mb_world and mb_cells, each as a type of its own, to be a premise of the lemmas below
 abbrev pub OneStage : Type 0
 OneStage = (cs : Claims) (c : ℕ) (xs : List ObjectTurn) (s r : Stage)
     → IsQuorumTable cs.table → IsClaimPrefix cs c xs s → IsClaimPrefix cs c xs r → s ≡ r
@@ -32,13 +32,13 @@ abbrev pub TellsCell : Type 0
 TellsCell = (v k : ℕ) → look_of v ≡ look.Cell k → (v ≡ k + 1) × (v ≢ END)
 
 -- ---- cells met
--- one more load takes no cell away
+-- after one more load a consumer has met no fewer cells
 pushed : (b : Bool) (given : Option ℕ) (ks : List ℕ) → length ks ≤ length (cond b (push_if given ks) ks)
 pushed true None ks = omega arith
 pushed true (Some k) ks = omega arith
 pushed false given ks = omega arith
 
--- if a look has no answer, it found a cell
+-- if the load of a link comes to no answer, it found a cell k, so the link is k + 1
 found : TellsCell → (v : ℕ) (l : Look) → look_of v ≡ l → None ≡ link_answer l
     → (k : ℕ) × (v ≡ k + 1) × (k + 1 ≢ END)
 found tells v look.Nothing is none = absurd (cc)
@@ -62,15 +62,15 @@ module _ (own : OwnCell) (one : OneStage) (meets : MeetsCell) (tells : TellsCell
   abbrev met : WorldHistory → List ℕ
   met done = cells_met p (x done).reads
 
-  -- all these accesses are looks that found cells
+  -- each of these accesses is a load of a link, or of the head, that found a cell
   abbrev AreLooks : WorldHistory → Type 0
   AreLooks done = length (met done) ≡ length done + length (met [])
 
-  -- with those of the claim on cell k these accesses are no more than looks that found cells
+  -- these accesses are no more than the cells that they met and all accesses of the claim on cell k together
   abbrev AreFew : ℕ → WorldHistory → Type 0
   AreFew k done = length done + length (met []) ≤ length (met done) + length ((x done).claimed k)
 
-  -- the consumer then holds a claim on the last cell that it met
+  -- `AreFew` holds of these accesses, and after them the consumer is not done with the last cell that it met
   record IsOnClaim (done : WorldHistory) : Type 0 where
     pub cell : ℕ
     pub cells : List ℕ
@@ -83,7 +83,7 @@ module _ (own : OwnCell) (one : OneStage) (meets : MeetsCell) (tells : TellsCell
   grown (ToCells a) done =
       pushed (is_same_word a.word (place_past p (met done))) (cell_given a.act) (met done)
 
-  -- after an access of a claim the accesses are few, if they were before it
+  -- if `AreLooks` or `IsOnClaim` holds of some accesses, `AreFew` holds with one access of the claim on cell k more
   counted : (k : ℕ) (t : ObjectTurn) (done : WorldHistory) → IsLastMet p k (x done)
       → AreLooks done ⊎ IsOnClaim done → AreFew k (claim_step c k t ∷ done)
   counted k t done last (inl were) =
@@ -115,7 +115,7 @@ module _ (own : OwnCell) (one : OneStage) (meets : MeetsCell) (tells : TellsCell
       by (stage.Lost w) is none won = absurd (cc)
       by stage.Undecided is none won = absurd (cc)
 
-  -- one more access without an answer
+  -- if `AreLooks` or `IsOnClaim` holds of some accesses, it does so with one access more that comes to no answer
   one_more : (a : WorldAccess) (done : WorldHistory) → ConsumerStep cs c p (x done) a None
       → AreLooks done ⊎ IsOnClaim done → AreLooks (a ∷ done) ⊎ IsOnClaim (a ∷ done)
   one_more a done (looks v past e none) (inl were) =
@@ -140,7 +140,7 @@ module _ (own : OwnCell) (one : OneStage) (meets : MeetsCell) (tells : TellsCell
   all [] lead = inl (omega arith)
   all (a ∷ done) lead = one_more a done lead.0 (all done lead.1)
 
-  -- if they met at most one cell, and no claim has made more than `most` accesses, they are at most `most` and two
+  -- if these accesses met at most one cell, and no claim has made more than `most`, they are at most `most + 2`
   pub few_made : (most : ℕ) (answer : Option Poll) (done : WorldHistory) → LeadTo p answer done old
       → length (met done) ≤ suc (length (met [])) → ((k : ℕ) → length ((x done).claimed k) ≤ most)
       → length done ≤ most + 2
@@ -184,7 +184,7 @@ are_noted p s i low = let there = get_some s.places p low in by there.0 there.1
         let cells = ap length h.2.met in
         record { low = omega (arith, count, cells); high = omega (arith, count, cells) }
 
--- an answer adds at most one note
+-- after a note is added on lane p, if there is one to add, this lane has at most one note more
 one_note : (p : ℕ) (o : Option Note) (notes : List (List Note)) → p < length notes
     → length (notes_on p (with_note p o notes)) ≤ suc (length (notes_on p notes))
 one_note p None notes low = omega arith

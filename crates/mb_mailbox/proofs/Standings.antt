@@ -15,7 +15,7 @@ use Rattle.mb_world.specs.declared.place.Place.TheVariants.{At, Before}
 use Rattle.mb_mailbox.proofs.Lists.{get_some, set_get, some_same}
 
 -- ---- claims that have ended with notes
--- if each claim ends as before, all of them do
+-- if each claim on these cells that ended with a note by x did so by y, then `AreEnds` holds by y if it does by x
 pub ends_more : (cs : Claims) (c : ℕ) (x y : Parts) (ks : List ℕ) (ns : List Note)
     → ((k : ℕ) (n : Note) → Has ks k → EndsAs cs c k n x → EndsAs cs c k n y) → AreEnds cs c ks ns x
     → AreEnds cs c ks ns y
@@ -25,14 +25,14 @@ ends_more cs c x y (k ∷ ks) [] more e = absurd e
 ends_more cs c x y (k ∷ ks) (n ∷ ns) more e =
     (more k n (inl refl) e.0, ends_more cs c x y ks ns (λ j m has. more j m (inr has)) e.1)
 
--- a claim ends as before if its steps stay, and an item that was loaded still is
+-- a claim that ended with a note by x did so by y, if its steps are the same, and y has the loads of its item, too
 pub end_kept : (cs : Claims) (c k : ℕ) (n : Note) (x y : Parts) → x.claimed k ≡ y.claimed k
     → ((v : ℕ) → HasRead (Item k) v x.reads → HasRead (Item k) v y.reads) → EndsAs cs c k n x → EndsAs cs c k n y
 end_kept cs c k (Took v) x y same more e = (subst (λ xs. IsClaimPrefix cs c xs stage.Won) same e.0, more v e.1)
 end_kept cs c k (Lost w) x y same more e = subst (λ xs. IsClaimPrefix cs c xs (stage.Lost w)) same e
 end_kept cs c k Undecided x y same more e = subst (λ xs. IsClaimPrefix cs c xs stage.Undecided) same e
 
--- there is a note for each cell
+-- if claims on cells have ended with notes, there are as many notes as cells
 pub same_length : (cs : Claims) (c : ℕ) (ks : List ℕ) (ns : List Note) (x : Parts)
     → AreEnds cs c ks ns x → length ns ≡ length ks
 same_length cs c [] [] x e = refl
@@ -41,14 +41,14 @@ same_length cs c (k ∷ ks) [] x e = absurd e
 same_length cs c (k ∷ ks) (n ∷ ns) x e = omega (arith, same_length cs c ks ns x e.1)
 
 -- ---- lanes on which nothing changes
--- an access changes the parts x to y, and leaves lane q alone
+-- y says of lane q all that x says: the cells met, the claims on them, and which of them are not passed
 pub record Leaves (q : ℕ) (x y : Parts) : Type 0 where
   pub met : cells_met q y.reads ≡ cells_met q x.reads
   pub claims : (k : ℕ) → Has (cells_met q x.reads) k → x.claimed k ≡ y.claimed k
   pub more : (k v : ℕ) → HasRead (Item k) v x.reads → HasRead (Item k) v y.reads
   pub left : (k : ℕ) → Has (cells_met q x.reads) k → HasNotPassed k x → HasNotPassed k y
 
--- on such a lane the consumer stands as before
+-- if an access changes nothing on lane q, the consumer stands there as before, by the new parts, too
 pub stands_still : (layout : Layout) (cs : Claims) (c q : ℕ) (x y : Parts) (notes : List Note)
     (place : Place) → Leaves q x y
     → StandsOn layout cs c q x notes place → StandsOn layout cs c q y notes place
@@ -73,17 +73,17 @@ stands_still layout cs c q x y notes (At k claim) l o =
     }
 
 -- ---- the consumer after an access
--- the notes with one more, if there is a note to add
+-- these notes, with one more at the end if there is a note to add
 abbrev pub with_one : Option Note → List Note → List Note
 with_one None notes = notes
 with_one (Some n) notes = notes ++ n ∷ []
 
--- a note leaves the number of lists
+-- to add a note, or none, leaves the number of lists as it is
 count_with : (p : ℕ) (o : Option Note) (lists : List (List Note)) → length (with_note p o lists) ≡ length lists
 count_with p None lists = refl
 count_with p (Some n) lists = length-set lists p (notes_on p lists ++ n ∷ [])
 
--- the list of lane p has the note at its end
+-- after a note is added on lane p, if there is one, the list of lane p has it at its end
 list_with : (p : ℕ) (o : Option Note) (lists : List (List Note)) (ns ms : List Note) → slice_get lists p ≡ Some ns
     → slice_get (with_note p o lists) p ≡ Some ms → with_one o ns ≡ ms
 list_with p None lists ns ms e f = some_same ns ms (sym e ∙ f)
@@ -92,15 +92,15 @@ list_with p (Some n) lists ns ms e f =
     ⊎_elim (λ t. ap (λ l. l ++ n ∷ []) (sym on) ∙ t.1) (λ t. absurd (t.0 refl))
     (set_get lists p p (notes_on p lists ++ n ∷ []) ms f)
 
--- the list of another lane stays
+-- after a note is added on lane p, the list of another lane is as before
 list_else : (p q : ℕ) (o : Option Note) (lists : List (List Note)) (ms : List Note) → q ≢ p
     → slice_get (with_note p o lists) q ≡ Some ms → slice_get lists q ≡ Some ms
 list_else p q None lists ms ne f = f
 list_else p q (Some n) lists ms ne f =
     ⊎_elim (λ t. absurd (ne t.0)) (λ t. t.1) (set_get lists p q (notes_on p lists ++ n ∷ []) ms f)
 
--- after an access on lane p the consumer keeps what consumers keep, if its parts fit, it stands there as it should,
--- and the access leaves the other lanes alone
+-- `IsConsumer` still holds after an access on lane p if the parts fit, the consumer stands on lane p as they say, and
+-- the access changes nothing on the other lanes
 pub moves : (s : ConsumerView) (p : ℕ) (was place : Place) (o : Option Note) (reads : History)
     (made : List ClaimAccess) (i : IsConsumer s)
     → slice_get s.places p ≡ Some was

@@ -1,4 +1,4 @@
--- A poll that begins with a claim, and one more access of the claim.
+-- A poll that begins with a claim in a variable, and accesses of that claim.
 use Rattle.std.proofs.Common.{◌≡◌, ℕ, zero, suc, ◌+◌, ◌<◌, List, length, sym, ap, ◌∙◌, subst, arith}
 use Rattle.std.specs.Prelude.{Some, None, slice_get, sum_by}
 use Rattle.std.proofs.lemmas.List.{length-set}
@@ -50,11 +50,11 @@ module _ {Z : Type 0} (m : MailboxView) (pending : PendingClaim) (f : ConsumerFi
   abbrev places : List Place
   places = f.places.items
 
-  -- the consumer with the claim in its place
+  -- the consumer, with the claim at its place on lane p
   abbrev s : ConsumerView
   s = holding p k claim (with_fields f)
 
-  -- the lane has some place
+  -- the consumer's fields have some place for the lane
   pub there : (place : Place) × (slice_get places p ≡ Some place)
   there = get_some places p start.lane
 
@@ -78,12 +78,12 @@ module _ {Z : Type 0} (m : MailboxView) (pending : PendingClaim) (f : ConsumerFi
   pub unnoted : note_of (claim_stage claim) ≡ None
   unnoted = (holds s p k claim start.held here).2.unnoted
 
-  -- the steps so far led to the claim
+  -- if the steps of the poll so far led to the consumer with the claim, `HasCompeted` holds with no access of the claim
   pub begun : (from : ConsumerView) (n : ℕ) (t u : Stream) → AreSteps p n None t u from s
       → HasCompeted p k n claim t u from s seat
   begun from n t u so = competed_none p k n claim t u from s seat (λ j. seat) here unnoted start.held so
 
-  -- the claim makes one more access
+  -- `HasCompeted` still holds after one more access of the claim
   pub stepped : MovesOn → IsNext → (now : MailboxView) → now ≡ m
       → (from : ConsumerView) (made n word : ℕ) (was next : Claim) (before after : SeatView)
       (t u v : Stream) → claim_stage was ≡ stage.Going → HasCompeted p k (made + n) was t u from s before
@@ -101,7 +101,7 @@ module _ {Z : Type 0} (m : MailboxView) (pending : PendingClaim) (f : ConsumerFi
       let count : made + n + 1 ≡ made + 1 + n = omega arith in
       subst (λ z. HasCompeted p k z next t v from s after) count more
 
-  -- after accesses in a row the claim is still the consumer's
+  -- after several accesses the claim is still the consumer's own
   pub ran_own :
       (layout : Layout) (u : Stream) → consumer_of claim ≡ seat.consumer
       → (made : ℕ) (follows : Claim) (after : SeatView) (v : Stream)
@@ -111,7 +111,7 @@ module _ {Z : Type 0} (m : MailboxView) (pending : PendingClaim) (f : ConsumerFi
   ran_own layout u own (suc made) follows after v (at, before, w, word, older, going, drawn, step, still, stands) =
       still ∙ ran_own layout u own made at before w older ∙ sym (ap (λ (z : SeatView). z.consumer) step.adds)
 
-  -- after accesses in a row, the steps led to the claim as it is then
+  -- `HasCompeted` holds after several accesses of the claim
   pub ran :
       MovesOn → IsNext → (now : MailboxView) → now ≡ m → consumer_of claim ≡ seat.consumer
       → (from : ConsumerView) (n : ℕ) (t u : Stream)

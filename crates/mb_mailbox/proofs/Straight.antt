@@ -1,4 +1,4 @@
--- Accesses of a claim in a row: how many they are.
+-- How many accesses of a claim on one cell there are.
 use Rattle.std.proofs.Common.{◌≡◌, ◌+◌, ◌≤◌, ℕ, zero, suc, List, ◌∷◌, length, sym, ◌∙◌, ap, subst, arith}
 use Rattle.std.specs.Prelude.{Some}
 use Rattle.mb_claim.specs.Vocabulary.{IsClaimLawful, part}
@@ -10,7 +10,7 @@ abbrev pub OwnCell : Type 0
 OwnCell = (a : ClaimAccess) (h : List ClaimAccess)
     → part_on a.consumer a.cell (a ∷ h) ≡ a.step ∷ part_on a.consumer a.cell h
 
--- the part on a cell can be taken from the whole part, and is bounded. These are clauses of laws of mb_claim, too
+-- a consumer's own part has all that it did on a cell, and by `IsBounded` that is bounded: clauses of laws of mb_claim
 abbrev pub CutPart : Type 0
 CutPart = (c k : ℕ) (h : List ClaimAccess) → part_on c k (part c h) ≡ part_on c k h
 
@@ -18,7 +18,7 @@ abbrev pub IsBounded : Type 0
 IsBounded = (layout : Layout) (cells : ℕ) (h : List ClaimAccess) (c k : ℕ) → IsClaimLawful (claims_in layout cells) h
     → length (part_on c k h) ≤ most_accesses layout
 
--- accesses in a row lengthen the part on their cell
+-- n accesses of the claim on a cell make the consumer's part there n longer
 pub counted : OwnCell → (layout : Layout) (k n : ℕ) (claim now : Claim) (seat after : SeatView) (s t : Stream)
     → AreSeatSteps layout k claim seat s n now after t
     → length (part_on after.consumer k after.part) ≡ n + length (part_on seat.consumer k seat.part)
@@ -30,14 +30,14 @@ counted own layout k (suc n) claim now seat after s t (at, before, u, word, olde
     let longer = own a before.part in
     ap (λ (z : SeatView). length (part_on z.consumer k z.part)) step.adds ∙ ap length longer ∙ omega (arith, was)
 
--- accesses in a row keep the seat's table
+-- after accesses of a claim the seat has the same table as before
 kept : (layout : Layout) (k n : ℕ) (claim now : Claim) (seat after : SeatView) (s t : Stream)
     → AreSeatSteps layout k claim seat s n now after t → after.table ≡ seat.table
 kept layout k zero claim now seat after s t (is, keeps, e) = ap (λ (z : SeatView). z.table) keeps
 kept layout k (suc n) claim now seat after s t (at, before, u, word, older, going, drawn, step, still, stands) =
     ap (λ (z : SeatView). z.table) step.adds ∙ kept layout k n claim at seat before s u older
 
--- what a seat has done on a cell is no more than the layout allows
+-- a seat has made no more accesses on a cell than the layout allows
 pub few_on : CutPart → IsBounded → (layout : Layout) (cells k : ℕ) (seat : SeatView)
     → seat.table.size ≡ Some (record { layout = layout; cells = cells })
     → IsLawfulPart (claims_at seat.table) seat.consumer seat.part
@@ -49,7 +49,7 @@ few_on cut bounded layout cells k seat name lawful =
     (sym (cut seat.consumer k has.0) ∙ ap (part_on seat.consumer k) has.2)
     (bounded layout cells has.0 seat.consumer k has.1)
 
--- with those that the seat made there before, accesses in a row are no more than the layout allows
+-- n accesses of a claim, and those that the seat made on the cell before, are no more than the layout allows
 pub few_in_row : OwnCell → CutPart → IsBounded → (layout : Layout) (cells k n : ℕ) (claim now : Claim)
     (seat after : SeatView) (s t : Stream) → seat.table.size ≡ Some (record { layout = layout; cells = cells })
     → AreSeatSteps layout k claim seat s n now after t → IsLawfulPart (claims_at after.table) after.consumer after.part

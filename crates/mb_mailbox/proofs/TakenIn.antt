@@ -1,4 +1,4 @@
--- What a hub has taken back, beside the histories that have its parts.
+-- What a hub records of those returned agrees with the two histories that have their parts.
 use Rattle.std.proofs.Common.{◌≡◌, ℕ, zero, suc, ◌<◌, ◌≤◌, false, List, [], ◌∷◌, length, map, refl, sym, ap, ◌∙◌, subst, arith}
 use Rattle.std.specs.Prelude.{Option, Some, None, slice_get}
 use Rattle.std.specs.Option.{option_map_or}
@@ -20,7 +20,7 @@ use Rattle.mb_mailbox.specs.Mailboxes.{MailboxView, plan_at}
 use Rattle.mb_world.specs.declared.place.Place.{Place}
 use Rattle.mb_mailbox.proofs.Lists.{some_same}
 
--- ---- lists whose places are out or returned
+-- ---- lists by number, with `None` for each that was not returned
 -- at this place something was returned, or the place is past the list
 pub data At {X : Type 0} (xs : List (Option X)) (n : ℕ) : Type 0 where
   here : (x : X) → slice_get xs n ≡ Some (Some x) → At xs n
@@ -37,7 +37,7 @@ at (Some x ∷ xs) (suc n) e = by (at xs n e)
     by (here y f) = here y f
     by (past f low) = past f (omega arith)
 
--- if the roll has a part at each number, none is out
+-- if a part was returned for each number of the roll, no seat is out
 pub none_out : (roll : Roll) → ((c : ℕ) → c < length roll → (done : List ClaimAccess)
     × (slice_get roll c ≡ Some (Some done)))
     → count_out roll ≡ 0
@@ -48,7 +48,7 @@ none_out (None ∷ roll) all =
     let e : None ≡ Some t.0 = some_same None (Some t.0) t.1 in
     absurd (cc)
 
--- the part at a place of the roll is the part returned
+-- the part that the roll has at number c is the part returned of consumer c
 taken_is : (roll : Roll) (c : ℕ) (done : List ClaimAccess) → slice_get roll c ≡ Some (Some done)
     → taken_part roll c ≡ done
 taken_is [] c done e = absurd (cc)
@@ -57,20 +57,20 @@ taken_is (None ∷ roll) zero done e = let f : None ≡ Some done = some_same No
 taken_is (Some d ∷ roll) (suc c) done e = taken_is roll c done e
 taken_is (None ∷ roll) (suc c) done e = taken_is roll c done e
 
--- no part was returned past the roll
+-- for a number past the end of the roll, the part returned has no access
 taken_none : (roll : Roll) (c : ℕ) → length roll ≤ c → taken_part roll c ≡ []
 taken_none [] c low = refl
 taken_none (x ∷ roll) zero low = absurd (omega arith)
 taken_none (Some d ∷ roll) (suc c) low = taken_none roll c (omega arith)
 taken_none (None ∷ roll) (suc c) low = taken_none roll c (omega arith)
 
--- what the hub has kept is what `kept_at` gives
+-- what `kept_at` gives for a number, by the element that the list has there
 abbrev pub kept_of : {X : Type 0} → Option (Option X) → Option X
 kept_of {X} o = option_map_or (λ (z : Option X). z) o None
 
 -- ---- consumers
--- consumer c's parts of the histories determine what the hub keeps of it. A consumer that was never issued has done
--- nothing
+-- the hub's record of consumer c agrees with c's parts of the histories. If c was never issued, it has no record, and
+-- its parts have no access
 pub data Keeps (m : MailboxView) (h : HubView) (hs : Histories) (c : ℕ) : Type 0 where
   was_in : (l : ConsumerRecordView) → kept_at h.records c ≡ Some l
       → length l.places ≡ m.cells.size.lanes → length l.notes ≡ m.cells.size.lanes
@@ -81,7 +81,7 @@ pub data Keeps (m : MailboxView) (h : HubView) (hs : Histories) (c : ℕ) : Type
       → Keeps m h hs c
   never : kept_at h.records c ≡ None → no_parts ≡ parts_in c hs → Keeps m h hs c
 
--- the two histories, in which consumer c is reader c
+-- the two histories, in which consumer c is the reader with the same number c
 abbrev pub histories_in : List ClaimAccess → History → Histories
 histories_in claims pool = record { claims = claims; pool = pool; reader_of = λ c. c }
 
@@ -93,12 +93,12 @@ module _ (m : MailboxView) (h : HubView) (claims : List ClaimAccess) (pool : His
   abbrev hs : Histories
   hs = histories_in claims pool
 
-  -- the steps on a cell are those of the part that was returned
+  -- consumer c's steps on a cell are the same in its part that was returned and in the history of the claims
   steps : (c : ℕ) (done : List ClaimAccess) → taken_part h.claims.roll c ≡ done → (k : ℕ)
       → part_on c k done ≡ part_on c k claims
   steps c done e k = ap (λ l. part_on c k l) (sym (made c ∙ e)) ∙ cut c k claims
 
-  -- what the hub keeps of a consumer that was returned is right by the histories
+  -- the hub's record of a consumer that was returned agrees with the histories
   kept : (c : ℕ) (l : ConsumerRecordView) (reads : History) (done : List ClaimAccess)
       → slice_get h.records c ≡ Some (Some l)
       → part (Reader c) pool ≡ reads → taken_part h.claims.roll c ≡ done
@@ -120,7 +120,7 @@ module _ (m : MailboxView) (h : HubView) (claims : List ClaimAccess) (pool : His
       subst (λ (z : TableSize × Parts). StandsOn z.0.layout (claims_in z.0.layout z.0.cells) c p z.1 notes place)
       (λ j. (size j, parts j)) (k.lanes p place notes f g))
 
-  -- if no consumer is missing, this holds of each
+  -- if no consumer is missing, `Keeps` holds of each
   pub keeps : count_missing h.records ≡ 0 → (c : ℕ) → Keeps m h hs c
   keeps all c = by (at h.records c all)
     where
@@ -144,7 +144,7 @@ all_in h i all = none_out h.claims.roll (λ c low. by c low (at h.records c all)
     by c low (past e most) = let same = i.seats in absurd (omega arith)
 
 -- ---- producers
--- the pool's history determines what the hub keeps of the producer of lane p
+-- what the hub records of the producer of lane p agrees with the pool's history
 pub record Tells (m : MailboxView) (h : HubView) (pool : History) (p : ℕ) : Type 0 where
   pub items : items_in p h ≡ values_put p pool
   pub ended : ended_in p h ≡ has_ended p pool
@@ -156,11 +156,11 @@ module _ (m : MailboxView) (h : HubView) (pool : History) (i : IsHub h) (belongs
     (ended : (p : ℕ) → has_ended p pool ≡ has_ended p (part (Producer p) pool))
     (linked : (p : ℕ) → linked_cells p pool ≡ linked_cells p (part (Producer p) pool))
     (all : (who : Process) (a : PoolAccess) → Has pool a → a.process ≡ who → Has (part who pool) a) where
-  -- the values put by a producer's part are those of the history
+  -- a producer's part puts the same values into its lane as the whole history does
   values : (p : ℕ) (done : History) → part (Producer p) pool ≡ done → values_put p done ≡ values_put p pool
   values p done e = ap (λ (l : List Entry). map (λ (z : Entry). z.value) l) (ap (put_list p) (sym e) ∙ sym (put p))
 
-  -- what the hub keeps of a producer that was returned is right by the history
+  -- what the hub records of a producer that was returned agrees with the history
   told : (p : ℕ) (l : PutListView) (done : History) → slice_get h.puts p ≡ Some (Some l) → part (Producer p) pool ≡ done
       → IsPutList h.cells.table.size.cells p done l → Tells m h pool p
   told p l done e d k = record {
@@ -183,7 +183,7 @@ module _ (m : MailboxView) (h : HubView) (pool : History) (i : IsHub h) (belongs
         absurd (subst (λ z. Has z (fetch p entry)) none (all (Producer p) (fetch p entry) has refl));
   }
 
-  -- if no producer is missing, this holds of each lane
+  -- if no producer is missing, `Tells` holds of each lane
   pub tells : count_missing h.puts ≡ 0 → (p : ℕ) → Tells m h pool p
   tells none p = by (at h.puts p none)
     where

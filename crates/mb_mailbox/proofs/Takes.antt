@@ -1,4 +1,4 @@
--- Takes: polls in a row, past the items that are lost.
+-- Takes: polls one after another, past the items that are lost.
 use Rattle.std.proofs.Common.{◌≡◌, ◌≢◌, ◌+◌, ◌<◌, ◌≤◌, ℕ, List, [], ◌∷◌, ◌++◌, ap, arith, length, subst, sym, ◌∙◌}
 use Rattle.std.specs.Prelude.{Some}
 use Rattle.mb_mailbox.specs.Imports.{Cursor, ReaderSeatView, Stream, WorldHistory}
@@ -13,7 +13,7 @@ use Rattle.mb_mailbox.specs.declared.consumer.Poll.TheVariants as poll
 use Rattle.mb_mailbox.proofs.Grown.{grown_by}
 use Rattle.mb_mailbox.proofs.Polls.{told_from}
 
--- a poll of what is left is within the budget, and leaves none of it if it is spent
+-- after a poll of what is left, the accesses since `start` are at most `most`, and by `spent_by` just `most` if spent
 pub within_by : (p most : ℕ) (answer : Poll) (s t : Stream) (start old new : ConsumerView)
     → IsPollOfRest p most answer s t start old new → accesses_made new ≤ accesses_made start + most
 within_by p most answer s t start old new i =
@@ -31,7 +31,7 @@ spent_by p most answer s t start old new i e =
     let grown = grown_by p i.poll.accesses _ old new i.poll.done in
     omega (arith, all, rest, grown)
 
--- ---- what goes on with what is left
+-- ---- a take that goes on with the budget that is left
 -- `mid` is the consumer after some accesses, and `left` is what they left of `most`
 module _ (p most left : ℕ) (start mid : ConsumerView)
     (rest : accesses_made mid + left ≡ accesses_made start + most) where
@@ -39,7 +39,7 @@ module _ (p most left : ℕ) (start mid : ConsumerView)
       → IsPollOfRest p left answer s t mid old new → IsPollOfRest p most answer s t start old new
   rest_on answer s t old new i = record { left = i.left; rest = i.rest ∙ rest; poll = i.poll }
 
-  -- items that are passed then are passed in all
+  -- if items are passed up to `mid`, and others from there on with what is left, all of them are passed from `start` on
   pub passed_on : (older later : List ℕ) (s t u : Stream) (new : ConsumerView) → HasPassed p most older s t start mid
       → HasPassed p left later t u mid new → HasPassed p most (later ++ older) s u start new
   passed_on older [] s t u new was (drawn, is) =
@@ -47,7 +47,7 @@ module _ (p most left : ℕ) (start mid : ConsumerView)
   passed_on older (w ∷ later) s t u new was (v, last, more, one) =
       (v, last, passed_on older later s t v last was more, rest_on (poll.Lost w) v u last new one)
 
-  -- a take of what is left ends the take
+  -- items passed up to `mid`, and a take from there on with what is left, make one take from `start` on
   pub take_on : (older : List ℕ) (answer : Poll) (s t u : Stream) (new : ConsumerView)
       → HasPassed p most older s t start mid → IsTakeOf p left answer t u mid new → IsTakeOf p most answer s u start new
   take_on older answer s t u new was i = record {
@@ -60,7 +60,7 @@ module _ (p most left : ℕ) (start mid : ConsumerView)
   }
 
 -- ---- a poll that lost an item
--- it made an access
+-- a poll that lost an item made an access. So by `lost_grows` the consumer has made more accesses than before
 lost_by : (p w : ℕ) (done : WorldHistory) (s : ConsumerView) → LeadTo p (Some (poll.Lost w)) done s → 0 < length done
 lost_by p w [] s lead = absurd (cc)
 lost_by p w (a ∷ older) s lead = omega arith
@@ -72,7 +72,7 @@ lost_grows p budget w s t old new i =
     let grown = grown_by p i.accesses _ old new i.done in
     omega (arith, some, grown)
 
--- to pass items adds accesses
+-- a consumer that has passed items, or none, has made no fewer accesses than before
 pub passed_grows : (p most : ℕ) (winners : List ℕ) (s t : Stream) (start new : ConsumerView)
     → HasPassed p most winners s t start new → accesses_made start ≤ accesses_made new
 passed_grows p most [] s t start new (drawn, is) = let same = ap accesses_made is in omega (arith, same)
@@ -81,7 +81,7 @@ passed_grows p most (w ∷ older) s t start new (u, mid, was, last) =
     let more = lost_grows p last.left w u t mid new last.poll in
     omega (arith, before, more)
 
--- the lanes of which a consumer knows what was put stay the same while it passes items
+-- a consumer that has passed items knows the same parts of lanes as before
 pub passed_known : (p most : ℕ) (winners : List ℕ) (s t : Stream) (start new : ConsumerView)
     → HasPassed p most winners s t start new → new.reader.known ≡ start.reader.known
 passed_known p most [] s t start new (drawn, is) = ap (λ (v : ConsumerView). v.reader.known) is
@@ -89,7 +89,7 @@ passed_known p most (w ∷ older) s t start new (u, mid, was, last) =
     ap (λ (r : ReaderSeatView). r.known) last.poll.done.reader ∙ passed_known p most older s u start mid was
 
 -- ---- the end of a take
--- after items that were passed, a poll that loses no item makes a take
+-- items passed, and then a poll of what is left that loses no item, make a take, and `AnswerTells` holds of it
 pub take_by : (p most left : ℕ) (winners : List ℕ) (answer : Poll) (s t u : Stream) (start mid new : ConsumerView)
     → HasPassed p most winners s t start mid → accesses_made mid + left ≡ accesses_made start + most
     → IsPollOf p left answer t u mid new → ((w : ℕ) → answer ≢ poll.Lost w)
@@ -108,8 +108,8 @@ take_by p most left winners answer s t u start mid new was rest one over tells =
 )
 
 -- ---- the cursor in a variable
--- a consumer with these fields and its cursor in a variable has passed items of lane p. `left` is
--- what is left of `most`
+-- a consumer with these fields, but with the cursor `at` on lane p, has passed items of lane p. Its own field for the
+-- place there may be out of date. `left` is what is left of `most`
 pub record HasPassedTo {Z : Type 0} (m : MailboxView) (p most : ℕ) (s t : Stream) (start : ConsumerView) (at : Cursor)
     (f : ConsumerFields Z) (left : ℕ) : Type 0 where
   pub winners : List ℕ

@@ -18,7 +18,7 @@ use Rattle.mb_mailbox.specs.Steps.{AreSteps, outcome, with_note}
 use Rattle.mb_mailbox.proofs.Made.{at_views}
 use Rattle.mb_mailbox.proofs.Pursuing.{mid_at, mid_consumer, pursued_took, seen_at}
 
--- what straight accesses of a new claim from a seat led to
+-- accesses of a new claim, made straight from this seat, led to `stretch`, which says how many of `most` are left
 abbrev pub AreStraight : Layout → ℕ → SeatView → Stream → ℕ → Stretch → SeatView → Stream → Type 0
 AreStraight layout k seat s most stretch after t =
     (start : Claim) × IsStanding layout seat.consumer 0 seat.consumer start
@@ -26,7 +26,7 @@ AreStraight layout k seat s most stretch after t =
     × HasEnd layout seat.consumer stretch end × IsClaimIn layout end (part_on after.consumer k after.part)
     × (n ≤ most_accesses layout)
 
--- a claim that goes on has made an access before it is won
+-- if a claim goes on, and is won after n accesses, n is at least 1
 pub some_made : (layout : Layout) (k n : ℕ) (claim now : Claim) (seat after : SeatView) (s t : Stream)
     → AreSeatSteps layout k claim seat s n now after t → claim_stage claim ≡ stage.Going
     → claim_stage now ≡ stage.Won → 1 ≤ n
@@ -35,8 +35,8 @@ some_made layout k zero claim now seat after s t (is, keeps, e) going won =
 some_made layout k (suc n) claim now seat after s t steps going won = omega arith
 
 -- ---- the load of the item
--- By `TakesNext` that load is the next access of a consumer whose claim is won. After it the consumer keeps what
--- consumers keep. These are clauses of src/consumer/moves.rt
+-- By `TakesNext` that load is the next access of a consumer whose claim is won. By `TakesOn` the consumer is as
+-- `IsConsumer` says after it, too. Both are clauses of laws in src/consumer/moves.rt
 abbrev pub TakesNext : Type 0
 TakesNext = (s : ConsumerView) (p k v : ℕ) (claim : Claim) → IsConsumer s → HasPlace p (At k claim) s
     → claim_stage claim ≡ stage.Won
@@ -49,7 +49,7 @@ TakesOn = (s : ConsumerView) (p k v : ℕ) (claim : Claim) → IsConsumer s → 
     → IsConsumer (moved_to p (Before (Past k)) (Some (Took v)) (reads_with_item s k v) s.seat.part s)
 
 module _ (b : ConsumerView) (p k : ℕ) (claim : Claim) where
-  -- if the claim is won, the load of the item ends the poll
+  -- if the claim is won, the load of the item ends the poll, and `IsPursuit` holds of it
   pub taken : TakesNext → TakesOn → HasLoads b
       → (v : ℕ) (now : Claim) (seat : SeatView) (reader : ReaderSeatView) (places : List Place)
       (notes : List (List Note)) (made n most left : ℕ) (t u : Stream) (from : ConsumerView) (there : Place)
@@ -65,7 +65,7 @@ module _ (b : ConsumerView) (p k : ℕ) (claim : Claim) where
       most left made n refl sum (next mid p k v now is at won) (on mid p k v now is loads at won)
 
   -- ---- the claim goes on
-  -- if accesses of the claim led to one that goes on, the consumer holds that claim
+  -- if accesses of the claim led to a claim that goes on, the consumer holds that claim
   module _ (n : ℕ) (now : Claim) (t u : Stream) (from : ConsumerView) (seat : SeatView)
       (going : claim_stage now ≡ stage.Going) (so : HasCompeted p k n now t u from (holding p k claim b) seat) where
     -- the consumer with the claim as it is then
@@ -85,7 +85,7 @@ module _ (b : ConsumerView) (p k : ℕ) (claim : Claim) where
         (seen_at b p k claim now stage.Going seat (slice_set b.places p (At k now)) b.notes going so.same refl refl)
         so.is
 
--- accesses before those of a pursuit are made in it
+-- if `IsPursuit` holds after `a` accesses of the claim, with what they left of `most`, it holds before them with `most`
 pub pursued_on : (p a n rest most left : ℕ) (x : Poll) (t u : Stream) (from new : ConsumerView) → a + rest ≡ most
     → IsPursuit p (a + n) rest left x t u from new → IsPursuit p n most left x t u from new
 pursued_on p a n rest most left x t u from new sum so =
@@ -102,13 +102,13 @@ pursued_on p a n rest most left x t u from new sum so =
     }
 
 -- ---- one exchange
--- what one access of a new claim from a seat led to
+-- one access of a new claim, made from this seat, led to a claim at this stage
 abbrev pub IsOneAccess : Layout → ℕ → SeatView → Stream → Stage → SeatView → Stream → Type 0
 IsOneAccess layout k seat s st after t =
     (start : Claim) × IsStanding layout seat.consumer 0 seat.consumer start
     × (end : Claim) × AreSeatSteps layout k start seat s 1 end after t × (claim_stage end ≡ st)
 
--- a claim that has ended, is decided and is not lost is won
+-- a stage that is not `Going`, `Undecided` or `Lost` is `Won`
 pub only_won : (st : Stage) → st ≢ stage.Going → st ≢ stage.Undecided → ((w : ℕ) → st ≢ stage.Lost w)
     → st ≡ stage.Won
 only_won stage.Going ended decided never = absurd (ended refl)

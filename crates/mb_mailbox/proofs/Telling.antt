@@ -14,7 +14,7 @@ use Rattle.mb_world.specs.declared.place.Place.TheVariants.{Before}
 use Rattle.mb_mailbox.proofs.Moving.{before}
 use Rattle.mb_mailbox.proofs.Standings.{same_length}
 
--- before a link the consumer has a note on each cell that it met on the lane
+-- a consumer that stands before a link of a lane has a note on each cell that it met there
 pub noted : (s : ConsumerView) (p : ℕ) (at : Cursor) → IsConsumer s → HasPlace p (Before at) s → HasNoteOnEach p s
 noted s p at i e =
     let b = before s p at i e in
@@ -74,7 +74,7 @@ module _ (laws : Laws) (s : ConsumerView) (p : ℕ) (at : Cursor) (now : ReaderS
   )
 
 -- ---- what each answer says
--- what the answer `Nothing` says
+-- `AnswerTells` holds after a load of a link that found nothing
 pub tells_nothing : Laws → ((v : ℕ) → look_of v ≡ look.Nothing → v ≡ 0)
     → (s : ConsumerView) (p : ℕ) (at : Cursor) (now : ReaderSeatView) → IsConsumer s → HasLoads s
     → HasPlace p (Before at) s
@@ -93,7 +93,7 @@ tells_nothing laws zero_by s p at now i h e m whole =
       known_ended = λ theirs k f. absurd (cc);
     }
 
--- what the answer `Ended` says
+-- `AnswerTells` holds after a load of a link that found the end mark
 pub tells_end : Laws → ((v : ℕ) → look_of v ≡ look.Ended → v ≡ END)
     → (s : ConsumerView) (p : ℕ) (at : Cursor) (now : ReaderSeatView) → IsConsumer s → HasLoads s
     → HasPlace p (Before at) s
@@ -113,7 +113,7 @@ tells_end laws end_by s p at now i h e m whole =
           (whole theirs k (met_by_part laws s p h) (word laws s p at now i h e m.0 none m.2.1));
     }
 
--- a step that has no answer says nothing
+-- `AnswerTells` holds after a step that comes to no answer, of which it says nothing
 pub tells_none : (p : ℕ) (old new : ConsumerView) → AnswerTells p None old new
 tells_none p old new = record {
   noted = λ some. absurd (some refl);
@@ -122,7 +122,7 @@ tells_none p old new = record {
   known_ended = λ theirs k f. absurd (cc);
 }
 
--- what the answer of a load of an item says
+-- `AnswerTells` holds after the load of an item, if the consumer then has a note on each cell that it met
 pub tells_item : (p v : ℕ) (old new : ConsumerView) → HasNoteOnEach p new → AnswerTells p (Some (poll.Took v)) old new
 tells_item p v old new has = record {
   noted = λ _. has;

@@ -17,7 +17,7 @@ use Rattle.mb_mailbox.proofs.Standings.{same_length}
 use Rattle.mb_mailbox.proofs.Turned.{FromEnd, at_end, end_within, from_end}
 
 module _ (cs : Claims) (c : ℕ) (x : Parts) where
-  -- a note, counted from the end, is of the cell at the same place
+  -- the note at place j from the end says how the claim on the cell at place j from the end has ended
   note_end : (ks : List ℕ) (ns : List Note) (j : ℕ) (n : Note) → AreEnds cs c ks ns x → FromEnd ns j n
       → (k : ℕ) × FromEnd ks j k × EndsAs cs c k n x
   note_end [] [] j n e at = absurd at
@@ -27,14 +27,14 @@ module _ (cs : Claims) (c : ℕ) (x : Parts) where
       (k, inl (at.0 ∙ same_length cs c ks ns x e.1, refl), subst (λ z. EndsAs cs c k z x) at.1 e.0)
   note_end (k ∷ ks) (m ∷ ns) j n e (inr at) = let t = note_end ks ns j n e.1 at in (t.0, inr t.1, t.2)
 
-  -- the claim on each of the cells has ended with a note
+  -- the claim on each of these cells has ended with some note
   has_end : (ks : List ℕ) (ns : List Note) (k : ℕ) → AreEnds cs c ks ns x → Has ks k → (n : Note) × EndsAs cs c k n x
   has_end [] ns k e has = absurd has
   has_end (j ∷ ks) [] k e has = absurd e
   has_end (j ∷ ks) (n ∷ ns) k e (inl is) = (n, subst (λ i. EndsAs cs c i n x) is e.0)
   has_end (j ∷ ks) (n ∷ ns) k e (inr has) = has_end ks ns k e.1 has
 
-  -- a note, in the order of time, is of the cell at the same place from the first on
+  -- in the order of time and from 0 on, note j says how the claim on the j-th cell met has ended
   noted : (ks : List ℕ) (notes : List Note) (j : ℕ) (n : Note) → AreEnds cs c ks (reverse notes) x
       → slice_get notes j ≡ Some n
       → (k : ℕ) × FromEnd ks j k × EndsAs cs c k n x
@@ -43,13 +43,13 @@ module _ (cs : Claims) (c : ℕ) (x : Parts) where
       (from_end (reverse notes) j n (subst (λ (l : List Note). slice_get l j ≡ Some n)
       (sym (reverse-reverse notes)) at))
 
-  -- each of the cells has a note at its place
+  -- if there is a j-th cell met, there is a j-th note
   short : (ks : List ℕ) (notes : List Note) (j k : ℕ) → AreEnds cs c ks (reverse notes) x
       → FromEnd ks j k → j < length notes
   short ks notes j k e at =
       subst (λ n. j < n) (sym (same_length cs c ks (reverse notes) x e) ∙ length-reverse notes) (end_within ks j k at)
 
-  -- a claim that the consumer holds has not ended
+  -- a claim that the consumer holds has not ended with any note
   held_open : (layout : Layout) (p : ℕ) (notes : List Note) (k : ℕ) (claim : Claim) (n : Note)
       → ((xs : List ObjectTurn) (s r : Stage) → IsClaimPrefix cs c xs s → IsClaimPrefix cs c xs r → s ≡ r)
       → ((xs : List ObjectTurn) → IsClaimIn layout claim xs → consumer_of claim ≡ c
@@ -65,7 +65,7 @@ module _ (cs : Claims) (c : ℕ) (x : Parts) where
       let f : Some Undecided ≡ None = sym (ap note_of s) ∙ o.unnoted in
       absurd (cc)
 
--- a consumer's place on a lane and its notes there make its diary
+-- the diary with a consumer's notes on a lane, and with what its place says of a begun claim, is that of its parts
 pub diary_is : (plan : Plan) (layout : Layout) (c p : ℕ) (hs : Histories) (notes : List Note) (place : Place)
     → ((xs : List ObjectTurn) (s r : Stage) → IsClaimPrefix plan.claims c xs s
     → IsClaimPrefix plan.claims c xs r → s ≡ r)

@@ -1,11 +1,11 @@
--- Sums over the first numbers, and over lists.
+-- Sums over the numbers below n, and over lists.
 use Rattle.std.proofs.Common.{◌≡◌, ℕ, zero, suc, ◌+◌, ◌<◌, ◌≤◌, List, [], ◌∷◌, length, refl, ap, arith}
 use Rattle.std.specs.Prelude.{Some, slice_get, sum_by}
 use Rattle.std.proofs.lemmas.List.Sums.{sum_by-cons}
 use Rattle.mb_cells.specs.Vocabulary.{items_put, put_list}
 use Rattle.mb_mailbox.specs.Imports.{History}
 
--- the sum of f over the first n numbers
+-- the sum of f over the numbers below n
 pub total : (ℕ → ℕ) → ℕ → ℕ
 total f zero = 0
 total f (suc n) = f n + total f n
@@ -16,7 +16,7 @@ unfolding total
 shift f zero = refl
 shift f (suc n) = omega (arith, shift f n)
 
--- a sum over a list is one over places, if each element counts as its place does
+-- if each element counts by g as its place does by f, the sum over the list is the sum over its places
 pub summed : {X : Type 0} (g : X → ℕ) (f : ℕ → ℕ) (xs : List X)
     → ((j : ℕ) (x : X) → slice_get xs j ≡ Some x → g x ≡ f j)
     → sum_by g xs ≡ total f (length xs)
@@ -29,19 +29,19 @@ summed g f (x ∷ xs) each =
     let next = sum_by-cons g x xs in
     omega (arith, rest, here, whole, next)
 
--- the items put on n lanes are the sum of those on each
+-- the number of items put on the first n lanes is the sum over these lanes
 pub put_total : (n : ℕ) (pool : History) → items_put n pool ≡ total (λ p. length (put_list p pool)) n
 unfolding total
 put_total zero pool = refl
 put_total (suc n) pool = ap (λ k. length (put_list n pool) + k) (put_total n pool)
 
--- if each term of a sum is at most that of another sum, so is the sum
+-- if f is at most g at each number, the sum of f is at most the sum of g
 pub total_most : (f g : ℕ → ℕ) (n : ℕ) → ((j : ℕ) → f j ≤ g j) → total f n ≤ total g n
 unfolding total
 total_most f g zero each = omega arith
 total_most f g (suc n) each = let here = each n in let rest = total_most f g n each in omega (arith, here, rest)
 
--- if each element counts at most as its place does, so does the sum
+-- if each element counts by g at most as its place does by f, the sum over the list is at most that over its places
 pub sum_most : {X : Type 0} (g : X → ℕ) (f : ℕ → ℕ) (xs : List X)
     → ((j : ℕ) (x : X) → slice_get xs j ≡ Some x → g x ≤ f j)
     → sum_by g xs ≤ total f (length xs)
@@ -54,7 +54,7 @@ sum_most g f (x ∷ xs) each =
     let next = sum_by-cons g x xs in
     omega (arith, rest, here, whole, next)
 
--- if one element, besides, counts less than its place does, so does the sum
+-- if, besides, one element counts less than its place does, the sum over the list is less than that over its places
 pub sum_less : {X : Type 0} (g : X → ℕ) (f : ℕ → ℕ) (xs : List X) (p : ℕ) → p < length xs
     → ((j : ℕ) (x : X) → slice_get xs j ≡ Some x → g x ≤ f j)
     → ((x : X) → slice_get xs p ≡ Some x → g x < f p) → sum_by g xs < total f (length xs)

@@ -1,4 +1,4 @@
--- Two lists place by place, and what is said of each element.
+-- Two lists of one length, and relations that hold of them place by place.
 use Rattle.std.proofs.Common.{◌≡◌, List, [], ◌∷◌, ◌++◌, length, sym, ap, ◌∙◌, append-nil, append_assoc}
 use Rattle.std.specs.List.{AllZip}
 use Rattle.std.proofs.lemmas.Slice.Zip.{AllZip-long}
@@ -11,7 +11,7 @@ zip_more R [] (w ∷ ws) x y z one = absurd z
 zip_more R (v ∷ vs) [] x y z one = absurd z
 zip_more R (v ∷ vs) (w ∷ ws) x y z one = (z.0, zip_more R vs ws x y z.1 one)
 
--- two relations that hold place by place, one after the other, give a relation of the first list and the last
+-- if R holds place by place of xs and ys, and S of ys and zs, then T, which follows from both, holds of xs and zs
 pub zip_through : {A B C : Type 0} (R : A → B → Type 0) (S : B → C → Type 0) (T : A → C → Type 0)
     → ((a : A) (b : B) (c : C) → R a b → S b c → T a c)
     → (xs : List A) (ys : List B) (zs : List C) → AllZip R xs ys → AllZip S ys zs → AllZip T xs zs
@@ -35,11 +35,11 @@ pub zip_length : {A B : Type 0} (R : A → B → Type 0) (xs : List A) (ys : Lis
     → length xs ≡ length ys
 zip_length R xs ys z = sym (AllZip-long R xs ys z)
 
--- one more element goes from the rest to those seen
+-- if the first element not yet seen goes to the end of those seen, those seen and the rest still make up all
 pub next_seen : {A : Type 0} (seen : List A) (x : A) (rest was all : List A) → seen ++ was ≡ all
     → was ≡ x ∷ rest → (seen ++ x ∷ []) ++ rest ≡ all
 next_seen seen x rest was all whole first = append_assoc seen (x ∷ []) rest ∙ ap (λ l. seen ++ l) (sym first) ∙ whole
 
--- if none is to come, all have been seen
+-- if the rest is empty, those seen are all
 pub all_seen : {A : Type 0} (seen rest all : List A) → seen ++ rest ≡ all → rest ≡ [] → seen ≡ all
 all_seen seen rest all whole none = sym (append-nil seen) ∙ ap (λ l. seen ++ l) (sym none) ∙ whole

@@ -11,8 +11,8 @@ use Rattle.mb_mailbox.specs.declared.crew.jobs.Lanes.{Lanes}
 use Rattle.mb_mailbox.specs.declared.crew.jobs.Pledge.{Pledge}
 
 module _ {G R Z : Type 0} (may_stop may_pass : G → Who → ℕ → Type 0) (stream : R → Stream) where
-  -- a worker's thread promises what comes of this job under this gate, with these lanes. If no thread could be made,
-  -- the worker was ended here. Then it has its end, which says that the run is aborted
+  -- a worker's thread promises an end of this job under this gate, with these lanes. If no thread could be made, the
+  -- worker has an end of this job already, which says that the run is aborted
   abbrev pub Promises : G → Lanes → Job R Z → Worker (Done Z) (Pledge G R Z) → Type 0
   Promises gate lanes j (worker.Spawned h) =
       (h.promise.job.value ≡ j) × (h.promise.lanes ≡ lanes) × (h.promise.gate.value ≡ gate)

@@ -24,8 +24,8 @@ WerePassed may_pass p [] [] = Unit {0}
 WerePassed may_pass p (list ∷ lists) (l ∷ ls) = WasPassed may_pass p list l × WerePassed may_pass (suc p) lists ls
 WerePassed may_pass p _ _ = ⊥
 
--- consumer c, which this hub gave as a new one, made its calls with the words of this source. `l` is what it came to.
--- Its places, and how many lists of notes it has, are said by `IsHub` of the hub that took it in
+-- this hub issued consumer c, which then made its calls with the words of this source. `l` is what it came to. What its
+-- places are, and how many lists of notes it has, `IsHub` says of the hub to which it was returned
 pub record WasPolled (may_stop may_pass : Who → ℕ → Type 0) (hub : HubView) (from end budget c : ℕ) (source : Stream)
     (l : ConsumerEnd) : Type 0 where
   pub mailbox : MailboxView
@@ -41,8 +41,8 @@ pub record WasPolled (may_stop may_pass : Who → ℕ → Type 0) (hub : HubView
   pub claimed : l.claimed ≡ last.seat.part
   pub kept : l.kept ≡ record { places = last.places; notes = last.notes }
 
--- this hub gave these consumers one after the other, with the numbers from c on. Each made its calls with the words of
--- its own source. There is one consumer for each of these sources, in their order
+-- this hub issued these consumers one after the other, with the numbers from c on. Each made its calls with the words
+-- of its own source. There is one consumer for each of these sources, in their order
 abbrev pub WerePolled : (Who → ℕ → Type 0) → (Who → ℕ → Type 0) → HubView → ℕ → ℕ → ℕ → ℕ → List Stream
     → List ConsumerEnd → Type 0
 WerePolled may_stop may_pass hub from end budget c [] [] = Unit {0}
@@ -51,11 +51,11 @@ WerePolled may_stop may_pass hub from end budget c (source ∷ sources) (l ∷ l
     × WerePolled may_stop may_pass (with_consumer hub) from end budget (suc c) sources ls
 WerePolled may_stop may_pass hub from end budget c _ _ = ⊥
 
--- a run came to its end, and each call of its workers was made at a point at which the gate may let it pass. `puts`
--- and `polls` speak of the workers that `worked` names. So all three agree on which of them were stopped. Each call
--- of a consumer is a poll, with this budget, of a lane that was given in this call. It draws from the consumer's own
--- source: the first consumer given in this call has the first source, and so on. The hub gave a producer for each
--- list before it gave these consumers
+-- a run came to its end, and before each call of a worker the gate may let the worker pass. `puts` and `polls` speak of
+-- the workers that `worked` names. So all three agree on which of them were stopped. Each call of a consumer is a poll,
+-- with this budget, of a lane that was issued in this run. It draws from the consumer's own source: the first consumer
+-- issued in this run has the first source, the second one the second, and so on. The hub issued a producer for each
+-- list before it issued these consumers
 pub record IsCalled (may_stop may_pass : Who → ℕ → Type 0) (budget : ℕ) (lists : List (List ℕ)) (sources : List Stream)
     (w : Worked) (old new : HubView) : Type 0 where
   pub worked : IsWorked may_stop budget lists (length sources) w old new

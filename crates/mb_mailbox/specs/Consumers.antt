@@ -21,7 +21,7 @@ abbrev pub parts_of : ReaderSeatView → SeatView → Parts
 parts_of reader seat =
     record { reads = reader.part; claimed = λ k. part_on seat.consumer k seat.part }
 
--- the claims of consumer c on these cells (the last first) have ended with these notes
+-- the claims of consumer c on these cells (the last first) have ended with these notes, one for each, in that order
 abbrev pub AreEnds : Claims → ℕ → List ℕ → List Note → Parts → Type 0
 AreEnds cs c [] [] x = Unit {0}
 AreEnds cs c (k ∷ ks) (n ∷ ns) x = EndsAs cs c k n x × AreEnds cs c ks ns x
@@ -51,7 +51,7 @@ abbrev pub StandsOn : Layout → Claims → ℕ → ℕ → Parts → List Note 
 StandsOn layout cs c p x notes (Before at) = ConsumerIsBefore cs c p x notes at
 StandsOn layout cs c p x notes (At k claim) = ConsumerIsAt layout cs c p x notes k claim
 
--- this is what each consumer keeps
+-- this holds of each consumer
 pub record IsConsumer (s : ConsumerView) : Type 0 where
   -- the consumer knows the size of its table of claims
   pub size : TableSize

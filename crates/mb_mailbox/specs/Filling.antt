@@ -1,4 +1,4 @@
--- The lists of items that are moved into the outline of a report, each to its place, and diaries with other notes.
+-- How the lists of items are moved into the outline of a report, each to its lane, and a diary with other notes.
 use Rattle.std.specs.Prelude.{ℕ, zero, suc, ◌≡◌, List, [], ◌∷◌, Option, Some, None, length, slice_get}
 use Rattle.mb_world.specs.Theorem.{DiaryView, LaneView}
 use Rattle.mb_mailbox.specs.Imports.{Note}
@@ -10,8 +10,8 @@ changed_at [] n f = []
 changed_at (x ∷ xs) zero f = f x ∷ xs
 changed_at (x ∷ xs) (suc n) f = x ∷ changed_at xs n f
 
--- the list after these have changed its elements from place n on, each the next one. The elements past them stay as they
--- are
+-- the list `xs` after each element of `ys` has changed one of its elements: the first that at place n, the next that at
+-- place n + 1, and so on. All other elements are as before
 abbrev pub changed_from : {X Y : Type 0} → (Y → X → X) → ℕ → List Y → List X → List X
 changed_from change n [] xs = xs
 changed_from change n (y ∷ ys) xs = changed_at (changed_from change (suc n) ys xs) n (change y)

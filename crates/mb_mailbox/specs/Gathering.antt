@@ -20,8 +20,8 @@ count_missing [] = 0
 count_missing (Some x ∷ xs) = count_missing xs
 count_missing (None ∷ xs) = suc (count_missing xs)
 
--- ---- what was returned, by numbers. Nothing stands at the number of one that was not returned
--- what stands at this number, if there is anything
+-- ---- what was returned, by numbers. At the number of one that was not returned is `None`
+-- what was returned with this number, or `None` if nothing was
 abbrev pub kept_at : {X : Type 0} → List (Option X) → ℕ → Option X
 kept_at xs n = option_map_or (λ o. o) (slice_get xs n) None
 
@@ -38,8 +38,8 @@ abbrev pub notes_in : ℕ → ℕ → HubView → List Note
 notes_in c p h =
     option_map_or (λ l. option_map_or (λ ns. ns) (slice_get l.notes p) []) (kept_at h.records c) []
 
--- whether a consumer of which this is kept holds a claim on lane p that has made an access. One of which nothing is
--- kept was not returned
+-- whether the consumer with this record holds a claim on lane p that has made an access. A consumer without a record
+-- was not returned
 abbrev pub begun_of : ℕ → Option ConsumerRecordView → Bool
 begun_of p kept = option_map_or (λ l. option_map_or has_begun_at (slice_get l.places p) false) kept false
 
@@ -68,8 +68,8 @@ diary_in c p h = record { consumer = c; lane = p; notes = notes_in c p h; begun 
 abbrev pub lane_outline : ℕ → ℕ → HubView → LaneView
 lane_outline n p h = record (lane_in n p h) { put = [] }
 
--- the diary of consumer c on lane p, but without the notes, if this is kept of the consumer. The notes are added later,
--- from the marks that the hub keeps
+-- the diary of consumer c on lane p, but without the notes, by the hub's record of the consumer, if there is one. The
+-- notes are added later, from the marks that the hub keeps
 abbrev pub diary_outline : ℕ → ℕ → Option ConsumerRecordView → DiaryView
 diary_outline c p kept = record { consumer = c; lane = p; notes = []; begun = begun_of p kept }
 
@@ -78,8 +78,8 @@ abbrev pub outline_row : ℕ → Option ConsumerRecordView → ℕ → List Diar
 outline_row c kept zero = []
 outline_row c kept (suc n) = outline_row c kept n ++ diary_outline c n kept ∷ []
 
--- the notes of consumer c on lane p, or none, in diaries that stand consumer by consumer. There are this many lanes, and
--- p is one of them
+-- the notes of consumer c on lane p in these diaries, or none. The diaries come consumer by consumer, and for each
+-- consumer lane by lane. There are this many lanes, and p is one of them
 abbrev pub notes_among : ℕ → ℕ → ℕ → List DiaryView → List Note
 notes_among lanes c p ds = option_map_or (λ d. d.notes) (slice_get ds (c * lanes + p)) []
 
@@ -99,8 +99,8 @@ pub record IsOutlineIn (lanes consumers : ℕ) (h : HubView) (r : ReportView) : 
   pub each_lane : AreLanesOutlined consumers h lanes r.lanes
   pub each_diary : AreDiaries lanes h (consumers * lanes) r.diaries
 
--- this is the report of what the hub has taken back: each lane is that of its producer, and each diary that of its
--- consumer. Each is in its place
+-- this is the report of what was returned to the hub. Lane p is element p of the lanes. The diary of consumer c on lane
+-- p is element c * lanes + p of the diaries
 pub record IsReportIn (lanes consumers : ℕ) (h : HubView) (r : ReportView) : Type 0 where
   pub lanes_count : length r.lanes ≡ lanes
   pub diaries_count : length r.diaries ≡ consumers * lanes
@@ -109,17 +109,17 @@ pub record IsReportIn (lanes consumers : ℕ) (h : HubView) (r : ReportView) : T
       → slice_get r.diaries (c * lanes + p) ≡ Some (diary_in c p h)
 
 -- ---- what a report shows
--- all that were returned made two histories which are sound, and the main theorem holds of the report
+-- the accesses of all that were returned make two histories that are sound, and the main theorem holds of the report
 pub record IsGathered (m : MailboxView) (h : HubView) (r : ReportView) : Type 0 where
-  -- what was done to the words of the claims and to those of the pool; consumer c is reader c
+  -- the history of the claims' words and that of the pool's words. In both consumer c has the number c
   pub histories : Histories
   pub reader : (c : ℕ) → histories.reader_of c ≡ c
-  -- each part of these histories is what the hub has taken back
+  -- each process's part of these histories is the part that was returned to the hub
   pub claims : (c : ℕ) → consumer_part c histories.claims ≡ taken_part h.claims.roll c
   pub pool : IsRollOf m.cells.size h.cells.roll histories.pool
   -- both histories are lawful, and the two parts of each consumer fit
   pub sound : AreSound (plan_at m) histories
-  -- the report is that of these histories
+  -- the report says what these histories did
   pub report : IsReportOf (plan_at m) histories r
   -- the main theorem holds of it
   pub main_theorem : MainTheorem histories.pool histories.reader_of r

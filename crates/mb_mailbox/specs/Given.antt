@@ -1,4 +1,4 @@
--- The jobs of a run's workers: which producer or consumer each is given, and for which a hub has given numbers.
+-- The jobs of a run's workers: which producer or consumer each job has, and that a hub has issued these.
 use Rattle.std.specs.Prelude.{ℕ, suc, ◌≡◌, ◌≤◌, ◌++◌, Bool, List, [], ◌∷◌, Vec, length, map, true}
 use Rattle.mb_mailbox.specs.HubRuns.{with_consumers, with_producers}
 use Rattle.mb_mailbox.specs.Hubs.{HubView, IsNewConsumer, new_producer, with_consumer}
@@ -8,37 +8,37 @@ use Rattle.mb_mailbox.specs.declared.crew.jobs.Job.TheVariants as job
 use Rattle.mb_mailbox.specs.declared.crew.jobs.PollJob.{PollJob}
 use Rattle.mb_mailbox.specs.declared.crew.jobs.PutJob.{PutJob}
 
--- ---- the jobs of lists and of consumers, with numbers in a row
+-- ---- the jobs of lists and of consumers, with numbers one after the other
 module _ {Z : Type 0} where
-  -- the jobs are those of these lists, and of new producers with the numbers from p on
+  -- there is one job for each list, in their order, and the jobs have new producers with the numbers from p on
   abbrev pub ArePutJobs : MailboxView → ℕ → List (Vec ℕ Z) → List (PutJob Z) → Type 0
   ArePutJobs m p [] [] = Unit {0}
   ArePutJobs m p (v ∷ vs) (j ∷ js) = (j.producer ≡ new_producer m p) × (j.list ≡ v) × ArePutJobs m (suc p) vs js
   ArePutJobs m p _ _ = ⊥
 
-  -- the jobs are those of new consumers, which this hub gives one after the other
+  -- the jobs have new consumers, which this hub issues one after the other
   abbrev pub ArePollJobs : {R : Type 0} → MailboxView → HubView → List (PollJob R Z) → Type 0
   ArePollJobs m h [] = Unit {0}
   ArePollJobs m h (j ∷ js) = IsNewConsumer m h j.consumer × ArePollJobs m (with_consumer h) js
 
--- ---- the jobs for which a hub has given numbers
+-- ---- the jobs whose producers and consumers a hub has issued
 module _ {R Z : Type 0} (m : MailboxView) where
-  -- the jobs are those of these lists, and of producers with the next numbers. The hub has given these numbers
+  -- there is one producer's job for each list, in their order. The hub has issued the producers, with the next numbers
   pub record ArePutsGiven (lists : List (Vec ℕ Z)) (jobs : List (Job R Z)) (old new : HubView) : Type 0 where
     pub puts : List (PutJob Z)
     pub whole : jobs ≡ map job.Put puts
     pub are : ArePutJobs m (length old.puts) lists puts
     pub hub : new ≡ with_producers puts old
 
-  -- so it is for a beginning of these lists
+  -- the same (`ArePutsGiven`) holds for a beginning of these lists
   pub record ArePutsGivenEarly (lists : List (Vec ℕ Z)) (jobs : List (Job R Z)) (old new : HubView) : Type 0 where
     pub front : List (Vec ℕ Z)
     pub rest : List (Vec ℕ Z)
     pub whole : front ++ rest ≡ lists
     pub given : ArePutsGiven front jobs old new
 
-  -- the jobs after these first ones are those of new consumers, for a beginning of these sources, or for all of them.
-  -- The hub has given their numbers
+  -- after the jobs `first` come those of new consumers, at most as many as there are sources. If `all` is true, there
+  -- is one for each source, in their order. The hub has issued these consumers
   pub record ArePollsGiven (sources : List R) (all : Bool) (first jobs : List (Job R Z)) (old new : HubView)
       : Type 0 where
     pub polls : List (PollJob R Z)
@@ -48,8 +48,8 @@ module _ {R Z : Type 0} (m : MailboxView) where
     pub all_sources : all ≡ true → map (λ j. j.rng) polls ≡ sources
     pub hub : new ≡ with_consumers polls old
 
-  -- the jobs are those of these lists, and then those of consumers, with the next numbers. The hub has given these
-  -- numbers
+  -- there is one producer's job for each list, in their order, and then come consumers' jobs. The hub has issued these
+  -- producers and consumers, with the next numbers
   pub record AreGiven (lists : List (Vec ℕ Z)) (jobs : List (Job R Z)) (old new : HubView) : Type 0 where
     pub puts : List (PutJob Z)
     pub polls : List (PollJob R Z)
@@ -58,7 +58,7 @@ module _ {R Z : Type 0} (m : MailboxView) where
     pub are_polls : ArePollJobs m (with_producers puts old) polls
     pub hub : new ≡ with_consumers polls (with_producers puts old)
 
-  -- so it is for a beginning of these lists and at most this many consumers
+  -- the same (`AreGiven`) holds for a beginning of these lists, with at most this many consumers
   pub record AreGivenEarly (lists : List (Vec ℕ Z)) (sources : ℕ) (jobs : List (Job R Z)) (old new : HubView)
       : Type 0 where
     pub front : List (Vec ℕ Z)
@@ -67,7 +67,7 @@ module _ {R Z : Type 0} (m : MailboxView) where
     pub given : AreGiven front jobs old new
     pub few : length given.polls ≤ sources
 
-  -- so it is for all these lists and sources: each consumer has the source in its place
+  -- `AreGiven` holds for all these lists, and there is one consumer's job for each of these sources, in their order
   pub record AreAllGiven (lists : List (Vec ℕ Z)) (sources : List R) (jobs : List (Job R Z)) (old new : HubView)
       : Type 0 where
     pub given : AreGiven lists jobs old new

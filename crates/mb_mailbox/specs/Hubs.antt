@@ -11,29 +11,29 @@ use Rattle.mb_mailbox.specs.Consumers.{ConsumerView, StandsOn}
 use Rattle.mb_mailbox.specs.Producers.{ProducerView}
 use Rattle.mb_world.specs.declared.place.Place.{Place}
 
--- what is kept of a producer that was returned: its items, and whether it has ended its lane
+-- what a hub records of a producer that was returned: its items, and whether it has ended its lane
 pub record PutListView : Type 0 where
   pub items : List ℕ
   pub ended : Bool
 
--- what is kept of a consumer that was returned: its place on each lane, and its notes there.
+-- what a hub records of a consumer that was returned: its place on each lane, and its notes there
 pub record ConsumerRecordView : Type 0 where
   pub places : List Place
   pub notes : List (List Note)
 
--- the two parts of consumer c, if it made these loads and these accesses to the claims
+-- the two parts of consumer c: its loads are `reads`, and its steps on cell k are its accesses of `done` to that cell
 abbrev pub parts_by : ℕ → History → List ClaimAccess → Parts
 parts_by c reads done = record { reads = reads; claimed = λ k. part_on c k done }
 
--- a hub: the hubs of both tables, the put lists of producers, and the records of consumers. Place n of a list is that
--- of number n. It is empty until the producer or consumer of that number is returned
+-- a hub: the hubs of both tables, the put lists of producers, and the records of consumers. Element n of a list belongs
+-- to the producer or consumer of number n. It is `None` until that producer or consumer is returned
 pub record HubView : Type 0 where
   pub cells : CellHubView
   pub claims : ClaimHubView
   pub puts : List (Option PutListView)
   pub records : List (Option ConsumerRecordView)
 
--- the put list is that of the producer of lane p, whose part in a pool of this many cells is `done`
+-- put list `l` has the items that part `done` of lane p's producer puts, and says whether this part ends the lane
 pub record IsPutList (cells p : ℕ) (done : History) (l : PutListView) : Type 0 where
   pub items : l.items ≡ values_put p done
   pub ended : l.ended ≡ has_ended p done
@@ -41,7 +41,7 @@ pub record IsPutList (cells p : ℕ) (done : History) (l : PutListView) : Type 0
   pub linked : (e : Entry) → Has done (fetch p e) → e.cell < cells
       → Has (linked_cells p done) e.cell
 
--- the record is that of consumer c, with these two parts, if there are `count` lanes. The two parts fit each other.
+-- record `l` agrees with the two parts `reads` and `done` of consumer c, if there are `count` lanes. The two parts fit.
 -- They determine the consumer's place on each lane and its notes there
 pub record IsConsumerRecord
     (table : ClaimTable) (count c : ℕ) (reads : History) (done : List ClaimAccess) (l : ConsumerRecordView)
@@ -65,8 +65,8 @@ hub_empty m = record {
   records = [];
 }
 
--- this is what each hub keeps. The number of a producer is that of its lane. The number of a consumer is that of its
--- reader's seat, and that of its seat of the claims
+-- this holds of each hub. A producer has the number of its lane. A consumer has one number, which its reader's seat and
+-- its seat of the claims have too
 pub record IsHub (h : HubView) : Type 0 where
   pub lanes : length h.puts ≡ length h.cells.roll.lanes
   pub readers : length h.records ≡ length h.cells.roll.readers
@@ -104,8 +104,8 @@ with_producer h = record h {
   puts = h.puts ++ None ∷ [];
 }
 
--- the consumer has the hub's next number, and has done nothing. Its reader's seat knows the parts of the lanes that
--- the hub has taken back
+-- the consumer has the hub's next number, and has done nothing. Its reader's seat knows the parts of the producers that
+-- were returned to the hub before
 pub record IsNewConsumer (m : MailboxView) (h : HubView) (s : ConsumerView) : Type 0 where
   pub reader : s.reader ≡ record {
     table = m.cells;
@@ -125,11 +125,11 @@ with_consumer h = record h {
 }
 
 -- ---- what a hub takes back
--- what the hub keeps of this producer
+-- what the hub records of this producer when it is returned
 abbrev pub put_list_of : ProducerView → PutListView
 put_list_of s = record { items = s.items; ended = has_ended s.seat.lane s.seat.part }
 
--- what the hub keeps of this consumer
+-- what the hub records of this consumer when it is returned
 abbrev pub record_of : ConsumerView → ConsumerRecordView
 record_of s = record { places = s.places; notes = s.notes }
 

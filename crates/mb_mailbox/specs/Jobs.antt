@@ -1,4 +1,4 @@
--- What the workers of a run are given, and what they give back.
+-- The workers of a run: before which call they stop, what consumers have read, and the ends that they give back.
 use Rattle.std.specs.Prelude.{ℕ, suc, ◌≡◌, ◌≢◌, ◌+◌, ◌-◌, ◌*◌, ◌^◌, ◌<◌, ◌≤◌, ◌⊎◌, ◌++◌, Bool, List, [], ◌∷◌, false, length, slice_index_or, true}
 use Rattle.mb_mailbox.specs.Imports.{END, Has, HasLoaded, HasMet, Head, History, Link, Load, Look, PoolAccess, PoolAct, Stream, Word, look_of, place_past}
 use Rattle.mb_cells.specs.declared.answer.Look.TheVariants as look
@@ -34,8 +34,8 @@ pub record IsSameConsumer (old new : ConsumerView) : Type 0 where
   pub claims : new.seat.table ≡ old.seat.table
   pub consumer : new.seat.consumer ≡ old.seat.consumer
 
--- the consumer has loaded the end mark of lane p past cells that it met there, and has as many notes there as these
--- cells
+-- the consumer has loaded the end mark of lane p, past cells that it met there. It has one note on that lane for each
+-- of these cells
 pub record HasReadToEnd (p : ℕ) (s : ConsumerView) : Type 0 where
   pub cells : List ℕ
   pub met : HasMet s.reader.reader p cells s.reader.part
@@ -51,7 +51,7 @@ abbrev pub count_marks : List Bool → ℕ
 count_marks [] = 0
 count_marks (b ∷ bs) = from_bool b + count_marks bs
 
--- whether a look says that the lane has ended
+-- whether a look, which says what a load of a head or link found, says that it found the end mark
 abbrev pub is_ended : Look → Bool
 is_ended look.Nothing = false
 is_ended look.Ended = true
@@ -69,21 +69,21 @@ ends_met [] = 0
 ends_met (a ∷ older) = from_bool (tells_end a.word a.act) + ends_met older
 
 -- some lanes are marked, perhaps none, each of them from `from` on and below `end`. The consumer has read each to its
--- end mark. It has loaded as many end marks as lanes are marked. Since a cell stands in one lane, it has loaded each
--- of these once, and no other
+-- end mark. It has loaded as many end marks as lanes are marked. Since a cell is in one lane, it has loaded the end
+-- mark of each marked lane once, and no other end mark
 pub record HasReadEnds (from end : ℕ) (s : ConsumerView) : Type 0 where
   pub marks : List Bool
   pub within : (p : ℕ) → slice_index_or marks p false ≡ true → (from ≤ p) × (p < end)
   pub read : HasReadMarked marks s
   pub once : ends_met s.reader.part ≡ count_marks marks
 
--- each head that these accesses touch is that of a lane from `from` on and below `end`
+-- if one of these accesses is to the head of lane p, then p is at least `from` and below `end`
 abbrev pub IsOnLanes : ℕ → ℕ → History → Type 0
 IsOnLanes from end reads = (a : PoolAccess) (p : ℕ) → Has reads a → a.word ≡ Head p → (from ≤ p) × (p < end)
 
 -- ---- the ends of workers
--- consumer c was stopped before a call, and has made `made` accesses. These are at least as many as it had calls
--- before that one, and at most the budget times as many
+-- consumer c was stopped before its call of number `call`, counted from 1, and has made `made` accesses. These are at
+-- least as many as it had calls before that one, and at most the budget times as many
 pub record IsStoppedPoll (may_stop : Who → ℕ → Type 0) (budget c made : ℕ) : Type 0 where
   pub call : ℕ
   pub first : 1 ≤ call
@@ -92,7 +92,7 @@ pub record IsStoppedPoll (may_stop : Who → ℕ → Type 0) (budget c made : �
   pub stop : IsStopBefore may_stop (who.Consumer c) call
 
 -- a consumer has made calls, and the gate let each through. Each call draws the words of this source after those of
--- the call before it. If the consumer was stopped, it was so before the next call
+-- the call before it. If the consumer was stopped, it was stopped before the call that was to come next
 pub record HasPolled (may_stop may_pass : Who → ℕ → Type 0) (from end budget : ℕ) (source : Stream) (stopped : Bool)
     (old new : ConsumerView) : Type 0 where
   pub calls : ℕ
@@ -103,9 +103,9 @@ pub record HasPolled (may_stop may_pass : Who → ℕ → Type 0) (from end budg
 module _ {Z : Type 0} (may_stop may_pass : Who → ℕ → Type 0) where
   -- `d` is the end of job `j`: the producer put a beginning of its list, and ended its lane. If it was not stopped,
   -- `full` counts the rest of the list. If that is not 0, a fetch-add of the producer found no cell. If it was
-  -- stopped, `full` is 0. If it was stopped and the run is not aborted, there is a rest, and it was stopped before
-  -- the call of the next item. Then it has a fetch-add that found no cell only if it had one before. If the run is
-  -- not aborted, the gate let each of its calls through. There is one for each item that it put, and one for the item
+  -- stopped, `full` is 0. If it was stopped and the run is not aborted, it put less than its list, and was stopped
+  -- before the call for the next item. In that case, if a fetch-add of it found no cell, one did so before this job. If
+  -- the run is not aborted, the gate let each of its calls through: one for each item that it put, and one for the item
   -- that found no cell, if there is one
   pub record IsPutEnd (j : PutJob Z) (d : PutDone Z) : Type 0 where
     pub same : IsSameLane j.producer d.producer
@@ -124,10 +124,10 @@ module _ {Z : Type 0} (may_stop may_pass : Who → ℕ → Type 0) where
 
   -- `d` is the end of consumer `s`: if it was not stopped, it has read each lane from `from` on and below `end` to
   -- its end mark. If the run is not aborted, it has made its calls with this budget and the words of this source, and
-  -- nothing else. The rest is of a consumer that had made no access before. If it was not stopped, it has loaded as
-  -- many end marks as there are of these lanes. Stopped or not, it has loaded as many end marks as it has read of
-  -- these lanes to their ends. If the run is not aborted, it has looked at the heads of these lanes alone. If it was
-  -- stopped and the run is not aborted, it was stopped before a call, and has loaded fewer end marks
+  -- nothing else. What follows is of a consumer that had made no access before. If it was not stopped, it has loaded
+  -- one end mark for each of these lanes. Stopped or not, it has loaded one for each of these lanes that it has read to
+  -- its end. If the run is not aborted, it has loaded no head of another lane. If it was stopped and the run is not
+  -- aborted, it was stopped before a call, and has loaded fewer end marks than there are of these lanes
   pub record IsPollEnd (from end budget : ℕ) (source : Stream) (s : ConsumerView) (d : PollDone Z) : Type 0 where
     pub same : IsSameConsumer s d.consumer
     pub read : d.stopped ≡ false → (p : ℕ) → from ≤ p → p < end → HasReadToEnd p d.consumer

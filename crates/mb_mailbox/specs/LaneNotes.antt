@@ -1,5 +1,5 @@
--- The notes of a consumer in the order of time, each with its lane, as marks and words. Below stand the notes lane by
--- lane, and diaries filled from marks.
+-- The notes of a consumer in the order of time. Each is stored as a mark, which has its lane, and for some marks a
+-- word more. Then the same notes lane by lane, and diaries filled from marks.
 use Rattle.std.specs.Prelude.{ℕ, zero, suc, ◌≡◌, ◌+◌, ◌^◌, ◌≤◌, List, [], ◌∷◌, ◌++◌, if◌then◌else◌, length, map, nat_eq, nat_lt, slice_get, sum_by, take}
 use Rattle.std.specs.Option.{option_map_or}
 use Rattle.mb_world.specs.Theorem.{DiaryView}
@@ -76,14 +76,14 @@ pub record AreMarked (lanes : ℕ) (ms : List Mark) (ws : List ℕ) : Type 0 whe
   pub count : length ms ≡ sum_by length (by_lane lanes (all_told ms ws))
 
 -- ---- diaries filled from marks
--- the diary at place p of the row has the notes of lane p among those of the first k marks. Notes of lanes without a
+-- the diary at place p of this list has the notes on lane p among those of the first k marks. Notes on lanes without a
 -- diary are left out
 pub record AreFiled (ms : List Mark) (ws : List ℕ) (k : ℕ) (row : List DiaryView) : Type 0 where
   pub within : k ≤ length ms
   pub notes : map (λ d. d.notes) row ≡ by_lane (length row) (all_told (take k ms) ws)
 
--- the marks from place `from` up to place k are losses on lane p that need no word. Their notes are what `new` has more
--- than `old`
+-- the marks from place `from` on and before place k are losses on lane p that need no word. `new` is `old` with their
+-- notes at its end
 pub record AreLosses (p from k : ℕ) (ms : List Mark) (old new : List Note) : Type 0 where
   pub since : from ≤ k
   pub within : k ≤ length ms

@@ -1,5 +1,5 @@
--- The laws of the crates below on which a consumer's moves stand, one name for each. They are of lawful histories of
--- cells, of parts, of claims, of the cells that loads met, and of two parts that fit with one access more.
+-- The laws of other crates that the proofs of a consumer's moves use, one name for each. They are of lawful histories
+-- of cells, of parts, of claims, of the cells that loads met, and of two parts that fit with one access more.
 use Rattle.std.specs.Prelude.{ℕ, ◌≡◌, ◌≢◌, ◌⊎◌, ◌+◌, ◌<◌, ◌≤◌, List, ◌∷◌, ◌++◌, length}
 use Rattle.mb_quorum.specs.Vocabulary.{IsQuorumTable}
 use Rattle.mb_claim.specs.Vocabulary.{quorums_of}
@@ -12,7 +12,7 @@ use Rattle.mb_mailbox.specs.Imports.{HasStageIn, History, IsClaimPrefix, IsOnceE
 use Rattle.mb_mailbox.specs.Imports.{Link, MayLookPast, ObjectTurn, Parts, PoolAccess, PoolSize, Reader, Stage}
 use Rattle.mb_mailbox.specs.Imports.{cells_met, linked_cells, load, part, part_on, place_past, with_load, with_step}
 
--- the laws on which a consumer's moves stand. The laws of this crate itself are in `src/laws.rt`
+-- the laws from which the proofs of a consumer's moves follow. The laws of this crate itself are in `src/laws.rt`
 pub record Laws : Type 0 where
   -- ---- lawful histories of cells
   pub start : (size : PoolSize) (h : History) (r p : ℕ) (ks : List ℕ) → IsPoolLawful size h
@@ -63,7 +63,7 @@ pub record Laws : Type 0 where
       → IsOnceEach (cells_met p (part (Reader q) h))
   pub has_met_all : (size : PoolSize) (q p : ℕ) (h : History) → IsPoolLawful size h
       → FollowsLinks (part (Reader q) h) → HasMetAll q p (cells_met p (part (Reader q) h)) h
-  -- ---- parts that fit on
+  -- ---- two parts that fit, and still fit with one access more
   pub looks : (cs : Claims) (c q p v : ℕ) (x : Parts) → Fits cs c x
       → MayLookPast cs c (cells_met p x.reads) x
       → Fits cs c (with_load (load q (place_past p (cells_met p x.reads)) v) x)

@@ -7,7 +7,7 @@ pub record MailboxView : Type 0 where
   pub cells : CellsName
   pub claims : TableView
 
--- the claims are on the cells, and there are at most 16 lanes
+-- the table of the claims is for as many cells as the table of the cells has, and there are at most 16 lanes
 pub record IsMailbox (m : MailboxView) : Type 0 where
   pub cells : m.claims.cells ≡ m.cells.size.cells
   pub lanes : m.cells.size.lanes ≤ 16

@@ -20,7 +20,7 @@ abbrev pub HasTurns : ConsumerView → Claim → List ObjectTurn → Type 0
 HasTurns s claim xs =
     (size : TableSize) → s.seat.table.size ≡ Some size → IsClaimIn size.layout claim xs
 
--- the consumer with these parts, at this place on lane p. It has one more note there, if there is one
+-- consumer `s`, but with these two parts, and at this place on lane p. If `note` has a note, it is added on lane p
 abbrev pub moved_to : ℕ → Place → Option Note → History → List ClaimAccess → ConsumerView
     → ConsumerView
 moved_to p place note reads made s = record {
@@ -30,10 +30,10 @@ moved_to p place note reads made s = record {
   notes = with_note p note s.notes;
 }
 
--- the consumer's loads, with one more: of the link at this cursor
+-- the consumer's loads, and then a load of the link at this cursor, which found v
 abbrev pub reads_with_link : ConsumerView → Cursor → ℕ → History
 reads_with_link s at v = load s.reader.reader (word_of at) v ∷ s.reader.part
 
--- the consumer's loads, with one more: of the item of cell k
+-- the consumer's loads, and then a load of the item of cell k, which found v
 abbrev pub reads_with_item : ConsumerView → ℕ → ℕ → History
 reads_with_item s k v = load s.reader.reader (Item k) v ∷ s.reader.part

@@ -13,7 +13,7 @@ pub record HasRoom (p : ℕ) (notes : NotesView) : Type 0 where
 abbrev pub HasAllRoom : ℕ → NotesView → Type 0
 HasAllRoom cells notes = cells ≤ notes.room
 
--- lane p has one more note, if there is one, and the room stays
+-- if `note` has a note, lane p has it at its end. Nothing else changed, and the room is as before
 pub record NotesGrow (p : ℕ) (note : Option Note) (old new : NotesView) : Type 0 where
   pub lists : new.lists ≡ with_note p note old.lists
   pub room : new.room ≡ old.room

@@ -1,4 +1,4 @@
--- The part of a producer's seat, and the place of that part.
+-- The part of a producer's seat, and the place to which that part leads.
 use Rattle.mb_cells.specs.Vocabulary.{IsLaneAfter}
 use Rattle.mb_shared_cells.specs.Vocabulary.{HasHistory, LaneSeatView}
 use Rattle.mb_mailbox.specs.Imports.{Producer}

@@ -11,8 +11,8 @@ pub record ProducerView : Type 0 where
   pub seat : LaneSeatView
   pub items : List ℕ
 
--- this is what each producer keeps: its items are those that its part puts into the lane, and no item waits for its
--- link
+-- this holds of each producer: its items are those that its part puts into the lane, and no item is pending, so each
+-- cell that it got is linked
 pub record IsProducer (s : ProducerView) : Type 0 where
   pub items : s.items ≡ values_put s.seat.lane s.seat.part
   pub idle : push_store s.seat.lane s.seat.place ≡ None

@@ -1,4 +1,4 @@
--- What a poll does with the claim of its lane. While a new claim goes straight, the place there is out of date.
+-- What a poll does with a claim on its lane. While a new claim goes straight, the place of that lane is out of date.
 use Rattle.std.specs.Prelude.{ℕ, ◌≡◌, ◌≢◌, ◌+◌, ◌<◌, length, slice_set}
 use Rattle.mb_mailbox.specs.Imports.{Claim, Cursor, IsStanding, Layout, SeatView, Stream, claim_stage, note_of}
 use Rattle.mb_mailbox.specs.declared.consumer.ConsumerFields.{ConsumerFields}
@@ -30,8 +30,8 @@ pub record IsHolding (p : ℕ) (s : ConsumerView) : Type 0 where
   pub claim : Claim
   pub place : HasPlace p (At cell claim) s
 
--- the consumer has lane p. It is at cell k there, with a claim that is about to make its first access to object o, with
--- input v. Its place there may be out of date
+-- the consumer has a lane p, where its place may be out of date. With its place there set to cell k, and a claim about
+-- to make its first access to object o with input v, it is a consumer as `IsConsumer` says
 pub record IsBeforeObject (layout : Layout) (p k o v : ℕ) (s : ConsumerView) : Type 0 where
   pub lane : p < length s.places
   pub claim : Claim
@@ -61,7 +61,7 @@ IsOfClaim poll.Ended = ⊥
 IsOfClaim poll.NoLane = ⊥
 IsOfClaim _ = Unit {0}
 
--- how many accesses a claim takes with its item, by what it comes to, if each cell has a last object alone
+-- how many accesses a new claim and the load of its item make, by the poll's answer, if cells have a last object alone
 abbrev pub claim_takes : Poll → ℕ
 claim_takes (poll.Took x) = 2
 claim_takes _ = 1

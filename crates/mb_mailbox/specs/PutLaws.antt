@@ -1,4 +1,4 @@
--- The laws of the cells on which a producer's calls stand.
+-- The laws of the cells from which the contracts of a producer's calls follow.
 use Rattle.std.specs.Prelude.{ℕ, ◌≡◌, ◌≢◌, ◌↔◌, ◌+◌, ◌≤◌, ◌++◌, [], ◌∷◌, Some, false, length, true}
 use Rattle.mb_cells.specs.declared.access.PoolAccess.{PoolAccess}
 use Rattle.mb_cells.specs.declared.access.Process.{Process}
@@ -10,7 +10,7 @@ use Rattle.mb_cells.specs.Vocabulary.{Entry, HasFoundNone, IsLaneAfter, IsLinkWo
 use Rattle.mb_cells.specs.Vocabulary.{fetch, finish_refusal, offer_refusal, put_list, store}
 use Rattle.mb_mailbox.specs.Imports.{END, Has, History, IsPoolLawful, Item, PoolSize, Producer, has_ended, part}
 
--- the laws on which a producer's calls stand: of the parts and of the lanes of lawful histories
+-- the laws from which the contracts of a producer's calls follow: of parts, and of lanes in lawful histories
 pub record PutLaws : Type 0 where
   pub few : (size : PoolSize) (h : History) (p : ℕ) → IsPoolLawful size h → length (put_list p h) ≤ size.cells
   pub put : (size : PoolSize) (h : History) (p : ℕ) → IsPoolLawful size h

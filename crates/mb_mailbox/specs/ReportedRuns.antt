@@ -1,4 +1,4 @@
--- The run of workers that a report tells of: its terms, the workers, and what they came to.
+-- The run of workers of which a report was gathered: its terms, the workers, and what they came to.
 use Rattle.std.specs.Prelude.{ℕ, ◌≡◌, List}
 use Rattle.mb_mailbox.specs.Imports.{Stream, consumer_count}
 use Rattle.mb_mailbox.specs.Called.{IsCalled}
@@ -22,9 +22,9 @@ pub record Terms : Type 0 where
 abbrev pub terms_of : Setup → ℕ → List Stream → Terms
 terms_of setup budget sources = record { plan = plan_in setup; budget = budget; sources = sources }
 
--- the run of workers that led to a report: in a mailbox of its plan, from a hub that had issued nothing to this hub,
--- with a producer for each list, and a consumer for each source. It came to these counts.
--- That the mailbox has so many numbers is not said here: `work` refuses more
+-- the run of workers that led to a report. It was in a mailbox with the plan of `terms`, from a hub that had issued
+-- nothing to `hub`. It had a producer for each list and a consumer for each source, and came to these counts.
+-- It is not said here that the mailbox has enough lanes and consumers for them: `work` refuses more
 pub record IsReportedRun (may_stop may_pass : Who → ℕ → Type 0) (terms : Terms) (lists : List (List ℕ))
     (counts : Worked) (hs : Histories) (r : ReportView) : Type 0 where
   pub mailbox : MailboxView
@@ -34,10 +34,10 @@ pub record IsReportedRun (may_stop may_pass : Who → ℕ → Type 0) (terms : T
   pub belongs : IsHubOf mailbox hub
   -- each call of a consumer is a poll with this budget, and draws from the consumer's own source. Its field
   -- `worked` says: a worker was stopped only before a call at which the gate may stop it, or before call 2^64 - 1. Each
-  -- other producer has put its list, or a fetch-add of its own found no cell. Each other consumer has a note at each
+  -- other producer has put its list, or a fetch-add of its own found no cell. Each other consumer has a note on each
   -- item. The counts are of these workers
   pub called : IsCalled may_stop may_pass terms.budget lists terms.sources counts (hub_empty mailbox) hub
-  -- the report is gathered from this hub, and these histories are all accesses that the hub has taken in
+  -- the report is gathered from this hub, and `hs` has all accesses of the producers and consumers returned to the hub
   pub told : IsReportIn mailbox.cells.size.lanes (consumer_count mailbox.claims.layout) hub r
   pub gathered : IsGathered mailbox hub r
   pub full : FullTakesAll mailbox hub r

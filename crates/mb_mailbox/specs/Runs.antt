@@ -1,4 +1,4 @@
--- The jobs of a run, and their ends.
+-- The jobs of a run, and their ends. An end is what the worker of a job gives back.
 use Rattle.std.specs.Prelude.{ℕ, suc, zero, ◌≡◌, ◌≤◌, Bool, List, [], ◌∷◌, Vec, true, vec_capacity}
 use Rattle.mb_mailbox.specs.Imports.{Stream}
 use Rattle.mb_mailbox.specs.Consumers.{IsConsumerOf}
@@ -23,7 +23,7 @@ module _ {R Z : Type 0} where
   IsJobOf m (job.Put j) = IsProducerOf m j.producer
   IsJobOf m (job.Poll j) = IsConsumerOf m j.consumer
 
-  -- this many producers' jobs come first, or fewer if the list ends with them
+  -- the first n jobs are producers', and all after them are consumers'. If there are fewer than n, all are producers'
   abbrev pub ArePutsFirst : ℕ → List (Job R Z) → Type 0
   ArePutsFirst n [] = Unit {0}
   ArePutsFirst (suc n) (job.Put j ∷ js) = ArePutsFirst n js
@@ -65,7 +65,7 @@ module _ {Z : Type 0} where
   with_abort (done.Put d) = done.Put (record d { aborted = true })
   with_abort (done.Poll d) = done.Poll (record d { aborted = true })
 
-  -- the hub after it has taken in the producer or consumer of this end, and by `with_taken` those of all these ends
+  -- the hub after it has taken back the producer or consumer of this end, and by `with_taken` of each end in order
   abbrev pub with_taken_one : Done Z → HubView → HubView
   with_taken_one (done.Put d) h = with_taken_producer d.producer h
   with_taken_one (done.Poll d) h = with_taken_consumer d.consumer h

@@ -21,15 +21,15 @@ AreDrawn s (w ∷ ws) t = (u : Stream) × AreDrawn s ws u × ((w, t) ≡ next_u6
 abbrev pub drawn_words : WorldHistory → List ℕ
 drawn_words done = map (λ a. a.step.turn.word) (claim_accesses done)
 
--- ---- accesses in a row
+-- ---- accesses one after another
 -- the parts of a consumer after these accesses, the newest first
 abbrev pub parts_after : WorldHistory → ConsumerView → Parts
 parts_after done s = parts_of
     (record s.reader { part = pool_accesses done ++ s.reader.part })
     (record s.seat { part = claim_accesses done ++ s.seat.part })
 
--- from the consumer on, each of these accesses on lane p (the newest first) is the next one by the parts before it.
--- They come to this answer, or to none yet: only the newest can come to one
+-- from consumer `s` on, each of these accesses (the newest first) is the next one on lane p, by the parts before it.
+-- The newest comes to this answer, or to none yet. Each older one comes to none
 abbrev pub LeadTo : ℕ → Option Poll → WorldHistory → ConsumerView → Type 0
 LeadTo p answer [] s = answer ≡ None
 LeadTo p answer (a ∷ older) s =
@@ -53,7 +53,7 @@ abbrev pub with_note : ℕ → Option Note → List (List Note) → List (List N
 with_note p None notes = notes
 with_note p (Some n) notes = slice_set notes p (notes_on p notes ++ n ∷ [])
 
--- ---- what accesses make of a consumer
+-- ---- what a consumer is after accesses
 -- the consumer made these accesses on lane p, the newest first, and nothing else. Its parts have just these more. Its
 -- notes have just the one more that comes with the answer, if one does
 pub record HasDone (p : ℕ) (done : WorldHistory) (answer : Option Poll) (old new : ConsumerView)
@@ -108,22 +108,22 @@ HasNoteOnEach p s = length (notes_on p s.notes) ≡ length (cells_met p s.reader
 abbrev pub HasLoadedEnd : ℕ → ConsumerView → Type 0
 HasLoadedEnd p s = HasRead (place_past p (cells_met p s.reader.part)) END s.reader.part
 
--- the consumer has met all cells of lane p. The lane's producer did `theirs`, and the consumer has as many notes
--- there as that put items. `over` says whether the lane has ended
+-- the consumer has met all cells of lane p. The part of the lane's producer is `theirs`, and the consumer has one note
+-- there for each item that this part puts. `over` says whether the lane has ended
 pub record HasReadWhole (p : ℕ) (theirs : History) (over : Bool) (s : ConsumerView) : Type 0 where
   pub cells : cells_met p s.reader.part ≡ linked_cells p theirs
   pub notes : length (notes_on p s.notes) ≡ length (values_put p theirs)
   pub ended : has_ended p theirs ≡ over
 
--- this holds of lane p after accesses with this answer
+-- what holds of lane p after accesses that came to this answer
 pub record AnswerTells (p : ℕ) (answer : Option Poll) (old new : ConsumerView) : Type 0 where
   -- if there is an answer, the consumer holds no claim there, and has a note on each cell that it met
   pub noted : answer ≢ None → HasNoteOnEach p new
   -- if the answer is `Ended`, the consumer has loaded the end mark
   pub ended : answer ≡ Some poll.Ended → HasLoadedEnd p new
-  -- The next two clauses are about a lane that was taken in before the consumer was given. With the answer `Nothing`
-  -- the consumer has met all that was put, and the lane has not ended. With `Ended` it has met all that was put, and
-  -- the lane has ended.
+  -- The next two clauses are about a lane whose producer was returned before the consumer was issued. With the answer
+  -- `Nothing` the consumer has met all that was put, and the lane has not ended. With `Ended` it has met all that was
+  -- put, and the lane has ended.
   pub known_nothing : (theirs : History) → slice_get old.reader.known p ≡ Some (Some theirs)
       → answer ≡ Some poll.Nothing → HasReadWhole p theirs false new
   pub known_ended : (theirs : History) → slice_get old.reader.known p ≡ Some (Some theirs)

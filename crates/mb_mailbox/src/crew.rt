@@ -115,13 +115,13 @@ pub fn work<
     ensures nothing_given { (result ≡ Err AllGiven) ⊎ (result ≡ Err BadBudget)
         → hub.new ≡ hub.old }
 
-    // In each case, all that was given is taken in, and each producer given has ended its lane.
+    // In each case all that were issued are returned, and each producer issued has ended its lane.
     ensures worked { IfOk result (λ w.
         IsWorked (G.may_stop gate.now) budget (lists_in items.items) (vec_len rngs) w hub.old
         hub.new) }
 
-    // Each call of a worker comes at a point at which the gate may let it pass. Each call of a consumer is a poll
-    // with this budget. The first consumer given in this call draws from the first of these sources, and so on.
+    // Before each call of a worker the gate may let the worker pass. Each call of a consumer is a poll with this
+    // budget. The first consumer issued in this call draws from the first of these sources, and so on.
     ensures called { IfOk result (λ w. IsCalled (G.may_stop gate.now) (G.may_pass gate.now) budget
         (lists_in items.items) (map R.stream rngs.items) w hub.old hub.new) }
     ensures no_thread { result ≡ Err NoThread
@@ -193,7 +193,7 @@ fn consumers_are_few<B: Allocator + Drop>(mailbox: &Mailbox<B>)
     let _ = mailbox.claims.layout().consumers();
 }
 
-/// The lanes with the next `lists` numbers, and this budget.
+/// The next `lists` lanes, after the `given` lanes issued before, and this budget.
 fn next_lanes(given: usize, lists: usize, budget: u64) -> Lanes
     requires few { given + lists ≤ 16 }
     requires able { 0 < budget }
@@ -216,7 +216,7 @@ struct Workload<R: Drop, A: Allocator + Drop> {
     rngs: Vec<R, A>,
 }
 
-/// The rest of [`work`], after numbers and budget were tested and room was taken for all the run's lists.
+/// The rest of [`work`], after numbers and budget were tested, and memory was taken for the lists of jobs and ends.
 fn work_with<
     A: Allocator + Clone + Drop + Send + Sync,
     W: Threads + Wait + Sync,

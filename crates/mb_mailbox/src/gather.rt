@@ -59,7 +59,7 @@ impl<A: Allocator + Clone + Drop> Mailbox<A> {
     ) -> Result<Report<A>, (GatherFault, Mailbox<A>, Hub<A>)>
         requires belongs { IsHubOf self hub }
 
-        // What is refused, and that nothing is lost then.
+        // When there is a fault. Mailbox and hub come back with it as they were.
         ensures missing { 0 < count_missing hub.puts + count_missing hub.records
             → result
             ≡ Err (Missing (count_missing hub.puts) (count_missing hub.records), self, hub) }
@@ -67,7 +67,7 @@ impl<A: Allocator + Clone + Drop> Mailbox<A> {
             → IfErr result (λ e. e ≡ (NoMemory, self, hub)) }
         ensures same { IfErr result (λ e. (e.1 ≡ self) × (e.2 ≡ hub)) }
 
-        // The lists and diaries are those of what was returned.
+        // The report has the items and notes of all that were returned.
         ensures lists { IfOk result (λ r.
             IsReportIn self.cells.size.lanes (consumer_count self.claims.layout) hub r) }
 
@@ -124,7 +124,7 @@ impl<A: Allocator + Clone + Drop> Mailbox<A> {
         requires producers { count_missing draft.puts ≡ 0 }
         requires consumers { count_missing draft.records ≡ 0 }
 
-        // The report is as `gather` says it.
+        // What `gather` promises of its report holds of this one.
         ensures lists { IsReportIn self.cells.size.lanes (consumer_count self.claims.layout)
             draft result }
         ensures main_theorem { IsGathered self draft result }
@@ -159,7 +159,7 @@ impl<A: Allocator + Clone + Drop> Mailbox<A> {
     }
 }
 
-/// How many of those issued were not returned.
+/// How many of those issued were not returned. The list has `None` for each of them.
 fn missing<T: Drop>(given: &[Option<T>]) -> u32
     requires { length given.now ≤ 64 }
     ensures { result ≡ count_missing given.now }

@@ -21,8 +21,8 @@ use mb_claim::steps::accesses_lengthen_one_part;
 use mb_world::laws::{last_objects_settle_items, shaped_setups_have_last_objects};
 use mb_world::steps::loads_meet_cells;
 
-/// Whatever its budget, a poll makes no more accesses than a whole claim, the load of its link and that of its item. The
-/// poll and its consumer are as [`Consumer::poll`](crate::Consumer::poll) and
+/// Whatever its budget, a poll makes at most as many accesses as a whole claim may have, the load of a link, and the
+/// load of an item. The poll and its consumer are as [`Consumer::poll`](crate::Consumer::poll) and
 /// [`keeps_its_parts`](crate::Consumer::keeps_its_parts) say.
 pub fn polls_are_short()
     ensures { (m : MailboxView) (p budget : ℕ) (answer : Poll) (s t : Stream)
@@ -97,32 +97,32 @@ pub fn calls_draw_the_first_words()
         → AreDrawn source (map (λ a. a.step.turn.word) new.seat.part) left }
 {}
 
-/// A sample of takes. A poll that lost its item and a poll that took one make a take, if the second has what the first
-/// left.
+/// A sample of takes. A poll that lost its item and a poll that took one make a take, if the second has the budget that
+/// the first left.
 pub fn sample_takes()
     ensures past_one { (p most left w x : ℕ) (s t u : Stream) (old mid new : ConsumerView)
         → IsPollOf p most (Lost w) s t old mid
         → accesses_made mid + left ≡ accesses_made old + most
         → IsPollOf p left (Took x) t u mid new → IsTakeOf p most (Took x) s u old new }
 
-    // With no budget it is spent, and changes nothing.
+    // A take with a budget of 0 is spent, and changes nothing.
     ensures none { (p : ℕ) (s : Stream) (old : ConsumerView) → IsTakeOf p 0 Spent s s old old }
 
-    // It does not end with a loss, and is not spent with a budget left.
+    // No take ends with a loss, and none is spent while it has budget left.
     ensures lost { (p most w : ℕ) (s t : Stream) (old new : ConsumerView)
         → IsTakeOf p most (Lost w) s t old new → ⊥ }
     ensures idle { (p : ℕ) (s t : Stream) (old : ConsumerView)
         → IsTakeOf p 2 Spent s t old old → ⊥ }
 {}
 
-/// What was returned has one report.
+/// A hub has at most one report of what was returned to it.
 pub fn hubs_have_one_report()
     ensures { (lanes consumers : ℕ) (h : HubView) (r s : ReportView)
         → IsReportIn lanes consumers h r → IsReportIn lanes consumers h s → r ≡ s }
 {}
 
-/// A sample of what is missing. A report in which only one consumer has an undecided note, and no other competed, is
-/// not let in.
+/// Samples of `count_missing`. And `UndecidedHasCompany` refuses a report in which one consumer has an undecided note,
+/// and no other competed.
 pub fn sample_reports()
     ensures two_missing { count_missing {X = ℕ} (None ∷ Some 7 ∷ None ∷ []) ≡ 2 }
     ensures none_missing { count_missing {X = ℕ} (Some 7 ∷ Some 8 ∷ []) ≡ 0 }

@@ -18,7 +18,7 @@
 //!    link.
 //! 3. [`Producer::finish`] stores an end mark in place of the next link. A consumer that meets it has met the whole
 //!    lane.
-//! 4. All return to the [`Hub`], and [`Mailbox::gather`] makes the report of what each of them kept.
+//! 4. All are returned to the [`Hub`], and [`Mailbox::gather`] makes the report of their items and notes.
 //!
 //! # Why at most one takes an item
 //!

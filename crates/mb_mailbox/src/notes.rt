@@ -1,6 +1,6 @@
-//! The notes of a consumer on all lanes, in the order of time. Each has a mark of three bytes. The item of a `Took`
-//! note stands in a second list, so a note on an item that another took needs no word. Both lists have their room
-//! from the beginning, since all lanes together have no more cells than the mailbox.
+//! The notes of a consumer on all lanes, in the order of time. Each has a mark of three bytes. A second list has a word
+//! for each note that needs one: the item of a `Took` note, or a winner's number above 255. Both lists have room from
+//! the beginning for one note on each cell of the mailbox, and a consumer never has more notes.
 ghost use Rattle.std.specs.Prelude.{◌≡◌, ◌+◌, ◌^◌, ◌<◌, ◌≤◌, ◌++◌, ◌∷◌, ℕ, List, [], IfOk, Some, length, map, take, vec_capacity, vec_len};
 ghost use Rattle.std.specs.Option.{option_map_or};
 ghost use Rattle.mb_mailbox.specs.LaneNotes.{AreFiled, AreLosses, noted, told, word_at, words_among, words_in};
@@ -13,7 +13,7 @@ use mb_world::{Diary, Note};
 use std::alloc::Allocator;
 use std::marker::Model;
 
-/// The kind of a note and its lane, without its item.
+/// The kind of a note and its lane. For some kinds the list of words has a word, too.
 #[derive(Clone, Copy)]
 pub(crate) enum Mark {
     /// The item is the next of the words.
@@ -53,7 +53,7 @@ impl Mark {
 }
 
 /// How many marks ahead a loss on the same lane is looked for. If there is one, those between are most likely losses
-/// there, too. Fewer are not worth moving the list out.
+/// there, too. For fewer losses it does not pay to move the diary's list out and back.
 const AHEAD: usize = 3;
 
 /// How many items were put on each lane, and on all lanes together.
@@ -89,7 +89,7 @@ impl<A: Allocator + Drop> Notes<A> {
     ghost use Rattle.std.specs.Prelude.{◌≡◌, ◌≤◌, Some};
     ghost use Rattle.mb_mailbox.specs.NoteLists.{HasRoom, NotesGrow};
 
-    /// Adds a note to those of this lane.
+    /// Adds a note on this lane.
     #[inline(always)]
     pub(crate) fn push(&mut self, lane: u32, note: Note)
         requires { HasRoom lane self.old }
@@ -110,7 +110,7 @@ impl<A: Allocator + Drop> Notes<A> {
         trim(&mut self.words);
     }
 
-    /// How many notes there are on each lane. It only says how much room to take.
+    /// How many notes there are on each lane. The counts are only used to choose how much room to take.
     fn counts(&self) -> [usize; 16] {
         let mut counts = [0usize; 16];
         for mark in self.marks.iter() {
@@ -121,8 +121,8 @@ impl<A: Allocator + Drop> Notes<A> {
         counts
     }
 
-    /// How much room the notes of each lane need. If all producers were taken in and there are as many notes as items,
-    /// each item has its note, and the notes need not be counted. It only says how much room to take.
+    /// How much room the notes of each lane need. If all producers were returned and there are as many notes as items,
+    /// each item has its note, and the notes need not be counted. No proof rests on these numbers.
     pub(crate) fn rooms(&self, counts: &PutCounts) -> [usize; 16] {
         if self.marks.len() == counts.all {
             counts.lanes
@@ -151,9 +151,8 @@ impl<A: Allocator + Clone + Drop> Notes<A> {
         })
     }
 
-    /// Adds the notes to these diaries, each to that of its lane. The diaries are those of the lanes in order, and have
-    /// no note yet.
-    // It stands alone, so that its loops have all registers.
+    /// Adds each note to the diary of its lane. `row` has a diary for each lane, in order. None of them has a note yet.
+    // It is not inlined, so that its loops have all registers of the processor.
     #[inline(never)]
     pub(crate) fn fill(&self, alloc: A, row: &mut [Diary<A>]) -> Result<(), NoMemory>
         requires { AreEmptyDiaries (length self.now.lists) row.old }
@@ -185,7 +184,7 @@ fn put_word<A: Allocator + Drop>(words: &mut Vec<u64, A>, word: Option<u64>)
     }
 }
 
-/// The next word to be read, or 0 past the last. It counts as read.
+/// The next word to be read, or 0 past the last. `read` counts the words read, also past the last.
 #[inline(always)]
 fn next_word(words: &[u64], read: &mut usize) -> u64
     requires { read.old + 1 < 2 ^ 64 }
@@ -200,8 +199,8 @@ fn next_word(words: &[u64], read: &mut usize) -> u64
     }
 }
 
-/// Adds the note of a mark to the diary of its lane, and reads its word if it needs one. Each kind of mark files its
-/// note by itself, so the kind is looked at once.
+/// Adds the note of a mark to the diary of its lane, and reads its word if it needs one. Each arm adds its note by a
+/// call of its own, so that the kind is tested only once.
 #[inline(always)]
 fn file_mark<A: Allocator + Drop>(
     row: &mut [Diary<A>],
@@ -334,7 +333,7 @@ fn add_losses<A: Allocator + Drop>(
     ensures losses { AreLosses lane from result marks.now diary.old.notes diary.new.notes }
     ensures same { with_notes [] diary.new ≡ with_notes [] diary.old }
 {
-    // The list is moved out, so that its length and its place stand in registers meanwhile.
+    // The list is moved out, so that its length and its address are in registers of the processor meanwhile.
     let mut list = std::mem::replace(&mut diary.notes, Vec::new(alloc));
     let next = losses(&mut list, lane, marks, from);
     diary.notes = list;
@@ -356,7 +355,7 @@ fn losses<A: Allocator + Drop>(
 {
     let room = list.capacity() - list.len();
     let most = room.min(marks.len() - from);
-    // How far the marks are ahead of the notes in this list.
+    // A mark's place among the marks, less its note's place in this list.
     let ahead = from - list.len();
     let full = list.len() + most;
     while list.len() < full {

@@ -109,8 +109,8 @@ impl<A: Allocator + Drop> Producer<A> {
         mailbox.cells.finish(&mut self.seat)
     }
 
-    /// The producer's items are those that its part puts into the lane. Nothing waits for its link. Some lawful
-    /// history has the part. This computes nothing: its contract is a law of all producers.
+    /// The producer's items are those that its part puts into the lane, and no item is pending. Some lawful history
+    /// has the part. This computes nothing: its contract is a law of all producers.
     pub fn keeps_its_items(&self)
         ensures items { IsProducer self.now }
         ensures part { HasPart self.now.seat }

@@ -1,11 +1,11 @@
-//! What a hub keeps of the producers and consumers that it took back.
+//! What a hub records of the producers and consumers that it took back.
 use crate::notes::Notes;
 use arrayvec::ArrayVec;
 use mb_world::Place;
 use std::alloc::Allocator;
 use std::marker::Model;
 
-/// What is kept of a producer that was returned: its items, and whether it has ended its lane.
+/// What a hub records of a producer that was returned: its items, and whether it has ended its lane.
 #[derive(Drop)]
 pub(crate) struct PutList<A: Allocator + Drop> {
     pub(crate) items: Vec<u64, A>,
@@ -20,7 +20,7 @@ impl<A: Allocator + Drop> Model for PutList<A> {
     ghost view = { λ l. record { items = l.items.items; ended = l.ended } };
 }
 
-/// What is kept of a consumer that was returned: its place on each lane, and its notes there.
+/// What a hub records of a consumer that was returned: its place on each lane, and its notes there.
 #[derive(Drop)]
 pub(crate) struct ConsumerRecord<A: Allocator + Drop> {
     pub(crate) places: ArrayVec<Place, 16>,

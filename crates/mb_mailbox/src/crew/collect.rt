@@ -1,4 +1,4 @@
-//! Taking in what was given to a run.
+//! How the producers and consumers of a run are returned to the hub, and what the run came to.
 ghost use Rattle.std.specs.Prelude.{◌≡◌, ◌+◌, ◌-◌, ◌^◌, ◌<◌, ◌||◌, IfErr, IfOk, IsOk, false, length, min};
 ghost use Rattle.std.specs.Int.{from_bool};
 ghost use Rattle.std.specs.List.{All, sum_by};
@@ -34,7 +34,7 @@ fn add(old: WorkTotals, full: u64, stopped: bool, aborted: bool) -> WorkTotals
     }
 }
 
-/// Takes the producer or consumer of this end in, and adds what the end says.
+/// Takes back the producer or consumer of this end, and adds what the end says.
 fn take_one<A: Allocator + Drop, B: Allocator + Drop>(
     mailbox: &Mailbox<B>,
     hub: &mut Hub<A>,
@@ -61,8 +61,8 @@ fn take_one<A: Allocator + Drop, B: Allocator + Drop>(
     }
 }
 
-/// Takes the workers of all these ends in, in order, and returns what the run came to. There is a fault exactly if one
-/// of the ends says that the run is aborted.
+/// Takes back the producers and consumers of all these ends, in order, and returns what the run came to. There is a
+/// fault exactly if one of the ends says that the run is aborted.
 pub(super) fn settle<A: Allocator + Drop, B: Allocator + Drop>(
     mailbox: &Mailbox<B>,
     hub: &mut Hub<A>,

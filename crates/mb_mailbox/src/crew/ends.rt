@@ -1,5 +1,5 @@
-//! How consumers come to the ends of lanes. The functions compute nothing. Their contracts are the laws, and their
-//! bodies name the laws below.
+//! How consumers come to the ends of lanes. The functions compute nothing. Their contracts are laws, and their bodies
+//! name the laws of other crates from which these follow.
 ghost use Rattle.std.specs.Prelude.{ℕ, ◌≡◌, ◌≢◌, Some, length, slice_get};
 ghost use Rattle.mb_cells.specs.declared.size.PoolSize.{PoolSize};
 ghost use Rattle.mb_shared_cells.specs.Vocabulary.{IsRollOf};
@@ -31,7 +31,7 @@ pub(super) fn ends_are_kept()
     readers_follow_lanes();
 }
 
-/// If a consumer has read a lane to its end, and it and the lane's producer were taken in, it has as many notes there
+/// If a consumer has read a lane to its end, and it and the lane's producer were returned, it has as many notes there
 /// as the lane has items.
 pub(super) fn ends_tell_notes()
     ensures { (size : PoolSize) (roll : Roll) (h : History) (p : ℕ) (done : History)

@@ -1,4 +1,4 @@
-//! The numbers that are given to a run, in order.
+//! The producers and consumers that are issued for a run, in order.
 ghost use Rattle.std.specs.Prelude.{◌≡◌, ◌+◌, ◌≤◌, [], length, true, vec_capacity, vec_len};
 ghost use Rattle.std.specs.List.{All};
 ghost use Rattle.mb_mailbox.specs.Imports.{consumer_count};
@@ -12,7 +12,7 @@ use crate::mailbox::Mailbox;
 use rand_core::Rng;
 use std::alloc::Allocator;
 
-/// Gives a producer for each list, in order, and adds its job to `jobs`, which has room for all. If the allocator
+/// Issues a producer for each list, in order, and adds its job to `jobs`, which has room for all. If the allocator
 /// refuses what one of them needs, this stops there and returns `false`.
 pub(super) fn give_producers<R: Drop, A: Allocator + Clone + Drop, B: Allocator + Drop>(
     alloc: &A,
@@ -45,7 +45,7 @@ pub(super) fn give_producers<R: Drop, A: Allocator + Clone + Drop, B: Allocator 
     true
 }
 
-/// Gives a consumer for each source, in order, and adds its job to `jobs`, which has room for all. If the allocator
+/// Issues a consumer for each source, in order, and adds its job to `jobs`, which has room for all. If the allocator
 /// refuses what one of them needs, this stops there and returns `false`.
 pub(super) fn give_consumers<R: Rng + Drop, A: Allocator + Clone + Drop, B: Allocator + Drop>(
     alloc: &A,
@@ -78,7 +78,7 @@ pub(super) fn give_consumers<R: Rng + Drop, A: Allocator + Clone + Drop, B: Allo
     true
 }
 
-/// Gives a producer for each list and then a consumer for each source. If the allocator refuses what one of them
+/// Issues a producer for each list and then a consumer for each source. If the allocator refuses what one of them
 /// needs, this stops there and returns `false`.
 pub(super) fn give<R: Rng + Drop, A: Allocator + Clone + Drop, B: Allocator + Drop>(
     alloc: &A,

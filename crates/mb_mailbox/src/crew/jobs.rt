@@ -1,4 +1,4 @@
-//! What a worker is given, what it promises, and what it gives back.
+//! The job of a worker, what the worker's thread promises, and the end that it gives back.
 ghost use Rattle.std.specs.Prelude.{◌≡◌, ◌<◌, ◌≤◌, [], false};
 ghost use Rattle.mb_mailbox.specs.Producers.{is_over};
 
@@ -56,8 +56,8 @@ pub(crate) enum Job<R: Drop, A: Allocator + Drop> {
 }
 
 /// The end of a producer's worker. The producer has ended its lane. `full` says how many items of its list it did not
-/// put because no cell was left. `stopped` says whether it was stopped before the end of its list. `aborted` says
-/// whether that was because the run is aborted.
+/// put because no cell was left. `stopped` says whether it was stopped before the end of its list. `aborted` is true if
+/// it was stopped because the run is aborted, or if the worker got no thread.
 #[derive(Drop)]
 pub(crate) struct PutDone<A: Allocator + Drop> {
     pub(crate) producer: Producer<A>,
@@ -66,8 +66,8 @@ pub(crate) struct PutDone<A: Allocator + Drop> {
     pub(crate) aborted: bool,
 }
 
-/// The end of a consumer's worker. `stopped` says whether it was stopped before all lanes had ended. `aborted` says
-/// whether the run is aborted, as with a producer.
+/// The end of a consumer's worker. `stopped` says whether it was stopped before it met the end mark of each lane.
+/// `aborted` is true if it was stopped because the run is aborted, or if the worker got no thread.
 #[derive(Drop)]
 pub(crate) struct PollDone<A: Allocator + Drop> {
     pub(crate) consumer: Consumer<A>,
@@ -82,7 +82,7 @@ pub(crate) enum Done<A: Allocator + Drop> {
     Poll(PollDone<A>),
 }
 
-/// What a worker's thread promises, by its job, the lanes and the gate.
+/// What a worker's thread promises: an end of this job, with these lanes and this gate.
 #[derive(Drop)]
 pub(crate) struct Pledge<G: Gate, R: Rng + Drop, A: Allocator + Drop> {
     pub(crate) job: Snapshot<Job<R, A>>,

@@ -1,4 +1,4 @@
-//! The lists of a run, with their room from the start.
+//! The lists of a run's jobs, workers and ends, with all their room from the start.
 ghost use Rattle.std.specs.Prelude.{IfOk};
 ghost use Rattle.mb_mailbox.specs.Runs.{HasRoom};
 

@@ -1,4 +1,4 @@
-//! The workers of a run, at the same time.
+//! Runs the workers of a run, each in a thread of its own.
 ghost use Rattle.std.specs.Prelude.{◌≡◌, ◌-◌, ◌≤◌, [], vec_capacity, vec_len};
 ghost use Rattle.std.specs.List.{All, AllZip};
 ghost use Rattle.mb_mailbox.specs.Runs.{ArePutsFirst, HasRoom, IsEnd, IsJobOf};
@@ -90,7 +90,7 @@ pub(super) fn run<
     )
 }
 
-/// Ends the workers of all jobs with no thread, after the run was aborted. `done` has room for all.
+/// Ends the workers of all jobs in the caller's thread, after the run was aborted. `done` has room for all.
 pub(super) fn end_all<A: Allocator + Drop, R: Rng + Drop, G: Gate>(
     shared: &Shared<'_, A, G>,
     aborted: &OnceToken<'_, ()>,

@@ -2,7 +2,7 @@
 use super::jobs::{Done, Pledge};
 use std::thread::{Promise, PromisedHandle};
 
-/// A worker that was begun. It has a thread of its own. If no thread could be made, it was ended here.
+/// A worker that was begun. It has a thread of its own, or its end (`Inline`) if no thread could be made.
 #[derive(Drop)]
 pub(crate) enum Worker<D: Drop, P: Promise<D>> {
     Spawned(PromisedHandle<D, P>),

@@ -19,7 +19,7 @@ use std::alloc::Allocator;
 use std::sync::OnceLock;
 use std::thread::yield_now;
 
-/// What came of a list: how many items were linked, and whether the producer was stopped before the end of the list.
+/// What came of a list: how many items were put, and whether the producer was stopped before the end of the list.
 /// `aborted` says whether it was stopped because the run is aborted.
 #[derive(Clone, Copy)]
 struct Linked {
@@ -189,8 +189,8 @@ fn poll_lane<A: Allocator + Drop, B: Allocator + Drop, R: Rng>(
     poll
 }
 
-/// How many polls in a row have found nothing since the last yield, after `poll`. The thread yields when more than
-/// `lanes` have.
+/// How many of the latest polls, up to `poll`, have all returned `Nothing` since the last yield. Once they are more
+/// than `lanes`, the thread yields, and the count is 0 again.
 fn rest(poll: Poll, idle: u32, lanes: u32) -> u32 {
     match poll {
         Poll::Nothing if idle < lanes => idle + 1,

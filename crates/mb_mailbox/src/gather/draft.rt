@@ -4,8 +4,8 @@ use mb_world::Report;
 use std::alloc::Allocator;
 use std::marker::Model;
 
-/// A hub and the draft of its report, made by `Mailbox::draft`. [`Mailbox::gather_with`](crate::Mailbox::gather_with)
-/// completes the report without memory. Its view is that of its hub.
+/// A hub, with its report but for the items put. `Mailbox::draft` makes it, and
+/// [`gather_with`](crate::Mailbox::gather_with) completes the report without memory. Its view is that of its hub.
 #[derive(Drop)]
 pub struct Draft<A: Allocator + Drop> {
     pub(super) hub: Hub<A>,
@@ -28,7 +28,7 @@ impl<A: Allocator + Drop> Model for Draft<A> {
 impl<A: Allocator + Drop> Draft<A> {
     ghost use Rattle.std.specs.Prelude.{◌≡◌};
 
-    /// The hub, as it was.
+    /// The hub, as it was before the draft was made.
     pub fn undone(self) -> Hub<A>
         ensures { result ≡ self }
     {

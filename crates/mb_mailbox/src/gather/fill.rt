@@ -1,4 +1,4 @@
-//! The items that a hub has kept, moved into the outline of its report. Nothing is copied, and no memory is taken.
+//! Moves the lists of items that a hub has into the outline of its report. Nothing is copied, and no memory is taken.
 ghost use Rattle.std.specs.Prelude.{◌≡◌, ◌≤◌, vec_len};
 ghost use Rattle.mb_mailbox.specs.Filling.{changed_from, with_items};
 
@@ -6,7 +6,7 @@ use crate::taken::PutList;
 use mb_world::LaneReport;
 use std::alloc::Allocator;
 
-/// Moves the items of each producer into its lane.
+/// Moves the items of each producer into its lane of the report.
 pub(super) fn fill_lanes<A: Allocator + Drop>(
     lanes: &mut Vec<LaneReport<A>, A>,
     mut puts: Vec<Option<PutList<A>>, A>,
@@ -20,7 +20,7 @@ pub(super) fn fill_lanes<A: Allocator + Drop>(
     }
 }
 
-/// Moves the items of a producer, if it was returned, into its lane.
+/// Moves the items of a producer, if it was returned, into its lane of the report.
 fn fill_lane<A: Allocator + Drop>(lane: &mut LaneReport<A>, kept: Option<PutList<A>>)
     ensures { lane.new ≡ with_items kept lane.old }
 {

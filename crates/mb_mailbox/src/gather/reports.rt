@@ -1,4 +1,4 @@
-//! The outline of the report of what a hub has taken back: all of it except the items put, whose lists the hub keeps.
+//! The outline of a hub's report: all of the report except the items put, whose lists stay in the hub.
 ghost use Rattle.std.specs.Prelude.{◌≡◌, ◌+◌, ◌<◌, ◌≤◌, ◌++◌, [], IfOk, slice_get, vec_capacity, vec_len};
 ghost use Rattle.std.specs.Option.{option_map, option_map_or};
 ghost use Rattle.mb_world.specs.Reporting.{any_below, is_took};
@@ -37,7 +37,7 @@ impl<A: Allocator + Drop> Hub<A> {
         }
     }
 
-    /// What the hub keeps of consumer `c`, if it was returned.
+    /// What the hub records of consumer `c`, if it was returned.
     fn kept(&self, c: u32) -> Option<&ConsumerRecord<A>>
         ensures { option_map (λ k. k.now) result ≡ kept_at self.now.records c }
     {
@@ -83,7 +83,7 @@ fn note_at<A: Allocator + Drop>(diaries: &[Diary<A>], at: usize, j: usize) -> Op
     }
 }
 
-/// Whether the consumer of this record holds a claim on lane `p` that has made an access.
+/// Whether the consumer of this record, if there is one, holds a claim on lane `p` that has made an access.
 #[inline(always)]
 fn has_begun<A: Allocator + Drop>(kept: Option<&ConsumerRecord<A>>, p: u32) -> bool
     ensures { result ≡ begun_of p (option_map (λ k. k.now) kept.entry) }
@@ -94,7 +94,7 @@ fn has_begun<A: Allocator + Drop>(kept: Option<&ConsumerRecord<A>>, p: u32) -> b
     }
 }
 
-/// Adds the diaries of consumer `c`, whose record this is, with room for their notes and without the notes.
+/// Adds the diaries of consumer `c` on all lanes, without the notes, but with room for them. `kept` is its record.
 #[inline(always)]
 fn add_outlines<A: Allocator + Clone + Drop>(
     diaries: &mut Vec<Diary<A>, A>,
@@ -124,7 +124,7 @@ fn add_outlines<A: Allocator + Clone + Drop>(
     Ok(())
 }
 
-/// How many items were put on each lane. It only says how much room to take.
+/// How many items were put on each lane. The counts are only used to choose how much room to take.
 fn put_counts<A: Allocator + Drop>(puts: &[Option<PutList<A>>]) -> PutCounts {
     let mut lanes = [0usize; 16];
     let mut all = 0usize;
@@ -143,7 +143,7 @@ impl<A: Allocator + Clone + Drop> Hub<A> {
     ghost use Rattle.std.specs.Prelude.{◌≡◌, ◌+◌, ◌<◌, ◌≤◌, ◌*◌, IfOk, vec_capacity};
     ghost use Rattle.mb_mailbox.specs.Gathering.{AreDiaries, AreLanesOutlined, IsOutlineIn, lane_outline};
 
-    /// The outline for this many lanes and consumers. It takes all the room that the report needs beside the hub.
+    /// The outline for this many lanes and consumers. It takes all the memory that the report needs beside the hub's.
     pub(super) fn outline(
         &self,
         alloc: A,

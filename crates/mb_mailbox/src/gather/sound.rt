@@ -1,5 +1,5 @@
-//! What is gathered is sound, and the report says it. The function computes nothing. Its contract is the law on which
-//! `gather` stands, and its body names the laws below.
+//! What is gathered is sound, and the report says it. The function computes nothing. Its contract is the law from which
+//! the clauses of `gather` follow, and its body names the laws of other crates from which this one follows.
 ghost use Rattle.std.specs.Prelude.{◌≡◌};
 ghost use Rattle.mb_shared_cells.specs.Vocabulary.{IsRollOf};
 ghost use Rattle.mb_shared_claims.specs.Vocabulary.{AreOfOneHistory, count_out, taken_part};
@@ -26,8 +26,8 @@ pub(super) fn gathering_is_sound()
     ensures all_in { (h : HubView) → IsHub h → count_missing h.records ≡ 0
         → count_out h.claims.roll ≡ 0 }
 
-    // The tables, once closed, have one history each, in which all parts are those that the hub has taken back. The
-    // report of what the hub has taken back is that of these histories.
+    // Each table, once closed, has one history, in which the part of each process is the one returned to the hub. What
+    // the report of the hub says is what these histories did.
     ensures main_theorem { (m : MailboxView) (h : HubView) (r : ReportView) (pool : History)
         → IsMailbox m → IsHub h → IsHubOf m h
         → count_missing h.puts ≡ 0 → count_missing h.records ≡ 0
@@ -35,7 +35,7 @@ pub(super) fn gathering_is_sound()
         → IsRollOf m.cells.size h.cells.roll pool
         → IsReportIn m.cells.size.lanes (consumer_count m.claims.layout) h r → IsGathered m h r }
 
-    // What follows from such a report.
+    // What follows if `IsGathered` holds of a report.
     ensures full { (m : MailboxView) (h : HubView) (r : ReportView) → IsHub h → IsHubOf m h
         → count_missing h.puts ≡ 0 → IsGathered m h r → FullTakesAll m h r }
     ensures undecided { (m : MailboxView) (h : HubView) (r : ReportView) → IsGathered m h r

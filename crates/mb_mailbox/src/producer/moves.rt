@@ -1,5 +1,5 @@
-//! How a producer moves on by its calls. The function computes nothing. Its contract is the law on which the calls
-//! stand, and its body names the laws below.
+//! How a producer moves on by its calls. The function computes nothing. Its contract is the law from which the clauses
+//! of the calls follow, and its body names the laws from which it follows.
 ghost use Rattle.std.specs.Prelude.{ℕ, ◌≡◌, ◌<◌, ◌++◌, ◌∷◌, [], false, length, true};
 ghost use Rattle.mb_cells.specs.declared.answer.Finish.TheVariants as finish;
 ghost use Rattle.mb_cells.specs.declared.answer.Finish.{Finish};
@@ -17,7 +17,7 @@ use mb_cells::steps::{
     accesses_lengthen_one_part, history_extends, parts_have_accesses, put_lists_grow,
 };
 
-/// What a call makes of a producer.
+/// What a producer is after a call.
 pub(super) fn producers_move_on()
     // An offer that returned a cell, and two pushes after it, put the item. They do not end the lane.
     ensures linked { (s : ProducerView) (x k : ℕ) (one two : Push) (a b now : LaneSeatView)
@@ -82,7 +82,7 @@ pub(super) fn producers_move_on()
     lanes_keep_to_their_parts();
 }
 
-/// The laws of the crates below on which a producer's calls stand, in one record.
+/// The laws of the crates below from which the clauses of a producer's calls follow, in one record.
 fn lanes_keep_to_their_parts()
     ensures { PutLaws }
 {

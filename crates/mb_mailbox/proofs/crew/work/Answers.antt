@@ -5,7 +5,7 @@ use Rattle.mb_mailbox.specs.Worked.{lists_in}
 use Rattle.mb_mailbox.proofs.Final.{nothing_taken, worked_of}
 use Rattle.mb_mailbox.proofs.crew.work.Goals as goal
 
--- if room is refused, nothing was given
+-- if memory for the lists of jobs and ends is refused, nothing was issued
 pub returns-in_default-clause-no_memory : goal.returns-in_default-clause-no_memory
 returns-in_default-clause-no_memory g c = λ e. nothing_taken (lists_in c.args.items.items)
     (vec_len c.args.rngs) c.args.hub.now

@@ -6,7 +6,7 @@ use Rattle.mb_mailbox.proofs.Listed.{count_more}
 use Rattle.mb_mailbox.proofs.gather.missing.Goals as goal
 use Rattle.mb_mailbox.proofs.gather.missing.Goals.{then-is_none, else-is_none}
 
--- one that was not returned counts 1, and by `one_there` one that was counts 0
+-- one that was not returned counts 1 as missing, and by `one_there` one that was returned counts 0
 one_missing : {X : Type 0} (x : Option X) → is_some x ≡ false → count_missing (x ∷ []) ≡ 1
 one_missing None e = refl
 one_missing (Some x) e = absurd (cc)

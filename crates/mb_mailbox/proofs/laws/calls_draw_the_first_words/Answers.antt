@@ -6,7 +6,7 @@ use Rattle.mb_mailbox.specs.Consumers.{ConsumerView}
 use Rattle.mb_mailbox.specs.Steps.{AreDrawn, drawn_words}
 use Rattle.mb_mailbox.proofs.laws.calls_draw_the_first_words.Goals as goal
 
--- words drawn one list after the other are drawn as one list
+-- if the words `ws` are drawn and then the words `vs`, all of them are drawn as one list
 drawn_after : (s t u : Stream) (ws vs : List ℕ) → AreDrawn s ws t → AreDrawn t vs u → AreDrawn s (vs ++ ws) u
 drawn_after s t u ws [] was now = subst (λ z. AreDrawn s ws z) (sym now) was
 drawn_after s t u ws (v ∷ vs) was now = (now.0, drawn_after s t now.0 ws vs was now.1, now.2)
@@ -15,7 +15,7 @@ drawn_after s t u ws (v ∷ vs) was now = (now.0, drawn_after s t now.0 ws vs wa
 abbrev words : List ClaimAccess → List ℕ
 words done = map (λ a. a.step.turn.word) done
 
--- calls from no access on draw the first words of the source
+-- if a consumer has made no access to the claims before its calls, these draw the first words of the source
 first_words : (from end budget : ℕ) (made : List Call) (s t : Stream) (old new : ConsumerView)
     → AreCalls from end budget made s t old new
     → old.seat.part ≡ [] → AreDrawn s (words new.seat.part) t

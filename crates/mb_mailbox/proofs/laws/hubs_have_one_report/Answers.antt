@@ -16,7 +16,7 @@ lists_same (x ∷ xs) (y ∷ ys) e each =
     let tail = lists_same xs ys (omega arith) (λ i low. each (suc i) (omega arith)) in
     λ j. head j ∷ tail j
 
--- each place in the grid is of a row and a column
+-- each number below n * w is c * w + p for some c below n and some p below w
 placed : (w n i : ℕ) → i < n * w → (c p : ℕ) × (c < n) × (p < w) × (c * w + p ≡ i)
 placed zero n i low = absurd (omega arith)
 placed (suc w) n i low =

@@ -44,7 +44,7 @@ none_begun s p i each = by (slice_get s.places p) refl
     by (Some (Before at)) e = refl
     by (Some (At k claim)) e = absurd (no_claim s p k claim i each e)
 
--- an element that is set at a number is kept there, if there is such a number
+-- after element n is set to x, the list has x there, or it has no element n
 kept_there : {X : Type 0} (xs : List (Option X)) (n : ℕ) (x : X)
     → (kept_at (slice_set xs n (Some x)) n ≡ Some x) ⊎ (kept_at (slice_set xs n (Some x)) n ≡ None)
 kept_there [] n x = inr refl

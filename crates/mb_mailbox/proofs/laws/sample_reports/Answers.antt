@@ -7,7 +7,7 @@ use Rattle.mb_mailbox.specs.Imports.{Note, Undecided}
 use Rattle.mb_mailbox.specs.GatheringSamples.{diary_of, one_left, two_undecided}
 use Rattle.mb_mailbox.proofs.laws.sample_reports.Goals as goal
 
--- the diary of consumer d on lane 0 stands at place d
+-- the diary of consumer d on lane 0 is element d of the diaries
 at_place : (d : ℕ) (ds : List DiaryView) → diary d 0 (one_left ds) ≡ slice_get ds d
 at_place d ds = let e : d * 1 + 0 ≡ d = omega arith in ap (slice_get ds) e
 
@@ -18,7 +18,7 @@ HasCompetedBy o =
     ⊎ ((length (option_map_or (λ (d : DiaryView). d.notes) o []) ≡ 0)
     × (option_map_or (λ (d : DiaryView). d.begun) o false ≡ true))
 
--- only consumer 0 has competed
+-- in these two diaries only consumer 0 has competed for the item
 no_company : (d : ℕ) → d ≢ 0 → HasCompetedBy (slice_get (diary_of 0 (Undecided ∷ []) ∷ diary_of 1 [] ∷ []) d) → ⊥
 no_company zero ne h = ne refl
 no_company (suc zero) ne (inl h) = omega arith
@@ -40,11 +40,11 @@ no_lane d p ds = rw (le-ltb (suc p) 1 (omega arith)) refl
 abbrev note_in : Option DiaryView → ℕ → Option Note
 note_in o j = slice_get (option_map_or (λ (d : DiaryView). d.notes) o []) j
 
--- the diaries of two consumers that are both undecided
+-- the diaries of two consumers, each with one undecided note
 abbrev both : List DiaryView
 both = diary_of 0 (Undecided ∷ []) ∷ diary_of 1 (Undecided ∷ []) ∷ []
 
--- an undecided note of one of them has the other for company
+-- if one of them has an undecided note at position j, both have competed for that item
 company : (d j : ℕ) → note_in (slice_get both d) j ≡ Some Undecided
     → HasCompeted d 0 j two_undecided × ((e : ℕ) × (e ≢ d) × HasCompeted e 0 j two_undecided)
 company zero zero h = (inl (omega arith), (1, (λ e. absurd (omega arith)), inl (omega arith)))

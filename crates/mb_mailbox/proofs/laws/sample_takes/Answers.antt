@@ -1,4 +1,4 @@
--- Proof of `laws::sample_takes`: takes of no item, of one item past another, and what is no take.
+-- Proof of `laws::sample_takes`: a take of no item, a take past an item that was lost, and what is no take.
 use Rattle.std.proofs.Common.{[], ◌∷◌, arith, refl}
 use Rattle.mb_mailbox.specs.declared.consumer.Poll.TheVariants as poll
 use Rattle.mb_mailbox.proofs.Polls.{no_steps, poll_of}

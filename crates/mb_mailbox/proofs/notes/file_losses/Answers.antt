@@ -5,7 +5,7 @@ use Rattle.std.proofs.lemmas.Option.{slice_get-get_or}
 use Rattle.mb_mailbox.proofs.LaneLists.{filed_few, losses_filed, losses_read, same_beside}
 use Rattle.mb_mailbox.proofs.notes.file_losses.Goals as goal
 
--- In each proof d is the diary of the lane, before
+-- In each proof d is the diary of the lane, before its notes are added
 pub add_losses-requires : goal.add_losses-requires
 add_losses-requires g c =
     let ds = c.args.row.now in

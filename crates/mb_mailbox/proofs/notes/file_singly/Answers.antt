@@ -10,7 +10,7 @@ file_mark-requires g c =
     let read = c.loop-at.invariant.read in
     omega (arith, few, read)
 
--- the note of the next mark and the next word goes to the diary of its lane
+-- the note of the next mark and the next word is added to the diary of its lane
 pub loop-at-preserved : goal.loop-at-preserved
 loop-at-preserved g c =
     let ms = c.args.marks.now in
@@ -30,7 +30,7 @@ loop-at-preserved g c =
       since = omega (arith, since);
     }
 
--- before a run, the note of the last mark is in the diary of its lane
+-- if the loop ends since losses on one lane may follow, the note of the last mark read is in the diary of its lane
 pub returns-then-is_run-clause-filed : goal.returns-then-is_run-clause-filed
 returns-then-is_run-clause-filed g c =
     let ms = c.args.marks.now in

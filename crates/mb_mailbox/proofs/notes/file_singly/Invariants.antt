@@ -13,6 +13,6 @@ invariant-loop-at g l = record {
   since : l.from ≤ l.at;
 }
 
--- each turn files a mark
+-- each pass of the loop files a mark
 abbrev pub decreases-loop-at : goal.decreases-loop-at
 decreases-loop-at g l = length l.marks - l.at

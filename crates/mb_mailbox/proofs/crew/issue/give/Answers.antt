@@ -5,7 +5,7 @@ use Rattle.mb_mailbox.proofs.HubRuns.{same_by_producers}
 use Rattle.mb_mailbox.proofs.Loops.{both_given, no_polls_given}
 use Rattle.mb_mailbox.proofs.crew.issue.give.Goals as goal
 
--- `same` says that producers leave the number of consumers given as it is
+-- `same` says that to issue producers leaves the number of consumers issued as it is
 pub give_consumers-requires-clause-left : goal.give_consumers-requires-clause-left
 give_consumers-requires-clause-left g c =
     let given = c.give_producers.ensures.early.given in
@@ -14,7 +14,7 @@ give_consumers-requires-clause-left g c =
     ∙ ap length (same_by_producers (λ h. h.records) (λ h. refl) given.puts c.args.hub.now) in
     omega (arith, same, c.requires.consumers)
 
--- if a producer was refused, no consumer was given
+-- if a producer was refused, no consumer was issued
 pub returns-then-not-give_producers-clause-early : goal.returns-then-not-give_producers-clause-early
 returns-then-not-give_producers-clause-early g c =
     let e = c.give_producers.ensures.early in

@@ -12,7 +12,7 @@ join_all-requires-clause-room g c =
     c.args.shared.now.lanes) c.args.jobs.items c.start_all-running.result.items c.start_all-running.ensures in
     omega (arith, same, c.start_all-running.result.ok.0, c.args.jobs.ok.0, c.requires.done.1)
 
--- each job has its promise, and each promise its end. So each job has its end
+-- each job has a worker that promises its end, and each worker has given back what it promised. So each job has its end
 pub returns : goal.returns
 returns g c =
     zip_through (Promises g.G.Gate.may_stop g.G.Gate.may_pass g.R.Rng.stream c.args.shared.now.gate.now

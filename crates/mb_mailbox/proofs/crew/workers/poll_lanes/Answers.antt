@@ -10,12 +10,12 @@ use Rattle.mb_mailbox.proofs.Marks.{clear, marks_all, marks_fewer, within}
 use Rattle.mb_mailbox.proofs.crew.workers.poll_lanes.Goals as goal
 use Rattle.mb_mailbox.proofs.crew.workers.poll_lanes.Goals.{else-loop-call-test, then-loop-call-test+in-Some+else-is_some+then-not-enter}
 
--- no lane is marked
+-- the marks before the first call: sixteen lanes, none of them marked
 abbrev sixteen : List Bool
 sixteen = false ∷ false ∷ false ∷ false ∷ false ∷ false ∷ false ∷ false ∷ false ∷ false ∷ false
     ∷ false ∷ false ∷ false ∷ false ∷ false ∷ []
 
--- what holds if there is none, and if there is one
+-- if no lane was found, what is said of that case holds. By `left_of`, if one was found, both statements on it hold
 none_left : {P : Type 0} (o : Option ℕ) → is_some o ≡ false → IfNone o P → P
 none_left None e h = h
 none_left (Some x) e h = absurd (cc)
@@ -74,7 +74,7 @@ loop-call-preserved g c =
           c.in-Some.ensures.some.0 c.poll_lane-poll.ensures.polled (search rules);
     }
 
--- all lanes have ended at a turn of the loop
+-- `poll_lanes` returns from within the loop: all lanes have ended
 pub returns-in_default : goal.returns-in_default
 returns-in_default g c = record {
   same = c.loop-call.invariant.same;

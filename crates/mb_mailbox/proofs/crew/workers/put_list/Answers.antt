@@ -6,7 +6,7 @@ use Rattle.mb_mailbox.proofs.PutEnds.{found_before, found_still, front_take}
 use Rattle.mb_mailbox.proofs.crew.workers.put_list.Goals as goal
 use Rattle.mb_mailbox.proofs.crew.workers.put_list.Goals.{then-stopped, else-stopped}
 
--- `count` says that the producer has n items after the finish, the first n of the list
+-- `count` says that the producer has n items after the finish. They are the first n of the list
 pub returns : goal.returns
 returns g c =
     let n = c.put_items-count.result.count in

@@ -5,7 +5,7 @@ use Rattle.mb_mailbox.specs.Filling.{changed_from, with_items}
 use Rattle.mb_mailbox.proofs.Filled.{turned}
 use Rattle.mb_mailbox.proofs.gather.fill.fill_lanes.Goals as goal
 
--- `new` is the list without its last put list, which is moved in at this turn
+-- `new` has the put lists without the last, whose items are moved in by this pass of the loop
 pub loop-kept-preserved : goal.loop-kept-preserved
 loop-kept-preserved g c =
     let new = c.pop.new.self.items in

@@ -2,7 +2,7 @@ use Rattle.std.proofs.Common.{◌≡◌, ◌≤◌, length}
 use Rattle.mb_mailbox.specs.Filling.{changed_from, with_items}
 use Rattle.mb_mailbox.proofs.gather.fill.fill_lanes.Given as goal
 
--- moving in the rest of the put lists gives what moving in all of them gave at first
+-- to move in the put lists that are left leads to the same lanes as to move in all of them at first
 abbrev pub invariant-loop-kept : goal.invariant-loop-kept
 invariant-loop-kept g l = record {
   room : length l.puts.items ≤ length l.lanes.items;
@@ -10,6 +10,6 @@ invariant-loop-kept g l = record {
       ≡ changed_from with_items 0 l.initial.puts.items l.initial.lanes.items;
 }
 
--- each turn takes one put list away
+-- each pass of the loop takes one put list off the list
 abbrev pub decreases-loop-kept : goal.decreases-loop-kept
 decreases-loop-kept g l = length l.puts.items

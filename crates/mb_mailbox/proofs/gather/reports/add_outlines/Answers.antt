@@ -1,4 +1,4 @@
--- Proof of `add_outlines`: the diaries of a consumer without the notes.
+-- Proof of `add_outlines`: adds the diaries of a consumer without the notes.
 use Rattle.std.proofs.Common.{◌∙◌, arith}
 use Rattle.std.specs.Prelude.{Option}
 use Rattle.std.specs.Option.{option_map}
@@ -7,7 +7,7 @@ use Rattle.mb_mailbox.specs.Hubs.{ConsumerRecordView}
 use Rattle.mb_mailbox.proofs.Diaries.{outlines_more}
 use Rattle.mb_mailbox.proofs.gather.reports.add_outlines.Goals as goal
 
--- the diary `made` at this turn is the outline of that on lane p
+-- the diary `made` by this pass of the loop is the outline of the consumer's diary on lane p
 pub loop-p-preserved : goal.loop-p-preserved
 loop-p-preserved g c =
     let kept : Option ConsumerRecordView = option_map (λ k. k.now) c.args.kept in

@@ -21,13 +21,13 @@ use Rattle.mb_mailbox.proofs.gather.sound.gathering_is_sound.Goals as goal
 pub returns-clause-all_in : goal.returns-clause-all_in
 returns-clause-all_in c = all_in
 
--- the two parts of each consumer fit, even of one that was never given
+-- the two parts of each consumer fit, even of one that was never issued
 fits : (m : MailboxView) (h : HubView) (hs : Histories) (d : ℕ) → Fits (plan_at m).claims d no_parts → Keeps m h hs d
     → Fits (plan_at m).claims d (parts_in d hs)
 fits m h hs d none (Keeps.was_in l e places lists fit stands) = fit
 fits m h hs d none (Keeps.never e empty) = subst (λ (x : Parts). Fits (plan_at m).claims d x) empty none
 
--- the turns of a claim of consumer d are a prefix of a claim of d
+-- the turns that a claim of consumer d has made are a prefix of a whole claim of d
 path : (m : MailboxView) (d : ℕ) (claim : Claim) (xs : List ObjectTurn)
     → IsClaimIn m.claims.layout claim xs → consumer_of claim ≡ d
     → IsClaimPrefix (plan_at m).claims d xs (claim_stage claim)
@@ -92,12 +92,12 @@ second_of false s (suc n) rest some = refl
 ratifier : (shape : Shape) (s n : ℕ) → 1 ≤ n → slice_get (row_of shape s n) 1 ≡ Some Ratifier
 ratifier shape s n some = second_of shape.fast s n (last_row shape.last) some
 
--- a row without a last object has a pair, if without pairs there is a last object
+-- if a cell with no pairs has a last object, a cell without a last object has at least one pair
 by_pairs : (n : ℕ) (b : Bool) → (n ≡ 0 → b ≡ true) → (b ≡ true → ⊥) → 1 ≤ n
 by_pairs (suc n) b some never = omega arith
 by_pairs zero b some never = absurd (never (some refl))
 
--- a cell with a second object has objects
+-- a list of kinds with a second element is not empty
 some_kinds : (kinds : List Kind) → slice_get kinds 1 ≡ Some Ratifier → kinds ≢ []
 some_kinds [] e none = absurd (cc)
 some_kinds (k ∷ kinds) e none = absurd (cc)

@@ -6,7 +6,7 @@ use Rattle.mb_mailbox.proofs.Listed.{chosen_none, chosen_one}
 use Rattle.mb_mailbox.proofs.hub.Hub.lane_report.Goals as goal
 use Rattle.mb_mailbox.proofs.hub.Hub.lane_report.Goals.{then-not-is_taken+in_ok-push, else-not-is_taken}
 
--- by `is` the diaries tell what the notes that the hub keeps tell
+-- by `is` the diaries say of an item whether it was taken as the hub's records do
 pub loop-j-preserved : goal.loop-j-preserved
 loop-j-preserved g c =
     let f = λ (j : ℕ). not (is_taken_in c.args.consumers c.args.p j c.args.self.now) in

@@ -7,8 +7,8 @@ use Rattle.mb_mailbox.specs.Mailboxes.{MailboxView}
 use Rattle.mb_mailbox.proofs.Filled.{report_of}
 use Rattle.mb_mailbox.proofs.mailbox.Mailbox.gather_with.Goals as goal
 
--- The terms that come again: the hub h, the mailbox m, the outline o and the report r by their fields. `of` says that
--- h is one of m, and `out` that o is the outline of h
+-- Several proofs have these terms: the hub h, the mailbox m, the outline o and the report r by their fields. `of` says
+-- that h is the hub of m, and `out` that o is the outline of the report of h
 pub fill_lanes-requires : goal.fill_lanes-requires
 fill_lanes-requires g c =
     let out = subst (λ (z : HubView × ReportView). IsOutlineIn z.0.cells.table.size.lanes

@@ -37,7 +37,6 @@ returns g c =
     let ms = c.as_slice-marks.result.now in
     let ws = c.as_slice-words.result.now in
     let lanes = c.self.inside.lanes in
-    let inside = by_lane lanes (all_told c.self.inside.marks.items c.self.inside.words.items) in
     let view = ap (λ (v : NotesView). v.lists) c.self.view_is in
     let same = c.loop-at.invariant.same in
     let count : length c.loop-at.row ≡ lanes = same_count c.loop-at.row c.args.row.now same ∙ c.requires.count

@@ -12,6 +12,6 @@ invariant-loop-at g l = record {
   same : map (with_notes []) l.row ≡ map (with_notes []) l.initial.row;
 }
 
--- each turn files a mark
+-- each pass of the loop files at least one mark
 abbrev pub decreases-loop-at : goal.decreases-loop-at
 decreases-loop-at g l = length l.marks - l.at
