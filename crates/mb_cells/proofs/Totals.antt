@@ -114,13 +114,13 @@ length_cells (suc n) h =
       length_put n h,
     )
 
--- an element of the first list is in both joined
+-- an element of the first list is in the two joined
 has_first : (xs ys : List ℕ) (k : ℕ) → Has xs k → Has (xs ++ ys) k
 has_first [] ys k has = absurd has
 has_first (x ∷ xs) ys k (inl e) = inl e
 has_first (x ∷ xs) ys k (inr has) = inr (has_first xs ys k has)
 
--- an element of the second list is in both joined
+-- an element of the second list is in the two joined
 has_second : (xs ys : List ℕ) (k : ℕ) → Has ys k → Has (xs ++ ys) k
 has_second [] ys k has = has
 has_second (x ∷ xs) ys k has = inr (has_second xs ys k has)

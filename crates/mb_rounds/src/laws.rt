@@ -22,8 +22,8 @@ pub fn sample_carried()
     ensures other_left { AreCarriedAfter two_rounds (7 ∷ []) → ⊥ }
 {}
 
-/// A sample of what is dealt evenly. If one list has one item more than each other, that is even. If it has two items
-/// more, it is not.
+/// A sample of what is dealt evenly. If one list has one item more than every other list, that is even. If it
+/// has two items more, that is not even.
 pub fn sample_even()
     ensures one_more { AreEven ([] ∷ [] ∷ (7 ∷ []) ∷ []) }
     ensures two_more { AreEven ((7 ∷ 8 ∷ []) ∷ [] ∷ []) → ⊥ }

@@ -21,7 +21,7 @@ use Rattle.mb_world.specs.StateReport.{IsWalk, IsWalked}
 abbrev pub cells_in : List Entry → List ℕ
 cells_in es = map (λ (e : Entry). e.cell) es
 
--- the values of entries of a put list
+-- the items of entries of a put list
 abbrev pub values_in : List Entry → List ℕ
 values_in es = map (λ (e : Entry). e.value) es
 

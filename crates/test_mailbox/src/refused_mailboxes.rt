@@ -47,7 +47,7 @@ fn is_given(rt: &impl Abort, told: Result<(), HubFault>) -> bool {
 }
 
 /// Whether the first allocator serves the only producer of a new mailbox of one cell. A refusal uses no number up: the
-/// producer is then issued with the second one. Then the calls of these lines are made, and the report has this text.
+/// second allocator then serves this producer. Then the calls of these lines are made, and the report has this text.
 pub(crate) fn producer_is_served<'a>(
     rt: &impl Abort,
     alloc: Alloc<'a>,
@@ -65,8 +65,8 @@ pub(crate) fn producer_is_served<'a>(
     served
 }
 
-/// Whether the first allocator serves the only consumer. A refusal uses no number up: the consumer is then issued with
-/// the second one, and after it none is. Then an item is put and taken.
+/// Whether the first allocator serves the only consumer. A refusal uses no number up: the second allocator then serves
+/// this consumer, and after it no other is issued. Then an item is put and taken.
 pub(crate) fn consumer_is_served<'a>(rt: &impl Abort, alloc: Alloc<'a>, ample: Alloc<'a>) -> bool {
     let mut trial = new_trial(rt, ample, 1, 1, 1);
     play(rt, &mut trial, ample, "producer: given\n");
@@ -80,8 +80,8 @@ pub(crate) fn consumer_is_served<'a>(rt: &impl Abort, alloc: Alloc<'a>, ample: A
     served
 }
 
-/// The calls of the scene are made, and all are returned. Returns whether the first allocator then serves the report,
-/// which has the scene's text. If it refuses, mailbox and hub come back, and the second allocator serves the report.
+/// Makes the calls of the scene, and returns all producers and consumers. Then says whether the first allocator serves
+/// the report, with the scene's text. If it refuses, mailbox and hub come back, and the second allocator serves the report.
 pub(crate) fn gather_is_served<'a>(
     rt: &impl Abort,
     alloc: Alloc<'a>,
