@@ -81,7 +81,7 @@ pub(crate) fn consumer_is_served<'a>(rt: &impl Abort, alloc: Alloc<'a>, ample: A
 }
 
 /// Makes the calls of the scene, and returns all producers and consumers. Then says whether the first allocator serves
-/// the report, with the scene's text. If it refuses, mailbox and hub come back, and the second allocator serves the report.
+/// the report, with the scene's text. If it refuses, mailbox and hub come back, and the second allocator serves it.
 pub(crate) fn gather_is_served<'a>(
     rt: &impl Abort,
     alloc: Alloc<'a>,
