@@ -1,5 +1,5 @@
-//! Mailboxes that threads can share, used by one thread. A producer fills one, and then each consumer polls it to its
-//! end, or takes until the end.
+//! Mailboxes that threads can share, used by one thread. A producer puts items into each. Then each consumer polls it
+//! to its end, or takes until the end, except in `puts`.
 ghost use Rattle.mb_mailbox.specs.Consumers.{IsConsumerOf};
 ghost use Rattle.mb_mailbox.specs.Hubs.{IsHubOf};
 ghost use Rattle.mb_mailbox.specs.Producers.{IsProducerOf};

@@ -60,9 +60,9 @@ staying [] _ = []
 staying _ [] = []
 staying (list ∷ lists) (lane ∷ lanes) = (lane.left ++ drop (length lane.put) list) ++ staying lists lanes
 
--- one round: the oldest of the items carried, as many as there are cells if there are so many, were dealt evenly to the
--- producers. They went into a mailbox of these terms. What each consumer took there is given out. What nobody took or
--- nobody put is carried, before what was not dealt
+-- one round: the oldest of the items carried, as many as there are cells or all if they are fewer, were dealt evenly to
+-- the producers. A beginning of each producer's list was put into a mailbox of these terms. What each consumer took there
+-- is given out. What nobody took or put is carried, before what was not dealt
 pub record IsRound (may_stop may_pass : Who → ℕ → Type 0) (terms : Terms) (was : List ℕ)
     (taken : List (List ℕ)) (counts : Worked) (r : ReportView)
     (now : List ℕ) : Type 0 where

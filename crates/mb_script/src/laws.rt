@@ -1,5 +1,5 @@
 //! What holds of every text, every script and every device. The functions compute nothing: their contracts are the
-//! laws. Their proofs are in `proofs/laws`, each in a folder of the law's name.
+//! laws. Proofs that had to be written are in `proofs/laws`, each in a folder of the law's name.
 ghost use Rattle.std.specs.Prelude.{◌≡◌, ◌≢◌, ℕ, suc, ◌+◌, ◌-◌, ◌<◌, ◌≤◌, ◌^◌, List, ◌∷◌, ◌++◌, codes, length, map, take};
 ghost use Rattle.std.specs.Prelude.{Some, Err, true, false};
 ghost use Rattle.std.specs.Char.{is_ascii};

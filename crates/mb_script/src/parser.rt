@@ -179,7 +179,7 @@ fn events<A: Allocator>(alloc: A, setup: &Setup, text: &str) -> Result<Vec<Event
     Ok(events)
 }
 
-/// The script that the lines of the text say, or the fault of the first faulty line.
+/// The script that the lines of the text say, or their first fault: that there is no line, or that of a faulty line.
 #[tactic(auto, unfolding(crate::specs::Scripts::lines_script))]
 fn read_lines<A: Allocator>(alloc: A, text: &str) -> Result<Script<A>, Fault>
     ensures { Gives (λ s. view s) result (lines_script (lines_of text.now)) }

@@ -93,7 +93,7 @@ module _ (cut : CutParts) (t : TableView) (seat : SeatView) (cell : ℕ) (claim 
         path = λ xs of. path xs of (can_find finds next seen word is comes);
       }
 
--- after a step of a seat, the claim that follows has made all that its consumer has then done on the cell
+-- if a claim has made all that its seat's consumer did on the cell, so has the claim that follows a step of the seat
 pub stands_on :
     OwnCell → (layout : Layout) (cell word : ℕ) (claim follows : Claim) (seat now : SeatView)
     → IsSeatStep layout cell word claim seat follows now

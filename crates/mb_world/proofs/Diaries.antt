@@ -51,18 +51,18 @@ module _ (plan : Plan) (hs : Histories) (known : Known plan hs) where
   going_on c k going (Lost w) end = let e = one_stage c k stage.Going (stage.Lost w) going end in cc
   going_on c k going Undecided end = let e = one_stage c k stage.Going stage.Undecided going end in cc
 
-  -- a claim that is won has not ended before the item is loaded
+  -- a claim that is won has ended as no note says, if its consumer has not loaded the item
   not_taken : (c k : ℕ) → Comes c k stage.Won → ((v : ℕ) → HasRead (Item k) v (parts_of c hs).reads → ⊥)
       → (n : Note) → Ends c k n → ⊥
   not_taken c k won never (Took v) end = never v end.1
   not_taken c k won never (Lost w) end = let e = one_stage c k stage.Won (stage.Lost w) won end in cc
   not_taken c k won never Undecided end = let e = one_stage c k stage.Won stage.Undecided won end in cc
 
-  -- a claim with a step either has ended as some note says, or has not ended
+  -- a claim with a step either has ended as some note says, or as none says
   ended_or_not : (c k : ℕ) → claim_part c k hs.claims ≢ [] → ((n : Note) × Ends c k n) ⊎ ((n : Note) → Ends c k n → ⊥)
   ended_or_not c k some = let q = (known.claimant c k some).1 in by_stage q.0 q.1
     where
-      -- a claim of this stage either has ended as some note says, or has not ended
+      -- a claim of this stage either has ended as some note says, or as none says
       by_stage : (s : Stage) → Comes c k s → ((n : Note) × Ends c k n) ⊎ ((n : Note) → Ends c k n → ⊥)
       by_stage stage.Going q = inr (going_on c k q)
       by_stage stage.Won q = elim (read_or_not (parts_of c hs).reads (Item k)) [

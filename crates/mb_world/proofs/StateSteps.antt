@@ -120,12 +120,12 @@ module _ (s : WorldState) (h : WorldHistory) (is : IsWorldAfter h s) where
     places_count d = length-set s.places (place_position c p) d ∙ is.places_count
 
     -- ---- the notes after the access
-    -- a note is still right after the access, if its claim has ended exactly if it had before, and in the same way
+    -- a note is still right after the access, if its claim has then ended as just the same notes say as before
     note_kept : (e j : ℕ) (o : Option Note) → ((n : Note) → Ends plan.claims h e j n ↔ Ends plan.claims (a ∷ h) e j n)
         → IsNoteAfter s.setup e j h o → IsNoteAfter s.setup e j (a ∷ h) o
     note_kept e j o same old n = ((λ f. (same n).0 ((old n).0 f)), (λ f. (old n).1 ((same n).1 f)))
 
-    -- if each claim has ended exactly if it had before, and in the same way, all notes are still right after the access
+    -- if each claim has ended as just the same notes say as before, all notes are still right after the access
     pub notes_kept : ((e j : ℕ) (n : Note) → Ends plan.claims h e j n ↔ Ends plan.claims (a ∷ h) e j n)
         → AreNotes (a ∷ h) s.notes
     notes_kept same =

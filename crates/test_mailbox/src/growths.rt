@@ -127,7 +127,7 @@ diary 1 1 begun
 
 /// Each call with its name, and the least number of its allocations. The line before it names them.
 const CALLS: &[(&str, Call, u64)] = &[
-    // The lists of what is returned, the words of the cells, the zeros and the words of the claims.
+    // Two lists of what is returned, the words of the cells, zeros for those of the claims, and these.
     ("new", Call::New, 5),
     // At least the list of the producer's items.
     ("producer", OPEN_LANE, 1),
@@ -145,7 +145,7 @@ const CALLS: &[(&str, Call, u64)] = &[
     ("second call", Call::SecondCall, 6),
     // Three lists for the workers, each producer's items, each consumer's marks and words.
     ("four workers", Call::FourWorkers, 9),
-    // The items, two lists of lists with two lists each, the mailbox and its workers, and what is given out and carried.
+    // The items, two lists of lists with two lists each, ten or so of the mailbox, its workers and report.
     ("round", Call::Round, 17),
 ];
 

@@ -93,14 +93,14 @@ impl<'a, A: Allocator + Drop, R: Rng> Memory for DrawingWords<'a, A, R> {
     ghost use Rattle.mb_claim.specs.Vocabulary.{IsWordInLayout, claims_in};
     ghost use Rattle.mb_shared_claims.specs.{name_of, MayComeNext, ComesAfter, access_of, with_access};
 
-    // The op is one that the seat's consumer may make next on the cell, to a word of the layout.
+    // Seat and cell are of the table. The seat's consumer may make the op next on the cell, and its word is one of the layout.
     ghost can_make = { λ m object op. (m.seat.now.table ≡ name_of m.table.now)
         × (m.cell < m.table.now.cells)
         × IsWordInLayout m.table.now.layout object (reg_of op)
         × MayComeNext (claims_in m.table.now.layout m.table.now.cells) m.seat.now.consumer m.cell
         m.seat.now.part (record { object = object; op = op }) };
 
-    // The access is then in the seat's part, and came after a lawful history with that part. Nothing else changes.
+    // The seat's part has the access more, which came after a lawful history with the part before. Nothing else changes.
     ghost makes = { λ m object op seen after.
         let a = access_of m.seat.now.consumer m.cell (record { object = object; op = op }) seen
         m.word in

@@ -4,8 +4,8 @@ use Rattle.std.specs.List.{All, sum_by}
 use Rattle.mb_world.specs.Theorem.{LaneView}
 use Rattle.test_audit.proofs.rules.audit.Given as goal
 
--- the tally counts the items put and left on the lanes before this one, modulo 2^64. None of these has more items left
--- than put
+-- the tally counts the items put and left on the lanes before this one, modulo 2^64. The items taken and those left are
+-- together those put. None of these lanes has more items left than put
 abbrev pub invariant-loop-number : goal.invariant-loop-number
 invariant-loop-number g l =
     (l.tally.put ≡ sum_by (λ (x : LaneView). length x.put) (take l.number l.report.lanes) % 2 ^ 64)

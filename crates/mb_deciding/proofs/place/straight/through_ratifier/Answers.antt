@@ -9,7 +9,7 @@ use Rattle.mb_deciding.proofs.TurnsLeft.{some_ones}
 use Rattle.mb_deciding.proofs.StraightSteps.{checks_some, clear_step, contested_step}
 use Rattle.mb_deciding.proofs.place.straight.through_ratifier.Goals as goal
 
--- In each proof below `one_more` adds one access to those made before it.
+-- If a proof below uses `one_more`, that adds one access to those made before it.
 pub announces-init : goal.announces-init
 announces-init g c =
     let t : QuorumTable = g.Q.Quorums.table c.args.q.now in
