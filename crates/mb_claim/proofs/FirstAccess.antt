@@ -1,4 +1,4 @@
--- A claim that has made no access: it is going, not begun, on object 0, and first loads the word of a conciliator there.
+-- A claim that has made no access: it is going, not begun, on object 0. A conciliator's word is loaded first.
 use Rattle.std.proofs.Common.{◌≡◌, ◌<◌, ◌≤◌, ℕ, zero, suc, Bool, true, false, List, [], ◌∷◌, ◌++◌, ◌+◌, length, refl}
 use Rattle.std.proofs.Common.{sym, ◌∙◌, ap, subst, inl, arith}
 use Rattle.mb_quorum.specs.Vocabulary.{QuorumTable}

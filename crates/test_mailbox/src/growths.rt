@@ -145,7 +145,7 @@ const CALLS: &[(&str, Call, u64)] = &[
     ("second call", Call::SecondCall, 6),
     // Three lists for the workers, each producer's items, each consumer's marks and words.
     ("four workers", Call::FourWorkers, 9),
-    // The items, two lists of lists with two lists each, ten or so of the mailbox, its workers and report.
+    // The items, two lists of lists with two lists each, and ten of the mailbox, its workers and what comes out.
     ("round", Call::Round, 17),
 ];
 

@@ -93,7 +93,7 @@ impl<'a, A: Allocator + Drop, R: Rng> Memory for DrawingWords<'a, A, R> {
     ghost use Rattle.mb_claim.specs.Vocabulary.{IsWordInLayout, claims_in};
     ghost use Rattle.mb_shared_claims.specs.{name_of, MayComeNext, ComesAfter, access_of, with_access};
 
-    // Seat and cell are of the table. The seat's consumer may make the op next on the cell, and its word is one of the layout.
+    // Seat and cell are of the table. The seat's consumer may make this op next on the cell, to a word of the layout.
     ghost can_make = { λ m object op. (m.seat.now.table ≡ name_of m.table.now)
         × (m.cell < m.table.now.cells)
         × IsWordInLayout m.table.now.layout object (reg_of op)
