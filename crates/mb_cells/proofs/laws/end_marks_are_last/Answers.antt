@@ -1,4 +1,4 @@
--- Proof of `laws::end_marks_are_last`: an end mark is its producer's last access. Who loaded it met all the lane's cells.
+-- Proof of `laws::end_marks_are_last`: an end mark is its producer's last access. Who loaded it met the lane's cells.
 use Rattle.mb_cells.proofs.laws.end_marks_are_last.Goals as goal
 use Rattle.mb_cells.proofs.EndMarks.{after_end, end_told}
 use Rattle.mb_cells.proofs.Histories.{met_all}

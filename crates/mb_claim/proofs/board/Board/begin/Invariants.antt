@@ -1,5 +1,5 @@
--- What the loop of `Board::begin` keeps: there is a claim for each number so far, of the consumer of that number, and it
--- has made no access.
+-- What the loop of `Board::begin` keeps: each number so far has a claim, of the consumer of that number, which has made
+-- no access.
 use Rattle.std.proofs.Common.{◌≡◌, ◌<◌, ℕ, [], length, get_or}
 use Rattle.mb_claim.specs.{Claim, consumer_of, IsClaimIn}
 use Rattle.mb_claim.proofs.board.Board.begin.Given as goal
