@@ -245,7 +245,7 @@ static struct job *get(uint64_t worker) {
     return code == HZ_TOOK ? (struct job *)(uintptr_t)item : NULL;
 }
 
-/* Gathers a mailbox that no thread uses now, and gives back the jobs left in it. Its report has to agree with put and taken. */
+/* Gathers a mailbox that no thread uses now, and gives back the jobs left in it. Its report has to agree with the counts. */
 static void end_mailbox(struct mailbox *box) {
     uint64_t items[MOST_BATCH], left = 0;
     hz_handle report = HZ_NONE;
@@ -329,7 +329,7 @@ static void *watch(void *signals) {
     return NULL;
 }
 
-/* Fetches and puts jobs until the process is to stop. A fetch begins if at most half a batch waits, and waits for one job. */
+/* Fetches and puts jobs until the process is to stop. A fetch begins if at most half a batch waits, and waits for one. */
 static void feed(void) {
     jsFetchRequest request;
     jsFetchRequest_Init(&request);
@@ -372,7 +372,7 @@ static void tell(natsConnection *it, void *what) {
         SAY("the server %s\n", (char *)what);
 }
 
-/* Connects, again and again while the process lives. Joins the consumer that the fleet shares: the first process makes it. */
+/* Connects, again and again while the process lives. Joins the consumer of all the fleet, which the first process makes. */
 static natsStatus join_fleet(void) {
     jsSubOptions fleet;
     jsSubOptions_Init(&fleet);
