@@ -10,7 +10,7 @@ pub fn exchange(word: &AtomicU64, value: u64) -> u64 {
     word.compare_exchange(0, value, SeqCst, SeqCst).unwrap_or_else(|found| found)
 }
 
-/// How far a claim has come.
+/// The stage of a claim: it goes on, or is won, lost to the consumer with this number, or undecided.
 #[derive(Clone, Copy, PartialEq, Eq, Debug)]
 pub enum Stage {
     Going,

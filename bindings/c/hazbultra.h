@@ -198,20 +198,20 @@ uint32_t hz_put(hz_handle *producer, uint64_t item);
 HZ_NONNULL
 uint32_t hz_finish(hz_handle *producer);
 
-/* Competes for the next item of a lane, and makes at most budget accesses of shared words. It asks for no memory.
+/* Competes for the next item of a lane until there is a result, with at most `budget` accesses of shared words. It asks for
+ * no memory.
  * HZ_TOOK: this consumer took the item, and value is the item. HZ_LOST: no consumer but the one with the number value can win
  * the item. HZ_UNDECIDED: the claim ended, and does not show who has won the item, if anybody has. It never comes if last is
  * true in the setup. HZ_NOTHING: the lane has no further item so far. HZ_ENDED: the lane has ended, and has no further item.
- * HZ_SPENT: the budget is used up, and the next poll of the lane goes on from there. The budget UINT64_MAX never is.
+ * HZ_SPENT: the budget is used up, which UINT64_MAX never is, and the next poll of the lane goes on from there.
  * HZ_NO_LANE: there is no such lane. HZ_BAD_HANDLE. value is written at HZ_TOOK and HZ_LOST only. */
 HZ_CHECKED HZ_NONNULL
 uint32_t hz_poll(hz_handle *consumer, uint64_t lane, uint64_t budget, uint64_t *value);
 
 /* Takes the next item of a lane that this consumer wins, past the items that it loses. It does what calls of hz_poll do one
- * after another, until one of them does not return HZ_LOST. Their accesses together are not more than most says. It asks
- * for no memory.
+ * after another, until one does not return HZ_LOST. All together make at most `most` accesses. It asks for no memory.
  * HZ_TOOK: this consumer took the item, and value is the item. HZ_UNDECIDED, HZ_NOTHING, HZ_ENDED, HZ_NO_LANE,
- * HZ_BAD_HANDLE: as in hz_poll. HZ_SPENT: that many accesses were made, and the next call for the lane goes on from there.
+ * HZ_BAD_HANDLE: as in hz_poll. HZ_SPENT: `most` accesses were made, and the next call for the lane goes on from there.
  * value is written at HZ_TOOK only. */
 HZ_CHECKED HZ_NONNULL
 uint32_t hz_take(hz_handle *consumer, uint64_t lane, uint64_t most, uint64_t *value);
@@ -245,13 +245,13 @@ HZ_CHECKED HZ_NONNULL
 uint32_t hz_report_diary(hz_handle *report, uint64_t consumer, uint64_t lane, hz_diary *out);
 
 /* Copies items of a lane to items, in the order put: if left is true those that nobody took, else all that were put. It skips
- * as many of them as from says. copied is how many were copied, at most room. The rest of items stays as it was.
+ * the first `from` of them. copied is how many were copied, at most room. The rest of items stays as it was.
  * HZ_DONE. HZ_BAD_HANDLE. HZ_NOT_THERE: there is no such lane. */
 HZ_CHECKED HZ_NONNULL
 uint32_t hz_report_items(hz_handle *report, uint64_t lane, bool left, uint64_t from, uint64_t *items, size_t room,
                          uint64_t *copied);
 
-/* Copies the notes of this consumer on this lane to notes, in their order. It skips as many of them as from says.
+/* Copies the notes of this consumer on this lane to notes, in their order. It skips the first `from` of them.
  * copied is how many were copied, at most room. The rest of notes stays as it was.
  * HZ_DONE. HZ_BAD_HANDLE. HZ_NOT_THERE: there is no such consumer or lane. */
 HZ_CHECKED HZ_NONNULL
