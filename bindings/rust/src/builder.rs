@@ -19,7 +19,7 @@ pub enum Table {
 }
 
 /// By what objects consumers compete for the item of a cell. If you want pairs, take `FastLast` for up to three consumers,
-/// and `Last` for more.
+/// and `Last` for more. The glossary of `docs/MODEL.md` says what each object does.
 #[derive(Clone, Copy, PartialEq, Eq, Hash, Debug, Default)]
 #[non_exhaustive]
 pub enum Shape {

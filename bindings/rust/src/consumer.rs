@@ -13,14 +13,14 @@ pub enum Poll<T> {
     Took(T),
     /// No consumer but the one with this number can win the item. Perhaps that one has not won it yet, or never will.
     Lost(usize),
-    /// This consumer does not know who has won the item, if anybody has. It comes only from the shapes
+    /// This consumer does not know who has won the item, if anybody has. It comes only with the shapes
     /// [`Plain`](crate::Shape::Plain) and [`Fast`](crate::Shape::Fast).
     Undecided,
     /// The lane has no further item so far.
     Nothing,
     /// The lane has ended, and has no further item.
     Ended,
-    /// The budget was used up. The next poll of the lane goes on from there.
+    /// The budget of a `poll_within` or `take_within` was used up. The next poll of the lane goes on from there.
     Spent,
     /// The mailbox has no such lane.
     NoLane,

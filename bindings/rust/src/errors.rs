@@ -37,10 +37,10 @@ impl Error for BuildError {}
 #[derive(Clone, Copy, PartialEq, Eq, Hash, Debug)]
 #[non_exhaustive]
 pub enum IssueError {
-    /// All producers of the mailbox were issued: this many, as it was built for
+    /// All producers of the mailbox were issued. This is how many it was built for
     /// ([`Builder::producers`](crate::Builder::producers)).
     AllProducersGiven(usize),
-    /// All consumers of the mailbox were issued: this many, as it was built for
+    /// All consumers of the mailbox were issued. This is how many it was built for
     /// ([`Builder::consumers`](crate::Builder::consumers)).
     AllConsumersGiven(usize),
     /// There is not enough memory.

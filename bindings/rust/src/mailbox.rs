@@ -1,4 +1,4 @@
-//! A mailbox, and the home to which its producers and consumers return.
+//! A mailbox, and what it shares with its producers and consumers.
 use crate::builder::Builder;
 use crate::consumer::Consumer;
 use crate::errors::{BuildError, GatherError, IssueError};

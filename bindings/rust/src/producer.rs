@@ -41,7 +41,7 @@ impl<T> Producer<T> {
     /// # }
     /// ```
     ///
-    /// The first value that is put on a lane has place 0, the next place 1. [`Report::taker`](crate::Report::taker) needs it.
+    /// The first value put on a lane has place 0, the next place 1. [`Report::taker`](crate::Report::taker) takes a place.
     ///
     /// A value's box comes from Rust's allocator, which aborts the program if there is no memory for it.
     ///

@@ -13,7 +13,7 @@ use std::fmt;
 pub struct Report<T> {
     /// What became of each lane, in the order of lanes.
     pub lanes: Vec<LaneReport<T>>,
-    /// The diary of each consumer on each lane: all of consumer 0 first, and of each consumer that on lane 0 first.
+    /// The diary of each consumer on each lane: first those of consumer 0, by lanes, then those of consumer 1, and so on.
     pub diaries: Vec<Diary>,
 }
 
@@ -39,11 +39,11 @@ pub struct Diary {
     pub lane: usize,
     /// Its notes on the items of the lane, in the order put: `notes[i]` is on the item at place `i`, from 0 on.
     pub notes: Vec<Note>,
-    /// Whether it had begun to compete for the item after those with notes.
+    /// Whether it had begun to compete for the next item, on which it has no note.
     pub begun: bool,
 }
 
-/// How a consumer's attempt at an item ended.
+/// How a consumer's claim on an item ended.
 #[derive(Clone, Copy, PartialEq, Eq, Hash, Debug)]
 pub enum Note {
     /// It took the item.
