@@ -23,7 +23,7 @@ MOST = 200  # how many events are drawn at most, and how many lines of the repor
 # How high rows, marks and lines of text are; where rows and columns begin; how wide gutters and tracks in them are.
 ROW, MARK, TEXT, TOP, LEFT, GUTTER, TRACK = 24, 19, 17, 76, 28, 20, 6
 
-# How marks look, by the first word of their remark. A mark with another remark looks as a store or a load.
+# How marks look, by the first word of their remark. A mark with another remark looks like a store or a load.
 TONES = {"ended": "ended", "won": "won", "decided": "won", "lost": "lost", "undecided": "undecided", "took": "took"}
 TONES |= dict.fromkeys(("full", "busy", "closed", "idle", "nothing", "done"), "quiet")
 BOX_TONES = ("won", "lost", "undecided")
@@ -261,7 +261,7 @@ def drawn(mark, left, width, y):
 
 
 def legend(forms, words, y):
-    """The legend, and where it ends."""
+    """The legend, and the y-coordinate of its end."""
     told, top = text("b", 12, y, "Legend"), y + 19
     for number, (form, inside, says) in enumerate(forms):
         left, y = 16 + 210 * (number % 2), top + 23 * (number // 2)

@@ -12,7 +12,7 @@ use std::sync::atomic::Ordering::SeqCst;
 /// The end mark of a lane, in the place of a link.
 pub const END: u64 = u64::MAX;
 
-/// How many lanes there are.
+/// How many lanes a mailbox has.
 pub const LANES: usize = 1;
 
 /// How many items were put and how many notes counted, in all mailboxes, and the sum of the items taken.

@@ -1,4 +1,4 @@
-//! The mailboxes of `bench_loops` in hand-written Rust, to compare with.
+//! The mailboxes of `bench_loops` in hand-written Rust, with which the proved ones are compared.
 //!
 //! usage: by_hand LOOP TABLE CONSUMERS TIMES [SHAPE]. `bench_loops` takes the same words. It prints the same lines.
 

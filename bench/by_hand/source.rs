@@ -1,4 +1,4 @@
-//! Random words.
+//! The source of a consumer's random words.
 
 /// A source of random words (xorshift). It is cheap, and gives the same words in each run.
 pub struct Source {

@@ -15,7 +15,7 @@
 
 #define CONSUMER "fleet"
 enum { MOST_WORKERS = 64, MOST_BATCH = 1024, PLACES = 65536 };
-enum { SECOND = 1000, FETCH = 500, MILLISECOND = 1000000 }; /* in milliseconds, the last in nanoseconds */
+enum { SECOND = 1000, FETCH = 500, MILLISECOND = 1000000 }; /* the last in nanoseconds, the others in milliseconds */
 
 static const char *server = "nats://127.0.0.1:4222", *stream = "JOBS", *effects = "effects";
 static uint64_t workers = 4, batch = 64, ack = 30, cells = 4096, rest = 0;
@@ -54,7 +54,7 @@ static struct {
     struct job places[PLACES]; /* the place of a message is its sequence modulo PLACES */
     struct mailbox *oldest;
     uint64_t waiting; /* how many jobs no worker has taken yet */
-    uint64_t events;  /* how often jobs came */
+    uint64_t events;  /* how many rounds of the main thread may have put jobs */
     uint64_t outcomes[OUTCOMES], dropped, mailboxes;
     bool is_stopping;
 } shared;
