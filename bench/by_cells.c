@@ -1,4 +1,4 @@
-/* The life of a mailbox of so many cells: each cell gets an item, and one consumer takes it. Its calls are counted by their names. */
+/* The life of a mailbox with so many cells: each gets an item, which one consumer takes. by_cells.py counts each call. */
 #include "hazbultra.h"
 
 #include <stdio.h>

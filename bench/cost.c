@@ -1,4 +1,4 @@
-/* So many puts and polls in one thread, to be counted. With a second word each item is polled for with that budget until it is taken. */
+/* Puts and polls in one thread, to count instructions: cost [ITEMS [BUDGET]]. A poll that is HZ_SPENT is made again. */
 #include "hazbultra.h"
 
 #include <stdio.h>

@@ -1,7 +1,7 @@
 #!/bin/sh
-# Counts the definitions that the promise of `Mailbox::gather` rests on, and compares them with docs/MAP.md. A row there
-# names a crate, each file of its specs/ with how many of its definitions are needed, and their sum. It prints what
-# differs, and the status is 0 if nothing does. A definition needs each one that a name in it leads to, a field's too.
+# Counts the definitions that the promise of `Mailbox::gather` rests on, and compares the counts with docs/MAP.md. A row
+# there has a crate, the files of its specs/, each with its number of needed definitions, and their sum. It prints what
+# differs, and the status is 0 if nothing does. A definition needs each definition that it names, also in a field.
 set -eu
 cd "$(dirname -- "$0")/.."
 export LC_ALL=C
@@ -14,7 +14,7 @@ rows=$(awk -F'|' '/^\| [0-9]/ {
     total += sum
 }' docs/MAP.md | sort)
 needed=$(find crates/*/specs -name '*.antt' -exec awk '
-# counts the definition that this name of a module stands for, through the modules that import it, and all that it needs
+# counts the definition for which this name stands in this module, also if it is imported, and all that this one needs
 function need(module, name, i, path, each) {
     while (!((module, name) in words) && (module, name) in brought) {
         path = brought[module, name]; name = path; sub(/.*[.]/, "", name)

@@ -1,12 +1,12 @@
 #!/bin/sh
-# Looks after what is built and kept in the repository: the program prebuilt/mailbox and the archive libhazbultra.a.
+# Checks or renews the two built files that the repository has: the program prebuilt/mailbox, the archive libhazbultra.a.
 #
-#   ci/prebuilt.sh             without the kit: each is the file that its text tells of, and is of these sources
-#   ci/prebuilt.sh --compare   builds both anew, and compares them byte by byte
-#   ci/prebuilt.sh --place     builds both anew, and puts them there with their texts. The crates have to be committed.
+#   ci/prebuilt.sh             checks, without the kit, that each has the hashes of itself and its sources in its text
+#   ci/prebuilt.sh --compare   builds both anew, and compares them with these byte by byte
+#   ci/prebuilt.sh --place     builds both anew, and replaces them and their texts. The crates have to be committed.
 #
-# With `--proved` after it, right after `rt ci`, the program is the one that it left, and the archive is built over its
-# libraries. (`rt lib` would prove each of them once more.)
+# With `--proved` after that, right after `rt ci`, it takes the program that `rt ci` left, and builds the archive from the
+# libraries that `rt ci` left. (`rt lib` would prove each of them once more.)
 set -eu
 cd "$(dirname -- "$0")/.."
 mode=${1-} proved=${2-} faults=0
@@ -24,7 +24,7 @@ facts() {
     echo "needs: x86_64 Linux, ${libc}x86-64-v2"
 }
 
-# look FILE TEXT CRATE BUILT FOLDER COMMAND..: COMMAND, run in FOLDER, builds the file anew, as BUILT
+# look FILE TEXT CRATE BUILT FOLDER COMMAND..: checks FILE by TEXT. COMMAND, run in FOLDER, builds it anew, as BUILT
 look() {
     file=$1 text=$2 crate=$3 built=$4 folder=$5
     shift 5

@@ -1,6 +1,6 @@
 #!/bin/sh
 # Prints a hash of the sources of a crate: ci/sources.sh mailbox_main
-# They are src/**/*.rt of it and of all crates of the repository below it, and their lines of crates.txt. No time counts.
+# They are src/**/*.rt of this crate and of all crates of the repository that it uses, and their lines of crates.txt.
 set -eu
 cd "$(dirname -- "$0")/.."
 lines=$(awk -v top="$1" '

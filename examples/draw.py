@@ -4,9 +4,9 @@
     examples/script one_loses | examples/draw.py > one_loses.svg
     examples/script one_loses | examples/draw.py PROGRAM > one_loses.svg    # another build than that of ./mailbox
 
-The program makes the transcript, and finds every fault of a script: then there is no picture, but its line and its
-status. Status 1 is this script's own. A picture has a column for each who acts, and a row for each event. A line leads
-from each store to the loads that found it. A box stands round each claim. The report below is of all events.
+The program replays the script. If it finds a fault, there is no picture: its line is printed, and its status returned.
+Status 1 is draw.py's own. A picture has columns for producers, consumers or processes, and a row for each event. A line
+leads from each store to the loads that found it. Each claim has a box round it. The report below is of all events.
 """
 import dataclasses
 import html
@@ -18,18 +18,18 @@ import sys
 import textwrap
 
 MAILBOX = os.path.join(os.path.dirname(os.path.realpath(__file__)), "..", "mailbox")
-COUNTER = ("counter",)  # the word that counts the cells handed out
-MOST = 200  # how many events are drawn, and lines of the report shown, at most
-# How high rows, marks and lines of text are; where rows and columns begin; how wide gutters and their tracks are.
+COUNTER = ("counter",)  # the word that counts the cells that were taken
+MOST = 200  # how many events are drawn at most, and how many lines of the report are shown
+# How high rows, marks and lines of text are; where rows and columns begin; how wide gutters and tracks in them are.
 ROW, MARK, TEXT, TOP, LEFT, GUTTER, TRACK = 24, 19, 17, 76, 28, 20, 6
 
-# How marks look, by the first word of their remark. A mark with another remark looks as a store or a load.
+# How marks look, by the first word of their remark. A mark with another remark looks like a store or a load.
 TONES = {"ended": "ended", "won": "won", "decided": "won", "lost": "lost", "undecided": "undecided", "took": "took"}
 TONES |= dict.fromkeys(("full", "busy", "closed", "idle", "nothing", "done"), "quiet")
 BOX_TONES = ("won", "lost", "undecided")
 BOX_ENDS = ("lost", "undecided", "took", "decided")  # (a claim that is won ends with the load of its item)
 
-# Colours differ in lightness, too, and boxes in their dashes, so that nobody depends on colour.
+# Colours differ in lightness, too, and boxes in their dashes, so that nobody has to tell colours apart.
 LIGHT = """
 text{font:12px ui-monospace,SFMono-Regular,Menlo,Consolas,'DejaVu Sans Mono',monospace;fill:#1f2328}
 .b{font-weight:bold} .t{font-size:14px;font-weight:bold} .e{text-anchor:end} .m{text-anchor:middle}
@@ -50,7 +50,7 @@ text{fill:#e6edf3} .n,.g{fill:#9198a1} .bg{fill:#0d1117} .guide{stroke:#21262d} 
 .f.undecided{stroke:#d48ab8} .in{fill:#0d1117}
 """
 
-# The legends: how a form looks, what stands in it, and what it means; and then lines of text.
+# The legends: of each form its style, the text in it and its meaning; and then lines of text.
 FORMS = [("store", "p := 1", "store"), ("load", "p = 1", "load: what it found"), ("line", "", "from store to load")]
 REPLAY_FORMS = [("quiet", "", "came to nothing"), ("f won", "", "claim won"), ("f lost", "", "claim lost")]
 REPLAY_FORMS += [("f undecided", "", "claim undecided"), ("f going", "", "claim under way")]
@@ -70,7 +70,7 @@ q0, q1: registers of a ratifier, 1 if they are set."""
 
 @dataclasses.dataclass
 class Mark:
-    """What one event did, and what it came to."""
+    """The mark of one event: the access that it made, and its result."""
     column: tuple  # ("producer", lane), ("consumer", consumer, lane) or ("process", process)
     word: tuple = ()  # if it made an access: the word as it is shown, and what else tells it from other words
     found: str = ""  # what it found there, if it loaded
@@ -78,18 +78,18 @@ class Mark:
     remark: str = ""
 
     def label(self):
-        """The access, as it is shown. That the counter is then one more goes without saying."""
+        """The access, as it is shown. What is stored in the counter is left out: it is what was found plus 1."""
         stored = f" := {self.stored}" * (self.stored != "" and self.word != COUNTER)
         return "".join(self.word[:1]) + f" = {self.found}" * (self.found != "") + stored
 
     def tone(self):
-        """How it looks."""
+        """The name of its style."""
         return TONES.get(self.remark.split(" ")[0], "store" if self.stored else "load")
 
 
 @dataclasses.dataclass
 class Box:
-    """A claim from the step on that found its cell, or a process's use of a ratifier. Rows count from 0."""
+    """The box round a claim, from the step that found its cell, or round a process's use of a ratifier. Rows count from 0."""
     column: tuple
     first: int
     last: int
@@ -111,23 +111,23 @@ def access(column, name, cell, words):
 
 
 def turn(line):
-    """The mark of a line of a ratifier."""
+    """The mark of a line that `mailbox ratify` prints."""
     process, *words = line.split(" ")
     column = "process", int(process)
     return Mark(column, remark="done") if words == ["done"] else access(column, "", (), words)
 
 
 class Replay:
-    """Reads the lines of a replay, and keeps what later ones rest on."""
+    """Reads the lines of a replay, and stores what is needed to read later ones."""
 
     def __init__(self):
-        self.links = {}  # the link before which each producer or consumer stands, at first the head of its lane
+        self.links = {}  # the link that each producer or consumer accesses next, if it is not the head of its lane
         self.items = {}  # the item that each producer put into its last cell
-        self.full = set()  # who met the pool full: a later offer makes no access
-        self.added = 0  # how often the counter of cells was added to
+        self.full = set()  # the producers that found no cell left: their later offers make no access
+        self.added = 0  # how often one was added to the counter of cells
 
     def mark(self, line):
-        """The mark of a line."""
+        """The mark of the next line."""
         call, number, *answer = line.split(" ")
         column = ("consumer", int(number), int(answer.pop(0))) if call == "step" else ("producer", int(number))
         link = self.links.get(column, ("head", column[-1]))
@@ -165,7 +165,7 @@ class Replay:
 
 
 def lines_of(marks):
-    """The lines: the row of the last store of a word, and the row of a load of it."""
+    """The lines of a picture: of each the row of a store, and the row of a load that found what it stored."""
     stores, lines = {}, []
     for row, mark in enumerate(marks):
         if mark.found and mark.word in stores:
@@ -176,7 +176,7 @@ def lines_of(marks):
 
 
 def boxes_of(marks):
-    """The boxes. A process has one, from its first access on."""
+    """The boxes of a picture: one for each claim, or for each process of a ratifier, from its first access on."""
     boxes, latest = [], {}
     for row, mark in enumerate(marks):
         if mark.remark == "found" or mark.column[0] == "process" and mark.column not in latest:
@@ -190,12 +190,12 @@ def boxes_of(marks):
 
 
 def middle(row):
-    """Where the middle of a row is."""
+    """The y-coordinate of the middle of a row."""
     return row * ROW + TOP + ROW // 2
 
 
 def letters(count):
-    """How wide so many letters are: 7.25 each."""
+    """How wide so many letters are: 7.25 units each."""
     return count * 29 // 4
 
 
@@ -210,7 +210,7 @@ def layout(heads, marks, lines):
     places, tracks, at = {}, {}, LEFT
     for gutter, column in enumerate([*heads, None]):
         last_load = {store: load for (store, load), it in zip(lines, gutters) if it == gutter}
-        ends = []  # (to which row each track is taken)
+        ends = []  # (the row of the last load on each track)
         for store in sorted(last_load):
             track = next((it for it, end in enumerate(ends) if end < store), len(ends))
             ends[track : track + 1] = [last_load[store]]
@@ -245,7 +245,7 @@ def box(tone, ended, left, width, above, below):
 
 
 def route(above, below, start, track, end):
-    """A line with a tip at the load."""
+    """A line from a store to a load, with the tip of an arrow at the load."""
     neck = end + 7 if end < track else end - 7
     line = f"<path class='line' d='M{start} {above}H{track}V{below}H{neck}'/>\n"
     return f"{line}<path class='tip' d='M{end} {below}L{neck} {below - 4}V{below + 4}Z'/>\n"
@@ -261,7 +261,7 @@ def drawn(mark, left, width, y):
 
 
 def legend(forms, words, y):
-    """The legend, and where it ends."""
+    """The legend, and the y-coordinate of its end."""
     told, top = text("b", 12, y, "Legend"), y + 19
     for number, (form, inside, says) in enumerate(forms):
         left, y = 16 + 210 * (number % 2), top + 23 * (number // 2)
@@ -279,7 +279,7 @@ def legend(forms, words, y):
 
 
 def shown_report(lines, what):
-    """The lines of the report that are shown, and how many are not."""
+    """The lines of the report that are shown, and lines that say how many are not."""
     kept = [it for it in lines if not re.fullmatch(r"diary \d+ \d+", it)]
     empty, more = len(lines) - len(kept), len(kept) - MOST
     told = kept[:MOST] + [f"diaries with no note, not shown: {empty}"] * (empty > 0)
@@ -303,7 +303,7 @@ def chart(heads, marks, places, routes, width):
 
 
 def svg(title, heads, marks, hidden, report, its_legend):
-    """The text of a picture, in which so many events are not drawn."""
+    """The text of a picture. `hidden` is how many further events are not drawn."""
     places, routes, end = layout(heads, marks, lines_of(marks))
     width = max(end, letters(len(title)) * 7 // 6 + 24, 444)  # (the title has larger letters)
     body, y = text("t", 12, 24, title) + chart(heads, marks, places, routes, width), middle(len(marks)) + 10
@@ -321,8 +321,8 @@ def svg(title, heads, marks, hidden, report, its_legend):
 
 
 def page(title, says, width, height, body):
-    """The text of a picture with this body. Title and what it says are for screen readers."""
-    # The rules, a line each, hold for pictures of this class alone.
+    """The text of a picture with this body. `title` and `says` are for screen readers."""
+    # Each rule of the style gets the class of these pictures, so that it changes nothing else on a page.
     light, dark = (re.sub(r"(?m)^|(?<=,)(?=\.)", ".hz ", it.strip().replace("} ", "}\n")) for it in (LIGHT, DARK))
     return f"""<svg xmlns='http://www.w3.org/2000/svg' class='hz' width='{width}' height='{height}' \
 viewBox='0 0 {width} {height}' role='img' aria-labelledby='title desc'>
@@ -340,7 +340,7 @@ viewBox='0 0 {width} {height}' role='img' aria-labelledby='title desc'>
 
 
 def picture(script, said):
-    """The picture of a script, by what the program said of it."""
+    """The picture of a script, made from what the program printed for it."""
     first, *rest = [it.split(" ") for it in script.splitlines()]
     is_replay, lines = first[0] == "setup", said.splitlines()
     inputs, count = ([], len(rest)) if is_replay else (rest[0][1:], len(rest[1]) - 1)

@@ -1,7 +1,7 @@
 #!/usr/bin/env python3
 """Draws the crates as SVG, by crates.txt and the list of docs/ARCHITECTURE.md: examples/draw_crates.py > docs/pictures/crates.svg
 
-The product's are in layers, with lines from each to those it stands on. If it does so through a third one, no line is drawn.
+The product's crates are in layers, with a line from each to those that it uses. Those that it uses through a third have none.
 """
 import functools
 import os
@@ -21,7 +21,7 @@ def found(pattern, path):
 
 
 def crates():
-    """Each crate with those of the repository that it stands on."""
+    """Each crate with the crates of the repository that it uses, without those that it uses through another."""
     lines = found(r"^(\w+)(?: staticlib)?:(.*)$", "crates.txt")
     on = {name: [it for it in words.split() if it in lines] for name, words in lines.items()}
     below = functools.cache(lambda name: set(on[name]).union(*map(below, on[name])))
@@ -29,7 +29,7 @@ def crates():
 
 
 def layers(on):
-    """The crates in layers, the highest first. Each stands just below the lowest crate that stands on it."""
+    """The crates in layers, the highest first. Each is one layer below the lowest crate that uses it."""
     low = functools.cache(lambda name: 1 + max(map(low, on[name]), default=-1))
     high = functools.cache(lambda name: min([high(it) - 1 for it in on if name in on[it]], default=low(name)))
     return [[it for it in on if high(it) == level] for level in range(max(map(low, on)), -1, -1)]

@@ -18,7 +18,7 @@ ODD = "<b>&\"'"
 
 
 def examples():
-    """The name and the command of each example that is a script."""
+    """The name of each example that is a script, and the command of ./mailbox that reads it."""
     for path in glob.glob(f"{HERE}/../crates/test_program/src/examples/*.rt"):
         with open(path, encoding="utf-8") as file:
             yield from re.findall(r'name: "(\w+)",\s*words: &\["mailbox", "(replay|ratify)"\]', file.read())
@@ -30,7 +30,7 @@ def run(*words, script=b""):
 
 class Pictures(unittest.TestCase):
     def texts(self, picture):
-        """The texts of a well-formed picture with a title and a description, for screen readers."""
+        """Checks that a picture is well-formed, with a title and a description for screen readers. Returns its texts."""
         root = ElementTree.fromstring(picture)
         self.assertEqual((root.tag, root.get("role")), (f"{SVG}svg", "img"))
         named = [it.get("id") for it in (root.find(f"{SVG}title"), root.find(f"{SVG}desc")) if it.text]

@@ -1,4 +1,4 @@
-//! The claim of one consumer on one cell, an access at a time.
+//! The claim of one consumer on one cell, made one access at a time.
 
 use crate::layout::Layout;
 use std::sync::atomic::AtomicU64;
@@ -10,7 +10,7 @@ pub fn exchange(word: &AtomicU64, value: u64) -> u64 {
     word.compare_exchange(0, value, SeqCst, SeqCst).unwrap_or_else(|found| found)
 }
 
-/// How far a claim has come.
+/// The stage of a claim: it goes on, or is won, lost to the consumer with this number, or undecided.
 #[derive(Clone, Copy, PartialEq, Eq, Debug)]
 pub enum Stage {
     Going,
@@ -19,21 +19,21 @@ pub enum Stage {
     Undecided,
 }
 
-/// Where a claim stands in its object. A conciliator has one word, a ratifier its proposal and then its registers, and the
-/// last object one word.
+/// Which access a claim makes next in its object. A conciliator has one word, a ratifier its proposal and then its
+/// registers, and a last object one word.
 #[derive(Clone, Copy, PartialEq, Eq)]
 pub enum Place {
-    /// It loads the conciliator's word, and stores there if a random word is below the limit.
+    /// It loads the conciliator's word. If that is empty, it stores there next if its random word is below the limit.
     Look { limit: u64 },
     Write,
     Again,
-    /// It announces its value: these registers are still to be set.
+    /// It sets a register of its value's write quorum: these registers are still to be set.
     Announce { left: u64 },
     Propose,
     SetProposal,
-    /// It looks for other values: these registers are still to be loaded.
+    /// It loads a register of the preference's read quorum: these registers are still to be loaded.
     Check { left: u64, preference: u32 },
-    /// It stores its value in the last object's word, if that is empty.
+    /// It stores its value in the last object's word if that is empty, by a compare-exchange.
     Exchange,
 }
 
@@ -43,7 +43,7 @@ pub struct Claim {
     pub value: u32,
     /// How many ratifiers it has passed.
     pub passed: u32,
-    /// Where the words of its object begin, in those of all cells.
+    /// Where the words of its object begin among the words of all cells.
     pub base: usize,
     pub place: Place,
     pub stage: Stage,
@@ -65,7 +65,7 @@ impl Claim {
         self.stage
     }
 
-    /// Makes one access, with its random word. By `inline` alone the loops would call it, and take a quarter more.
+    /// Makes one access, with this random word. With `inline` alone, loops call it and take a quarter more instructions.
     #[inline(always)]
     pub fn step(&mut self, layout: &Layout, words: &[AtomicU64], word: u64) -> Stage {
         let base = self.base;
@@ -121,7 +121,7 @@ impl Claim {
         self.stage
     }
 
-    /// Goes on from the conciliator to the ratifier after it, with this value.
+    /// Goes on from a conciliator to the ratifier after it, with this value as its input.
     #[inline]
     fn ratify(&mut self, layout: &Layout, value: u32) {
         self.base += 1;
@@ -129,7 +129,7 @@ impl Claim {
         self.place = announcing(layout, value)
     }
 
-    /// Goes on to load these registers. If there is none, the claim is decided.
+    /// Goes on to load these registers. If none is left to load, the claim ends with the preference.
     #[inline]
     fn check(&mut self, left: u64, preference: u32) {
         if left != 0 {
@@ -139,13 +139,13 @@ impl Claim {
         }
     }
 
-    /// Ends with this value.
+    /// Ends the claim with this value: it is won if the value is the consumer's own, else lost.
     #[inline]
     fn decide(&mut self, value: u32) {
         self.stage = if value == self.consumer { Stage::Won } else { Stage::Lost(value) }
     }
 
-    /// Goes on from a ratifier to the object after it, with this value. If there is none, the claim is undecided.
+    /// Goes on from a ratifier to the object after it, with this value. If no object is left, the claim is undecided.
     #[inline]
     fn pass(&mut self, layout: &Layout, value: u32) {
         self.base += layout.ratifier_words;
@@ -165,7 +165,7 @@ impl Claim {
     }
 }
 
-/// The first place of a ratifier, with this value.
+/// The first place in a ratifier with this value as input.
 #[inline]
 pub fn announcing(layout: &Layout, value: u32) -> Place {
     match layout.write[value as usize] {

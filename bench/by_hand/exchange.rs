@@ -1,13 +1,13 @@
-//! A consumer of cells on which a claim is one exchange. One call goes on past the items that it loses.
+//! A consumer of a mailbox in which each claim is one exchange. One call takes an item, past the items that it loses.
 
 use crate::layout::CELLS;
 use crate::mailbox::{END, LANES, Mailbox};
 use std::sync::atomic::Ordering::SeqCst;
 
-/// The note on an item that the consumer took. The note on one that it lost is the winner's number.
+/// The byte that notes that the consumer took an item. If it lost the item, the byte is the winner's number.
 const TOOK: u8 = 255;
 
-/// What a take comes to.
+/// The result of a take.
 pub enum Take {
     Took(u64),
     Nothing,
@@ -15,9 +15,9 @@ pub enum Take {
     Spent,
 }
 
-/// Where a consumer stands on a lane, and its notes there: a byte each, and a word for each item that it took.
+/// A consumer's cursor on a lane, its notes there, a byte each, and the items that it took there.
 struct Lane {
-    /// The link to the last cell that it met, 0 before the first.
+    /// The link that led to the last cell that it met, or 0 if it met none.
     at: u64,
     notes: Box<[u8]>,
     noted: usize,
@@ -35,7 +35,7 @@ impl Taker {
         Taker { number, lanes: (0..LANES).map(|_| lane()).collect() }
     }
 
-    /// Goes on past the items that it loses, until it takes one, no cell is linked next, or `most` accesses were made.
+    /// Takes the next item that it wins, past those that it loses, if one is linked and `most` accesses suffice.
     #[inline(never)]
     pub fn take(&mut self, mailbox: &Mailbox, p: usize, most: u64) -> Take {
         let Lane { at, notes, noted, items } = &mut self.lanes[p];
@@ -49,7 +49,7 @@ impl Taker {
             if cell >= links.len() {
                 break if link == END { Take::Ended } else { Take::Nothing };
             }
-            // (an exchange, and a link or an item)
+            // (three accesses: the link just loaded, the exchange, and the item or the next link)
             if left < 3 {
                 break Take::Spent;
             }

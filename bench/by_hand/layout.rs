@@ -1,14 +1,14 @@
-//! Where the words of a cell lie, and the quorums of each value as masks.
+//! Where the words of a cell lie, and the quorums of each value, as masks of registers.
 
 use std::sync::atomic::AtomicU64;
 
-/// The cells of a mailbox.
+/// How many cells a mailbox has.
 pub const CELLS: usize = 256;
 
-/// The most consumers of a layout.
+/// How many consumers a layout has at most.
 pub const MAX_CONSUMERS: usize = 64;
 
-/// The table of the ratifiers' quorums.
+/// The quorum table of the ratifiers.
 #[derive(Clone, Copy)]
 pub enum Table {
     Unary,
@@ -26,7 +26,7 @@ impl Table {
         }
     }
 
-    /// How many registers there are, and the write quorum of each value. A read quorum is the other registers.
+    /// Returns how many registers there are, and each value's write quorum. Its read quorum is all other registers.
     fn quorums(self, values: u32, width: u32) -> (u32, Vec<u64>) {
         match self {
             Table::Unary => (values, (0..values).map(|value| 1 << value).collect()),
@@ -45,7 +45,7 @@ impl Table {
     }
 }
 
-/// What a cell has beside its pairs: two ratifiers before them, and an object after them that always decides.
+/// Whether a cell has two ratifiers before its pairs (`fast`), and a last object after them (`last`).
 #[derive(Clone, Copy)]
 pub struct Shape {
     pub fast: bool,
@@ -68,13 +68,13 @@ pub struct Layout {
     pub consumers: u32,
     pub fast: bool,
     pub last: bool,
-    /// A process stores to a conciliator if a random word, modulo this, is below the limit.
+    /// A consumer stores to a conciliator if a random word modulo this number is below its limit.
     pub modulus: u64,
     /// How many ratifiers a cell has.
     pub ratifiers: u32,
     pub ratifier_words: usize,
     pub cell_words: usize,
-    /// The most accesses on a pair, or on a ratifier of the fast path, and on the last object after it.
+    /// How many accesses a claim makes at most on a pair, or a ratifier of the fast path, and a last object after it.
     pub most_on_pair: u64,
     pub write: [u64; MAX_CONSUMERS],
     pub read: [u64; MAX_CONSUMERS],
@@ -102,24 +102,24 @@ impl Layout {
             ratifiers,
             ratifier_words,
             cell_words: ratifiers as usize * ratifier_words + pairs as usize + usize::from(last),
-            // A conciliator's s + 3, a ratifier's registers and twice its proposal, and one on the last object.
+            // s + 3 on a conciliator, one on each register of a ratifier, two on its proposal, one on a last object.
             most_on_pair: u64::from(width) + 4 + u64::from(registers) + 2 + 1,
             write,
             read,
         }
     }
 
-    /// The words of all cells, empty.
+    /// Returns the words for the claims on all cells, all 0.
     pub fn atomic_words(&self) -> Vec<AtomicU64> {
         atomic_zeros(CELLS * self.cell_words)
     }
 }
 
-/// How many zeros are written at a time: 1,920 bytes, as the libraries do it. From 2,048 bytes on the C library fills
-/// by one instruction that repeats, and callgrind counts it once a byte.
+/// How many words are written at a time: 1,920 bytes, as the kit's libraries do it. From 2,048 bytes on the C library
+/// fills memory by one instruction that repeats, and callgrind counts that once for each byte.
 const PIECE: usize = 240;
 
-/// So many words for threads to share, all 0.
+/// Returns so many words for threads to share, all 0.
 pub fn atomic_zeros(count: usize) -> Vec<AtomicU64> {
     let mut words = Vec::with_capacity(count);
     while words.len() < count {

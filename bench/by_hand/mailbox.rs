@@ -1,4 +1,4 @@
-//! A mailbox for threads, used by one thread: a producer fills it, and then each consumer polls it to its end.
+//! A mailbox that threads could share. Here one thread uses it: a producer fills it, and then each consumer reads it.
 
 use crate::claim::{Claim, Stage};
 use crate::exchange::{Take, Taker};
@@ -9,13 +9,13 @@ use std::hint::black_box;
 use std::sync::atomic::AtomicU64;
 use std::sync::atomic::Ordering::SeqCst;
 
-/// The mark that ends a lane.
+/// The end mark of a lane, in the place of a link.
 pub const END: u64 = u64::MAX;
 
-/// How many lanes there are.
+/// How many lanes a mailbox has.
 pub const LANES: usize = 1;
 
-/// The counts of all mailboxes together.
+/// How many items were put and how many notes counted, in all mailboxes, and the sum of the items taken.
 #[derive(Default)]
 pub struct Post {
     items: u64,
@@ -29,7 +29,7 @@ impl fmt::Display for Post {
     }
 }
 
-/// The words of the lanes, of the cells, and of the claims on them.
+/// The words of lanes and cells, and of the claims on cells.
 pub struct Mailbox<'a> {
     layout: &'a Layout,
     counter: AtomicU64,
@@ -51,7 +51,7 @@ impl Mailbox<'_> {
         }
     }
 
-    /// The word of the link after this cell, or of the lane's head.
+    /// The link of this cell, or the lane's head if there is no cell.
     #[inline]
     fn link(&self, lane: usize, last: Option<usize>) -> &AtomicU64 {
         match last {
@@ -68,7 +68,7 @@ enum Put {
     Closed,
 }
 
-/// What a producer did last.
+/// The stage of a lane: open, full after a put that found no cell, or ended.
 #[derive(Clone, Copy, PartialEq, Eq)]
 enum LaneStage {
     Open,
@@ -76,7 +76,7 @@ enum LaneStage {
     Ended,
 }
 
-/// The producer of a lane.
+/// The producer of a lane, and the items that it put.
 struct Producer {
     lane: usize,
     last: Option<usize>,
@@ -113,7 +113,7 @@ impl Producer {
     }
 }
 
-/// What became of an item, as a consumer notes it.
+/// A consumer's note on an item.
 #[derive(Clone, Copy)]
 enum Note {
     Took(u64),
@@ -121,7 +121,7 @@ enum Note {
     Undecided,
 }
 
-/// What a poll comes to.
+/// The result of a poll.
 #[derive(Clone, Copy)]
 enum Poll {
     Noted(Note),
@@ -131,8 +131,8 @@ enum Poll {
     NoLane,
 }
 
-/// Where a consumer stands on a lane: before the link of the last cell that it met, or at a cell, with a claim there
-/// that goes on or is won.
+/// What a consumer does next on a lane. It loads the link of the last cell that it met, or the head. Or it goes on with a
+/// claim on a cell. Or it loads the item of a cell that it has won.
 #[derive(Clone, Copy)]
 enum Place {
     Before(Option<usize>),
@@ -140,20 +140,20 @@ enum Place {
     Won(usize),
 }
 
-/// What a consumer keeps of a lane.
+/// A consumer's place on a lane, and its notes there.
 struct Lane {
     place: Place,
     notes: Vec<Note>,
 }
 
 impl Lane {
-    /// Loads the item that the consumer has won.
+    /// Loads the item of a cell that the consumer has won, and notes that it took it.
     #[inline]
     fn take(&mut self, mailbox: &Mailbox, cell: usize) -> Poll {
         self.noted(cell, Note::Took(mailbox.items[cell].load(SeqCst)))
     }
 
-    /// Goes on past the cell, with this note on it.
+    /// Notes this on the item of the cell, and goes on past the cell.
     #[inline]
     fn noted(&mut self, cell: usize, note: Note) -> Poll {
         self.place = Place::Before(Some(cell));
@@ -173,8 +173,8 @@ impl Consumer {
         Consumer { number, lanes: (0..LANES).map(|_| lane()).collect() }
     }
 
-    /// Makes accesses on a lane until one has a result, or as many were made as the budget allows. It goes on straight
-    /// as long as the budget has room for a pair, and then by steps.
+    /// Makes accesses on a lane until one has a result, or the budget is used up. It goes through whole pairs by `run` as
+    /// long as the budget suffices for one more, and then goes on access by access.
     fn poll(&mut self, mailbox: &Mailbox, p: usize, budget: u64, source: &mut Source) -> Poll {
         let Some(lane) = self.lanes.get_mut(p) else {
             return Poll::NoLane;
@@ -232,7 +232,7 @@ pub fn mailboxes(layout: &Layout, times: u64) -> Post {
     post
 }
 
-/// Makes `times` mailboxes, one after the other. Each is filled, and then each consumer takes from it to its end.
+/// Makes `times` mailboxes, one after the other. Each is filled, and then each consumer takes from it up to the end.
 pub fn taken(layout: &Layout, times: u64) -> Post {
     let mut post = Post::default();
     for time in 0..times {
@@ -267,7 +267,7 @@ pub fn passed(layout: &Layout, times: u64) -> Post {
     post
 }
 
-/// A consumer takes from the lane to its end.
+/// Takes from the lane up to its end.
 fn take_all(mailbox: &Mailbox, taker: &mut Taker, post: &mut Post) {
     while let Take::Took(item) = taker.take(mailbox, 0, u64::MAX) {
         post.notes += 1;
@@ -283,7 +283,7 @@ pub fn mailboxes_alone(layout: &Layout, times: u64) -> Post {
     Post::default()
 }
 
-/// Makes `times` mailboxes, in each of which a producer puts an item in each cell, and no more.
+/// Makes `times` mailboxes. In each a producer puts an item in each cell, and nobody takes one.
 pub fn puts(layout: &Layout, times: u64) -> Post {
     let mut post = Post::default();
     for time in 0..times {
@@ -312,7 +312,7 @@ fn put_all(mailbox: &Mailbox, producer: &mut Producer, first: u64) -> u64 {
     linked
 }
 
-/// A consumer polls the lane to its end.
+/// Polls the lane up to its end.
 fn read(mailbox: &Mailbox, consumer: &mut Consumer, source: &mut Source, post: &mut Post) {
     loop {
         match consumer.poll(mailbox, 0, u64::MAX, source) {

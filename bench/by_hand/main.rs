@@ -1,8 +1,8 @@
-//! The mailboxes of `bench_loops` in hand-written Rust, to compare with.
+//! The mailboxes of `bench_loops` in hand-written Rust, with which the proved ones are compared.
 //!
-//! usage: by_hand LOOP TABLE CONSUMERS TIMES [SHAPE], as `bench_loops` takes them. It prints the same lines.
+//! usage: by_hand LOOP TABLE CONSUMERS TIMES [SHAPE]. `bench_loops` takes the same words. It prints the same lines.
 
-// Notes are made, counted and dropped: nothing reads them.
+// Notes are made and counted, but nothing reads them.
 #![allow(dead_code)]
 
 mod claim;
@@ -14,7 +14,7 @@ mod straight;
 
 use layout::{Layout, MAX_CONSUMERS, Shape, Table};
 
-/// How many pairs of objects each cell has.
+/// How many pairs of a conciliator and a ratifier each cell has, but in the shape `exchange`.
 const PAIRS: u32 = 4;
 
 const USAGE: &str = "usage: by_hand mailboxes|puts|mailbox|taken|passed bits|unary|middle CONSUMERS TIMES [plain|fast|last|fastlast|exchange]";

@@ -1,6 +1,6 @@
-//! Random words.
+//! The source of a consumer's random words.
 
-/// A source of random words, by shifts: cheap, and the same at each run.
+/// A source of random words (xorshift). It is cheap, and gives the same words in each run.
 pub struct Source {
     state: u64,
 }

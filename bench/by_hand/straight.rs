@@ -1,4 +1,4 @@
-//! A claim gone through by plain loops: the same accesses with the same random words as by steps.
+//! Claims made by plain loops. They make the same accesses with the same random words as the steps of `claim.rs`.
 
 use crate::claim::{self, Claim, Place, Stage, announcing};
 use crate::layout::Layout;
@@ -6,7 +6,7 @@ use crate::source::Source;
 use std::sync::atomic::AtomicU64;
 use std::sync::atomic::Ordering::SeqCst;
 
-/// Where a claim makes its accesses, the source of its random words, and how many accesses it may still make.
+/// The words on which a claim makes its accesses, the source of its random words, and how many accesses it may still make.
 struct Turns<'a> {
     words: &'a [AtomicU64],
     source: &'a mut Source,
@@ -14,7 +14,7 @@ struct Turns<'a> {
 }
 
 impl Turns<'_> {
-    /// The random word of the next access.
+    /// Returns the random word of the next access, which counts as made.
     #[inline(always)]
     fn draw(&mut self) -> u64 {
         self.left -= 1;
@@ -35,9 +35,9 @@ impl Turns<'_> {
 }
 
 impl Claim {
-    /// Goes on from the first access of a pair, or of a ratifier of the fast path, pair by pair, as long as the budget
-    /// has room for all that one may take and one access more. Returns what is left of the budget. A claim at any other
-    /// place does not move.
+    /// Goes through whole pairs, or ratifiers of the fast path, as long as more accesses are left than one of them may
+    /// take. Returns what is left of the budget. It does nothing if the claim is in the middle of a pair or ratifier, or at
+    /// a last object.
     #[inline(always)]
     pub fn run(&mut self, layout: &Layout, words: &[AtomicU64], source: &mut Source, budget: u64) -> u64 {
         if self.place != first(layout, self.value, self.passed) {
@@ -80,19 +80,19 @@ fn fast_ratifiers(layout: &Layout) -> u32 {
     if layout.fast { 2 } else { 0 }
 }
 
-/// The first place of a pair, or of a ratifier of the fast path, with this value.
+/// The place at the beginning of a pair, or of a ratifier of the fast path, with this value as input.
 #[inline(always)]
 fn first(layout: &Layout, value: u32, passed: u32) -> Place {
     if passed < fast_ratifiers(layout) { announcing(layout, value) } else { Place::Look { limit: 1 } }
 }
 
-/// How the claim of a consumer ends with this value.
+/// The stage of a consumer's claim that ended with this value.
 #[inline(always)]
 fn ended(consumer: u32, value: u32) -> Stage {
     if value == consumer { Stage::Won } else { Stage::Lost(value) }
 }
 
-/// Goes through a conciliator with this word and this input, and returns its output.
+/// Goes through the conciliator whose word is at `base`, with this input. Returns its output.
 #[inline(always)]
 fn conciliate(layout: &Layout, turns: &mut Turns, base: usize, input: u32) -> u32 {
     let mut limit = 1;
@@ -110,7 +110,7 @@ fn conciliate(layout: &Layout, turns: &mut Turns, base: usize, input: u32) -> u3
     }
 }
 
-/// Goes through a ratifier whose words begin there, with this input. Returns whether it decided, and its output.
+/// Goes through the ratifier whose words begin at `base`, with this input. Returns whether it decided, and its output.
 #[inline(always)]
 fn ratify(layout: &Layout, turns: &mut Turns, base: usize, input: u32) -> (bool, u32) {
     let mut left = layout.write[input as usize];
@@ -135,7 +135,7 @@ fn ratify(layout: &Layout, turns: &mut Turns, base: usize, input: u32) -> (bool,
     (true, preference)
 }
 
-/// Goes through a last object with this word and this input, and returns its output.
+/// Goes through the last object whose word is at `base`, with this input. Returns its output.
 #[inline(always)]
 fn exchange(turns: &mut Turns, base: usize, input: u32) -> u32 {
     turns.draw();

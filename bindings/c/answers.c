@@ -1,4 +1,4 @@
-/* Each answer of hazbultra.h once, and each allocation refused in turn. The heap below takes the place of heap.c. */
+/* Tests which codes the calls of hazbultra.h return. Each allocation is refused in turn, by a heap in place of heap.c. */
 #include "hazbultra.h"
 
 #include <stdio.h>
@@ -21,8 +21,8 @@ struct tried rattle_alloc(size_t size, size_t align);
 struct tried rattle_realloc(void *at, size_t kept, size_t size, size_t align);
 void rattle_dealloc(void *at);
 
-static long blocks;         /* how many blocks are out */
-static long granted = -1;   /* so many allocations until one is refused; none if below 0 */
+static long blocks;         /* how many blocks are allocated now */
+static long granted = -1;   /* how many allocations succeed before one is refused; if below 0, none is */
 static char nothing;
 
 static bool is_refused(void) {
@@ -58,7 +58,7 @@ static hz_setup setup_of(uint64_t producers, uint64_t consumers, uint64_t cells,
     return (hz_setup){producers, consumers, cells, pairs, table, true, true};
 }
 
-/* One of which each claim is one exchange. */
+/* A setup in which each claim is one exchange. */
 static hz_setup exchanges(uint64_t producers, uint64_t consumers, uint64_t cells, uint32_t table) {
     return (hz_setup){producers, consumers, cells, 0, table, false, true};
 }
@@ -72,7 +72,7 @@ static uint32_t made(hz_setup setup) {
     return answer;
 }
 
-/* The refusals of a setup, the first that is so. */
+/* Setups that are refused, each for the first reason in the order of the codes, and some that are not. */
 static void setups(void) {
     EXPECT(made(setup_of(0, 0, 1 << 25, 0, 3)) == HZ_BAD_TABLE);
     EXPECT(made(setup_of(0, 0, 1 << 25, 0, HZ_MIDDLE)) == HZ_BAD_PRODUCERS);
@@ -92,7 +92,7 @@ static void setups(void) {
     EXPECT(made((hz_setup){1, 1, 1, 0, HZ_BITS, true, false}) == HZ_BAD_PAIRS);
 }
 
-/* A call that takes memory. One refusal is told, and then the same call has the answer that is wanted. */
+/* A call that asks for memory. If that is refused, which `told` counts, the same call is made once more. */
 static long told;
 #define COMES_TO(wanted, call) (comes_to(wanted, call) || comes_to(wanted, call))
 
@@ -102,7 +102,7 @@ static bool comes_to(uint32_t wanted, uint32_t answer) {
     return answer == wanted;
 }
 
-/* A handle of one kind to each call that wants another. */
+/* Gives a handle of one kind to each call that wants another kind. */
 static void kinds(hz_handle *part, bool is_hub, bool is_producer, bool is_consumer, bool is_report) {
     hz_setup setup = setup_of(1, 1, 1, 1, HZ_BITS);
     hz_handle none = HZ_NONE;
@@ -150,7 +150,7 @@ static void report_of_one(hz_handle *report) {
     EXPECT(hz_report_diary(report, 0, 0, &diary) == HZ_DONE && diary.notes == 1 && diary.begun);
     EXPECT(hz_report_diary(report, 1, 0, &diary) == HZ_DONE && diary.notes == 1 && !diary.begun);
 
-    /* In blocks: two items from place 1 on, and then what is left. */
+    /* Two items from place 1 on, and then the items that are left. */
     EXPECT(hz_report_items(report, 2, false, 0, items, 4, &copied) == HZ_NOT_THERE);
     EXPECT(hz_report_items(report, 0, false, 1, items, 2, &copied) == HZ_DONE && copied == 2);
     EXPECT(items[0] == 20 && items[1] == 30 && items[2] == 9);
@@ -168,7 +168,7 @@ static void report_of_one(hz_handle *report) {
     EXPECT(hz_report_notes(report, 1, 0, 1, notes, 4, &copied) == HZ_DONE && copied == 0);
 }
 
-/* The life of a mailbox with two lanes and two consumers, of whom one takes the first item and stops midway at the second. */
+/* The life of a mailbox with two lanes and two consumers. One takes the first item, and stops midway at the second. */
 static void life(hz_setup setup) {
     hz_handle hub = HZ_NONE, other = HZ_NONE, one = HZ_NONE, two = HZ_NONE, three = HZ_NONE, report = HZ_NONE;
     hz_handle stranger = HZ_NONE;
@@ -210,7 +210,7 @@ static void life(hz_setup setup) {
     hz_free(&other);
 }
 
-/* Two consumers in turn, who go past what they lose. */
+/* Two consumers take items in turn, past those that they lose. */
 static void takes(hz_setup setup) {
     hz_handle hub = HZ_NONE, producer = HZ_NONE, one = HZ_NONE, two = HZ_NONE, report = HZ_NONE;
     hz_missing missing;
@@ -236,7 +236,7 @@ static void takes(hz_setup setup) {
     EXPECT(blocks == 0);
 }
 
-/* The budget of a take, where a claim is one exchange: its link, its exchange, and its item if it is won. */
+/* The accesses of a take in which each claim is one exchange: the link, the exchange, and the item if it is won. */
 static void spends(void) {
     hz_setup setup = exchanges(1, 2, 2, HZ_BITS);
     hz_handle hub = HZ_NONE, producer = HZ_NONE, one = HZ_NONE, two = HZ_NONE;
@@ -256,7 +256,7 @@ static void spends(void) {
     EXPECT(blocks == 0);
 }
 
-/* All numbers of the largest setup: 16 producers and 64 consumers are given, and no more. The mailbox has the largest number. */
+/* The largest setup: 16 producers and 64 consumers are issued, and no more. The mailbox's id is the largest, too. */
 static void numbers(void) {
     hz_setup setup = setup_of(16, 64, 1, 1, HZ_BITS);
     hz_handle hub = HZ_NONE, report = HZ_NONE, more = HZ_NONE, parts[80] = {HZ_NONE};

@@ -1,7 +1,7 @@
 /* Two producers and three consumers, in threads. Each item is the address of a job, and each job is done once.
  *
- * A job is written without a lock or an atomic: by its producer before the put, and by whoever took it, who is the only
- * one. A build with -fsanitize=thread would tell of a second one.
+ * A job is written to without a lock or an atomic: by its producer before the put, and later by the one consumer that took
+ * it. If two consumers took one job, a build with -fsanitize=thread would report it.
  */
 #include "hazbultra.h"
 
@@ -20,7 +20,7 @@ struct worker {
 
 struct job {
     int number;
-    int done; /* how often */
+    int done; /* how often it was done */
 };
 
 static struct job jobs[JOBS];
@@ -77,7 +77,7 @@ static void *consume(void *arg) {
     return NULL;
 }
 
-/* Does by himself what nobody took: nobody can take it any more. Returns how many these are. */
+/* Does the jobs that nobody took, since nobody can take them any more. Returns how many these are. */
 static uint64_t do_what_is_left(hz_handle *report) {
     uint64_t all = 0;
     for (uint64_t lane = 0; lane < PRODUCERS; lane++) {

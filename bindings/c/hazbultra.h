@@ -1,39 +1,39 @@
-/* A mailbox for threads: producers put numbers into lanes of their own, consumers compete for each, and at most one
- * consumer takes each item. A report at the end says who took what. The library has no lock, and waits for the allocator
- * alone.
+/* A mailbox for threads. Each producer puts items, which are numbers, into a lane of its own. All consumers compete for each
+ * item, and at most one of them takes it. A report at the end says who took what. The library takes no lock, and no call
+ * waits for anything but the allocator.
  *
  * Link libhazbultra.a and heap.c, which has its allocation functions: gcc -pthread your.c heap.c libhazbultra.a
- * The library that `make install` puts has heap.c in it. Both are for x86-64 Linux, on a processor of level x86-64-v2.
+ * The library that `make install` installs has heap.c in it. Both are for x86-64 Linux, on a processor of level x86-64-v2.
  *
- * WHAT A CALLER OWES. Nothing checks a C caller, and what is proved holds only if it keeps this:
+ * WHAT A CALLER OWES. Nothing checks a C caller. What is proved holds only if the caller keeps these six rules:
  *
  *  1. Each hz_handle begins as HZ_NONE. After that only calls of this library write it. It is not copied: after a copy,
  *     only one of the two may be used. It may be moved, as a struct is moved by memcpy.
- *  2. No pointer is null, not even that of hz_free, or items or notes if room is 0. Each leads to an object of its type,
- *     or to as many as the length beside it says. A handle, a setup and a seed are initialised. What a call is to write
- *     need not be: a call never reads lane, number, value, missing, lanes, consumers, out, items, notes or copied, if
- *     it takes it by a pointer. A bool is 0 or 1.
+ *  2. No pointer is null: not that of hz_free, and not items or notes if room is 0. Each leads to an object of its type,
+ *     or to as many objects as the length beside it says. A handle, a setup and a seed are initialised. What a call is to
+ *     write need not be initialised: no call reads what a pointer lane, number, value, missing, lanes, consumers, out,
+ *     items, notes or copied leads to. A bool is 0 or 1.
  *     Two pointers of one call lead to different objects.
- *  3. A handle is in one call at a time. From call to call it may go from thread to thread, if the one call happens
- *     before the other: by a lock, the start or the join of a thread, an atomic, or whatever else orders them. Handles
- *     of one mailbox may be in calls at the same time: that is what it is for.
+ *  3. A handle is in one call at a time. Between two calls it may go to another thread, if the first call happens before
+ *     the second: a lock, the start or the join of a thread, an atomic, or something else has to order them. Different
+ *     handles of one mailbox may be in calls at the same time: that is what a mailbox is for.
  *  4. Each mailbox has a number (id) that no other mailbox of the process was given, also none of another copy of this
- *     library: take that of hz_next_id. Equal numbers are not noticed. A hub takes back what belongs to the other
- *     mailbox then, and its report may be wrong.
+ *     library: take the number that hz_next_id returns. The library does not notice equal numbers. With them a hub takes
+ *     back producers and consumers of the other mailbox, and its report may be wrong.
  *  5. malloc, realloc and free are of one allocator, and malloc and realloc align as the C standard says.
  *  6. No call is made from a signal handler, or from the forked child of a process with threads.
  *
  * AN ITEM MAY BE A POINTER. Each access to a shared word is seq_cst. So what a thread wrote before it put an item is seen
- * by the thread that is told HZ_TOOK. ThreadSanitizer does not see these accesses, and reports races that are none. Say
- * HZ_BEFORE_PUT(p) before p is put and HZ_AFTER_TAKE(p) after it was taken, as demo.c does. Equal items are different
- * items: what is put twice may be taken twice.
+ * by the thread whose call returns HZ_TOOK. ThreadSanitizer does not see these accesses, and reports races that are none. So
+ * call HZ_BEFORE_PUT(p) before p is put, and HZ_AFTER_TAKE(p) after it was taken, as demo.c does. Two puts of one number
+ * are two items, and each may be taken.
  *
- * WHAT A CALL CHECKS ITSELF. A handle that leads to nothing (HZ_NONE), or to another kind of thing than the call wants, is
- * HZ_BAD_HANDLE. So is a handle that the call is to fill and that leads to something. After each code but HZ_DONE,
- * HZ_LINKED, HZ_FULL and those of a poll or a take nothing has changed, if no line below says otherwise. No call loses what a
- * handle leads to, also if memory is refused.
+ * WHAT A CALL CHECKS ITSELF. It returns HZ_BAD_HANDLE if a handle leads to nothing (HZ_NONE), or to another kind of thing
+ * than the call wants, or leads to something though the call is to fill it. HZ_NO_MEMORY: there is not enough memory. A call
+ * that returns HZ_CLOSED or a greater code has changed nothing, unless a line below says otherwise. No call loses what a
+ * handle leads to, even if memory is refused.
  *
- * STACK. hz_mailbox_new takes up to 24 kB of it, and no other call takes more than 8 kB. A backtrace ends at the library's
+ * STACK. hz_mailbox_new takes up to 24 kB of stack, and no other call takes more than 8 kB. A backtrace ends at the library's
  * functions: they have no unwind tables, and keep no frame pointer.
  */
 #ifndef HAZBULTRA_H
@@ -47,7 +47,7 @@
 #define HZ_VERSION_MINOR 1
 #define HZ_VERSION_PATCH 0
 
-/* HZ_CHECKED: the caller has to look at the code. HZ_NONNULL: no pointer is null, as rule 2 says. */
+/* HZ_CHECKED: the compiler warns if the code is ignored. HZ_NONNULL: it warns of a null pointer, which rule 2 forbids. */
 #if defined(__GNUC__)
 #define HZ_CHECKED __attribute__((warn_unused_result))
 #define HZ_NONNULL __attribute__((nonnull))
@@ -68,25 +68,25 @@
 extern "C" {
 #endif
 
-/* What leads to a hub, a producer, a consumer or a report, or to nothing. */
+/* A handle leads to a hub, a producer, a consumer or a report, or to nothing. */
 typedef struct {
-    bool full;
+    bool full; /* whether it leads to something */
     void *at;
 } hz_handle;
 
-/* A handle that leads to nothing: hz_handle hub = HZ_NONE; Where C wants a constant, as for a static handle, leave it out:
- * a handle of zeros leads to nothing too. */
+/* A handle that leads to nothing. Write `hz_handle hub = HZ_NONE;`. A static handle, which needs a constant in C, takes no
+ * initial value: a handle of zeros leads to nothing too. */
 #ifdef __cplusplus
 #define HZ_NONE (hz_handle())
 #else
 #define HZ_NONE ((hz_handle){ false, NULL })
 #endif
 
-/* The codes that calls return. No two mean different things by one number. */
+/* The codes that calls return. A code has the same meaning in all calls. The lines above each call say when it comes. */
 typedef enum {
-    HZ_DONE = 0,
+    HZ_DONE = 0, /* the call did what it is for */
 
-    /* of hz_poll and hz_take, and the kind of a note (the first three) */
+    /* returned by hz_poll and hz_take; the first three are also the kinds of a note */
     HZ_TOOK = 1,
     HZ_LOST = 2,
     HZ_UNDECIDED = 3,
@@ -95,12 +95,12 @@ typedef enum {
     HZ_SPENT = 6,
     HZ_NO_LANE = 7,
 
-    /* of hz_put and hz_finish */
+    /* returned by hz_put, and the last by hz_finish too */
     HZ_LINKED = 8,
     HZ_FULL = 9,
     HZ_CLOSED = 10,
 
-    /* refusals */
+    /* why another call was refused */
     HZ_NO_MEMORY = 16,
     HZ_BAD_HANDLE = 17,
     HZ_ALL_GIVEN = 18,
@@ -108,162 +108,162 @@ typedef enum {
     HZ_OTHER_MAILBOX = 20,
     HZ_NOT_THERE = 21,
 
-    /* refusals of a setup, the first of these that is so */
-    HZ_BAD_TABLE = 32,
-    HZ_BAD_PRODUCERS = 33,
-    HZ_BAD_CONSUMERS = 34,
-    HZ_BAD_CELLS = 35,
-    HZ_BAD_PAIRS = 36
+    /* why hz_mailbox_new refused a setup: the first of these that holds */
+    HZ_BAD_TABLE = 32,     /* table is no hz_table */
+    HZ_BAD_PRODUCERS = 33, /* producers is not 1 to 16 */
+    HZ_BAD_CONSUMERS = 34, /* consumers is not 1 to 64 */
+    HZ_BAD_CELLS = 35,     /* cells is above 2^24 */
+    HZ_BAD_PAIRS = 36      /* pairs is above 8, or it is 0 while last is false or fast is true */
 } hz_code;
 
-/* The quorum tables. Take HZ_MIDDLE for more than four consumers, else HZ_BITS. */
+/* The quorum table of the ratifiers in each cell. Take HZ_MIDDLE for more than four consumers, else HZ_BITS. */
 typedef enum {
-    HZ_UNARY = 0,
-    HZ_BITS = 1,
-    HZ_MIDDLE = 2
+    HZ_UNARY = 0, /* a ratifier has one register for each consumer */
+    HZ_BITS = 1,  /* two registers for each bit of a consumer's number */
+    HZ_MIDDLE = 2 /* the fewest registers that can do */
 } hz_table;
 
-/* How large a mailbox is, and what stands in each cell. The fastest have 0 pairs, last true and fast false: each claim on an
- * item is one exchange then, and it does not matter which table. Else, if nothing speaks against it: 4 pairs, and last true. Set
- * fast too if mostly one consumer comes to an item.
- * docs/GUIDE.md tells which setup does what, and how much memory it takes. */
+/* How large a mailbox is, and by what objects consumers compete in each cell. The fastest setup has 0 pairs, last true and
+ * fast false: each claim on an item is one compare-exchange then, and table may be any of the three. Else take 4 pairs and
+ * last true, if nothing speaks against it. Set fast too if mostly one consumer comes to an item.
+ * docs/GUIDE.md says which setup does what, and how much memory it takes. */
 typedef struct {
-    uint64_t producers; /* 1 to 16: each has a lane of its own, from 0 on */
+    uint64_t producers; /* 1 to 16. Each has a lane of its own, and lanes have numbers from 0 on */
     uint64_t consumers; /* 1 to 64 */
-    uint64_t cells;     /* 0 to 2^24: so many items can be put in all */
-    uint64_t pairs;     /* 1 to 8 pairs of deciding objects for each cell, or 0 if last is true and fast is not */
+    uint64_t cells;     /* 0 to 2^24. Each takes one item, so all lanes together take as many items */
+    uint64_t pairs;     /* pairs of a conciliator and a ratifier in each cell: 1 to 8, or 0 with last true and fast false */
     uint32_t table;     /* an hz_table */
-    bool fast;          /* two ratifiers before the pairs: faster if one consumer is alone */
-    bool last;          /* an object that always decides after the pairs: no poll is HZ_UNDECIDED then */
+    bool fast;          /* whether two ratifiers come before the pairs: fewer accesses if one consumer comes alone */
+    bool last;          /* whether an object that always decides comes after the pairs: no poll is HZ_UNDECIDED then */
 } hz_setup;
 
-/* Of one lane of a report. */
+/* What a report says of one lane. */
 typedef struct {
     uint64_t put;  /* how many items were put */
     uint64_t left; /* how many of them nobody took */
-    bool ended;    /* whether the producer has finished */
+    bool ended;    /* whether its producer ended it by hz_finish */
 } hz_lane;
 
-/* Of one consumer on one lane. */
+/* What a report says of one consumer on one lane. */
 typedef struct {
-    uint64_t notes; /* how many notes there are: note j is on item j of the lane */
-    bool begun;     /* whether its claim on the next item, which has no note, has an access */
+    uint64_t notes; /* how many notes there are: note j is on item j of the lane, both counted from 0 */
+    bool begun;     /* whether it made an access of a claim on the next item, on which it has no note */
 } hz_diary;
 
-/* The end of a consumer's claim on an item. */
+/* A note: how a consumer's claim on an item ended. */
 typedef struct {
-    uint64_t value; /* HZ_TOOK: the item. HZ_LOST: the one consumer that may have won it. HZ_UNDECIDED: 0 */
+    uint64_t value; /* HZ_TOOK: the item. HZ_LOST: the number of the one consumer that may have won it. HZ_UNDECIDED: 0 */
     uint32_t kind;  /* HZ_TOOK, HZ_LOST or HZ_UNDECIDED */
 } hz_note;
 
-/* How many producers and consumers were issued and not returned. */
+/* How many producers and consumers a hub issued and did not take back. */
 typedef struct {
     uint32_t producers;
     uint32_t consumers;
 } hz_missing;
 
-/* A number that the process has for no other mailbox. It is of heap.c, from 2^63 on: the Rust crate counts from 0. It never
- * comes twice from one copy of heap.c, in whatever threads it is called. Shared libraries that hide their names may have
- * a copy each. Their equal numbers do no harm if none is given a handle of another's. */
+/* Returns a number that no other mailbox of the process has. heap.c defines it and counts from 2^63 on, since the Rust crate
+ * counts from 0. One copy of heap.c returns no number twice, whichever threads call it. Shared libraries that hide their names
+ * may have a copy each. Their equal numbers do no harm if none of these libraries is given a handle of another one. */
 extern uint64_t hz_next_id(void);
 
-/* A mailbox of this setup, and its hub. It takes up to 24 kB of stack: a thread of the least size, 16 kB, is too small.
- * HZ_DONE: hub leads to the hub. HZ_BAD_HANDLE: hub is not HZ_NONE. HZ_NO_MEMORY. HZ_BAD_TABLE .. HZ_BAD_PAIRS. */
+/* Makes a mailbox with this number and setup, and its hub. It takes up to 24 kB of stack: 16 kB, the least of a thread, is too
+ * little. HZ_DONE: hub leads to the hub. HZ_BAD_HANDLE: hub was not HZ_NONE. HZ_NO_MEMORY. HZ_BAD_TABLE .. HZ_BAD_PAIRS. */
 HZ_CHECKED HZ_NONNULL
 uint32_t hz_mailbox_new(uint64_t id, const hz_setup *setup, hz_handle *hub);
 
-/* The producer of the next lane. Lanes are issued in order, from 0 on.
- * HZ_DONE: producer leads to it, and lane is its lane. HZ_BAD_HANDLE. HZ_ALL_GIVEN: every lane was issued. HZ_NO_MEMORY.
- * lane is written at HZ_DONE only. */
+/* Issues the producer of the next lane, in order from lane 0 on.
+ * HZ_DONE: producer leads to it, and lane is the number of its lane. HZ_BAD_HANDLE. HZ_ALL_GIVEN: the producers of all lanes
+ * were issued. HZ_NO_MEMORY. lane is written at HZ_DONE only. */
 HZ_CHECKED HZ_NONNULL
 uint32_t hz_producer_new(hz_handle *hub, hz_handle *producer, uint64_t *lane);
 
-/* The consumer of the next number. Numbers are issued in order, from 0 on. Its random words are those of ChaCha8 from this
- * seed, of the stream of its number. So all consumers of a mailbox may have one seed. It does not count if each claim is one
- * exchange.
- * HZ_DONE: consumer leads to it, and number is its number. HZ_BAD_HANDLE. HZ_ALL_GIVEN: every number was issued.
- * HZ_NO_MEMORY. number is written at HZ_DONE only. */
+/* Issues the consumer of the next number, in order from 0 on. It draws its random words from ChaCha8 with this seed, out of a
+ * stream of its own. So all consumers of a mailbox may have one seed. If each claim is one exchange, the seed does not
+ * matter.
+ * HZ_DONE: consumer leads to it, and number is its number. HZ_BAD_HANDLE. HZ_ALL_GIVEN: all consumers of the setup were
+ * issued. HZ_NO_MEMORY. number is written at HZ_DONE only. */
 HZ_CHECKED HZ_NONNULL
 uint32_t hz_consumer_new(hz_handle *hub, const uint8_t seed[32], hz_handle *consumer, uint64_t *number);
 
-/* Puts an item, any number, at the end of the producer's lane. It makes three accesses at most and takes no memory.
- * HZ_LINKED: it is there. HZ_FULL: no cell is left, the item is still the caller's, and each further put
- * up to hz_finish is HZ_FULL too.
+/* Puts an item, any number, at the end of the producer's lane. It makes at most three accesses of shared words, and asks for
+ * no memory. HZ_LINKED: the item is on the lane. HZ_FULL: no cell is left, the item was not put, and each further put before
+ * hz_finish returns HZ_FULL too.
  * HZ_CLOSED: the lane has ended. HZ_BAD_HANDLE. */
 HZ_CHECKED HZ_NONNULL
 uint32_t hz_put(hz_handle *producer, uint64_t item);
 
-/* Ends the lane: no item comes after those that it has. Its code may be ignored: the lane has ended after the first two.
- * HZ_DONE. HZ_CLOSED: it had ended before. HZ_BAD_HANDLE. */
+/* Ends the producer's lane: no item can be put on it any more. The code may be ignored, since the lane has ended after HZ_DONE
+ * and after HZ_CLOSED. HZ_DONE. HZ_CLOSED: the lane had ended before. HZ_BAD_HANDLE. */
 HZ_NONNULL
 uint32_t hz_finish(hz_handle *producer);
 
-/* Makes accesses on a lane until one has a result, or budget of them were made. It takes no memory.
- * HZ_TOOK: the item is this consumer's alone, and value is the item. HZ_LOST: no other consumer but number value can win
- * the item. HZ_UNDECIDED: the claim ended, and does not show who has won, if anybody has. It never comes if last is
- * true. HZ_NOTHING: no further item is linked yet. HZ_ENDED: no further item comes. HZ_SPENT: the budget is used up,
- * and the next poll of the lane goes on from there. It never comes of the budget UINT64_MAX. HZ_NO_LANE: there is no
- * such lane. HZ_BAD_HANDLE. value is written at HZ_TOOK and HZ_LOST only. */
+/* Competes for the next item of a lane until there is a result, with at most `budget` accesses of shared words. It asks for
+ * no memory.
+ * HZ_TOOK: this consumer took the item, and value is the item. HZ_LOST: no consumer but the one with the number value can win
+ * the item. HZ_UNDECIDED: the claim ended, and does not show who has won the item, if anybody has. It never comes if last is
+ * true in the setup. HZ_NOTHING: the lane has no further item so far. HZ_ENDED: the lane has ended, and has no further item.
+ * HZ_SPENT: the budget is used up, which UINT64_MAX never is, and the next poll of the lane goes on from there.
+ * HZ_NO_LANE: there is no such lane. HZ_BAD_HANDLE. value is written at HZ_TOOK and HZ_LOST only. */
 HZ_CHECKED HZ_NONNULL
 uint32_t hz_poll(hz_handle *consumer, uint64_t lane, uint64_t budget, uint64_t *value);
 
-/* Makes accesses on a lane until this consumer takes an item, or most of them were made. It goes on past items that it
- * loses: it does what calls of hz_poll do one after another, as long as they are HZ_LOST, each with what is left of most. It
- * takes no memory.
- * HZ_TOOK: the item is this consumer's alone, and value is the item. HZ_UNDECIDED, HZ_NOTHING, HZ_ENDED, HZ_NO_LANE,
- * HZ_BAD_HANDLE: as hz_poll. HZ_SPENT: most is used up, and the next call for the lane goes on from there. value is written
- * at HZ_TOOK only. */
+/* Takes the next item of a lane that this consumer wins, past the items that it loses. It does what calls of hz_poll do one
+ * after another, until one does not return HZ_LOST. All together make at most `most` accesses. It asks for no memory.
+ * HZ_TOOK: this consumer took the item, and value is the item. HZ_UNDECIDED, HZ_NOTHING, HZ_ENDED, HZ_NO_LANE,
+ * HZ_BAD_HANDLE: as in hz_poll. HZ_SPENT: `most` accesses were made, and the next call for the lane goes on from there.
+ * value is written at HZ_TOOK only. */
 HZ_CHECKED HZ_NONNULL
 uint32_t hz_take(hz_handle *consumer, uint64_t lane, uint64_t most, uint64_t *value);
 
-/* Takes a producer or a consumer back, also before its lane has ended or while it holds a claim. What it did is kept for
- * the report, and its number is not issued again.
- * HZ_DONE: returned is HZ_NONE then. HZ_BAD_HANDLE: hub is no hub, or returned is no producer or consumer.
- * HZ_OTHER_MAILBOX: its mailbox has another id than the hub. */
+/* Takes a producer or a consumer back, also a producer whose lane has not ended, and a consumer in the middle of a claim. The
+ * report will have what it did. Its number is not issued again.
+ * HZ_DONE: returned is HZ_NONE then. HZ_BAD_HANDLE: hub leads to no hub, or returned to no producer or consumer.
+ * HZ_OTHER_MAILBOX: returned belongs to a mailbox with another id. */
 HZ_CHECKED HZ_NONNULL
 uint32_t hz_take_back(hz_handle *hub, hz_handle *returned);
 
-/* Ends the mailbox, and makes the report of all that was returned.
- * HZ_DONE: hub is HZ_NONE then, and report leads to the report. HZ_BAD_HANDLE. HZ_MISSING: this many producers and consumers
- * were issued and not returned; missing is written at this code only. HZ_NO_MEMORY: it may be called again. */
+/* Ends the mailbox, and makes the report. All producers and consumers that were issued have to be taken back before.
+ * HZ_DONE: hub is HZ_NONE then, and report leads to the report. HZ_BAD_HANDLE. HZ_MISSING: some were not taken back. missing
+ * says how many, and is written at this code only. HZ_NO_MEMORY: hub is as it was, and the call may be made again. */
 HZ_CHECKED HZ_NONNULL
 uint32_t hz_gather(hz_handle *hub, hz_handle *report, hz_missing *missing);
 
-/* How many lanes and how many consumers a report has: those of the setup.
+/* Writes how many lanes and consumers the report has: as many as the setup had producers and consumers.
  * HZ_DONE. HZ_BAD_HANDLE. */
 HZ_CHECKED HZ_NONNULL
 uint32_t hz_report_size(hz_handle *report, uint64_t *lanes, uint64_t *consumers);
 
-/* The numbers of one lane.
+/* Writes to out what the report says of this lane.
  * HZ_DONE. HZ_BAD_HANDLE. HZ_NOT_THERE: there is no such lane. */
 HZ_CHECKED HZ_NONNULL
 uint32_t hz_report_lane(hz_handle *report, uint64_t lane, hz_lane *out);
 
-/* The numbers of one diary, that of this consumer on this lane.
+/* Writes to out what the report says of this consumer on this lane.
  * HZ_DONE. HZ_BAD_HANDLE. HZ_NOT_THERE: there is no such consumer or lane. */
 HZ_CHECKED HZ_NONNULL
 uint32_t hz_report_diary(hz_handle *report, uint64_t consumer, uint64_t lane, hz_diary *out);
 
-/* Copies items of a lane in their order, from position from on: if left is true those that nobody took, else those put.
- * copied is how many were copied, at most room. The rest of items is as it was.
+/* Copies items of a lane to items, in the order put: if left is true those that nobody took, else all that were put. It skips
+ * the first `from` of them. copied is how many were copied, at most room. The rest of items stays as it was.
  * HZ_DONE. HZ_BAD_HANDLE. HZ_NOT_THERE: there is no such lane. */
 HZ_CHECKED HZ_NONNULL
 uint32_t hz_report_items(hz_handle *report, uint64_t lane, bool left, uint64_t from, uint64_t *items, size_t room,
                          uint64_t *copied);
 
-/* Copies notes of a diary in their order, from position from on.
- * copied is how many were copied, at most room. The rest of notes is as it was.
+/* Copies the notes of this consumer on this lane to notes, in their order. It skips the first `from` of them.
+ * copied is how many were copied, at most room. The rest of notes stays as it was.
  * HZ_DONE. HZ_BAD_HANDLE. HZ_NOT_THERE: there is no such consumer or lane. */
 HZ_CHECKED HZ_NONNULL
 uint32_t hz_report_notes(hz_handle *report, uint64_t consumer, uint64_t lane, uint64_t from, hz_note *notes, size_t room,
                          uint64_t *copied);
 
-/* Frees what the handle leads to, which is HZ_NONE then. HZ_NONE itself is left as it is. A producer or a consumer that is
- * freed, and not taken back, is missing at each gather of its mailbox. */
+/* Frees what the handle leads to, and makes the handle HZ_NONE. If it is HZ_NONE already, nothing happens. If a producer or
+ * consumer is freed and was not taken back, each hz_gather of its mailbox returns HZ_MISSING. */
 HZ_NONNULL
 void hz_free(hz_handle *handle);
 
-/* Told to ThreadSanitizer, if there is one: see AN ITEM MAY BE A POINTER. */
+/* In a build with ThreadSanitizer these tell it that a put happens before the take of the item. Else they do nothing. */
 #ifdef HZ_THREAD_SANITIZER
 void __tsan_release(void *at);
 void __tsan_acquire(void *at);

@@ -1,10 +1,10 @@
-/* What libhazbultra.a leaves to its program: the three functions by which it asks for memory, over malloc, realloc and free,
- * and the numbers of mailboxes.
+/* What a program needs beside libhazbultra.a: the three functions by which it asks for memory, made of malloc, realloc and
+ * free, and hz_next_id, which numbers mailboxes.
  *
- * Link this file, or functions of your own under the same names: all three of memory, or none of them. All here are weak:
- * others of these names take their place, as those of a Rust library with the crate `hazbultra` do. A block that is asked
- * for with size 0 has an address of its own, so that no two blocks share one. A refused block is told by `there`. Then `at`
- * is not null and is not used.
+ * Link this file, or functions of your own with the same names. Of the three for memory replace all or none. All are weak:
+ * others with these names take their place, as those of a Rust library with the crate `hazbultra` do. A block of size 0 has
+ * an address of its own, too, so that no two blocks share one. If memory is refused, `there` is false. Then `at` is not
+ * null, and the library does not use it.
  */
 #include <stdatomic.h>
 #include <stdbool.h>
@@ -30,12 +30,12 @@ static struct tried tried(void *at) {
     return at ? (struct tried){true, at} : (struct tried){false, &nothing};
 }
 
-/* A block of so many bytes. Each alignment that is asked for is 16 at most, as malloc gives it. */
+/* Returns a block of `size` bytes. The library asks for an alignment of 16 at most, and malloc aligns to 16. */
 WEAK struct tried rattle_alloc(size_t size, size_t align) {
     return tried(malloc(size ? size : align));
 }
 
-/* The block at `at`, made one of `size` bytes. It may move. If memory is refused, it is as it was. */
+/* Makes the block at `at` one of `size` bytes. It may move. If memory is refused, the block is as it was. */
 WEAK struct tried rattle_realloc(void *at, size_t kept, size_t size, size_t align) {
     (void)kept;
     return tried(realloc(at, size ? size : align));
@@ -45,7 +45,7 @@ WEAK void rattle_dealloc(void *at) {
     free(at);
 }
 
-/* The number of the next mailbox. The Rust crate counts from 0, so that a program with both gives no number twice. */
+/* The number of the next mailbox. The Rust crate counts from 0. So a program with both gives no number twice. */
 static _Atomic uint64_t next_id = UINT64_C(1) << 63;
 
 WEAK uint64_t hz_next_id(void) {

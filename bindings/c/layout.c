@@ -1,5 +1,5 @@
-/* What of hazbultra.h holds before any call: the layout that the proved crate and the Rust crate have too, in C and in C++.
- * It is compiled alone. */
+/* Checks the layout of the structs in hazbultra.h, which the proved crate and the Rust crate have too. This file is only
+ * compiled, as C and as C++. */
 #include "hazbultra.h"
 
 #include <assert.h>
@@ -34,14 +34,14 @@ HAS(hz_missing, consumers, 4);
 
 static_assert(HZ_VERSION_MAJOR * 10000 + HZ_VERSION_MINOR * 100 + HZ_VERSION_PATCH > 0, "the version is of numbers");
 
-/* An item may be the address of a constant. */
+/* The two macros take the address of a constant, too. */
 void tell_of(const int *item);
 void tell_of(const int *item) {
     HZ_BEFORE_PUT(item);
     HZ_AFTER_TAKE(item);
 }
 
-/* HZ_NONE is given at the start and later. */
+/* HZ_NONE may be an initial value, and may be assigned later. */
 hz_handle nothing_twice(void);
 hz_handle nothing_twice(void) {
     hz_handle two[2] = {HZ_NONE, HZ_NONE};

@@ -1,4 +1,4 @@
-/* How much stack the calls take, in a thread whose stack is painted first. The header gives the bounds. */
+/* Measures how much stack the calls take, in a thread whose stack is filled with one byte first. The header has bounds. */
 #define _POSIX_C_SOURCE 200112L
 #include "hazbultra.h"
 
@@ -17,7 +17,7 @@ static bool make(void) {
     return hz_mailbox_new(hz_next_id(), &setup, &hub) == HZ_DONE;
 }
 
-/* All calls after hz_mailbox_new. Returns whether each did what it was called for. */
+/* The calls in the life of a mailbox after hz_mailbox_new. Returns whether each of them returned the code of success. */
 static bool live(void) {
     static hz_note notes[4];
     const uint8_t seed[32] = {1};
@@ -38,7 +38,7 @@ static bool live(void) {
     return done;
 }
 
-/* How many bytes of the stack below here the call changes, or 0 if it fails. */
+/* Returns how many bytes of the stack below this frame the call changes, or 0 if it fails. */
 static size_t depth_of(bool (*call)(void)) {
     unsigned char *here = __builtin_frame_address(0);
     memset(stack, PAINT, (size_t)(here - stack) - OWN);
@@ -50,7 +50,7 @@ static size_t depth_of(bool (*call)(void)) {
     return (size_t)(here - stack) - low;
 }
 
-/* First a mailbox whose claims are exchanges alone, then one with all objects that a cell may have. */
+/* Measures first with a mailbox in which each claim is one exchange, then with one that has all objects of a cell. */
 static void *measure(void *depths) {
     ((size_t *)depths)[0] = depth_of(make);
     hz_free(&hub);

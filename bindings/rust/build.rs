@@ -1,4 +1,4 @@
-//! Links the archive of proved code: the one that stands in the package, or that of the folder `HAZBULTRA_LIB`.
+//! Links the archive of proved code: the one in this package, or in the folder that the variable `HAZBULTRA_LIB` names.
 use std::error::Error;
 use std::path::PathBuf;
 use std::process::ExitCode;
@@ -16,8 +16,8 @@ fn main() -> ExitCode {
     }
 }
 
-/// Copies the archive to cargo's folder for this build, and links that copy. Cargo knows this folder anew after a package
-/// was moved or copied with its `target`. No other whole path is told. So no package links the archive of another.
+/// Copies the archive to cargo's folder for this build, and links that copy. If a package was moved or copied with its
+/// `target`, cargo names its new folder. The linker gets no other path. So no package links the archive of another.
 fn link() -> Result<(), Box<dyn Error>> {
     let target = |part: &str| env::var(format!("CARGO_CFG_TARGET_{part}")).unwrap_or_default();
     let (arch, os) = (target("ARCH"), target("OS"));
@@ -26,7 +26,7 @@ fn link() -> Result<(), Box<dyn Error>> {
         return Err(format!("{why}, and not for {arch} {os}").into());
     }
     println!("cargo::rerun-if-env-changed=HAZBULTRA_LIB");
-    // A relative folder is looked up from that of the package, where cargo runs this.
+    // Cargo runs this program in the package's folder. So a relative path begins there.
     let folder = env::var_os("HAZBULTRA_LIB").map_or_else(|| "prebuilt".into(), PathBuf::from);
     let archive = folder.join(ARCHIVE);
     println!("cargo::rerun-if-changed={}", archive.display());

@@ -1,7 +1,7 @@
-//! One run of values through this repository's channel or through another. `bench/channels.py` runs it. It prints how
-//! many nanoseconds the work took, without the making of the channel, and within how many 99 of 100 values arrived.
+//! One run of values through this repository's channel or through another. `bench/channels.py` runs it. It prints how many
+//! nanoseconds the work took, without the making of the channel. Then it prints within how many 99 of 100 values arrived.
 //!
-//! The words are CHANNEL u64|box threads|relay|turns PRODUCERS CONSUMERS VALUES.
+//! Its arguments are CHANNEL u64|box threads|relay|turns PRODUCERS CONSUMERS VALUES.
 use std::env;
 use std::hint::black_box;
 use std::process::ExitCode;
@@ -9,7 +9,7 @@ use std::sync::{mpsc, Arc, Mutex, PoisonError};
 use std::thread;
 use std::time::Instant;
 
-/// What all channels have.
+/// The sender of any of the channels.
 trait Sending<T>: Clone + Send {
     fn send(&self, value: T);
 }
@@ -42,7 +42,7 @@ channel!(
 channel!(crossbeam_channel::Sender<T>, crossbeam_channel::Receiver<T>);
 channel!(flume::Sender<T>, flume::Receiver<T>);
 
-/// The receiver of the standard library, which is for one thread, behind a lock.
+/// The receiver of the standard library with a lock round it, since it is for one thread alone.
 type Locked<T> = Arc<Mutex<mpsc::Receiver<T>>>;
 
 impl<T: Send> Sending<T> for mpsc::Sender<T> {
@@ -77,8 +77,8 @@ struct Form<T> {
     unpack: fn(T) -> u64,
 }
 
-/// Each producer and consumer is a thread. Each value is the time of its send. Returns how long all took, and how long
-/// each value was on its way.
+/// Runs each producer and consumer in a thread. Each value is the time of its send. Returns how long all took, and how
+/// long each value took from its send to its receipt.
 fn threads<T, S: Sending<T>, R: Receiving<T>>(
     (sender, receiver): (S, R),
     plan: Plan,
@@ -113,7 +113,7 @@ fn threads<T, S: Sending<T>, R: Receiving<T>>(
     })
 }
 
-/// One thread sends `at_a_time` values, then receives them, and so on. Returns how long that took.
+/// One thread sends `at_a_time` values and receives them, again and again. Returns how long all took.
 fn alone<T, S: Sending<T>, R: Receiving<T>>(
     (sender, receiver): (S, R),
     plan: Plan,

@@ -1,7 +1,7 @@
-//! One run of items through a mailbox of the crate `hazbultra`, or through another queue. It prints how long the work
-//! took in nanoseconds, without the making. `bench/queues.py` and `bench/boundary.py` run it.
+//! One run of items through a mailbox of the crate `hazbultra`, or through another queue. It prints how many nanoseconds
+//! the work took, without the making of either. `bench/queues.py` and `bench/boundary.py` run it.
 //!
-//! The words are WHAT WAY PRODUCERS CONSUMERS ITEMS CELLS.
+//! Its arguments are WHAT WAY PRODUCERS CONSUMERS ITEMS CELLS.
 mod queues;
 mod work;
 
@@ -23,12 +23,12 @@ fn shaped(shape: Shape) -> Builder<u64> {
     Mailbox::numbers().shape(shape)
 }
 
-/// A mailbox of this shape that has a box for each item.
+/// A builder of mailboxes of this shape that have a box for each item.
 fn boxed(shape: Shape) -> Builder<u64> {
     Mailbox::builder().shape(shape)
 }
 
-/// How long the work took, if there is such a mailbox or queue.
+/// Does the work. Returns how long it took, or `None` if `what` names no mailbox or queue.
 fn run(what: &str, plan: Plan) -> Option<Duration> {
     Some(match what {
         "plain" => mailbox(|| shaped(Shape::Plain), plan, |item| item),

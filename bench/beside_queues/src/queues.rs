@@ -1,4 +1,4 @@
-//! The queues that mailboxes are compared with, as one trait.
+//! The queues with which mailboxes are compared, with one trait for all.
 use crossbeam_queue::{ArrayQueue, SegQueue};
 use std::collections::VecDeque;
 use std::sync::mpsc::{channel, Receiver, Sender};
@@ -6,7 +6,7 @@ use std::sync::{Mutex, PoisonError};
 
 /// A queue that threads share.
 pub trait Queue<T>: Sync {
-    /// Puts a value at the end. There is room for it.
+    /// Puts a value at the end. The queue has room for it.
     fn put(&self, value: T);
     /// Takes the first value, if there is one.
     fn take(&self) -> Option<T>;
@@ -44,7 +44,7 @@ impl<T: Send> Queue<T> for Mutex<VecDeque<T>> {
     }
 }
 
-/// The channel of the standard library. Its receiver is for one thread, so it has a lock round it.
+/// The channel of the standard library. Its receiver is for one thread alone, so it has a lock round it.
 pub struct Channel<T> {
     sender: Sender<T>,
     receiver: Mutex<Receiver<T>>,

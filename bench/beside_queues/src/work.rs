@@ -1,4 +1,4 @@
-//! The same work through a mailbox and through a queue. Each function returns how long it took, without making either.
+//! The same work through mailboxes and through queues. Each function returns how long it took, without their making.
 use crate::queues::Queue;
 use hazbultra::{Builder, Consumer, Mailbox, Poll, Producer};
 use std::hint::black_box;
@@ -12,9 +12,9 @@ use std::time::{Duration, Instant};
 pub enum Way {
     /// A thread for each producer and consumer. All consumers take from all producers.
     Threads,
-    /// A thread for each, too, but consumer `c` takes from producer `c` alone: it polls that lane, and no other.
+    /// A thread for each producer and consumer. Consumer `c` takes from producer `c` alone: it polls that lane only.
     Lanes,
-    /// As `Lanes`, with a mailbox or a queue of its own for each such pair of a producer and a consumer.
+    /// The same as `Lanes`, but each such pair of a producer and a consumer has a mailbox or queue of its own.
     Apart,
     /// One thread puts all items. Then each consumer takes in turn, until nothing is left for it.
     Turns,
@@ -22,14 +22,14 @@ pub enum Way {
     Relay,
 }
 
-/// How many producers, consumers, items and cells there are, and the way.
+/// The way, and how many producers, consumers, items and cells there are.
 #[derive(Clone, Copy)]
 pub struct Plan {
     pub way: Way,
     pub producers: usize,
     pub consumers: usize,
     pub items: u64,
-    /// How many items there is room for: what a mailbox or a bounded queue is made with.
+    /// For how many items a mailbox or a bounded queue has room.
     pub cells: usize,
 }
 
@@ -39,7 +39,7 @@ impl Plan {
         self.items / self.producers as u64
     }
 
-    /// The plan of each of `producers` parts that have one producer and one consumer.
+    /// The plan of one part, if each producer has a part of its own with one consumer.
     fn part(&self) -> Plan {
         let (items, cells) = (self.share(), self.cells / self.producers);
         Plan {
@@ -56,7 +56,7 @@ impl Plan {
 struct Crew<T> {
     producers: Vec<Producer<T>>,
     consumers: Vec<Consumer<T>>,
-    // (dropped last, with its report)
+    // (it is the last field, so it is dropped last)
     _mailbox: Mailbox<T>,
 }
 
@@ -119,7 +119,7 @@ fn threads<T: Send>(mut parts: Vec<Crew<T>>, plan: Plan, value: fn(u64) -> T) ->
     began.elapsed()
 }
 
-/// Takes from one lane up to its end.
+/// Takes all items of a lane that this consumer wins, up to the lane's end.
 fn take_lane<T>(consumer: &mut Consumer<T>, lane: usize) {
     loop {
         match consumer.take(lane) {
@@ -143,7 +143,7 @@ fn turns<T: Send>(mut parts: Vec<Crew<T>>, plan: Plan, value: fn(u64) -> T) -> D
     without_report(began.elapsed(), parts)
 }
 
-/// Returns this time, and forgets the mailboxes: their drop may make a report, whose instructions would count.
+/// Returns this time, and forgets the mailboxes. Their drop might make a report, whose instructions would be counted.
 fn without_report<T>(took: Duration, parts: Vec<Crew<T>>) -> Duration {
     mem::forget(parts);
     took

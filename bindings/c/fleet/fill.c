@@ -1,4 +1,4 @@
-/* Puts each line of its input into a stream as one job. The stream is made if it is not there. */
+/* Puts each line of its input as one job into a stream of the server. If there is no such stream, it makes it. */
 #include <nats/nats.h>
 #include <stdio.h>
 #include <stdlib.h>

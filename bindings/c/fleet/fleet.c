@@ -1,5 +1,5 @@
-/* One process of a fleet: README.md says what it promises. The main thread pulls jobs of a NATS JetStream stream.
- * Workers take them from mailboxes and run them. One more thread tells the server what is in progress. */
+/* One process of a fleet: README.md says what it promises. The main thread fetches jobs from a NATS JetStream stream, and
+ * puts them into mailboxes. Workers take and run them. One more thread tells the server which jobs are in progress. */
 #include "../hazbultra.h"
 #include <errno.h>
 #include <fcntl.h>
@@ -15,7 +15,7 @@
 
 #define CONSUMER "fleet"
 enum { MOST_WORKERS = 64, MOST_BATCH = 1024, PLACES = 65536 };
-enum { SECOND = 1000, FETCH = 500, MILLISECOND = 1000000 }; /* in milliseconds, the last in nanoseconds */
+enum { SECOND = 1000, FETCH = 500, MILLISECOND = 1000000 }; /* the last in nanoseconds, the others in milliseconds */
 
 static const char *server = "nats://127.0.0.1:4222", *stream = "JOBS", *effects = "effects";
 static uint64_t workers = 4, batch = 64, ack = 30, cells = 4096, rest = 0;
@@ -35,26 +35,26 @@ static const struct option {
     {NULL, "--server, --stream, --workers, --batch, --ack, --cells, --effects or --pause", NULL, NULL, 0, 0},
 };
 
-/* What becomes of a job. One that is done is acknowledged. One that failed is given back, and comes again a second
- * later. A bad one can never be done, and is ended. One that is left is given back since no worker took it. */
+/* What becomes of a job. One that is done is acknowledged. One that failed is given back to the server, and comes again a
+ * second later. A bad one can never be done, and is ended. One that no worker took is left, and given back at once. */
 enum outcome { DONE, FAILED, BAD, LEFT, OUTCOMES };
 
-/* A place for a message. The server hands a message out with the same two numbers each time. */
+/* A place for a message. Its two numbers are the same each time that the server hands it out. */
 struct job {
     natsMsg *message; /* NULL: the place is free, and the numbers are those of a job that ran, or 0 */
     uint64_t sequence;
-    int64_t stored;   /* (a stream that is made anew begins again with the same sequences) */
-    bool is_settling; /* from now on its worker alone touches the message */
+    int64_t stored;   /* (the sequence alone will not do: a stream that is made anew begins with 1 again) */
+    bool is_settling; /* if it is set, one thread alone touches the message, to tell the server of its end */
 };
 
-/* What the threads share. All of it needs the lock. */
+/* What the threads share. A thread reads and writes it with the lock alone. */
 static pthread_mutex_t lock = PTHREAD_MUTEX_INITIALIZER;
 static pthread_cond_t came = PTHREAD_COND_INITIALIZER, room = PTHREAD_COND_INITIALIZER;
 static struct {
-    struct job places[PLACES]; /* each sequence has one */
+    struct job places[PLACES]; /* the place of a message is its sequence modulo PLACES */
     struct mailbox *oldest;
     uint64_t waiting; /* how many jobs no worker has taken yet */
-    uint64_t events;  /* how often jobs came */
+    uint64_t events;  /* how many rounds of the main thread may have put jobs */
     uint64_t outcomes[OUTCOMES], dropped, mailboxes;
     bool is_stopping;
 } shared;
@@ -62,14 +62,14 @@ static struct {
 static natsConnection *connection;
 static jsCtx *jets;
 static natsSubscription *subscription;
-static int file; /* of effects */
+static int file; /* to which the sample appends its effects */
 static atomic_bool has_fault;
-/* One line. After FAIL the process stops. (All threads block the signal, and one waits for it.) */
+/* Each prints one line. FAIL stops the process, too. (All threads block its signal, and one waits for it.) */
 #define SAY(...) fprintf(stderr, "fleet: " __VA_ARGS__)
 #define FAIL(...) (SAY(__VA_ARGS__), atomic_store(&has_fault, true), kill(getpid(), SIGTERM))
 #define EXIT(status, ...) (SAY(__VA_ARGS__), exit(status))
 
-/* Reads digits alone, and no number out of these bounds. */
+/* Reads a number. Returns whether the text is of digits alone, and the number within these bounds. */
 static bool is_number(const char *text, uint64_t least, uint64_t most, uint64_t *number) {
     char *end;
     errno = 0;
@@ -77,8 +77,8 @@ static bool is_number(const char *text, uint64_t least, uint64_t most, uint64_t 
     return *text >= '0' && *text <= '9' && *end == '\0' && errno == 0 && *number >= least && *number <= most;
 }
 
-/* What a job does: PUT YOUR OWN HERE. This one's text is a number. Its effect is a row of a file, with the number, the
- * process and the worker, written by one call, so that no two rows mix. */
+/* What a job does: PUT YOUR OWN HERE. In this sample a job's text is a number. Its effect is a row of a file, with the
+ * number, the process and the worker. One call writes the row, so that no two rows mix. */
 static enum outcome run(const char *text, uint64_t worker) {
     uint64_t number;
     if (!is_number(text, 0, UINT64_MAX, &number)) {
@@ -93,8 +93,8 @@ static enum outcome run(const char *text, uint64_t worker) {
     return FAILED;
 }
 
-/* Holds a message in its place, and returns its job. Returns NULL if this process has the message or has run it. If it
- * ran, the server does not know it, and is told again. (If another has the place, the message comes again later.) */
+/* Stores a message in its place, and returns that. Returns NULL if this process has the message already or has run it, or
+ * if another has the place. One that ran is acknowledged again. (One whose place another has comes again later.) */
 static struct job *admit(natsMsg *message) {
     jsMsgMetaData *about = NULL;
     if (natsMsg_GetMetaData(&about, message) != NATS_OK) {
@@ -120,8 +120,8 @@ static struct job *admit(natsMsg *message) {
     return is_new ? place : NULL;
 }
 
-/* Tells the server what became of a job. An acknowledgement is sent again and again, until the server says that it
- * knows or the acknowledge time is over. The job is held meanwhile, and dropped if it comes again. */
+/* Tells the server what became of a job. An acknowledgement is sent again and again, until the server confirms it or `ack`
+ * seconds are over. Meanwhile the job keeps its place. So its message is dropped if it comes again. */
 static void settle(struct job *job, enum outcome outcome) {
     int64_t end = nats_Now() + (int64_t)ack * SECOND;
     natsStatus status;
@@ -144,7 +144,7 @@ static void settle(struct job *job, enum outcome outcome) {
     pthread_mutex_unlock(&lock);
 }
 
-#ifdef QUEUE /* in place of the mailboxes, to compare with */
+#ifdef QUEUE /* a queue and a lock in place of the mailboxes, to compare their speed */
 static struct job *queue[MOST_BATCH];
 static uint64_t first, last;
 
@@ -169,25 +169,25 @@ static void end_mailboxes(bool all) {
         settle(get(0), LEFT);
 }
 #else
-/* A mailbox of a list. If it is full, the next is linked to it before its lane ends. So workers go on. */
+/* A mailbox in a list. If it is full, the next is linked to it before its lane is ended. So workers find the next one. */
 struct mailbox {
-    uint64_t number; /* greater than of those before */
+    uint64_t number; /* greater than the numbers of those before it in the list */
     hz_handle hub, producer, consumers[MOST_WORKERS];
     uint64_t put, taken;
-    uint64_t inside; /* how many workers are in a poll of it */
+    uint64_t inside; /* how many workers poll it now */
     struct mailbox *next;
 };
 
-static struct mailbox *newest; /* of the thread that feeds, as is its put */
+static struct mailbox *newest; /* for the main thread alone, as each field put is */
 
-/* Says whether a call was done, after a line if not. */
+/* Returns whether the code is HZ_DONE. If it is not, the process fails. */
 static bool is_done(uint32_t code, const char *call) {
     if (code != HZ_DONE)
         FAIL("%s returned the code %" PRIu32 "%s\n", call, code, code == HZ_NO_MEMORY ? " (no memory)" : "");
     return code == HZ_DONE;
 }
 
-/* Makes a mailbox, and links it to the newest, which is full. (The end of the process frees what a fault leaves.) */
+/* Makes a mailbox, and links it to the newest, if there is one, which is full then. Returns whether all went well. */
 static bool add_mailbox(void) {
     static const uint8_t seed[32] = "any 32 bytes do";
     hz_setup setup = {.producers = 1, .consumers = workers, .cells = cells, .pairs = 4, .last = true};
@@ -212,7 +212,7 @@ static bool add_mailbox(void) {
     return is_well;
 }
 
-/* Says whether the job was put. */
+/* Puts a job, into a new mailbox if the newest is full. Returns whether it was put. */
 static bool put(struct job *job) {
     uint32_t code = hz_put(&newest->producer, (uintptr_t)job);
     if (code == HZ_FULL && add_mailbox())
@@ -221,9 +221,9 @@ static bool put(struct job *job) {
     return code == HZ_LINKED || (code != HZ_FULL && is_done(code, "hz_put"));
 }
 
-/* The job that this worker gets, or NULL if there is none yet. The caller has the lock, which is let go in a poll. */
+/* Returns the next job for this worker, or NULL if there is none yet. The caller has the lock. A poll runs without it. */
 static struct job *get(uint64_t worker) {
-    static _Thread_local uint64_t reached; /* the number of the first mailbox whose end this worker has not met */
+    static _Thread_local uint64_t reached; /* this worker has met the ends of all mailboxes with smaller numbers */
     uint64_t item = 0;
     uint32_t code;
     do {
@@ -245,7 +245,7 @@ static struct job *get(uint64_t worker) {
     return code == HZ_TOOK ? (struct job *)(uintptr_t)item : NULL;
 }
 
-/* Gathers a mailbox that no thread uses now, and gives back what is left. Its report has to say what was counted. */
+/* Gathers a mailbox that no thread uses now, and gives back the jobs left in it. Its report has to agree with the counts. */
 static void end_mailbox(struct mailbox *box) {
     uint64_t items[MOST_BATCH], left = 0;
     hz_handle report = HZ_NONE;
@@ -266,7 +266,7 @@ static void end_mailbox(struct mailbox *box) {
     free(box);
 }
 
-/* Ends each mailbox that is full and all of which was taken, or all mailboxes after the last take. */
+/* Ends each mailbox that is full and has no job left. If `all` is set, it ends every mailbox: the workers have ended. */
 static void end_mailboxes(bool all) {
     pthread_mutex_lock(&lock);
     struct mailbox *box = shared.oldest;
@@ -281,14 +281,14 @@ static void end_mailboxes(bool all) {
 }
 #endif
 
-/* Runs jobs up to the stop, and sleeps while there is none. */
+/* Runs jobs until the process is to stop, and sleeps while there is none. */
 static void *work(void *number) {
     uint64_t worker = (uintptr_t)number;
     pthread_mutex_lock(&lock);
     while (!shared.is_stopping) {
         uint64_t seen = shared.events;
         struct job *job = get(worker);
-        /* What came up to seen was put before the poll. So it was met, and only a further event has more. */
+        /* All jobs of the events up to `seen` were put before the poll. So only a later event can bring one. */
         while (!job && seen == shared.events && !shared.is_stopping)
             pthread_cond_wait(&came, &lock);
         if (!job)
@@ -304,7 +304,7 @@ static void *work(void *number) {
     return NULL;
 }
 
-/* Waits for a signal to stop. Tells the server which jobs are in progress, and looks whether the stream is there. */
+/* Waits for the signal to stop. Each quarter of `ack` it tells the server the jobs in progress, and checks the stream. */
 static void *watch(void *signals) {
     const struct timespec quarter = {(time_t)(ack / 4), (long)(ack % 4) * 250 * MILLISECOND};
     for (;;) {
@@ -319,7 +319,7 @@ static void *watch(void *signals) {
         }
         for (struct job *job = shared.places; job < shared.places + PLACES; job++)
             if (job->message && !job->is_settling)
-                natsMsg_InProgress(job->message, NULL); /* (if it fails, the next one makes up for it) */
+                natsMsg_InProgress(job->message, NULL); /* (if this fails, the next round tells it) */
         pthread_mutex_unlock(&lock);
         js_GetConsumerInfo(&info, jets, stream, CONSUMER, NULL, &error);
         jsConsumerInfo_Destroy(info);
@@ -329,7 +329,7 @@ static void *watch(void *signals) {
     return NULL;
 }
 
-/* Feeds up to the stop. It fetches when at most half of the jobs that may wait do, and waits for the first. */
+/* Fetches and puts jobs until the process is to stop. A fetch begins if at most half a batch waits, and waits for one. */
 static void feed(void) {
     jsFetchRequest request;
     jsFetchRequest_Init(&request);
@@ -338,7 +338,7 @@ static void feed(void) {
     for (;;) {
         natsMsgList list = {NULL, 0};
         pthread_mutex_lock(&lock);
-        shared.events++; /* (what the turn before put) */
+        shared.events++; /* (for the jobs of the round before) */
         pthread_cond_broadcast(&came);
         while (!shared.is_stopping && shared.waiting > batch / 2)
             pthread_cond_wait(&room, &lock);
@@ -346,7 +346,7 @@ static void feed(void) {
         pthread_mutex_unlock(&lock);
         if (request.Batch == 0)
             return;
-        /* While the server is away nothing is asked for: such requests would be kept, and sent when it is back. */
+        /* While the server is away, nothing is asked for: NATS would keep such requests, and send them when it is back. */
         bool is_there = natsConnection_Status(connection) == NATS_CONN_STATUS_CONNECTED;
         natsStatus status = is_there ? natsSubscription_FetchRequest(&list, subscription, &request) : NATS_NOT_FOUND;
         if (status != NATS_OK && status != NATS_TIMEOUT)
@@ -364,7 +364,7 @@ static void feed(void) {
     }
 }
 
-/* Says what happens to the connection. If the server refuses it later, it is closed. */
+/* Says what happened to the connection. If it is closed, the server refused this process, which fails then. */
 static void tell(natsConnection *it, void *what) {
     if (natsConnection_IsClosed(it))
         FAIL("the server %s\n", (char *)what);
@@ -372,7 +372,7 @@ static void tell(natsConnection *it, void *what) {
         SAY("the server %s\n", (char *)what);
 }
 
-/* Connects for as long as the process lives. Joins the consumer that the fleet shares: the first process makes it. */
+/* Connects, again and again while the process lives. Joins the consumer of all the fleet, which the first process makes. */
 static natsStatus join_fleet(void) {
     jsSubOptions fleet;
     jsSubOptions_Init(&fleet);

@@ -1,5 +1,5 @@
 #!/usr/bin/env python3
-"""Tries the fleet with a real server. What ran is read from the files of effects. test.py [JOBS OF THE LONG RUN]"""
+"""Tests the fleet with a real server. Files of effects show which jobs ran. Usage: test.py [JOBS OF THE LONG RUN]"""
 import json
 import os
 import resource
@@ -16,8 +16,8 @@ LONG = int(sys.argv[1]) if sys.argv[1:] else 20000
 with socket.create_server(("127.0.0.1", 0)) as one, socket.create_server(("127.0.0.1", 0)) as other:
     PORT, PAGE = one.getsockname()[1], other.getsockname()[1]
 URL = f"nats://127.0.0.1:{PORT}"
-HELD = 4 + 64  # what a process holds at most: a job of each worker, and a batch that waits
-started = []  # each process, the server first
+HELD = 4 + 64  # how many jobs a process has at most: one of each worker, and a batch that waits
+started = []  # each process that was started, the server first
 
 
 def wait(so, seconds=120):
@@ -33,7 +33,7 @@ def start(*words, **more):
 
 
 def end(process, number=signal.SIGTERM, status=0):
-    """Ends it by a signal (0 sends none), and looks at its status. Returns what it said."""
+    """Ends a process by a signal (0 sends none), and checks its status. Returns what it printed."""
     process.send_signal(number)
     said = "".join(filter(None, process.communicate(timeout=60)))
     assert process.returncode == status, f"a process ended with {process.returncode}, not {status}: {said}"
@@ -63,14 +63,14 @@ def left(stream):
 
 
 def rows(stream):
-    """The effects: of each row the job and the process."""
+    """The effects on a stream: of each whole row the job and the process."""
     with open(stream, "a+", encoding="ascii") as file:
         file.seek(0)
         return [tuple(map(int, it.split()[:2])) for it in file if it.endswith("\n")]
 
 
 def expect_each(stream, jobs, most_again=0):
-    """Each job ran, none twice in one process, and at most so many again in another. Returns how many did."""
+    """Checks that each job ran, none twice in one process, and not too many again in another. Returns how many did."""
     found = rows(stream)
     assert {job for job, _ in found} == set(jobs), f"{stream}: other jobs ran than there are"
     assert len(set(found)) == len(found), f"{stream}: a job ran twice in one process"
@@ -79,7 +79,7 @@ def expect_each(stream, jobs, most_again=0):
 
 
 def long_run():
-    """Of three processes one is killed and started again. Then the server is away for ten seconds."""
+    """One of three processes is killed and started again. Then the server is away for ten seconds."""
     fill("LONG", range(LONG))
     processes = [fleet("LONG", "--cells", cells, ack=15) for cells in (50, 1000, 4096)]
     wait(lambda: len(rows("LONG")) > LONG // 3)
@@ -96,7 +96,7 @@ def long_run():
 
 
 def handed_out_again():
-    """Long jobs run once. They are handed out again only while a process sleeps, so long that it must drop them."""
+    """Jobs longer than --ack run once. If their process is stopped for so long, it drops them when they come again."""
     fill("AGAIN", range(20))
     process = fleet("AGAIN", "--pause", 1300, ack=1)
     wait(lambda: len(rows("AGAIN")) >= 4)
@@ -110,7 +110,7 @@ def handed_out_again():
 
 
 def stop_in_the_middle():
-    """What fails is given back, and what a process has if it is stopped or gets no memory. The next need not wait."""
+    """A process gives back what fails, and all it has if it is stopped or gets no memory. The next gets it at once."""
     fill("STOP", range(9000))
     full = fleet("STOP", "--effects", "/dev/full")
     wait(lambda: "is given back" in full.stderr.readline())
@@ -143,7 +143,7 @@ def bad_jobs():
 
 
 def refusals():
-    """Each bad input and fault has one line on standard error, and a status. So has too little memory."""
+    """At a wrong option, a fault or too little memory a process prints one line on standard error, and its status says so."""
     cases = [(1, "No server available", "--server", it) for it in ("nats://127.0.0.1:1", "nonsense:")]
     cases += [(2, "give 1 to 64", "--workers", it) for it in ("0", "65", "many", "-1", "", "99999999999999999999")]
     cases += [(2, "give 1 to 1024", "--batch"), (2, "give --server, ", "--colour", "red")]

@@ -1,7 +1,7 @@
-//! One call for C, which puts a value into a mailbox of Rust's own and takes it again.
+//! A Rust library with one call for C, which puts a value into a mailbox and takes it again.
 use hazbultra::Mailbox;
 
-/// Returns the number that went through a box of a mailbox, or 0 if it did not.
+/// Puts this number, in a box, into a mailbox, takes it and returns it. Returns 0 if a call failed.
 #[unsafe(no_mangle)]
 pub extern "C" fn through_rust(number: u64) -> u64 {
     let through = || {

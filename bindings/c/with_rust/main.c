@@ -1,4 +1,4 @@
-/* A program with a mailbox of its own, and with a Rust library that has one. Both are over one copy of the archive's code. */
+/* A program with a mailbox of its own, and a Rust library with another. Both use one copy of the archive's code. */
 #include "hazbultra.h"
 
 #include <stdio.h>

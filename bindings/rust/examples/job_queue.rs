@@ -1,4 +1,4 @@
-//! Workers sleep until a job comes. A job whose worker panics is tried again, by another worker perhaps. A stop ends them all.
+//! Workers sleep until a job comes. A job whose worker panics is tried again, perhaps by another worker. At last all end.
 use hazbultra::channel::{channel, Receiver};
 use std::panic;
 use std::sync::atomic::{AtomicUsize, Ordering};
@@ -16,7 +16,7 @@ struct Work {
 }
 
 impl Work {
-    /// Each fiftieth fails at its first try.
+    /// Runs the job. Each fiftieth job panics at its first try.
     fn run(&self) {
         assert!(
             self.number % 50 != 0 || self.tries > 1,
@@ -27,7 +27,7 @@ impl Work {
     }
 }
 
-/// Works until nothing comes any more. It returns how often it failed.
+/// Runs jobs until no further one can come. Returns how many of its tries failed.
 fn worker(jobs: &Receiver<Work>) -> usize {
     let mut failures = 0;
     while let Ok(mut job) = jobs.recv_job() {
@@ -49,12 +49,12 @@ fn main() {
         .map(|_| receiver.clone())
         .map(|jobs| thread::spawn(move || worker(&jobs)))
         .collect();
-    thread::sleep(Duration::from_millis(10)); // (the workers sleep, too)
+    thread::sleep(Duration::from_millis(10)); // (by now the workers sleep)
     for number in 1..=JOBS {
         let work = Work { number, tries: 0 };
         assert!(sender.send(work).is_ok(), "the receivers are there");
     }
-    drop(sender); // the stop: they end after the last job is done
+    drop(sender); // the workers end after the last job is done
     let failures: usize = workers.into_iter().filter_map(|it| it.join().ok()).sum();
     assert_eq!(failures, JOBS / 50);
     assert_eq!(SUM.load(Ordering::Relaxed), JOBS * (JOBS + 1) / 2);

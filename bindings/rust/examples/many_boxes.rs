@@ -1,5 +1,5 @@
-//! Many boxes through mailboxes in rounds, by eight threads: four put, and four take. Each box is dropped once, and none is
-//! lost. `cargo run --release --example many_boxes -- 10000000` takes ten million, and without a number ten thousand.
+//! Many boxes go through mailboxes, a new one for each round. Four threads put and four take. Each box is dropped once, and
+//! none is lost. `cargo run --release --example many_boxes -- 10000000` takes ten million boxes. The default is ten thousand.
 use hazbultra::{Builder, Mailbox};
 use std::env;
 use std::error::Error;
@@ -14,7 +14,7 @@ const ROUND: usize = 100_000;
 static DROPS: AtomicUsize = AtomicUsize::new(0);
 static SUM: AtomicUsize = AtomicUsize::new(0);
 
-/// A number that counts when it is dropped, and adds itself up.
+/// A number whose drop counts in `DROPS`, and adds the number to `SUM`.
 struct Counted(usize);
 
 impl Drop for Counted {
@@ -24,7 +24,7 @@ impl Drop for Counted {
     }
 }
 
-/// Puts the boxes of one round. Returns how many were taken, and how many were left.
+/// Puts and takes the boxes of one round. Returns how many were taken, and how many were left.
 fn round(
     builder: &Builder<Box<Counted>>,
     first: usize,

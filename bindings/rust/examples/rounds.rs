@@ -1,18 +1,18 @@
-//! A scheduler in rounds. A mailbox uses no cell twice, so each round has a new one. Tasks that want to go on, and those
-//! that a round left, are put again in the next.
+//! A scheduler in rounds. A mailbox uses no cell twice, so each round has a new mailbox. Tasks that need further turns, and
+//! those that nobody took, are put again in the next round.
 use hazbultra::{Builder, Mailbox};
 use std::error::Error;
 use std::thread;
 
 const WORKERS: usize = 3;
 
-/// A task that wants this many further turns.
+/// A task that needs this many further turns.
 struct Task {
     name: usize,
     turns: usize,
 }
 
-/// Runs one turn of each task, and returns those that want a further one.
+/// Runs one turn of each task that is taken. Returns the tasks that need further turns.
 fn round(builder: &Builder<Task>, tasks: Vec<Task>) -> Result<Vec<Task>, Box<dyn Error>> {
     let mailbox = builder.build()?;
     let mut producer = mailbox.producer()?;

@@ -1,10 +1,10 @@
-//! Whether the channel holds for long. `cargo run --release --example soak -- WHAT SECONDS VALUES`, and WHAT is
+//! Tests the channel for long: `cargo run --release --example soak -- WHAT SECONDS VALUES`. WHAT is one of these:
 //!
-//! - `ends`: values go through channels of many forms, while ends are cloned and dropped at random, calls give up after some
-//!   time, and workers panic. None is lost, none comes twice, the order of each sender is kept, and each audit agrees.
+//! - `ends`: values go through channels of many setups, while ends are cloned and dropped at random, calls give up after some
+//!   time, and workers panic. No value is lost or comes twice, those of one sender come in order, and each audit agrees.
 //! - `idle`: 64 receivers sleep, and take next to no processor time.
-//! - `memory`: values flow beside an idle sender and an idle receiver, with and without an audit. Memory does not grow.
-//! - `full`: a send that gets no memory returns its value, and all others are received. It wants a limit: `ulimit -v 200000`.
+//! - `memory`: values go by an idle sender and an idle receiver, with and without an audit. Memory does not grow.
+//! - `full`: a send that gets no memory returns its value, and all others are received. It needs a limit: `ulimit -v 200000`.
 use hazbultra::channel::{channel, Builder, Receiver, RecvError, SendError, Sender};
 use std::collections::BTreeMap;
 use std::panic::{catch_unwind, resume_unwind, AssertUnwindSafe};
@@ -13,21 +13,21 @@ use std::sync::{Mutex, MutexGuard};
 use std::time::{Duration, Instant};
 use std::{env, fs, mem, thread};
 
-/// So many threads send through a channel, and as many receive.
+/// How many threads send through a channel. As many receive.
 const THREADS: u64 = 4;
-/// So many channels there are at a time.
+/// How many channels are in use at a time.
 const AT_A_TIME: u64 = 8;
 
 #[derive(Clone, Copy)]
 struct Value {
     sender: u64,
-    /// How many this sender sent before.
+    /// How many values this sender sent before.
     place: u64,
-    /// Whether a worker panicked over it. It is late then.
+    /// Whether a worker panicked while it had the value. Then it may come later than the next ones.
     came_back: bool,
 }
 
-/// Random enough (xorshift).
+/// A source of numbers that are random enough (xorshift).
 struct Dice(u64);
 
 impl Dice {
@@ -39,7 +39,7 @@ impl Dice {
     }
 }
 
-/// By the numbers of the ends: what they sent and took. And each value that was taken for good.
+/// How many values each end sent or took, by its number. `values` has each value that was received and not given back.
 #[derive(Default)]
 struct Tally {
     sent: BTreeMap<u64, u64>,
@@ -74,7 +74,7 @@ fn send(mut sender: Sender<Value>, share: u64, mut dice: Dice, tally: &Mutex<Tal
     open(tally).sent.insert(sender.number(), place);
 }
 
-/// A worker takes a job and panics over it.
+/// Takes a job, if there is one, as a worker that panics then. Returns whether there was one.
 fn panic_over_one(receiver: &Receiver<Value>) -> bool {
     let work = || {
         if let Ok(mut job) = receiver.try_recv_job() {
@@ -114,7 +114,7 @@ fn receive(mut receiver: Receiver<Value>, mut dice: Dice, tally: &Mutex<Tally>) 
         count += 1;
         values.push((value.sender, value.place));
         if !value.came_back {
-            // (`insert` returns what stood there: one past the place of the last value from this sender)
+            // (`insert` returns the old entry: one past the place of the last value from this sender)
             let earliest = expected.insert(value.sender, value.place + 1).unwrap_or(0);
             assert!(value.place >= earliest, "the order of each sender");
         }
@@ -129,7 +129,7 @@ fn receive(mut receiver: Receiver<Value>, mut dice: Dice, tally: &Mutex<Tally>) 
 
 /// One channel, from its making to its end. Returns how many values went through.
 fn round(number: u64, share: u64) -> u64 {
-    // (with very small segments it is slow)
+    // (with very small segments the channel is slow)
     let share = if number % 4 < 2 { share / 50 } else { share };
     let mut builder = Builder::new();
     if let Some(cells) = [1, 3, 64].get(usize::try_from(number % 4).unwrap_or(0)) {
@@ -166,7 +166,7 @@ fn round(number: u64, share: u64) -> u64 {
     THREADS * share
 }
 
-/// Rounds, some at a time, since many of their threads sleep. Now and then it says how far it is.
+/// Makes rounds, several at a time, since many of their threads sleep. Each thousand rounds it prints how far it is.
 fn ends(seconds: u64, share: u64) -> String {
     let (began, first) = (Instant::now(), u64::from(std::process::id()));
     let (rounds, count) = (AtomicU64::new(0), AtomicU64::new(0));
@@ -185,7 +185,7 @@ fn ends(seconds: u64, share: u64) -> String {
     format!("{count} values in {rounds} channels: each came once, in order, and each audit agrees")
 }
 
-/// The first number of a file of the kernel's.
+/// The number at this place, from 0 on, of a file of the kernel.
 fn number_of(path: &str, place: usize) -> u64 {
     let text = fs::read_to_string(path).unwrap_or_default();
     let word = text.split_whitespace().nth(place).unwrap_or("0");
@@ -199,7 +199,7 @@ fn idle(seconds: u64) -> String {
         .map(|it| thread::spawn(move || it.recv()))
         .collect();
     thread::sleep(Duration::from_secs(1));
-    // (of each thread but this one the nanoseconds that it ran)
+    // (for how many nanoseconds all threads but this one ran)
     let own = std::process::id().to_string();
     let ran = || -> u64 {
         let tasks = fs::read_dir("/proc/self/task").expect("Linux").flatten();
@@ -219,7 +219,7 @@ fn idle(seconds: u64) -> String {
     format!("64 sleepers took {} us in {seconds} s", took / 1000)
 }
 
-/// Values flow for so many seconds. Returns by how many bytes memory grew meanwhile.
+/// Sends and receives copies of this value for so many seconds. Returns how many, and by how many bytes memory grew.
 fn flow<T: Copy>(sender: &Sender<T>, receiver: &Receiver<T>, value: T, seconds: u64) -> (u64, u64) {
     let resident = || number_of("/proc/self/statm", 1) * 4096;
     let exchange = |count: u64| {
@@ -245,7 +245,7 @@ fn memory(seconds: u64) -> String {
         } else {
             channel()
         };
-        // These two have stood in a segment, and do nothing more.
+        // These two have used a segment, and do nothing more.
         let (idle_sender, idle_receiver) = ends.clone();
         for sender in [&idle_sender, &ends.0] {
             sender.send(1_u64).expect("a receiver is there");
@@ -258,10 +258,10 @@ fn memory(seconds: u64) -> String {
     said.join("\n")
 }
 
-/// Sends until there is no memory.
+/// Sends until there is no memory. Then it receives all that was sent.
 fn full() -> String {
     let (sender, receiver) = channel();
-    // (the receiver has its place before memory ends)
+    // (so the receiver has its memory before there is no more)
     sender.send(0_u64).expect("a receiver is there");
     receiver.recv().expect("it was sent");
     let refused = (1..).find_map(|it| sender.send(it).err());
@@ -285,7 +285,7 @@ fn main() {
         Some("idle") => idle(seconds),
         Some("memory") => memory(seconds),
         Some("full") => full(),
-        // (so many values of each thread in a round)
+        // (the second number says how many values each thread sends in a round)
         _ => ends(seconds, number(2).unwrap_or(50_000)),
     };
     println!("{said}");

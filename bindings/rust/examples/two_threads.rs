@@ -1,4 +1,4 @@
-//! One thread puts letters, and two take them. Each letter goes to one of the two, or is left.
+//! One thread puts letters, and two threads take them. Each letter goes to one of the two, or is left.
 use hazbultra::Mailbox;
 use std::error::Error;
 use std::thread;

@@ -1,43 +1,44 @@
-//! How a mailbox is built.
+//! The settings of a mailbox, and how it is built from them.
 use crate::errors::BuildError;
 use crate::ffi::{Carrier, Setup, BITS, MIDDLE, UNARY};
 use crate::mailbox::Mailbox;
 use crate::seeds;
 use std::fmt;
 
-/// The quorum table of a mailbox's ratifiers. All promises hold over each. They differ in what an item costs.
+/// The quorum table of the ratifiers in each cell. All promises hold with each. They differ in how many accesses polls make.
 #[derive(Clone, Copy, PartialEq, Eq, Hash, Debug, Default)]
 #[non_exhaustive]
 pub enum Table {
-    /// One register for each consumer.
+    /// A ratifier has one register for each consumer.
     Unary,
-    /// Two registers for each bit of a consumer's number. This one is taken if you name none, and a shape with pairs.
+    /// A ratifier has two registers for each bit of a consumer's number. It is the default.
     #[default]
     Bits,
-    /// The fewest registers that can do. Take it for more than four consumers.
+    /// A ratifier has the fewest registers that suffice. Take this table for more than four consumers.
     Middle,
 }
 
-/// What stands in each cell.
+/// By what objects consumers compete for the item of a cell. If you want pairs, take `FastLast` for up to three consumers,
+/// and `Last` for more. The glossary of `docs/MODEL.md` says what each object does.
 #[derive(Clone, Copy, PartialEq, Eq, Hash, Debug, Default)]
 #[non_exhaustive]
 pub enum Shape {
-    /// Pairs of a conciliator and a ratifier alone, which load and store. A poll may be undecided.
+    /// Pairs of a conciliator and a ratifier alone. They need loads and stores only. A poll may be undecided.
     Plain,
-    /// Two ratifiers before the pairs: a consumer that comes alone makes fewer accesses.
+    /// Two ratifiers before the pairs: a consumer that comes alone makes fewer accesses. A poll may be undecided.
     Fast,
-    /// An object after the pairs, which makes one compare-exchange: no poll is undecided. Take it for four consumers or more.
+    /// A last object after the pairs, for one compare-exchange of each consumer that comes to it: no poll is undecided.
     Last,
-    /// Both.
+    /// Two ratifiers before the pairs, and a last object after them: no poll is undecided.
     FastLast,
-    /// That object alone: each claim on an item is one compare-exchange. It takes the fewest instructions and the least
-    /// memory. The pairs and the table that you name do not count. This one is taken if you name none.
+    /// A last object alone: each claim on an item is one compare-exchange, and no poll is undecided. It takes the fewest
+    /// instructions and the least memory. It has no pairs and needs no table. It is the default.
     #[default]
     Exchange,
 }
 
-/// How large a mailbox is to be. [`Mailbox::builder`] and [`Mailbox::numbers`] make one, and [`build`](Builder::build) may
-/// be called again and again, as for a mailbox in each round.
+/// The settings of a mailbox. [`Mailbox::builder`] and [`Mailbox::numbers`] return a builder. [`build`](Builder::build)
+/// refuses a number out of range. It may be called more than once, as for a new mailbox in each round.
 #[must_use = "it builds no mailbox until `build` is called"]
 pub struct Builder<T> {
     carrier: Carrier<T>,
@@ -64,12 +65,12 @@ impl<T> Builder<T> {
         }
     }
 
-    /// The number of producers, 1 to 16. Each has a lane of its own. If you name none, it is 1.
+    /// Sets the number of producers, 1 to 16. Each has a lane of its own. The default is 1.
     pub fn producers(self, producers: usize) -> Self {
         Builder { producers, ..self }
     }
 
-    /// The number of consumers, 1 to 64. If you name none, it is 1.
+    /// Sets the number of consumers, 1 to 64. The default is 1.
     ///
     /// ```
     /// # fn main() -> Result<(), Box<dyn std::error::Error>> {
@@ -84,32 +85,31 @@ impl<T> Builder<T> {
         Builder { consumers, ..self }
     }
 
-    /// The number of cells, 0 to 2^24. Each takes one item, and none is used again. If you name none, it is 256.
+    /// Sets the number of cells, 0 to 2^24. Each takes one item, and none is used again. The default is 256.
     ///
-    /// Memory grows with it: some 16 bytes for each cell and consumer, and the words of each cell.
+    /// Memory grows with it: each cell takes some 16 bytes for each consumer, and the words of the cell itself.
     pub fn cells(self, cells: usize) -> Self {
         Builder { cells, ..self }
     }
 
-    /// The number of pairs of deciding objects in each cell, 1 to 8. If you name none, it is 4. They count only if you name
-    /// another shape than [`Shape::Exchange`].
+    /// Sets the number of pairs of a conciliator and a ratifier in each cell, 1 to 8. The default is 4. `Exchange` has none.
     pub fn pairs(self, pairs: usize) -> Self {
         Builder { pairs, ..self }
     }
 
-    /// This quorum table. It counts only if you name another shape than [`Shape::Exchange`].
+    /// Sets the quorum table. The default is [`Table::Bits`]. With [`Shape::Exchange`] it makes no difference.
     pub fn table(self, table: Table) -> Self {
         Builder { table, ..self }
     }
 
-    /// This shape of each cell.
+    /// Sets the shape of each cell. The default is [`Shape::Exchange`].
     pub fn shape(self, shape: Shape) -> Self {
         Builder { shape, ..self }
     }
 
-    /// This seed for the random words of all consumers, each of which draws from a stream of `ChaCha8` of its own. There is
-    /// no other source of random words. So in one thread all goes the same way once more. If you give none, each mailbox
-    /// gets a seed of the system's, as hash maps do. [`Shape::Exchange`] looks at no word.
+    /// Sets the seed of `ChaCha8`, from which each consumer draws random words, out of a stream of its own. There are no
+    /// other random words. So the same calls in one thread have the same results again. If you set no seed, each mailbox
+    /// gets one from the system, as hash maps do. With [`Shape::Exchange`] random words make no difference.
     pub fn seed(self, seed: [u8; 32]) -> Self {
         Builder {
             seed: Some(seed),
@@ -121,11 +121,11 @@ impl<T> Builder<T> {
 impl<T: Send> Builder<T> {
     /// Builds a mailbox.
     ///
-    /// [`BuildError::NoMemory`] covers the archive alone. The `Arc` that producers and consumers share comes from Rust's
-    /// allocator, which aborts the program if there is no memory.
+    /// [`BuildError::NoMemory`] covers the archive's memory alone. The `Arc` that producers and consumers share comes from
+    /// Rust's allocator, which aborts the program if there is no memory.
     ///
     /// # Errors
-    /// The first number that is out of range, or that there is not enough memory.
+    /// A number is out of range, or there is not enough memory: see [`BuildError`].
     pub fn build(&self) -> Result<Mailbox<T>, BuildError> {
         let setup = Setup {
             producers: self.producers as u64,
@@ -133,7 +133,7 @@ impl<T: Send> Builder<T> {
             cells: self.cells as u64,
             pairs: match (self.shape, self.pairs) {
                 (Shape::Exchange, _) => 0,
-                // (by 0 the archive would make exchanges of `Last`. It refuses any other number out of range)
+                // (with 0 pairs the archive would make `Exchange` of `Last`. So a number that it refuses stands for 0)
                 (_, 0) => u64::MAX,
                 (_, pairs) => pairs as u64,
             },
@@ -150,7 +150,7 @@ impl<T: Send> Builder<T> {
     }
 }
 
-// (by hand, since a derived one would want `T: Clone`)
+// (written by hand, since a derived one would want `T: Clone`)
 impl<T> Clone for Builder<T> {
     fn clone(&self) -> Self {
         Builder { ..*self }

@@ -1,26 +1,26 @@
-//! A consumer.
+//! The consumer of a mailbox.
 use crate::ffi;
 use crate::mailbox::Home;
 use std::fmt;
 use std::iter::FusedIterator;
 use std::sync::Arc;
 
-/// The result of a poll. Its `Debug` shows no value, so that it is there for each `T`.
+/// The result of a poll or a take. Its `Debug` shows no value, so `T` needs no `Debug`.
 #[derive(Clone, Copy, PartialEq, Eq, Hash)]
 #[must_use = "a value that was taken is in it"]
 pub enum Poll<T> {
     /// This consumer has won the item, and this is its value. Nobody else gets it.
     Took(T),
-    /// No consumer but this other one can win the item. Perhaps it has not won it yet.
+    /// No consumer but the one with this number can win the item. Perhaps that one has not won it yet, or never will.
     Lost(usize),
-    /// This consumer does not know who has won the item, if anybody has. It comes only from the shapes
+    /// This consumer does not know who has won the item, if anybody has. It comes only with the shapes
     /// [`Plain`](crate::Shape::Plain) and [`Fast`](crate::Shape::Fast).
     Undecided,
-    /// There is no further item on the lane, so far.
+    /// The lane has no further item so far.
     Nothing,
-    /// No further item comes on this lane.
+    /// The lane has ended, and has no further item.
     Ended,
-    /// The budget was used up. The next poll of the lane goes on from there.
+    /// The budget of a `poll_within` or `take_within` was used up. The next poll of the lane goes on from there.
     Spent,
     /// The mailbox has no such lane.
     NoLane,
@@ -50,15 +50,15 @@ impl<T> fmt::Debug for Poll<T> {
     }
 }
 
-/// The result of going over all lanes. Its `Debug` shows no value, so that it is there for each `T`.
+/// The result of [`Consumer::sweep`]. Its `Debug` shows no value, so `T` needs no `Debug`.
 #[derive(Clone, Copy, PartialEq, Eq, Hash)]
 #[must_use = "a value that was taken is in it"]
 pub enum Sweep<T> {
     /// This consumer took this value.
     Took(T),
-    /// Each lane had nothing further, so far, or has ended. At least one has not ended.
+    /// It found no further item on any lane, and at least one lane has not ended.
     Nothing,
-    /// All lanes have ended, and this consumer was at the end of each.
+    /// All lanes have ended, and this consumer has met the end of each.
     Ended,
 }
 
@@ -87,19 +87,19 @@ impl<T> fmt::Debug for Sweep<T> {
 /// When it is dropped, also by a panic, it returns to its mailbox. It may go to another thread, but no two threads share
 /// it, and it is not `Clone`.
 ///
-/// If it is dropped while its last poll of some lane was [`Poll::Spent`], the item that it competed for there may be
-/// left. No other consumer gets it, if this one had won it. The report has such an item. Otherwise a drop cuts
-/// no claim short. Its number is not issued again.
+/// If its last poll of a lane was [`Poll::Spent`] and it is dropped then, the item that it competed for there may be left.
+/// If it had won that item, no other consumer gets it. The report has each item that is left. In all other cases
+/// a drop ends no claim midway. The number of a dropped consumer is not issued again.
 ///
-/// A value that it took is the caller's. If a thread panics while it has one, the value is dropped, and the report says
-/// that it was taken ([`Report::taker`](crate::Report::taker)).
+/// A value that it took belongs to the caller. If the caller panics and drops the value, the report still says that it was
+/// taken ([`Report::taker`](crate::Report::taker)).
 #[must_use = "its drop returns it, and its number is not issued again"]
 pub struct Consumer<T> {
     number: usize,
-    /// The lane that comes next, and how many there are.
+    /// The lane at which the next sweep begins, and how many lanes there are.
     next: usize,
     lanes: usize,
-    /// Bit `lane` is set if the end of that lane was met. There are at most 16.
+    /// Bit `lane` is set if this consumer has met the end of that lane. There are at most 16 lanes.
     ended: u64,
     part: ffi::Consumer<T>,
     home: Arc<Home<T>>,
@@ -117,14 +117,14 @@ impl<T> Consumer<T> {
         }
     }
 
-    /// Its number, from 0 on, by which others name it in [`Poll::Lost`].
+    /// Its number, from 0 on. Other consumers find it in [`Poll::Lost`].
     #[must_use]
     pub fn number(&self) -> usize {
         self.number
     }
 
-    /// Competes for the next item of a lane, until it knows the result. It waits for nobody, and is never
-    /// [`Poll::Spent`]. As the builder has it by default, it makes at most 3 accesses. With
+    /// Competes for the next item of a lane, until it knows the result. It waits for nobody, and never returns
+    /// [`Poll::Spent`]. With the builder's default shape it makes at most 3 accesses. With
     /// [`Shape::FastLast`](crate::Shape::FastLast) it makes at most 31, 47, 63, 95 or 127 with 1, 2, 4, 16 or 64 consumers.
     /// An access is a load, store or exchange of one shared word.
     ///
@@ -149,15 +149,15 @@ impl<T> Consumer<T> {
         self.poll_within(lane, u64::MAX)
     }
 
-    /// The same with at most this many accesses. With a budget of 0 it makes none. After [`Poll::Spent`] the next poll of
-    /// the lane goes on.
+    /// Does what [`poll`](Consumer::poll) does, with at most `budget` accesses. If they bring no result, it returns
+    /// [`Poll::Spent`], and the next poll of the lane goes on from there.
     pub fn poll_within(&mut self, lane: usize, budget: u64) -> Poll<T> {
         let polled = self.part.poll(lane as u64, budget);
         self.noted(lane, polled)
     }
 
-    /// Takes an item of a lane. It goes on past those that it loses, so it is never [`Poll::Lost`]. It waits for nobody, and
-    /// is never [`Poll::Spent`].
+    /// Takes the next item of a lane that it wins, past those that it loses. It waits for nobody, and never returns
+    /// [`Poll::Lost`] or [`Poll::Spent`].
     ///
     /// ```
     /// # fn main() -> Result<(), Box<dyn std::error::Error>> {
@@ -182,7 +182,7 @@ impl<T> Consumer<T> {
         }
     }
 
-    /// The result of a take whose first call took nothing, and had this result.
+    /// Goes on with a take whose first poll took nothing, and had this result. Returns the result of the take.
     #[inline(never)]
     fn go_on(&mut self, lane: usize, polled: Poll<T>) -> Poll<T> {
         match polled {
@@ -191,13 +191,13 @@ impl<T> Consumer<T> {
         }
     }
 
-    /// The same with at most this many accesses. After [`Poll::Spent`] the next call for the lane goes on.
+    /// Does what [`take`](Consumer::take) does, or returns [`Poll::Spent`] after `most` accesses without a result.
     pub fn take_within(&mut self, lane: usize, most: u64) -> Poll<T> {
         let taken = self.part.take(lane as u64, most);
         self.noted(lane, taken)
     }
 
-    /// The same result. If the lane has ended, that is noted.
+    /// Returns this result of a poll of the lane. If it is [`Poll::Ended`], it sets the lane's bit in `ended`.
     fn noted(&mut self, lane: usize, polled: Poll<T>) -> Poll<T> {
         if let Poll::Ended = polled {
             self.ended |= 1 << lane;
@@ -205,9 +205,9 @@ impl<T> Consumer<T> {
         polled
     }
 
-    /// Goes over the lanes until it takes an item, or finds nothing on any of them. It never blocks, and does not wait.
+    /// Tries the lanes one after the other, until it takes an item or finds no further one on any lane. It never waits.
     ///
-    /// It passes items that it loses, and takes the lanes in turn, so that none is kept from its turn by another.
+    /// It goes on past items that it loses. It begins with the lane after the one that it tried last.
     pub fn sweep(&mut self) -> Sweep<T> {
         let lanes = self.lanes;
         let mut quiet = 0;
@@ -242,7 +242,7 @@ impl<T> Consumer<T> {
     ///
     /// **It goes on for ever if a producer is never dropped or finished, or was never issued.**
     /// [`Mailbox::end_free_lanes`](crate::Mailbox::end_free_lanes) ends the lanes of those that were not issued.
-    /// To stop early, use [`sweep`](Consumer::sweep) in a loop: an adapter that takes a value and rejects it drops it.
+    /// To stop early, call [`sweep`](Consumer::sweep) in a loop: an adapter as `take_while` drops the value that it rejects.
     ///
     /// ```
     /// # fn main() -> Result<(), Box<dyn std::error::Error>> {
@@ -280,7 +280,7 @@ impl<T> fmt::Debug for Consumer<T> {
     }
 }
 
-/// The values that a consumer takes. [`Consumer::values`] makes it.
+/// An iterator over the values that a consumer takes. [`Consumer::values`] returns it.
 #[must_use = "it does nothing until it is iterated over"]
 pub struct Values<'a, T, F> {
     consumer: &'a mut Consumer<T>,

@@ -1,9 +1,9 @@
-//! What can go wrong.
+//! The errors that calls of a mailbox return.
 use crate::mailbox::Mailbox;
 use std::error::Error;
 use std::fmt;
 
-/// Why no mailbox was built. If several numbers are out of range, it is the first of them in this order.
+/// Why no mailbox was built. If several numbers are out of range, the error is the first of these.
 #[derive(Clone, Copy, PartialEq, Eq, Hash, Debug)]
 #[non_exhaustive]
 pub enum BuildError {
@@ -13,7 +13,7 @@ pub enum BuildError {
     BadConsumers,
     /// There are more than 2^24 cells.
     BadCells,
-    /// The number of pairs is not 1 to 8.
+    /// The number of pairs is not 1 to 8. It never comes with [`Shape::Exchange`](crate::Shape::Exchange).
     BadPairs,
     /// There is not enough memory.
     NoMemory,
@@ -33,14 +33,14 @@ impl fmt::Display for BuildError {
 
 impl Error for BuildError {}
 
-/// Why no producer or consumer was issued. A number is issued once, also if it was returned.
+/// Why no producer or consumer was issued. The number of one that was dropped is not issued again.
 #[derive(Clone, Copy, PartialEq, Eq, Hash, Debug)]
 #[non_exhaustive]
 pub enum IssueError {
-    /// This many producers were issued, and the mailbox was built for no more
+    /// All producers of the mailbox were issued. This is how many it was built for
     /// ([`Builder::producers`](crate::Builder::producers)).
     AllProducersGiven(usize),
-    /// This many consumers were issued, and the mailbox was built for no more
+    /// All consumers of the mailbox were issued. This is how many it was built for
     /// ([`Builder::consumers`](crate::Builder::consumers)).
     AllConsumersGiven(usize),
     /// There is not enough memory.
@@ -69,10 +69,10 @@ impl fmt::Display for IssueError {
 
 impl Error for IssueError {}
 
-/// No cell is left for a value, nor will be. This is the value.
+/// A value that was not put, since no cell of the mailbox is left. No cell becomes free later.
 ///
-/// It is `Send` and `Sync` only if the value is. So `?` into a `Box<dyn Error + Send + Sync>` wants a `map_err` for a boxed
-/// closure.
+/// It is `Send` and `Sync` only if the value is. So if the value is, say, a boxed closure, `?` into a
+/// `Box<dyn Error + Send + Sync>` needs a `map_err` before it.
 #[derive(Clone, Copy, PartialEq, Eq, Hash)]
 pub struct Full<T>(pub T);
 
@@ -90,15 +90,15 @@ impl<T> fmt::Display for Full<T> {
 
 impl<T> Error for Full<T> {}
 
-/// Why there is no report. The mailbox is in it, as it was.
+/// Why [`Mailbox::gather`] made no report. The error has the mailbox, as it was.
 #[non_exhaustive]
 pub enum GatherError<T> {
-    /// A producer or consumer was not returned: it is still alive, or was forgotten.
+    /// A producer or consumer was not returned: it was not dropped yet, or it was forgotten.
     #[non_exhaustive]
     Missing {
-        /// This many producers were not returned.
+        /// How many producers were not returned.
         producers: usize,
-        /// This many consumers were not returned.
+        /// How many consumers were not returned.
         consumers: usize,
         /// The mailbox, as it was.
         mailbox: Mailbox<T>,
@@ -108,7 +108,7 @@ pub enum GatherError<T> {
 }
 
 impl<T> GatherError<T> {
-    /// The mailbox, as it was.
+    /// Returns the mailbox, as it was.
     pub fn into_mailbox(self) -> Mailbox<T> {
         match self {
             GatherError::Missing { mailbox, .. } | GatherError::NoMemory(mailbox) => mailbox,

@@ -1,11 +1,11 @@
 //! A mailbox for threads: each producer puts values into a lane of its own, all consumers compete for each value, and **at
 //! most one consumer takes it**. A report at the end says who took what, and gives back what is left. No put and no poll
-//! takes a lock or waits, but for what the allocator does with a box.
+//! takes a lock or waits, except in the allocator, for the box of a value.
 //!
 //! [`channel`] is a channel over such mailboxes: it never ends, and its receivers sleep until something comes.
 //!
 //! The mailbox is written in Rattle, which is Rust with contracts, and proved for every run: every order of the threads'
-//! steps, and all random words. This crate links the archive built from it, and needs nothing else. It is for x86-64 Linux,
+//! steps, and all random words. This crate links an archive built from it, and needs nothing else. It is for x86-64 Linux,
 //! on a processor of level x86-64-v2.
 //!
 //! ```
@@ -33,30 +33,30 @@
 //!
 //! # Types
 //!
-//! - [`Mailbox::builder`] takes values of any type that is [`Send`], each in a box of its own. [`Mailbox::numbers`] takes
-//!   `u64`, as they are.
+//! - [`Mailbox::builder`] is for values of any type that is [`Send`], each in a box of its own. [`Mailbox::numbers`] is
+//!   for `u64`, without boxes.
 //! - A [`Producer`] puts values. It ends its lane and returns to its mailbox when it is dropped, also by a panic.
-//! - A [`Consumer`] polls one lane, or goes over all of them. It returns to its mailbox when it is dropped.
-//! - [`Mailbox::gather`] makes the [`Report`] after all were returned.
+//! - A [`Consumer`] takes from one lane, or from all in turn. It returns to its mailbox when it is dropped.
+//! - [`Mailbox::gather`] makes the [`Report`] after all producers and consumers were dropped.
 //!
-//! A mailbox takes as many items as it has cells, and uses none again. A long-lived service takes a [`channel`], or builds
-//! a mailbox for each round (`examples/rounds.rs`).
+//! A mailbox takes as many items as it has cells, and uses no cell again. A long-lived service takes a [`channel`], or
+//! builds a mailbox for each round (`examples/rounds.rs`).
 //!
 //! # What is proved, and what the types add
 //!
 //! The archive is proved on condition that its caller keeps some rules. They stand at the head of
 //! `bindings/c/hazbultra.h`. This crate keeps them, unless other `unsafe` code forks or handles signals. A producer or
-//! consumer has its mailbox with it, is in one thread at a time, is no `Clone`, and is gone after it was dropped. All
+//! consumer holds its own mailbox, is used by one thread at a time, is not `Clone`, and cannot be used after its drop. All
 //! `unsafe` code is in one module, and each block says why it is sound.
 //!
-//! That a value has one owner *is* the main theorem. A box goes through the mailbox as its address. A consumer that is
-//! told that it took the value owns it. The report owns what nobody took. Were two consumers told that they took one
-//! item, it would be freed twice.
+//! That a value has one owner *is* the main theorem. The mailbox passes on the address of the value's box. A consumer
+//! whose call returns [`Poll::Took`] owns the value. The report owns the values that nobody took. If two consumers took
+//! one item, its value would be freed twice.
 //!
-//! [`Consumer::sweep`], [`Consumer::values`] and the calls of [`Report`] are plain Rust over it. They are tested.
+//! [`Consumer::sweep`], [`Consumer::values`] and the calls of [`Report`] are plain Rust over the archive, and only tested.
 //!
-//! Not promised: that each value is taken, that a consumer who took one does its work, and fairness. But with a last
-//! object, and no [`Consumer::poll_within`], nothing is left if one consumer has read [`Consumer::values`] to its end.
+//! Not promised: that each value is taken, that a consumer who took one does its work, and fairness. But with the default
+//! [`Shape`], and no budget for any poll or take, nothing is left after one consumer read [`Consumer::values`] to its end.
 
 #[forbid(unsafe_code)]
 mod builder;
@@ -79,7 +79,7 @@ mod report;
 #[forbid(unsafe_code)]
 mod seeds;
 
-/// The program of the README, which is to compile and run.
+/// The programs of the README. As doc tests they have to compile and run.
 #[cfg(doctest)]
 #[doc = include_str!("../README.md")]
 struct Readme;

@@ -1,4 +1,4 @@
-//! A mailbox, and the home to which its producers and consumers return.
+//! A mailbox, and what it shares with its producers and consumers.
 use crate::builder::Builder;
 use crate::consumer::Consumer;
 use crate::errors::{BuildError, GatherError, IssueError};
@@ -11,22 +11,22 @@ use std::sync::{Arc, Mutex, MutexGuard, PoisonError};
 /// A mailbox for values of `T`. It issues producers and consumers, also to threads that share it by `&`, and makes the
 /// report.
 ///
-/// Each producer and consumer has its mailbox with it. So no call takes one and a mailbox, and none can come to another
-/// mailbox.
+/// Each producer and consumer holds its own mailbox. So their calls need no mailbox as a parameter, and none can be used
+/// with another mailbox.
 ///
-/// A mailbox that is dropped, and not gathered, drops what is left inside as soon as its last producer and consumer are
-/// dropped too. If its values are no numbers, this takes a report. If the archive gets no memory for it, what is left
-/// inside leaks. The lists that are read from the report come from Rust's allocator, which aborts the program if there is
-/// no memory.
+/// If a mailbox is dropped without a gather, the values left inside are dropped as soon as its last producer and consumer
+/// are dropped too. If they are in boxes, a report is made for that. If the archive gets no memory for the report, they
+/// leak. The lists into which the report is read come from Rust's allocator, which aborts the program if there is no
+/// memory.
 ///
-/// A producer or consumer that is forgotten, or put into its own mailbox and left there, keeps the mailbox for ever: all
-/// of it leaks.
+/// If a producer or consumer is forgotten ([`std::mem::forget`]), or put into its own mailbox and left there, the whole
+/// mailbox leaks.
 #[must_use = "its drop drops what is left inside, as soon as its last producer and consumer are dropped"]
 pub struct Mailbox<T> {
     home: Arc<Home<T>>,
 }
 
-/// The home of all producers and consumers of a mailbox. Only issue, return and the report ask for its lock.
+/// What a mailbox shares with its producers and consumers. Only their issue, their return and the report take its lock.
 pub(crate) struct Home<T> {
     hub: Mutex<ffi::Hub<T>>,
     seed: [u8; 32],
@@ -35,15 +35,15 @@ pub(crate) struct Home<T> {
 }
 
 impl<T> Home<T> {
-    /// The hub, as soon as nobody else has it. Whoever panicked there left it as it was between two calls.
+    /// Locks the hub. A thread that panicked with the lock left the hub whole, as it is between two calls.
     pub(crate) fn hub(&self) -> MutexGuard<'_, ffi::Hub<T>> {
         self.hub.lock().unwrap_or_else(PoisonError::into_inner)
     }
 }
 
 impl<T: Send> Mailbox<T> {
-    /// Begins a mailbox for values of any type that may go from thread to thread. Each value is put in a box of its own, also
-    /// one that is a box already.
+    /// Returns a builder of mailboxes for values of any type that is [`Send`]. Each value is put in a box of its own, even
+    /// if it is a box already.
     ///
     /// ```
     /// # fn main() -> Result<(), Box<dyn std::error::Error>> {
@@ -60,7 +60,7 @@ impl<T: Send> Mailbox<T> {
 }
 
 impl Mailbox<u64> {
-    /// Begins a mailbox for numbers, which are put as they are: nothing is boxed, and a put takes no memory.
+    /// Returns a builder of mailboxes for numbers, which need no boxes. So a put asks for no memory.
     ///
     /// ```
     /// # fn main() -> Result<(), Box<dyn std::error::Error>> {
@@ -93,10 +93,10 @@ impl<T> Mailbox<T> {
         })
     }
 
-    /// The producer of the next lane. Lanes are issued in order, from 0 on.
+    /// Issues the producer of the next lane, in order from lane 0 on.
     ///
     /// # Errors
-    /// All lanes were issued, or there is not enough memory.
+    /// The producers of all lanes were issued (some may be dropped by now), or there is not enough memory.
     pub fn producer(&self) -> Result<Producer<T>, IssueError> {
         let home = &self.home;
         let (part, lane) = home.hub().producer().map_err(|why| match why {
@@ -106,10 +106,10 @@ impl<T> Mailbox<T> {
         Ok(Producer::new(lane, part, Arc::clone(home)))
     }
 
-    /// The consumer of the next number. Numbers are issued in order, from 0 on.
+    /// Issues the consumer of the next number, in order from 0 on.
     ///
     /// # Errors
-    /// All numbers were issued, or there is not enough memory.
+    /// The consumers of all numbers were issued (some may be dropped by now), or there is not enough memory.
     pub fn consumer(&self) -> Result<Consumer<T>, IssueError> {
         let home = &self.home;
         let (part, number) = home.hub().consumer(&home.seed).map_err(|why| match why {
@@ -119,11 +119,11 @@ impl<T> Mailbox<T> {
         Ok(Consumer::new(number, part, Arc::clone(home)))
     }
 
-    /// Ends each lane whose producer was not issued yet. No producer is issued after it. A consumer that goes over all
-    /// lanes comes to an end only after that, or after all producers were issued and have ended.
+    /// Ends each lane whose producer was not issued yet. After that no producer can be issued. [`Consumer::values`] ends
+    /// only after all lanes have ended. So call this if you use fewer producers than the mailbox was built for.
     ///
     /// # Errors
-    /// There is not enough memory. Then some of these lanes have not ended.
+    /// There is not enough memory. Then some of these lanes have not ended, and the call may be made again.
     pub fn end_free_lanes(&self) -> Result<(), IssueError> {
         loop {
             match self.producer() {
@@ -136,8 +136,8 @@ impl<T> Mailbox<T> {
 
     /// Ends the mailbox and makes the report, which has the values that nobody took.
     ///
-    /// [`GatherError::NoMemory`] covers the archive alone: the lists of the report come from Rust's allocator, which
-    /// aborts the program if there is no memory.
+    /// [`GatherError::NoMemory`] covers the archive's memory alone. The lists of the report come from Rust's allocator,
+    /// which aborts the program if there is no memory.
     ///
     /// ```
     /// # fn main() -> Result<(), Box<dyn std::error::Error>> {
@@ -157,7 +157,7 @@ impl<T> Mailbox<T> {
     /// ```
     ///
     /// # Errors
-    /// A producer or a consumer is still alive, or there is not enough memory. The mailbox is in the error.
+    /// A producer or consumer was not dropped, or there is not enough memory. The error has the mailbox, as it was.
     pub fn gather(self) -> Result<Report<T>, GatherError<T>> {
         let gathered = self.home.hub().gather();
         gathered.map_err(|why| match why {

@@ -1,4 +1,4 @@
-//! A producer.
+//! The producer of a mailbox.
 use crate::errors::Full;
 use crate::ffi;
 use crate::mailbox::Home;
@@ -41,12 +41,12 @@ impl<T> Producer<T> {
     /// # }
     /// ```
     ///
-    /// The report speaks of places: the first value that was put on a lane has place 0, the next place 1.
+    /// The first value put on a lane has place 0, the next place 1. [`Report::taker`](crate::Report::taker) takes a place.
     ///
     /// A value's box comes from Rust's allocator, which aborts the program if there is no memory for it.
     ///
     /// # Errors
-    /// No cell is left, nor will be. The value is in the error.
+    /// No cell of the mailbox is left, and none becomes free later. The error has the value.
     pub fn put(&mut self, value: T) -> Result<(), Full<T>> {
         self.part.put(value).map_err(Full)
     }

@@ -1,5 +1,5 @@
-//! What the types refuse. The first example compiles: it is what the others are, without the mistake. Each other must
-//! not compile. CI runs them all. rustdoc checks the codes `E0xxx` on nightly only: on stable any error does.
+//! Programs with a mistake that the types refuse. The first program has no mistake and compiles. No other may compile.
+//! CI tries them all. rustdoc checks the codes `E0xxx` on nightly only. On stable any error of the compiler will do.
 //!
 //! ```
 //! use hazbultra::Mailbox;
@@ -24,7 +24,7 @@
 //! producer.put(1).unwrap();
 //! ```
 //!
-//! A consumer that is issued after the report was made:
+//! A producer that is issued after the report was made:
 //!
 //! ```compile_fail,E0382
 //! use hazbultra::Mailbox;
@@ -34,7 +34,7 @@
 //! let producer = mailbox.producer().unwrap();
 //! ```
 //!
-//! One producer in two hands:
+//! A copy of a producer:
 //!
 //! ```compile_fail,E0599
 //! use hazbultra::Mailbox;
@@ -44,7 +44,7 @@
 //! let copy = producer.clone();
 //! ```
 //!
-//! One consumer in two hands:
+//! A copy of a consumer:
 //!
 //! ```compile_fail,E0599
 //! use hazbultra::Mailbox;
@@ -68,7 +68,7 @@
 //! });
 //! ```
 //!
-//! A reference to a producer in another thread. A producer is not `Sync`, nor is a consumer:
+//! A producer, or a consumer, to which two threads have a reference. Neither type is `Sync`:
 //!
 //! ```compile_fail,E0277
 //! fn is_sync<T: Sync>() {}
@@ -80,7 +80,7 @@
 //! is_sync::<hazbultra::Consumer<u8>>();
 //! ```
 //!
-//! Values that may not go from thread to thread:
+//! A mailbox for values that are not `Send`:
 //!
 //! ```compile_fail,E0599
 //! use hazbultra::Mailbox;
@@ -89,13 +89,13 @@
 //! let mailbox = Mailbox::<Rc<u8>>::builder().build().unwrap();
 //! ```
 //!
-//! A number mailbox of other values than `u64`:
+//! A mailbox for numbers whose values are not `u64`:
 //!
 //! ```compile_fail,E0599
 //! let builder = hazbultra::Mailbox::<String>::numbers();
 //! ```
 //!
-//! Values that live shorter than the mailbox that drops them:
+//! A reference to a value that is gone before the mailbox is:
 //!
 //! ```compile_fail,E0597
 //! use hazbultra::Mailbox;
@@ -108,7 +108,7 @@
 //! }
 //! ```
 //!
-//! A producer that is made to take values of a shorter life than its consumers give out:
+//! A producer that takes shorter-lived references than its consumers return:
 //!
 //! ```compile_fail
 //! use hazbultra::{Consumer, Mailbox, Producer};
@@ -118,7 +118,7 @@
 //! }
 //! ```
 //!
-//! Two consumers that are given one item by its word. The words of items are private:
+//! A use of the module that passes items on as words. It is private, since a word could be given to two consumers:
 //!
 //! ```compile_fail,E0603
 //! use hazbultra::ffi;

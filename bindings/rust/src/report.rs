@@ -1,19 +1,19 @@
-//! What a mailbox reports at its end.
+//! The report that a mailbox makes at its end.
 use std::fmt;
 
 /// What became of all items of a mailbox.
 ///
-/// The main theorem is about this report. One assignment explains it: each item goes to at most one consumer, who took it,
-/// and each item that nobody took is left.
+/// The main theorem says of it: one assignment gives each item to at most one consumer. A consumer took exactly the items
+/// assigned to it, and all other items are left.
 ///
-/// Its `Debug` shows how many values are left of a lane, and not the values. So it is there for each `T`.
+/// Its `Debug` shows how many values of a lane are left, and not the values. So `T` needs no `Debug`.
 #[derive(Clone, PartialEq, Eq, Hash)]
 #[must_use = "the values that nobody took are in it"]
 #[non_exhaustive]
 pub struct Report<T> {
-    /// One for each lane, in their order.
+    /// What became of each lane, in the order of lanes.
     pub lanes: Vec<LaneReport<T>>,
-    /// One for each consumer and lane, by consumers, and for each by lanes.
+    /// The diary of each consumer on each lane: first those of consumer 0, by lanes, then those of consumer 1, and so on.
     pub diaries: Vec<Diary>,
 }
 
@@ -23,9 +23,9 @@ pub struct Report<T> {
 pub struct LaneReport<T> {
     /// How many items were put.
     pub put: usize,
-    /// Whether its producer was issued, and has ended it.
+    /// Whether its producer was issued and has ended the lane.
     pub ended: bool,
-    /// The values that nobody took, in the order put. They are yours: nobody can take them any more.
+    /// The values that nobody took, in the order put. Nobody can take them any more, so they are yours.
     pub left: Vec<T>,
 }
 
@@ -37,18 +37,18 @@ pub struct Diary {
     pub consumer: usize,
     /// The lane, from 0 on.
     pub lane: usize,
-    /// Its notes, the first on the first item put there, and so on.
+    /// Its notes on the items of the lane, in the order put: `notes[i]` is on the item at place `i`, from 0 on.
     pub notes: Vec<Note>,
     /// Whether it had begun to compete for the next item, on which it has no note.
     pub begun: bool,
 }
 
-/// How a consumer's attempt at an item ended.
+/// How a consumer's claim on an item ended.
 #[derive(Clone, Copy, PartialEq, Eq, Hash, Debug)]
 pub enum Note {
     /// It took the item.
     Took,
-    /// No consumer but this other one can have won the item.
+    /// No consumer but the one with this number can have won the item.
     Lost(usize),
     /// It does not know who won the item, if anybody has.
     Undecided,
@@ -63,10 +63,10 @@ impl<T> Report<T> {
             .find(|diary| diary.consumer == consumer && diary.lane == lane)
     }
 
-    /// The consumer that took the item at this place of the lane, from 0 on. It is `None` for an item that is left, and if
-    /// there is no such lane or place.
+    /// The number of the consumer that took the item at this place of the lane. Lanes and places count from 0. It is
+    /// `None` for an item that is left, and if there is no such lane or place.
     ///
-    /// The places of a lane for which it is `None` are those of its values in `left`, in the same order.
+    /// The values in the lane's `left` are those of the items for which it is `None`, in the same order.
     #[must_use]
     pub fn taker(&self, lane: usize, place: usize) -> Option<usize> {
         self.diaries
@@ -87,7 +87,7 @@ impl<T> Report<T> {
             .count()
     }
 
-    /// All values that nobody took: those of lane 0 first, each lane's in the order put.
+    /// All values that nobody took: first those of lane 0, then those of lane 1, and so on, and of each in the order put.
     pub fn into_left(self) -> impl Iterator<Item = T> {
         self.lanes.into_iter().flat_map(|lane| lane.left)
     }

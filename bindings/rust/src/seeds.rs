@@ -2,8 +2,8 @@
 use std::collections::hash_map::RandomState;
 use std::hash::{BuildHasher, Hasher};
 
-/// A seed of the system's: that of the hash maps of the standard library, which never fails and opens no file. It is not
-/// meant to be secret. A seed decides who wins what, and no promise rests on it.
+/// Returns a seed made of the random keys of the standard library's hash maps: that never fails and opens no file. It need
+/// not be secret. The seed may decide who wins an item, but no promise rests on it.
 pub(crate) fn from_system() -> [u8; 32] {
     let mut seed = [0; 32];
     let state = RandomState::new();

@@ -1,4 +1,4 @@
-//! The channel: what no clause says. Segments are small, so that each test crosses many.
+//! Tests of the channel, which is not proved. Segments are small, so that each test goes through many.
 use hazbultra::channel::{bounded, channel, Builder, Receiver, Sender};
 use hazbultra::channel::{RecvError, RecvTimeoutError, SendError, TryRecvError, TrySendError};
 use std::collections::BTreeMap;
@@ -11,7 +11,7 @@ use std::thread;
 use std::time::{Duration, Instant};
 
 const SHORT: Duration = Duration::from_millis(20);
-/// After so long a test has failed that waits for something.
+/// A test that waits for something fails after this time.
 const LONG: Duration = Duration::from_secs(10);
 
 fn small<T>() -> (Sender<T>, Receiver<T>) {
@@ -47,7 +47,7 @@ fn a_clone_of_a_receiver_begins_where_values_are_left() {
 
 #[test]
 fn each_value_goes_to_one_of_many_ends() {
-    // (more than there are chains and seats)
+    // (more receivers and senders than there are chains and seats, so some share them)
     let (sender, receiver) = Builder::new().cells(16).build();
     let takers: Vec<_> = (0..70)
         .map(|_| receiver.clone())
@@ -78,8 +78,8 @@ fn each_value_goes_to_one_of_many_ends() {
         .eq((0..20).flat_map(|s| (0..500).map(move |it| (s, it)))));
 }
 
-/// A value that was sent is there for whoever comes after that, also if others send and receive meanwhile. (There are many
-/// chains, so that values come behind the one who looks.)
+/// A receiver that looks after a send finds a value, also if other threads send and receive meanwhile. (There are many
+/// chains, and a value may come into one at which the receiver has looked.)
 #[test]
 fn a_receiver_finds_what_was_sent_before() {
     let (sender, receiver) = Builder::new().cells(64).build();
@@ -190,7 +190,7 @@ fn ten_million_values_that_wait_are_dropped() {
     assert_eq!(sender.send(1), Err(SendError(1)));
 }
 
-/// Runs a future in this thread.
+/// Runs a future to its end in this thread.
 fn run<F: Future>(future: F) -> F::Output {
     struct Unpark(thread::Thread);
     impl Wake for Unpark {
@@ -208,7 +208,7 @@ fn run<F: Future>(future: F) -> F::Output {
     }
 }
 
-/// Polls a future whose task nobody polls again.
+/// Polls a future once. Its waker does nothing, so nobody polls it again.
 fn poll_once<F: Future + Unpin>(future: &mut F) -> Poll<F::Output> {
     struct Deaf;
     impl Wake for Deaf {
@@ -239,7 +239,7 @@ fn a_future_that_is_dropped_passes_its_wake_up_on() {
     assert!(poll_once(&mut first).is_pending());
     let sleeper = thread::spawn(move || other.recv_timeout(LONG));
     thread::sleep(SHORT * 5);
-    sender.send(1).unwrap(); // (it wakes the first)
+    sender.send(1).unwrap(); // (it wakes the first future, whose drop wakes the sleeper)
     drop(first);
     assert_eq!(sleeper.join().unwrap(), Ok(1));
 }
@@ -288,7 +288,7 @@ fn a_send_that_is_dropped_sends_nothing() {
     assert!(receiver.iter().eq([1]));
 }
 
-/// A few values at a time, and no end: so a wake-up that is lost is one that nobody makes up for.
+/// A few values at a time, while the channel never ends: so nothing else wakes a receiver whose wake-up is lost.
 #[test]
 fn no_round_sleeps_for_ever() {
     let (sender, receiver) = Builder::new().cells(3).build();
@@ -300,7 +300,7 @@ fn no_round_sleeps_for_ever() {
     let quick = receiver.clone();
     for round in 0..5_000_u32 {
         if round % 100 == 0 {
-            thread::sleep(Duration::from_millis(1)); // (so that all sleep)
+            thread::sleep(Duration::from_millis(1)); // (so that all receivers sleep)
         }
         (0..=round % 3).for_each(|it| sender.send(it).unwrap());
         let own = u32::from(quick.recv_timeout(Duration::from_nanos(1)).is_ok());
@@ -319,7 +319,7 @@ fn no_sender_that_waits_for_room_sleeps_for_ever() {
     }
     for round in 0..5_000 {
         if round % 500 == 0 {
-            thread::sleep(SHORT); // (so that all sleep)
+            thread::sleep(SHORT); // (so that all senders sleep)
         }
         receiver.recv_timeout(LONG).unwrap();
     }

@@ -1,4 +1,4 @@
-//! Jobs of the channel, and its audit. Segments are small, so that each test crosses many.
+//! Tests of the channel's jobs and of its audit. Segments are small, so that each test goes through many.
 use hazbultra::channel::{
     bounded, Builder, Receiver, RecvError, Sender, TryRecvError, TrySendError,
 };
@@ -57,7 +57,7 @@ fn the_last_job_ends_the_channel() {
     drop(sender);
     let work = |receiver: Receiver<u8>| {
         receiver.recv_job().map(|job| {
-            thread::sleep(SHORT * 5); // (so that the others sleep)
+            thread::sleep(SHORT * 5); // (so that the other workers sleep)
             job.done()
         })
     };
@@ -114,7 +114,7 @@ fn an_account_of_each_segment_while_it_runs() {
     assert_eq!((totals.left, totals.given_back, totals.unknown), (3, 0, 0));
 }
 
-/// The account of a segment is made as soon as nobody stands in it, so it tells that none does.
+/// A segment gets its account only after no end uses it. So the accounts show that idle ends use none.
 #[test]
 fn an_idle_end_pins_no_segment() {
     let (sender, receiver, audit) = Builder::new().cells(3).audited();

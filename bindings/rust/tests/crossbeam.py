@@ -1,9 +1,9 @@
 #!/usr/bin/env python3
 """Runs the tests of crossbeam-channel 0.5 over this crate's channel, in four sizes of segments.
 
-They come from Debian's package librust-crossbeam-channel-dev. A shim stands in the place of their crate, and its build counts as a
-test. A test is left out if it needs what this channel does not offer. Each is listed with its reason. The last line is `N passed, N
-failed`.
+They come from Debian's package librust-crossbeam-channel-dev. A shim over this crate takes the place of crossbeam-channel, and its
+build counts as a test. A test is left out if it needs what this channel does not offer. It is printed with the reason. The last line
+is `N passed, N failed`.
 """
 import glob
 import os
@@ -16,13 +16,13 @@ CRATE = os.path.dirname(os.path.dirname(os.path.abspath(__file__)))
 REGISTRY = "/usr/share/cargo/registry"
 CELLS = ("1", "3", "64", "")
 FILES = "array list iter mpsc golang same_channel thread_locals".split()
-# What a test may need that this channel does not offer.
+# What this channel does not offer, and how a test that needs it is found.
 NEEDS = {
     "select": r"\bselect!|\bSelect\b",
     "after, tick or never": r"\b(after|tick|never)(::<[^>]*>)?\(",
     "a channel of no capacity": r"\bbounded(::<[^>]*>)?\(0\)|\bsync_channel(::<[^;]*>)?\(0\)|\bmake(::<[^;]*>)?\(0\)|cap in 0\.\.",
 }
-# Tests that need something else.
+# Tests that are left out by their names, with the reasons.
 OTHERS = {"array::panic_on_drop": "values that leak after a panic: here each is dropped"}
 
 SHIM = """
@@ -62,7 +62,7 @@ def manifest(name, *dependencies):
 
 
 def end_of(text, at):
-    """Where the block ends that opens first after `at`."""
+    """Where the first block that opens after `at` ends."""
     depth = 0
     for place in range(text.index("{", at), len(text)):
         depth += {"{": 1, "}": -1}.get(text[place], 0)
@@ -71,7 +71,7 @@ def end_of(text, at):
 
 
 def kept(name, text):
-    """The text without the tests that are left out, and these, each with its reason."""
+    """The text of a file without the tests that are left out, and a list of these with the reasons."""
     left, edits, modules = [], [], []
     for module in re.finditer(r"^mod (\w+) \{", text, re.M):
         modules.append((module.group(1), module.start(), end_of(text, module.start())))
@@ -80,7 +80,7 @@ def kept(name, text):
         body = text[test.start() : end]
         inside = [it for it in modules if it[1] < test.start() < it[2]]
         label = "::".join([name, *(it[0] for it in inside), test.group(1)])
-        # (with what it calls of its module, and what that calls)
+        # (the helpers of its module that the test calls count as parts of its body, and so on)
         for _, begin, stop in inside:
             helpers = [(it.group(1), begin + it.start()) for it in re.finditer(r"^ *fn (\w+)", text[begin:stop], re.M)]
             while found := next((it for it in helpers if it[1] > test.end() or it[1] < test.start() if re.search(rf"\b{it[0]}\b", body)), None):

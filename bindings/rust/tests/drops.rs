@@ -1,4 +1,4 @@
-//! Each value is dropped once, whatever becomes of it.
+//! Tests that each value is dropped once, whatever becomes of it.
 use hazbultra::{Full, Mailbox, Poll, Shape};
 use std::sync::atomic::{AtomicUsize, Ordering};
 use std::sync::Arc;
@@ -65,7 +65,7 @@ fn a_mailbox_that_nobody_gathers_drops_what_is_inside() {
     }
     drop(consumer.poll(1).taken().unwrap());
     assert_eq!(drops.count(), 1);
-    // The last one that returns takes the rest with it, in whatever order they return.
+    // The values left inside are dropped with the last of these, in whatever order they are dropped.
     drop((one, mailbox, consumer));
     assert_eq!(drops.count(), 1);
     drop(two);
@@ -86,7 +86,7 @@ fn a_value_that_finds_no_cell_comes_back() {
     assert_eq!(drops.count(), 1);
 }
 
-/// Also one that has won the item, and did not load it: that is its last stop before the end.
+/// This holds also if it has won the item and has not loaded it yet, which is the latest place to stop.
 #[test]
 fn a_consumer_that_stops_midway_leaves_the_value() {
     for shape in [
@@ -114,7 +114,7 @@ fn a_consumer_that_stops_midway_leaves_the_value() {
             assert_eq!(drops.count(), usize::from(taken));
             let report = mailbox.gather().unwrap();
             assert_eq!(report.lanes[0].left.len(), usize::from(!taken));
-            // (the first access finds the item, and is none of its claim)
+            // (the first access finds the item, and belongs to no claim)
             assert_eq!(report.diaries[0].begun, !taken && budget > 1);
             drop(report);
             assert_eq!(drops.count(), 1);
@@ -153,7 +153,7 @@ fn threads_drop_each_value_once() {
     assert_eq!((taken, drops.count()), (2 * EACH, 2 * EACH));
 }
 
-/// The drop of one left value panics. The others are dropped all the same.
+/// The drop of one value that is left panics. The others are dropped all the same.
 #[test]
 fn a_drop_that_panics_keeps_no_other_from_its_drop() {
     struct Bad(Drops);

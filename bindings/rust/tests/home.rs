@@ -1,4 +1,4 @@
-//! Producers and consumers return by themselves, and the report waits for them.
+//! Tests that producers and consumers return when they are dropped, and that a gather before that is refused.
 use hazbultra::{
     BuildError, Consumer, GatherError, IssueError, Mailbox, Poll, Producer, Shape, Sweep,
 };
@@ -7,7 +7,7 @@ use std::mem;
 use std::panic::{self, AssertUnwindSafe};
 use std::thread;
 
-// Threads may share a mailbox, also one whose values no two threads may share.
+// Threads may share a mailbox, even if its values are not `Sync`.
 const _: () = {
     const fn is_shared<T: Send + Sync>() {}
     is_shared::<Mailbox<u8>>();
@@ -43,7 +43,7 @@ fn a_report_waits_for_all_parts() {
     else {
         panic!("two are out")
     };
-    // The mailbox is as it was: the item is there, and producers and consumers are issued.
+    // The mailbox in the error is as it was: the item is there, and a further consumer is issued.
     drop(consumer);
     let mut consumer = mailbox.consumer().unwrap();
     assert_eq!(consumer.number(), 1);
@@ -77,7 +77,7 @@ fn a_worker_that_panics_is_no_missing_part() {
     assert!(put.join().is_err());
     let [mut bad, good] = consumers.each_mut().map(|it| it.values(thread::yield_now));
     assert_eq!(bad.next(), Some(1));
-    // Its lane has ended, so this comes to an end.
+    // The lane of the producer that panicked has ended. So these values come to an end.
     assert_eq!(good.collect::<Vec<_>>(), [2]);
     let [bad, good] = consumers;
     assert!(thread::spawn(move || {

@@ -1,6 +1,6 @@
 #!/bin/sh
-# Builds the crate where it may stand: in place, moved, copied, packed, as a git dependency, vendored. It prints a line for
-# each case, and its status is 0 if all hold. It needs cargo and git, no network, and one temporary folder.
+# Builds the crate in all places where users may have it: moved, copied, packed, as a git dependency, vendored. It prints a
+# line for each case, and its status is 0 if all builds do as they have to. It needs cargo and git, and no network.
 set -u
 crate=$(cd "$(dirname "$0")/.." && pwd) && room=$(mktemp -d) || exit 2
 trap 'rm -rf "$room"' EXIT
@@ -9,7 +9,7 @@ unset CARGO_TARGET_DIR CARGO_BUILD_TARGET_DIR CARGO_BUILD_TARGET HAZBULTRA_LIB
 export CARGO_HOME="$room/home" GIT_CONFIG_GLOBAL=/dev/null
 letter=target/debug/examples/one_letter failed=0
 
-try() { # NAME FUNCTION: runs it in a folder of its own
+try() { # NAME FUNCTION: runs the function in a folder of its own, and prints whether it succeeded
     mkdir "$room/$2" && cd "$room/$2" || exit 2
     if "$2" >"$room/said" 2>&1; then
         echo "$1: holds"
@@ -19,30 +19,30 @@ try() { # NAME FUNCTION: runs it in a folder of its own
     fi
 }
 
-place() { # FOLDER: puts the crate there
+place() { # FOLDER: copies the crate into it
     mkdir -p "$1" && for it in Cargo.toml Cargo.lock README.md build.rs src examples tests prebuilt; do
         cp -R "$crate/$it" "$1" || return
     done
 }
 
-prints() { # FOLDER WORDS..: what cargo runs there prints what it should
+prints() { # FOLDER WORDS..: whether `cargo run WORDS..` there prints what the example one_letter prints
     printed=$(cd "$1" && shift && cargo run --quiet --offline "$@") && echo "$printed" &&
         [ "$printed" = "$(printf 'Some("a letter")\nLost(0)\n0 left')" ]
 }
 prints_letter() { prints "$1" --example one_letter; }
 
-# A word in the archive's comment, which the linker keeps, shows which archive a program has.
+# Changes a word in a comment of the archive. The linker keeps it, so it shows which archive a program has.
 mark() { LC_ALL=C sed -i 's/rattle logic=/marked logic=/' "$1/prebuilt/libhazbultra.a"; }
 has_mark() { grep -q 'marked logic=' "$1"; }
 
 built() { place here && prints_letter here; }
 moved() { built && mv here there && prints_letter there; }
-copied() { # and the archive of one is not linked into the other
+copied() { # whether each copy links its own archive, and not that of the other
     built && cp -a here there && mark here && touch there/src/lib.rs && prints_letter there && prints_letter here &&
         ! has_mark "there/$letter" && has_mark "here/$letter" && mark there && prints_letter there &&
         has_mark "there/$letter"
 }
-packed() { # also by cargo, to verify it. After that the crate still has its own archive
+packed() { # `cargo package` builds the packed crate, too. Yet the crate itself links its own archive after that
     place here && (cd here && cargo package --quiet --offline) && tar -xzf here/target/package/hazbultra-*.crate &&
         prints_letter hazbultra-* && mark here && prints_letter here && has_mark "here/$letter"
 }
@@ -54,11 +54,11 @@ depended_on() {
         echo "hazbultra = { git = \"file://$room/depended_on/repository\" }"
     } >Cargo.toml && cargo fetch --quiet && prints . && has_mark target/debug/user
 }
-vendored() { # and what it was vendored from is gone
+vendored() { # whether it builds after all from which it was vendored was removed
     mv ../depended_on/user . && cd user && mkdir .cargo && cargo vendor --offline >.cargo/config.toml &&
         rm -r ../../depended_on "$CARGO_HOME" target && prints . && has_mark target/debug/user
 }
-fails() { # REASON WORDS..: a build fails with this error, and without a panic
+fails() { # REASON WORDS..: whether a build fails with this error, and without a panic
     reason=$1 && shift && ! cargo build --quiet --offline "$@" 2>../why && cat ../why &&
         grep -q "^error: hazbultra@.*$reason" ../why && ! grep -q panicked ../why
 }

@@ -1,8 +1,8 @@
-//! Polls of consumers that come to one item together.
+//! Tests of polls by consumers that compete for one item at the same time.
 use hazbultra::{BuildError, Builder, Mailbox, Note, Poll, Shape};
 use std::thread;
 
-/// Setups, their numbers of consumers, and how many accesses a poll makes at most. The docs of `Consumer::poll` say it.
+/// Builders, their numbers of consumers, and how many accesses a poll makes at most, as `Consumer::poll` promises.
 fn most() -> impl Iterator<Item = (Builder<u64>, usize, u64)> {
     let counts = [(1, 31), (2, 47), (4, 63), (16, 95), (64, 127)];
     counts.into_iter().flat_map(|(count, fast_last)| {
@@ -12,7 +12,7 @@ fn most() -> impl Iterator<Item = (Builder<u64>, usize, u64)> {
     })
 }
 
-/// Two consumers in turn, each poll with a budget of three accesses. With other seeds one of them may win.
+/// Two consumers poll in turn, with a budget of three accesses. With other seeds one of them may win.
 #[test]
 fn a_poll_and_its_note_may_be_undecided() {
     let builder = Mailbox::numbers().consumers(2).pairs(1).shape(Shape::Plain);
@@ -39,8 +39,8 @@ fn a_poll_and_its_note_may_be_undecided() {
     assert_eq!(report.into_left().collect::<Vec<_>>(), [7]);
 }
 
-/// All consumers come to each item in step, one access after the other. Then each makes what is left of its budget at
-/// once.
+/// All consumers compete for each item by one access each in turn, as many times as `in_step` says. Then each spends the
+/// rest of its budget in one poll.
 #[test]
 fn consumers_in_step_need_no_larger_budget_than_the_docs_say() {
     for (builder, count, most) in most() {
@@ -57,7 +57,7 @@ fn consumers_in_step_need_no_larger_budget_than_the_docs_say() {
                     }
                 }
             }
-            // Each has come to the end of this item, and one has taken it.
+            // Each consumer has a result on this item, and one has taken it.
             let took = ends.iter().filter(|end| **end == Poll::Took(in_step));
             assert_eq!(took.count(), 1);
             assert!(!ends.contains(&Poll::Spent));
@@ -106,7 +106,7 @@ fn a_second_consumer_gets_the_item_of_one_that_stopped_or_its_number() {
                 break;
             }
             assert_eq!(stopped, Poll::Spent);
-            // The first goes on, and knows the same winner.
+            // The first consumer goes on, and its result names the same winner.
             match (other, first.poll(0)) {
                 (Poll::Lost(0), Poll::Took(7)) => by_first += 1,
                 (Poll::Took(7), Poll::Lost(1)) => by_second += 1,
@@ -117,7 +117,7 @@ fn a_second_consumer_gets_the_item_of_one_that_stopped_or_its_number() {
     }
 }
 
-/// Items 0 to 7. In turn each consumer takes the next one that nobody has, past those that others took.
+/// Three consumers take items 0 to 7 in turn. Each takes the next one that nobody has, past those that others took.
 #[test]
 fn a_take_goes_past_what_is_lost() {
     for shape in [Shape::FastLast, Shape::Exchange] {

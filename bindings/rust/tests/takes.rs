@@ -1,9 +1,9 @@
-//! Random calls on 1,000 mailboxes whose claims are one exchange each, beside a model that goes access by access.
+//! Random calls on mailboxes in which each claim is one exchange, compared with a model that goes access by access.
 //!
-//! Each mailbox is played twice: by takes, and by the polls that a take stands for. Consumers stop midway, and lanes end.
+//! Each run is played twice: by takes, and by the polls that a take stands for. Consumers stop midway, and lanes end.
 use hazbultra::{Consumer, Full, Mailbox, Note, Poll, Shape};
 
-/// What a consumer does next on a lane.
+/// Which access a consumer makes next on a lane: of the link, of the claim, or of the item that it has won.
 #[derive(Clone, Copy)]
 enum Next {
     Link,
@@ -18,14 +18,14 @@ struct Lane {
     ended: bool,
 }
 
-/// A consumer on a lane: its notes, and what it does next.
+/// The model of a consumer on a lane: its notes, and the access that it makes next.
 struct Place {
     notes: Vec<Note>,
     next: Next,
 }
 
 impl Place {
-    /// One access of this consumer, and the result that it brings.
+    /// Makes one access of this consumer. Returns the result of its poll, if the access brings one.
     fn step(&mut self, lane: &mut Lane, me: usize) -> Option<Poll<u64>> {
         match (lane.items.get_mut(self.notes.len()), self.next) {
             (None, _) if lane.ended => return Some(Poll::Ended),
@@ -51,7 +51,7 @@ impl Place {
         self.next = Next::Link;
     }
 
-    /// What a poll returns, and what is left of its budget.
+    /// Makes a poll. Returns its result, and what is left of the budget.
     fn poll(&mut self, lane: &mut Lane, me: usize, budget: u64) -> (Poll<u64>, u64) {
         for made in 0..budget {
             if let Some(result) = self.step(lane, me) {
@@ -62,7 +62,7 @@ impl Place {
     }
 }
 
-/// Random numbers by three shifts.
+/// A source of random numbers (xorshift).
 struct Random(u64);
 
 impl Random {
@@ -78,7 +78,7 @@ impl Random {
     }
 }
 
-/// Makes a take, or the polls that it stands for, and compares each result with the model's.
+/// Makes a take if `whole` is set, else the polls that it stands for. Compares each result with the model's.
 fn take(
     consumer: &mut Consumer<u64>,
     at: usize,
@@ -196,7 +196,7 @@ fn sixty_four_consumers_share_a_million_cells() {
     let mut consumers: Vec<_> = (0..64).map(|_| mailbox.consumer().unwrap()).collect();
     (0..1 << 20).for_each(|item| producer.put(item).unwrap());
     assert_eq!(producer.put(0), Err(Full(0)));
-    // Each goes past all that those before it took.
+    // Each consumer goes on past all items that those before it took.
     for (who, item) in (0..64).chain((0..64).rev()).zip(0..) {
         assert_eq!(consumers[who].take(0), Poll::Took(item));
     }

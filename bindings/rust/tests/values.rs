@@ -1,8 +1,8 @@
-//! Values of all kinds go through, and come out as they were.
+//! Tests that values of many types go through a mailbox and come out as they were.
 use hazbultra::{Full, Mailbox, Note, Poll, Shape, Table};
 use std::thread;
 
-/// Puts all of these, and returns what one consumer takes.
+/// Puts these values into a mailbox, and returns those that its one consumer takes.
 fn through<T: Send>(values: Vec<T>) -> Vec<T> {
     let mailbox = Mailbox::builder().build().unwrap();
     let (mut producer, mut consumer) = (mailbox.producer().unwrap(), mailbox.consumer().unwrap());
@@ -147,7 +147,7 @@ fn all_tables_and_shapes_are_there() {
             let mut producer = mailbox.producer().unwrap();
             (0..4).for_each(|item| producer.put(item).unwrap());
             let mut consumers = [(); 5].map(|()| mailbox.consumer().unwrap());
-            // Who comes alone wins, over each table and in each shape.
+            // With each table and shape the consumer that comes first, and alone, wins.
             for item in 0..4 {
                 assert_eq!(consumers[item].poll(0), Poll::Took(item as u64));
                 for other in (0..5).filter(|&other| other != item) {
@@ -158,7 +158,7 @@ fn all_tables_and_shapes_are_there() {
     }
 }
 
-/// Two consumers in turn, each poll with a budget of three accesses.
+/// The results of 400 polls by two consumers in turn, each with a budget of three accesses.
 fn polls(seed: [u8; 32]) -> Vec<Poll<u64>> {
     let builder = Mailbox::numbers().consumers(2).pairs(1).shape(Shape::Plain);
     let mailbox = builder.seed(seed).build().unwrap();

@@ -1,8 +1,8 @@
-//! No wake-up is lost: the very source of the channel's wait list, in each order of its steps.
+//! Runs the source of the channel's wait list in each order of its steps, and finds that no wake-up is lost.
 //!
-//! Senders put one value each, and receivers take one each. A receiver waits as a thread or as a task. It may give up at any
-//! time, and a task may be dropped at any time, also after it was woken. In no order does a value wait while a receiver
-//! sleeps. `tests/wrong_bodies.py` has wrong bodies of the source, which this search refuses.
+//! Each sender sends one value, and each receiver takes one. A receiver waits as a thread or as a task. A thread may give up
+//! at any time, and a task may be dropped at any time, also after it was woken. In no order is a value left while a receiver
+//! sleeps for ever. `tests/wrong_bodies.py` tries wrong changes of that source, each of which this search refuses.
 mod orders;
 #[allow(
     dead_code,
@@ -20,7 +20,7 @@ use std::task::{Poll, Wake, Waker};
 use std::time::Instant;
 use wait::{Lock, System, WaitList, Word};
 
-/// The system in which each access of a shared word, and each lock, is a step.
+/// A system in which each access of a shared word, each lock and each wake-up is a step of the search.
 struct Model;
 
 struct Stepped(AtomicUsize);
@@ -64,7 +64,7 @@ impl<T> Lock<T> for Locked<T> {
     }
 }
 
-/// What `unpark` leaves for each thread, and whether the time of each is over.
+/// For each thread: whether `unpark` has left it a token, and whether its time to wait is over.
 static TOKENS: [AtomicBool; 8] = [const { AtomicBool::new(false) }; 8];
 static IS_PAST: [AtomicBool; 8] = [const { AtomicBool::new(false) }; 8];
 
@@ -86,7 +86,7 @@ impl System for Model {
         TOKENS[*thread].store(true, SeqCst);
     }
 
-    /// A thread that has a time may go on without a token. Then its time is over.
+    /// Waits for a token. A thread with a time limit may go on without one. Then its time is over.
     fn park(until: Option<Instant>) {
         let me = me();
         let has_time = until.is_some();
@@ -102,7 +102,7 @@ impl System for Model {
     }
 }
 
-/// A channel that counts its values.
+/// A channel whose values are only counted.
 struct Channel {
     values: AtomicUsize,
     is_closed: AtomicBool,
@@ -129,18 +129,18 @@ impl Channel {
     }
 }
 
-/// Who receives.
+/// What kind of receiver waits.
 #[derive(Clone, Copy, PartialEq, Debug)]
 enum Kind {
-    /// A thread, for ever.
+    /// A thread that waits without a time limit.
     Thread,
-    /// A thread, for some time.
+    /// A thread that gives up after some time.
     Timed,
-    /// A task, for ever.
+    /// A task that is polled until it has a value.
     Task,
-    /// A task that may be dropped.
+    /// A task that may be dropped at any time.
     Dropped,
-    /// A task whose waker panics, and which then ends.
+    /// A task whose waker panics. It ends then.
     Panicking,
 }
 
@@ -185,7 +185,7 @@ fn receive_as_task(channel: &Channel, kind: Kind) {
             step_when(move || bell.is_rung.load(SeqCst));
         }
         if kind == Kind::Panicking {
-            return; // (it was woken, and does not even leave)
+            return; // (it was woken, and does not call `leave`)
         }
         if is_dropped || (may_drop && either()) {
             return place.map_or((), |place| channel.list.leave(place));
@@ -209,7 +209,7 @@ fn no_wake_up_is_lost() {
     search_case(1, 2, &[Thread, Task, Dropped]);
 }
 
-/// Searches all orders. The last thread comes after no other can go on. It ends the channel, if no value waits.
+/// Searches all orders of these threads. When no other can go on, and no value is left, the last thread closes the channel.
 fn search_case(preemptions: usize, senders: usize, kinds: &'static [Kind]) {
     let found = search(preemptions, || {
         TOKENS

@@ -1,7 +1,7 @@
 #!/usr/bin/env python3
-"""Puts wrong bodies into the channel, one at a time, and looks whether the test that is named catches each.
+"""Puts wrong code into the channel, one change at a time, and checks that the test that is named with it catches each.
 
-It works in copies of the crate. A test catches a body if it fails, or does not end in time. Each test is tried without a wrong body,
+It works in copies of the crate. A test catches a change if it fails, or does not end in time. Each test has to pass without a change,
 too. The last line is `N passed, N failed`.
 """
 import concurrent.futures
@@ -53,7 +53,7 @@ BODIES = [
 
 
 def caught(words, room, left):
-    """Whether cargo fails, or does not end in so many seconds."""
+    """Whether cargo fails, or does not end in `left` seconds."""
     command = ["cargo", *words.split()]
     with subprocess.Popen(command, cwd=room, stdout=subprocess.DEVNULL, stderr=subprocess.DEVNULL, start_new_session=True) as ran:
         try:
@@ -64,7 +64,7 @@ def caught(words, room, left):
 
 
 def tried(body, rooms):
-    """What became of a body, in a room that is free: nothing if it was caught."""
+    """Tries a change in a copy of the crate that is free. Returns None if the test did as it has to, else what is wrong."""
     what, name, right, wrong, words = body
     room = rooms.get()
     path = f"{room}/src/channel/{name}.rs"
@@ -76,7 +76,7 @@ def tried(body, rooms):
         built = words.replace("test -q", "test -q --no-run", 1)
         if text.count(right) != 1 or caught(" ".join(built.split()[:5]), room, 300):
             return "BAD EDIT"
-        # (these end by themselves, and take long)
+        # (these two tests take long, and end by themselves)
         left = 300 if words in (SEARCH, DROPS) else 20
         return None if caught(words, room, left) == bool(what) else "NOT CAUGHT" if what else "FAILED"
     finally:
@@ -89,7 +89,7 @@ def main():
     os.environ["CARGO_NET_OFFLINE"] = "true"
     os.environ.pop("CARGO_TARGET_DIR", None)
     wanted = [it for it in BODIES if not sys.argv[1:] or any(word in it[0] for word in sys.argv[1:])]
-    # (first each test without a wrong body, which it has to let through)
+    # (first each test without a change, when it has to pass)
     wanted = [("", "mod", "mod audit;", "mod audit;", words) for words in sorted({it[4] for it in wanted})] + wanted
     with tempfile.TemporaryDirectory() as folder, concurrent.futures.ThreadPoolExecutor(AT_A_TIME) as pool:
         rooms = queue.Queue()

@@ -1,5 +1,5 @@
-//! Runs threads in each order of their steps, up to a number of preemptions. A step is what a thread does between two calls of
-//! [`step`], and one thread at a time runs. That one stops that could go on is a preemption.
+//! Runs threads in each order of their steps, up to a number of preemptions. A step is what a thread does between two calls
+//! of [`step`]. One thread runs at a time. It is a preemption if a thread stops though it could go on.
 use std::cell::RefCell;
 use std::sync::mpsc::{channel, Sender};
 use std::sync::{Arc, Mutex, MutexGuard};
@@ -10,9 +10,9 @@ type Work = Box<dyn FnOnce() + Send>;
 
 /// The threads of one run.
 pub struct Bodies {
-    /// Threads that do the same come one after the other, and have the same name. They begin in this order.
+    /// Each thread's name and work. Threads that do the same stand together with one name, and begin in this order.
     pub threads: Vec<(String, Work)>,
-    /// This comes only after no other thread can go on, and if it holds or all have ended.
+    /// The last thread. It begins only when no other can go on, and if its condition holds or all others have ended.
     pub last: (When, Work),
 }
 
@@ -23,22 +23,22 @@ struct Run {
 
 #[derive(Default)]
 struct State {
-    /// When each thread can go on. It is `None` if it has ended.
+    /// The condition on which each thread can go on, or `None` if the thread has ended.
     threads: Vec<Option<When>>,
     names: Vec<String>,
     has_begun: Vec<bool>,
     last: Option<When>,
     handles: Vec<Thread>,
-    /// Whose turn it is.
+    /// The number of the thread whose turn it is.
     current: usize,
-    /// How many preemptions there may be.
+    /// How many preemptions there may still be.
     preemptions: usize,
-    /// Each choice made, and among how many.
+    /// Each choice of this run, and among how many it is. `made` is how many of them the run has come to.
     choices: Vec<(usize, usize)>,
     made: usize,
 }
 
-/// The turn of nobody: the run is over.
+/// The number that says that it is nobody's turn: the run is over.
 const NOBODY: usize = usize::MAX;
 
 thread_local! {
@@ -46,7 +46,7 @@ thread_local! {
 }
 
 impl State {
-    /// The next choice: that of the run before, or the first.
+    /// The next choice: the one that `choices` has for this run, or else the first.
     fn choose(&mut self, among: usize) -> usize {
         if self.made == self.choices.len() {
             self.choices.push((0, among));
@@ -63,7 +63,7 @@ impl State {
             && (self.has_begun[thread] || !is_twin_first)
     }
 
-    /// Gives the turn to a thread that can go on. To go on is the first choice.
+    /// Gives the turn to a thread that can go on. The first choice is the present thread, if it can.
     fn hand_over(&mut self, may_stop: bool) {
         let last = self.threads.len() - 1;
         let mut able: Vec<_> = (0..last).filter(|it| self.is_able(*it)).collect();
@@ -124,17 +124,17 @@ fn next_step(when: When, may_stop: bool) {
     drop(wait_for_turn(&run, me, state));
 }
 
-/// The next step.
+/// Ends a step of this thread. The next one begins when it has the turn again.
 pub fn step() {
     next_step(Box::new(|| true), false);
 }
 
-/// The next step, which can begin as soon as this holds.
+/// Ends a step of this thread. The next one begins when it has the turn again and this condition holds.
 pub fn step_when(when: impl Fn() -> bool + Send + 'static) {
     next_step(Box::new(when), false);
 }
 
-/// The same of a thread that rests here: if another one goes on, that is no preemption.
+/// Does what [`step_when`] does. But if another thread gets the turn here, that is no preemption.
 pub fn rest_until(when: impl Fn() -> bool + Send + 'static) {
     next_step(Box::new(when), true);
 }
@@ -144,12 +144,12 @@ pub fn me() -> usize {
     here().1
 }
 
-/// False in one run, and true in another.
+/// Returns false or true: the search tries both.
 pub fn either() -> bool {
     here().0.state.lock().unwrap().choose(2) == 1
 }
 
-/// A thread that does the work of one run after the other.
+/// Starts a thread that does its work in one run after the other. Returns where to send it runs.
 fn worker(me: usize) -> Sender<(Arc<Run>, Work)> {
     let (sender, receiver) = channel::<(Arc<Run>, Work)>();
     thread::spawn(move || {
@@ -168,7 +168,7 @@ fn worker(me: usize) -> Sender<(Arc<Run>, Work)> {
     sender
 }
 
-/// Runs the threads once. It is true if all end.
+/// Runs the threads once, by these choices. Returns whether all threads ended.
 fn run_once(
     workers: &[Sender<(Arc<Run>, Work)>],
     bodies: Bodies,
@@ -203,8 +203,8 @@ fn run_once(
     state.threads.iter().all(Option::is_none)
 }
 
-/// Searches all orders of these threads with so many preemptions at most. It returns how many there are, or the choices of
-/// one in which a thread waits for ever.
+/// Runs these threads in all orders with at most so many preemptions. Returns how many orders there are, or the choices of
+/// an order in which a thread waits for ever.
 pub fn search(preemptions: usize, bodies: impl Fn() -> Bodies) -> Result<u64, String> {
     let workers: Vec<_> = (0..=bodies().threads.len()).map(worker).collect();
     let mut choices = Vec::new();
@@ -214,7 +214,7 @@ pub fn search(preemptions: usize, bodies: impl Fn() -> Bodies) -> Result<u64, St
                 "a thread waits for ever in run {count}: {choices:?}"
             ));
         }
-        // The last choice that is not the last of its kind becomes the next one.
+        // The next run takes the next alternative at the latest choice that has a further one.
         while choices.last().is_some_and(|it| it.0 + 1 == it.1) {
             choices.pop();
         }
