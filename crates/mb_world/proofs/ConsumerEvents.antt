@@ -61,7 +61,7 @@ module _ (plan : Plan) (h : WorldHistory) (known : EventKnown plan h) (c p word 
         → v ≡ value_in w (pool_accesses h)
     loaded x lawful w v e = (subst (λ z. IsWorldLawful plan (z ∷ h)) e lawful).cells_memory.0
 
-    -- the history of the claims with the step is lawful
+    -- if an access that is a step of a claim keeps the history of the world lawful, so it does that of the claims
     claimed : (x : WorldAccess) → IsWorldLawful plan (x ∷ h) → (k : ℕ) (t : ObjectTurn) → x ≡ claim_step c k t
         → IsClaimLawful plan.claims (claim_access c k t ∷ claim_accesses h)
     claimed x lawful k t e =
@@ -71,7 +71,7 @@ module _ (plan : Plan) (h : WorldHistory) (known : EventKnown plan h) (c p word 
     random : (x : WorldAccess) → HasRandom word x → (k : ℕ) (t : ObjectTurn) → x ≡ claim_step c k t → t.turn.word ≡ word
     random x with_word k t e = subst (λ z. HasRandom word z) e with_word
 
-    -- two accesses for which the step asks load one value if they are of one word, and are one step if on one cell
+    -- two accesses for which the step asks find one value if both load one word, and are one step if on one cell
     alike : AreAlike plan.claims c p a b
     alike = record {
       loads = λ w v u e f. loaded a la w v e ∙ sym (loaded b lb w u f);

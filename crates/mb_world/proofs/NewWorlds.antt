@@ -30,7 +30,7 @@ module _ (setup : Setup)
     (fresh : (c : ℕ) → c < consumers_of (plan_in setup) → IsClaimPrefix (plan_in setup).claims c [] stage.Going)
     (one_stage : (c : ℕ) (s r : Stage) → IsClaimPrefix (plan_in setup).claims c [] s
     → IsClaimPrefix (plan_in setup).claims c [] r → s ≡ r) where
-  -- no claim has ended
+  -- no claim has ended as any note says
   no_end : (c k : ℕ) → c < consumers_of (plan_in setup) → (n : Note)
       → EndsAs (plan_in setup).claims c k n (parts_of c (histories_of [])) → ⊥
   no_end c k cs (Took v) e = e.1.1

@@ -1,4 +1,4 @@
--- A list of events has at most one replay.
+-- After a lawful history a list of events has at most one replay.
 use Rattle.std.proofs.Common.{◌≡◌, List, [], ◌∷◌, Option, Some, None, refl, sym, ◌∙◌, ap, ap₂, subst}
 use Rattle.mb_world.specs.declared.event.Answer.{Answer}
 use Rattle.mb_world.specs.declared.event.Answer.TheVariants as answer
@@ -72,7 +72,7 @@ module _ (plan : Plan) (known : (h : WorldHistory) → IsWorldLawful plan h → 
   replay_lawful (e ∷ es) (r ∷ rs) was now lawful (a, entry, rest) =
       replay_lawful es rs (with_access a was) now (lawful_on e r a was lawful entry) rest
 
-  -- events have at most one list of answers, and lead to at most one history
+  -- after a lawful history a list of events has at most one list of answers, and leads to at most one history
   pub one_replay : (es : List Event) (rs ss : List Answer) (was now then : WorldHistory) → IsWorldLawful plan was
       → IsReplay plan es rs was now → IsReplay plan es ss was then → (rs ≡ ss) × (now ≡ then)
   one_replay [] [] [] was now then lawful x y = (refl, x ∙ sym y)

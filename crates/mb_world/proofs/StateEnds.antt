@@ -89,7 +89,7 @@ module _ (cs : Claims) where
       abbrev stepped : WorldHistory
       stepped = claim_step c k x ∷ h
 
-      -- the steps of other consumers and on other cells stay as they are
+      -- the steps of other consumers, and those of c on other cells, stay as they are
       other_part : (d j : ℕ) → (d ≡ c → j ≡ k → ⊥)
           → claim_part d j (claim_accesses stepped) ≡ claim_part d j (claim_accesses h)
       other_part d j other = by (cases_eq c d)
@@ -121,13 +121,13 @@ module _ (cs : Claims) where
   module _ (d j : ℕ) (h : WorldHistory)
       (one : (s r : Stage) → IsClaimPrefix cs d (claim_part d j (claim_accesses h)) s
       → IsClaimPrefix cs d (claim_part d j (claim_accesses h)) r → s ≡ r) where
-    -- a claim that goes on has not ended
+    -- a claim that goes on has ended as no note says
     pub going_open : (n : Note) → IsClaimPrefix cs d (claim_part d j (claim_accesses h)) stage.Going → Ends h d j n → ⊥
     going_open (Took v) going e = let f = one stage.Going stage.Won going e.0 in cc
     going_open (Lost w) going e = let f = one stage.Going (stage.Lost w) going e in cc
     going_open Undecided going e = let f = one stage.Going stage.Undecided going e in cc
 
-    -- a claim that is won has not ended before its item is loaded
+    -- a claim that is won has ended as no note says before its item is loaded
     pub won_open : (n : Note) → IsClaimPrefix cs d (claim_part d j (claim_accesses h)) stage.Won
         → ((v : ℕ) → HasItem h d j v → ⊥) → Ends h d j n → ⊥
     won_open (Took v) won unread e = unread v e.1

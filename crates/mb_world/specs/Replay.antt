@@ -45,8 +45,8 @@ IsAccessOf (event.Step c p word) a h =
 abbrev pub answer_to_link : ℕ → Answer
 answer_to_link v = if nat_eq v END then answer.Finished finish.Ended else answer.Pushed (push.Link (v - 1))
 
--- the answer that names an access to a word of the cells, in a pool with this number of cells. None names an act that
--- no event asks for
+-- the answer that names an access to a word of the cells, in a pool with this number of cells. It is `None` for an act
+-- that no event asks for
 abbrev pub answer_to : ℕ → Word → PoolAct → Option Answer
 answer_to cells Counter (FetchAdd x n) = Some (answer.Offered (offer_by_found cells n))
 answer_to cells (Head p) (Store v) = Some (answer_to_link v)

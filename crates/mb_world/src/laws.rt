@@ -1,5 +1,5 @@
-//! Laws of mailboxes and their reports. The functions compute nothing: their contracts are the laws. Their bodies name
-//! the laws of claims and of cells that they use. Their proofs are in `proofs/laws/`, one folder for each. They use the
+//! Laws of mailboxes, their reports, and the events of worlds. The functions compute nothing: their contracts are the
+//! laws, and their bodies name the laws that they use. The proof of each is in its own folder of `proofs/laws/`, and uses
 //! lemmas of `proofs/`.
 ghost use Rattle.std.specs.Prelude.{ℕ, ◌+◌, ◌^◌, ◌≡◌, ◌≢◌, ◌↔◌, ◌<◌, List, [], ◌∷◌, ◌++◌, IsSome, Option, Some, true, false, reverse, slice_get};
 ghost use Rattle.mb_world.specs.Vocabulary.{ReportView, diary, note, Assignment, AgreesWith, AreAllTaken, HasCompeted, IsLeftBesideBegun, IsSettled, HasLastObject, Histories, Plan, consumers_of};
@@ -105,8 +105,8 @@ pub fn parts_tell_cells_met()
     sound_histories_are_known();
 }
 
-/// A lawful history of a world, cut into that of its claims and that of its cells, is sound. So one assignment agrees
-/// with its report.
+/// A lawful history of a world, cut into that of its claims and that of its cells, is sound, if the quorum table is
+/// lawful. So the main theorem holds of its report.
 pub fn worlds_are_sound()
     ensures sound { (plan : Plan) (h : WorldHistory) → IsQuorumTable plan.claims.table
         → IsWorldLawful plan h → AreSound plan (histories_of h) }
@@ -135,7 +135,7 @@ pub fn paths_lead_to_one_place()
     claims_have_one_next_op();
 }
 
-/// The diary of a consumer on a lane follows from the place to which its path there has led.
+/// In a lawful world the diary of a consumer on a lane follows from the place to which its path there has led.
 pub fn places_tell_diaries()
     ensures diary { (plan : Plan) (h : WorldHistory) (c p : ℕ) (ks : List ℕ) (ns : List Note)
         (held : Option (List ObjectTurn)) → IsQuorumTable plan.claims.table → IsWorldLawful plan h

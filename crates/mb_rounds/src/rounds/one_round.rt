@@ -49,8 +49,8 @@ impl<A: Allocator + Clone + Drop + Send + Sync> Rounds<A> {
         ensures refused { OnErr result (self.new ≡ self.old) }
         ensures setup { self.new.setup ≡ self.old.setup }
 
-        // The oldest items went into a mailbox, and one assignment agrees with its report. What its ledgers have is
-        // given out, and the rest stays. Each worker, with this budget and these sources, put or polled until it was
+        // The oldest items went into a mailbox, and one assignment agrees with its report. What the ledgers have is
+        // given out, and the rest is carried. Each worker, with this budget and these sources, put or polled until it was
         // done or stopped. `worked` counts those that were stopped.
         ensures round { IfOk result (λ o. IsRound (G.may_stop gate.now) (G.may_pass gate.now)
             (terms_of self.old.setup budget (map R.stream sources.items)) self.old.carried

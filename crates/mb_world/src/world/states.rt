@@ -1,5 +1,5 @@
-//! The state of a world after one event. The functions compute nothing: their contracts are the laws that the calls of
-//! a world use. Their bodies name the laws that they use themselves.
+//! The state of a world after one event. The functions compute nothing: their contracts are laws, which the calls of a
+//! world or other laws here use. The body of each names the laws that it uses itself.
 ghost use Rattle.std.specs.Prelude.{ℕ, ◌≡◌, ◌≢◌, ◌<◌, List, [], ◌∷◌};
 ghost use Rattle.mb_claim.specs.declared.access.Stage.TheVariants as stage;
 ghost use Rattle.mb_claim.specs.declared.claim.Claim.{Claim};
@@ -110,7 +110,7 @@ pub(super) fn calls_leave_states()
         → SameSize s.pool pool
         → EventAdds (event.Finish p) (answer.Finished z) (with_pool pool s) h }
 
-    // If the producer's place refuses the call, the pool stays.
+    // If the producer's place refuses an offer or a finish, the pool stays.
     ensures offer_refused { (s : WorldState) (h : WorldHistory) (p x : ℕ) (r : Answer)
         (pool : PoolState) → IsWorldAfter h s → p < (plan_in s.setup).lanes
         → IsRefused (plan_in s.setup) (event.Offer p x) r h → OfferKeeps s.pool p pool
