@@ -40,7 +40,7 @@ abbrev pub fault_after : Result Worked WorkFault → RoundFault
 fault_after (Err work.NoThread) = NoThread
 fault_after worked = NoMemory
 
--- the items that notes say were taken
+-- the items that these notes say were taken
 abbrev pub taken_in : List Note → List ℕ
 taken_in notes = filter_map item_taken notes
 

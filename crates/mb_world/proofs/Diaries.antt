@@ -45,24 +45,24 @@ module _ (plan : Plan) (hs : Histories) (known : Known plan hs) where
   one_stage : (c k : ℕ) (s r : Stage) → Comes c k s → Comes c k r → s ≡ r
   one_stage c k s r = known.stage c (claim_part c k hs.claims) s r
 
-  -- a claim that goes on has ended as no note says
+  -- no note says how a claim that goes on has ended
   going_on : (c k : ℕ) → Comes c k stage.Going → (n : Note) → Ends c k n → ⊥
   going_on c k going (Took v) end = let e = one_stage c k stage.Going stage.Won going end.0 in cc
   going_on c k going (Lost w) end = let e = one_stage c k stage.Going (stage.Lost w) going end in cc
   going_on c k going Undecided end = let e = one_stage c k stage.Going stage.Undecided going end in cc
 
-  -- a claim that is won has ended as no note says, if its consumer has not loaded the item
+  -- no note says how a claim that is won has ended, if its consumer has not loaded the item
   not_taken : (c k : ℕ) → Comes c k stage.Won → ((v : ℕ) → HasRead (Item k) v (parts_of c hs).reads → ⊥)
       → (n : Note) → Ends c k n → ⊥
   not_taken c k won never (Took v) end = never v end.1
   not_taken c k won never (Lost w) end = let e = one_stage c k stage.Won (stage.Lost w) won end in cc
   not_taken c k won never Undecided end = let e = one_stage c k stage.Won stage.Undecided won end in cc
 
-  -- a claim with a step either has ended as some note says, or as none says
+  -- either some note says how a claim with a step has ended, or none does
   ended_or_not : (c k : ℕ) → claim_part c k hs.claims ≢ [] → ((n : Note) × Ends c k n) ⊎ ((n : Note) → Ends c k n → ⊥)
   ended_or_not c k some = let q = (known.claimant c k some).1 in by_stage q.0 q.1
     where
-      -- a claim of this stage either has ended as some note says, or as none says
+      -- either some note says how a claim of this stage has ended, or none does
       by_stage : (s : Stage) → Comes c k s → ((n : Note) × Ends c k n) ⊎ ((n : Note) → Ends c k n → ⊥)
       by_stage stage.Going q = inr (going_on c k q)
       by_stage stage.Won q = elim (read_or_not (parts_of c hs).reads (Item k)) [
@@ -144,7 +144,7 @@ module _ (plan : Plan) (hs : Histories) (known : Known plan hs) where
             let q = note_at (length diary.cells) n (slice_get-get_or d.notes (length diary.cells) Undecided more) in
             omega (arith, at_within diary.cells (length diary.cells) q.0 q.1)
 
-    -- a cell met whose claim has ended as no note says is the last one met, and there is a note for each cell before it
+    -- if no note says how the claim on a cell met has ended, it is the last cell met, and each cell before it has a note
     pub open_last : (j k : ℕ) → HasPosition diary.cells j k → ((n : Note) → Ends c k n → ⊥)
         → (length d.notes ≡ j) × (suc j ≡ length diary.cells)
     open_last j k at none = (omega (arith, not_more, no_less, last), last)

@@ -20,7 +20,7 @@ ends_length E [] (n ∷ ns) h = absurd h
 ends_length E (k ∷ ks) [] h = absurd h
 ends_length E (k ∷ ks) (n ∷ ns) h = ap suc (ends_length E ks ns h.1)
 
--- then E holds of the note at position j and the cell at position j, both counted from the oldest
+-- if `AreEnds` holds, so does E of the note at position j and the cell at position j, both counted from the oldest
 pub ends_at : (E : ℕ → Note → Type 0) (ks : List ℕ) (ns : List Note) (j : ℕ) (n : Note) → AreEnds E ks ns
     → slice_get (reverse ns) j ≡ Some n → (k : ℕ) × HasPosition ks j k × E k n
 ends_at E [] [] j n h e = absurd (cc)
@@ -46,7 +46,7 @@ gave-some (a ∷ d) k (inr g) = let q = gave-some d k g in (q.0, inr q.1, q.2)
 module _ (cs : Claims) (c : ℕ)
     (one_stage : (c : ℕ) (xs : List ObjectTurn) (s r : Stage) → IsClaimPrefix cs c xs s → IsClaimPrefix cs c xs r
     → s ≡ r) where
-  -- a claim that is held has ended as no note says
+  -- no note says how a claim that is held has ended
   open_end : (done : WorldHistory) (k : ℕ) (qs : List ℕ) (ns : List Note) (xs : List ObjectTurn) → IsOnceEach (k ∷ qs)
       → Tracks cs c done (k ∷ qs) ns (Some xs) → (n : Note) → EndsIn cs c done k n → ⊥
   open_end done k qs ns xs once y n e = by y.is_open.0 y.is_open.1 y.is_open.2 n e

@@ -91,7 +91,7 @@ no_silence lost d =
     let within : at.0 < 0 = d.all at.0 0 (Lost 0) (reverse_at d.cells at.0 0 at.1) lost in
     omega (arith, within)
 
--- the claim of consumer 1 on cell 1 goes on, so it has ended as no note says: the same steps have one stage
+-- the claim of consumer 1 on cell 1 goes on, so no note says how it has ended: the same steps have one stage
 no_end : (one_stage : (xs : List ObjectTurn) (s r : Stage) → IsClaimPrefix two_cells 1 xs s
     → IsClaimPrefix two_cells 1 xs r → s ≡ r)
     → IsClaimPrefix two_cells 1 (first_step ∷ []) stage.Going → (n : Note)

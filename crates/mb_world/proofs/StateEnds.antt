@@ -121,13 +121,13 @@ module _ (cs : Claims) where
   module _ (d j : ℕ) (h : WorldHistory)
       (one : (s r : Stage) → IsClaimPrefix cs d (claim_part d j (claim_accesses h)) s
       → IsClaimPrefix cs d (claim_part d j (claim_accesses h)) r → s ≡ r) where
-    -- a claim that goes on has ended as no note says
+    -- no note says how a claim that goes on has ended
     pub going_open : (n : Note) → IsClaimPrefix cs d (claim_part d j (claim_accesses h)) stage.Going → Ends h d j n → ⊥
     going_open (Took v) going e = let f = one stage.Going stage.Won going e.0 in cc
     going_open (Lost w) going e = let f = one stage.Going (stage.Lost w) going e in cc
     going_open Undecided going e = let f = one stage.Going stage.Undecided going e in cc
 
-    -- a claim that is won has ended as no note says before its item is loaded
+    -- no note says how a claim that is won has ended, if its consumer has not loaded the item
     pub won_open : (n : Note) → IsClaimPrefix cs d (claim_part d j (claim_accesses h)) stage.Won
         → ((v : ℕ) → HasItem h d j v → ⊥) → Ends h d j n → ⊥
     won_open (Took v) won unread e = unread v e.1

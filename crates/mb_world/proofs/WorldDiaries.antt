@@ -105,7 +105,7 @@ module _ (plan : Plan) (h : WorldHistory) (lawful : IsWorldLawful plan h) (known
         (ends_locally k n (at_has ks j k position) e) in
         omega (arith, less, length-reverse ns)
 
-    -- the path's claim is begun exactly if one of c's claims on these cells has an access and has ended as no note says
+    -- the path's claim is begun exactly if one of c's claims on these cells has an access and no note says how it ended
     begun_tells : (has_begun held ≡ true)
         ↔ ((k : ℕ) × Has ks k × (claim_part c k (claim_accesses h) ≢ []) × ((n : Note) → Ends k n → ⊥))
     begun_tells = (

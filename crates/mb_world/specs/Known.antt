@@ -25,7 +25,7 @@ pub record Known (plan : Plan) (hs : Histories) : Type 0 where
   pub chain : (q k : ℕ) → Gave k (part (Reader q) hs.pool) → (p : ℕ) × ((ks : List ℕ) × HasMet q p (k ∷ ks) hs.pool)
   -- a load of an item found the item of the cell
   pub item : (q k v : ℕ) → HasLoaded q (Item k) v hs.pool → v ≡ item_of k hs.pool
-  -- a reader that loaded the end mark past cells that it met on a lane has met all cells of the lane
+  -- if a reader loaded the end mark past these cells, which it met on a lane, they are all cells of the lane
   pub end : (q p : ℕ) (ks : List ℕ) → HasMet q p ks hs.pool → HasLoaded q (place_past p ks) END hs.pool
       → ks ≡ linked_cells p hs.pool
   -- a cell is linked in one lane, and once there

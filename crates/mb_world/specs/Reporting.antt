@@ -57,7 +57,7 @@ pub record IsDiaryOf (plan : Plan) (c p : ℕ) (hs : Histories) (d : DiaryView) 
   -- each claim of c on these cells that has ended as a note says has its note
   pub all : (j k : ℕ) (n : Note) → slice_get (reverse cells) j ≡ Some k →
       EndsAs plan.claims c k n (parts_of c hs) → j < length d.notes
-  -- the diary says that a claim is begun exactly if a claim of c on one of these cells has an access, but no end to note
+  -- the diary says that a claim is begun exactly if c's claim on one of these cells has an access, but no end with a note
   pub begun : (d.begun ≡ true) ↔
       ((k : ℕ) × Has cells k × ((parts_of c hs).claimed k ≢ [])
       × ((n : Note) → EndsAs plan.claims c k n (parts_of c hs) → ⊥))

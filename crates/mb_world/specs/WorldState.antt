@@ -44,7 +44,7 @@ pub record IsPlaceAfter (setup : Setup) (c p : ℕ) (h : WorldHistory) (d : Plac
   pub path : ConsumerPath (plan_in setup).claims c p (lane_part c p h) cells notes held
   pub is : IsPlaceAt (layout_of setup) c p cells held d
 
--- after a history, consumer c has this note on cell k, or none: it has note n exactly if its claim has ended as n says
+-- after a history, consumer c has this note on cell k, or none: it is n exactly if c's claim there has ended as n says
 abbrev pub IsNoteAfter : Setup → ℕ → ℕ → WorldHistory → Option Note → Type 0
 IsNoteAfter setup c k h o =
     (n : Note) → (o ≡ Some n) ↔ EndsAs (plan_in setup).claims c k n (parts_of c (histories_of h))

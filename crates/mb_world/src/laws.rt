@@ -253,7 +253,7 @@ pub fn events_are_refused_for_what_was_done()
 /// A producer's event that is not refused has an access that keeps the history lawful. So it is refused exactly if it
 /// has none. For steps, `World::apply` says so.
 pub fn events_of_producers_are_refused_or_made()
-    // The counter stays below 2^64, as the number of cells and lanes together is.
+    // The item is below 2^64, and so is the counter, as the number of cells and lanes together is.
     ensures offer { (plan : Plan) (h : WorldHistory) (p x : ℕ) → IsQuorumTable plan.claims.table
         → IsWorldLawful plan h → p < plan.lanes → x < 2 ^ 64
         → plan.claims.cells + plan.lanes < 2 ^ 64 → IsRefusedOrMade plan (event.Offer p x) h }

@@ -1,4 +1,4 @@
-//! A small sample world: what is done in it, and what is reported of it.
+//! A small sample world: what is done in it, what is reported of it, and what may be neither done nor reported.
 ghost use Rattle.std.specs.Prelude.{[], ◌∷◌, Some, None};
 ghost use Rattle.mb_claim.specs.declared.access.Stage.TheVariants as stage;
 ghost use Rattle.mb_world.specs.PathSamples.{first_step, two_cells};

@@ -33,7 +33,7 @@ fn steps_are_known()
 
 /// How a look of a consumer that holds no claim changes the state. It *looks* as it loads the link at its cursor.
 pub(super) fn looks_leave_states()
-    // The consumer stands before a link of the pool.
+    // The cursor of the consumer is at a head or a link of the pool.
     ensures within { (s : WorldState) (h : WorldHistory) (c p : ℕ) (at : Cursor)
         → IsWorldAfter h s → HasPlace c p (Before at) s → IsWithin at s.pool }
 
