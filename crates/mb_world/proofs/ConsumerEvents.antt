@@ -33,7 +33,7 @@ module _ (plan : Plan) (h : WorldHistory) (known : EventKnown plan h) (c p word 
       let same = one_lane_of (pool_accesses h) known.one_lane c c there.lane p a on made.1 in
       record { consumer = there.known; lane = subst (λ (q : ℕ). q < plan.lanes) same there.below }
 
-  -- a step that is refused has no access
+  -- a step that is refused has no access that keeps the history lawful
   pub step_never_both : (r : Answer) (a : WorldAccess) → IsRefused plan (event.Step c p word) r h → IsStep a
       → IsWorldLawful plan (a ∷ h) → ⊥
   step_never_both r a (inl (past, _)) made lawful = let i = inside a made lawful in omega (arith, past, i.lane)
@@ -82,7 +82,7 @@ module _ (plan : Plan) (h : WorldHistory) (known : EventKnown plan h) (c p word 
           (random a made_a.2 k x e ∙ sym (random b made_b.2 k y f)));
     }
 
-    -- two accesses for which the step asks are equal
+    -- two accesses for which the step asks, and which keep the history lawful, are equal
     pub one_step_access : a ≡ b
     one_step_access =
         let i = inside a made_a la in

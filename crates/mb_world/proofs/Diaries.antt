@@ -144,7 +144,7 @@ module _ (plan : Plan) (hs : Histories) (known : Known plan hs) where
             let q = note_at (length diary.cells) n (slice_get-get_or d.notes (length diary.cells) Undecided more) in
             omega (arith, at_within diary.cells (length diary.cells) q.0 q.1)
 
-    -- if no note says how the claim on a cell met has ended, it is the last cell met, and each cell before it has a note
+    -- if no note says how the claim on a cell met has ended, it is the last cell met, and those before it have notes
     pub open_last : (j k : ℕ) → HasPosition diary.cells j k → ((n : Note) → Ends c k n → ⊥)
         → (length d.notes ≡ j) × (suc j ≡ length diary.cells)
     open_last j k at none = (omega (arith, not_more, no_less, last), last)

@@ -22,7 +22,7 @@ module _ (plan : Plan) (h : WorldHistory) (known : EventKnown plan h) where
   one_access (event.Finish p) a b x_a la x_b lb = one_finish plan h known p a b x_a la x_b lb
   one_access (event.Step c p word) a b x_a la x_b lb = one_step_access plan h known c p word a b x_a la x_b lb
 
-  -- an event that is refused has no access
+  -- an event that is refused has no access that keeps the history lawful
   pub never_both : (e : Event) (r : Answer) (a : WorldAccess) → IsRefused plan e r h → IsAccessOf e a h
       → IsWorldLawful plan (a ∷ h) → ⊥
   never_both (event.Offer p x) r a refused made lawful = offer_never_both plan h known p x r a refused made lawful

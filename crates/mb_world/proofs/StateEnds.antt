@@ -74,7 +74,7 @@ module _ (cs : Claims) where
       this_load j is =
           subst (λ (l : History). HasRead (Item j) v l) (sym own_loads) (load c w v, inl refl, is, refl)
 
-      -- a load leaves the end of each claim as it was, except that of the consumer's claim whose item it loads
+      -- a load changes the end of no claim but the consumer's own on the cell whose item it loads
       pub load_keeps : (d j : ℕ) (n : Note) → (d ≡ c → w ≡ Item j → ⊥) → Ends h d j n ↔ Ends loaded d j n
       load_keeps d j (Took u) other = (
         λ e. (e.0, more_loads d j u e.1),

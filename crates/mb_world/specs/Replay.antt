@@ -100,7 +100,7 @@ IsRefused plan (event.Step c p word) r h =
     HasNoLane plan p r ⊎ ((p < plan.lanes) × (consumers_of plan ≤ c) × (r ≡ answer.NoConsumer))
 
 -- ---- the replay of a list of events
--- after a history, the event has this answer and this access, which keeps the history lawful, or it is refused
+-- after a history, the event has this answer: it has this access, which keeps the history lawful, or none and is refused
 abbrev pub HasAnswer : Plan → Event → Answer → Option WorldAccess → WorldHistory → Type 0
 HasAnswer plan e r None h = IsRefused plan e r h
 HasAnswer plan e r (Some a) h = IsAccessOf e a h × AnswerNames plan r a h × IsWorldLawful plan (a ∷ h)

@@ -152,7 +152,7 @@ pub fn places_tell_diaries()
     worlds_are_known();
 }
 
-/// A step returns that it found nothing exactly if there is nothing. That is: its consumer holds no claim on the lane
+/// A step's answer is that it found nothing exactly if there is nothing: its consumer holds no claim on the lane
 /// and has met all cells that are linked there, and the lane has not ended.
 pub fn nothing_is_exact()
     ensures { (plan : Plan) (h : WorldHistory) (c p word : ℕ) (r : Answer) (a : Option WorldAccess)

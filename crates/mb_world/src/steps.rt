@@ -1,4 +1,4 @@
-//! The laws of one more access, which a world and a mailbox for threads use. A world has one history
+//! The laws of one more access, which a world and a mailbox for threads use. A world has one history, which stays lawful
 //! ([`history_extends`]). A consumer among threads has two parts of its own, which fit ([`parts_fit_on`]). Its loads
 //! tell which cells it met ([`loads_meet_cells`]). The functions compute nothing: their contracts are the laws. Their
 //! proofs are in `proofs/steps/`, one folder for each. They use the lemmas of `proofs/`.

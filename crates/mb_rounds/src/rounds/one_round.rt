@@ -22,9 +22,9 @@ impl<A: Allocator + Clone + Drop + Send + Sync> Rounds<A> {
     ghost use Rattle.mb_rounds.specs.declared.rounds.RoundFault.TheVariants.{BadBudget, TooManySources};
 
     /// Runs one round over a mailbox of its own, with a thread for each producer of the setup and for each source of
-    /// random words. The oldest items carried are dealt, as many as the setup has cells. The call returns after all
-    /// threads have ended. It gives items out and runs none. What consumer c took is `taken[c]`, and is the caller's
-    /// from then on.
+    /// random words. The oldest items carried are dealt: as many as the setup has cells, or all if they are fewer. The
+    /// call returns after all threads have ended. It gives items out and runs none. What consumer c took is `taken[c]`,
+    /// and is the caller's from then on.
     ///
     /// `budget` is the most accesses of one poll, at least 1. Each worker asks the gate before each put or poll, and
     /// stops if it is not let through. Items that were not put or not taken are carried, in front of those that were
