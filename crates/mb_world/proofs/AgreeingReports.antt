@@ -8,7 +8,7 @@ use Rattle.mb_world.proofs.ReportLists.{no_diary, not_noted}
 use Rattle.mb_world.proofs.OneLaneReports.{agrees_on_lane}
 
 -- ---- consumer 0 has taken the item, and consumer 1 has lost it
--- the diaries of the report `taken_and_lost`. The lemmas below are the parts of `AgreesOnLane` for it, or help with one
+-- the diaries of the report `taken_and_lost`. The lemmas below are parts of `AgreesOnLane` for it, or help with one
 abbrev taken_diaries : List DiaryView
 taken_diaries = diary_of 0 (Took 5 ∷ []) false ∷ diary_of 1 (Lost 0 ∷ []) false ∷ []
 

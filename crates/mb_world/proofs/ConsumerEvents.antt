@@ -61,7 +61,7 @@ module _ (plan : Plan) (h : WorldHistory) (known : EventKnown plan h) (c p word 
         → v ≡ value_in w (pool_accesses h)
     loaded x lawful w v e = (subst (λ z. IsWorldLawful plan (z ∷ h)) e lawful).cells_memory.0
 
-    -- if an access that is a step of a claim keeps the history of the world lawful, so it does that of the claims
+    -- if a step of a claim keeps the history of the world lawful, it keeps that of the claims lawful, too
     claimed : (x : WorldAccess) → IsWorldLawful plan (x ∷ h) → (k : ℕ) (t : ObjectTurn) → x ≡ claim_step c k t
         → IsClaimLawful plan.claims (claim_access c k t ∷ claim_accesses h)
     claimed x lawful k t e =

@@ -94,7 +94,7 @@ pub record IsLossTo (t : Assignment) (c w p j : ℕ) (r : ReportView) : Type 0 w
   pub assigned : (t p j ≡ Some w) ⊎ (t p j ≡ None)  -- t gives it to w or to nobody
 
 pub record AreGiven (t : Assignment) (r : ReportView) : Type 0 where
-  -- README's point 1: an item is taken just by whom t gives it to, who competed. Its losses name one other consumer
+  -- README's point 1: c took an item exactly if t gives it to c, who competed. All losses of it name one other consumer
   pub taken : (c p j : ℕ) → HasTaken c p j r ↔ (t p j ≡ Some c)
   pub competitors : (c p j : ℕ) → t p j ≡ Some c → (j < length (items_put p r)) × HasCompeted c p j r
   pub losses : (c w p j : ℕ) → HasLostTo c w p j r → IsLossTo t c w p j r
