@@ -16,7 +16,7 @@ one x y = cond (nat_eq x y) 1 0
 pub times_both : (x : ℕ) (xs ys : List ℕ) → times x (xs ++ ys) ≡ times x xs + times x ys
 times_both x xs ys = sum_by-append (λ y. one x y) xs ys
 
--- a value x is in a list once if it is the first element y, and as often as it is in the rest of the list
+-- x is in a list as often as in its rest, and once more if x is the first element y
 pub times_first : (x y : ℕ) (ys : List ℕ) → times x (y ∷ ys) ≡ one x y + times x ys
 times_first x y ys = sum_by-cons (λ z. one x z) y ys
 

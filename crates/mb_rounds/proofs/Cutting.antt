@@ -28,7 +28,7 @@ dealt_more vs v back rest items n front behind before =
     ∙ ap (λ l. concat (lists_in vs) ++ l) ((λ i. front i ++ behind i) ∙ take-append-drop n rest)
     ∙ before
 
--- the last list has all items that remained, so none remains after it
+-- if k, the number of lists still to be cut, is 1, the list has all items that remained, so none remains after it
 pub last_has_all : (rest back : List ℕ) (k n : ℕ) → k ≡ 1 → n ≡ length rest / k → back ≡ drop n rest → length back ≡ 0
 last_has_all rest back k n one share behind =
     let whole = subst (λ z. n ≡ length rest / z) one share in

@@ -1,4 +1,4 @@
--- Lists that each have a fair share of the items: the whole number of items for each list, or one more.
+-- Lists that each have a fair share of the items: q, the items divided by the lists in whole numbers, or one more.
 use Rattle.std.proofs.Common.{◌≡◌, ◌∙◌, ◌+◌, ◌*◌, ◌/◌, ◌-◌, ◌<◌, ◌≤◌, ℕ, suc, List, inl, inr, length, take, ap, arith}
 use Rattle.std.proofs.Math.Nat.{add-mul, div-le_of_le-mul, div-mul-le_self, lt-div-mul-add, mul-add, mul-one, mul_comm, one-mul}
 use Rattle.std.proofs.lemmas.Bool.{cases_lt}
@@ -16,14 +16,14 @@ pub record HasShares (q k left : ℕ) : Type 0 where
   pub low : q * k ≤ left
   pub high : left ≤ k + q * k
 
--- if n items are dealt to k lists, the fair share q is n / k in whole numbers
+-- n items are enough for k lists of n / k items each, in whole numbers, and not too many
 pub shares_first : (n k : ℕ) → 0 < k → HasShares (n / k) k n
 shares_first n k some = record {
   low = div-mul-le_self n k;
   high = let below = lt-div-mul-add {a = n} {b = k} some in omega (arith, below);
 }
 
--- if the next list gets one k-th of the items that remain for k lists, in whole numbers, it has a fair share
+-- one k-th of the items that remain for k lists, in whole numbers, is a fair share: q items or one more
 pub share_of : (q k left : ℕ) → 0 < k → HasShares q k left → (q ≤ left / k) × (left / k ≤ 1 + q)
 share_of q k left some shares =
     let one = mul-add k 1 q in

@@ -1,4 +1,4 @@
--- What a run's producers put on each lane is what the report says was put there.
+-- What the report says was put on each lane is a beginning of the list dealt to its producer.
 use Rattle.std.proofs.Common.{◌≡◌, ℕ, zero, suc, ◌<◌, List, [], ◌∷◌, map, length, get_or, refl, sym, ap, subst, ◌∙◌, arith, Option, Some, None}
 use Rattle.std.specs.Prelude.{slice_get}
 use Rattle.std.specs.Option.{option_map_or}

@@ -1,4 +1,4 @@
--- What consumers took of one lane, and what is left of it, is what was put there.
+-- What consumers took of one lane and what is left of it are, together, what was put there.
 use Rattle.std.proofs.Common.{◌≡◌, ℕ, zero, suc, ◌+◌, ◌*◌, ◌<◌, ◌≤◌, Bool, true, false, List, [], length, refl, sym, ap, ◌∙◌, arith, Option, Some, None, ⊎_elim}
 use Rattle.std.proofs.lemmas.Bool.{false≢true}
 use Rattle.std.proofs.lemmas.Nat.{mul-le}

@@ -72,7 +72,7 @@ module _ {may_stop may_pass : Who → ℕ → Type 0} (terms : Terms) (lists : L
   abbrev consumers : List ConsumerEnd
   consumers = played.run.called.worked.consumers
 
-  -- if the report has no lane p, it has neither notes nor items of lane p
+  -- if the report has no lane p, it has no notes and no items of lane p, so as many of either
   past : (c p : ℕ) → length r.lanes ≤ p → length (notes c p r) ≡ length (items_put p r)
   past c p far = rw (le-ltb p (length r.lanes) far, slice_get_past r.lanes p far) refl
 

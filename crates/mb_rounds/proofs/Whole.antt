@@ -1,4 +1,4 @@
--- What a round gives out, and what is carried after it, is what was carried before it.
+-- What a round gives out and what is carried after it are, together, what was carried before it.
 use Rattle.std.proofs.Common.{◌≡◌, ℕ, zero, suc, ◌+◌, List, [], ◌∷◌, ◌++◌, length, refl, sym, ap, ◌∙◌, append-nil, append_assoc, arith, Some}
 use Rattle.std.proofs.lemmas.List.{drop_at}
 use Rattle.std.specs.Prelude.{drop, slice_get}
@@ -17,7 +17,7 @@ pub concat_push : (lists : List (List ℕ)) (list : List ℕ) → concat (lists 
 concat_push [] list = append-nil list
 concat_push (l ∷ lists) list = ap (λ z. l ++ z) (concat_push lists list) ∙ sym (append_assoc l (concat lists) list)
 
--- a consumer took x as often as it took it from each lane, added up over the first n lanes
+-- on the first n lanes a consumer took x as often as it did on each of these lanes, added up
 taken_adds_up : (x n c : ℕ) (r : ReportView) → times x (taken_below n c r) ≡ sum_below n (λ p. times x (ledger c p r))
 taken_adds_up x zero c r = refl
 taken_adds_up x (suc n) c r =

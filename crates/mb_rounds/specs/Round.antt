@@ -25,7 +25,7 @@ IsPutOf list lane = IsFront lane.put list
 pub record IsPlayed (may_stop may_pass : Who → ℕ → Type 0) (terms : Terms) (lists : List (List ℕ))
     (counts : Worked) (r : ReportView) : Type 0 where
   pub fronts : AllZip IsPutOf lists r.lanes
-  -- the history of the claims and that of the cells are lawful, and the report is that of these histories
+  -- the history of the claims and that of the cells are sound, and the report is that of these histories
   pub histories : Histories
   pub sound : AreSound terms.plan histories
   pub report : IsReportOf terms.plan histories r
@@ -40,7 +40,7 @@ abbrev pub fault_after : Result Worked WorkFault → RoundFault
 fault_after (Err work.NoThread) = NoThread
 fault_after worked = NoMemory
 
--- the items that notes say were taken
+-- the items that these notes say were taken
 abbrev pub taken_in : List Note → List ℕ
 taken_in notes = filter_map item_taken notes
 

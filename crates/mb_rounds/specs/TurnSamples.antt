@@ -1,4 +1,4 @@
--- A sample: a life of two rounds.
+-- A sample: what was handed in and given out in two rounds.
 use Rattle.std.specs.Prelude.{List, [], ◌∷◌}
 use Rattle.mb_rounds.specs.Turns.{Gave, HandedIn, Turn}
 

@@ -1,4 +1,4 @@
-//! Laws of rounds. The functions compute nothing: their contracts are the laws.
+//! A law of rounds, and samples of its definitions. The functions compute nothing: their contracts are law and samples.
 ghost use Rattle.std.specs.Prelude.{ℕ, ◌≡◌, ◌≤◌, ◌++◌, List, [], ◌∷◌};
 ghost use Rattle.mb_rounds.specs.Carried.{AreSameItems, times};
 ghost use Rattle.mb_rounds.specs.Round.{AreEven};

@@ -29,7 +29,7 @@ fn add_taken<A: Allocator + Drop>(items: &mut Vec<u64, A>, notes: &[Note]) -> Re
     Ok(())
 }
 
-/// What this consumer took, lane by lane.
+/// What this consumer took by the report, lane by lane.
 fn ledger<A: Allocator + Clone + Drop>(
     alloc: &A,
     report: &Report<A>,
@@ -50,7 +50,7 @@ fn ledger<A: Allocator + Clone + Drop>(
     Ok(items)
 }
 
-/// What each of the first `consumers` consumers took.
+/// What each of the first `consumers` consumers took by the report.
 pub(crate) fn ledgers<A: Allocator + Clone + Drop>(
     alloc: &A,
     report: &Report<A>,

@@ -6,7 +6,7 @@ ghost use Rattle.mb_rounds.specs.Round.{staying};
 use mb_world::Report;
 use std::alloc::{AllocError, Allocator};
 
-/// The items after the first `count`, or none if there are no more.
+/// The items after the first `count`, or none if there are at most `count`.
 fn after_first(items: &[u64], count: usize) -> &[u64]
     ensures { result.now ≡ drop count items.now }
 {

@@ -8,7 +8,7 @@ use Rattle.mb_world.proofs.ReportLists.{no_diary, not_noted}
 use Rattle.mb_world.proofs.OneLaneReports.{agrees_on_lane}
 
 -- ---- consumer 0 has taken the item, and consumer 1 has lost it
--- the diaries of the report `taken_and_lost`. The lemmas below are the parts of `AgreesOnLane` for it
+-- the diaries of the report `taken_and_lost`. The lemmas below are parts of `AgreesOnLane` for it, or help with one
 abbrev taken_diaries : List DiaryView
 taken_diaries = diary_of 0 (Took 5 ∷ []) false ∷ diary_of 1 (Lost 0 ∷ []) false ∷ []
 
@@ -25,7 +25,7 @@ taken_taken (suc zero) zero less = ((λ h. absurd (let e = h.1 in cc)), (λ e. a
 taken_taken (suc zero) (suc j) less = ((λ h. absurd (let e = h.1 in cc)), (λ e. absurd (cc)))
 taken_taken (suc (suc c)) j less = absurd (omega (arith, less))
 
--- only the item is given, and only to a consumer that competed for it
+-- no item but the one put is given, and it is given only to a consumer that competed for it
 taken_competitors : (c j : ℕ) → c < 2 → first_to 0 0 j ≡ Some c → (j < 1) × HasCompeted c 0 j taken_and_lost
 taken_competitors zero zero less e = (omega arith, inl (omega arith))
 taken_competitors (suc c) zero less e = absurd (cc)
@@ -86,7 +86,7 @@ taken_agrees = agrees_on_lane (first_to 0) (5 ∷ []) [] taken_diaries (record {
 })
 
 -- ---- consumer 1 has lost the item to 0, which has not loaded it yet
--- the diaries of the report `won_not_loaded`. The lemmas below are the parts of `AgreesOnLane` for it
+-- the diaries of the report `won_not_loaded`. The lemmas below are parts of `AgreesOnLane` for it, or help with one
 abbrev won_diaries : List DiaryView
 won_diaries = diary_of 0 [] true ∷ diary_of 1 (Lost 0 ∷ []) false ∷ []
 
@@ -118,7 +118,7 @@ won_losses (suc zero) (suc w) zero less e = absurd (cc)
 won_losses (suc zero) w (suc j) less e = absurd (cc)
 won_losses (suc (suc c)) w j less e = absurd (omega (arith, less))
 
--- each ledger is the share of its consumer, which is empty
+-- each ledger is the share of its consumer: both are empty
 won_ledgers : (c : ℕ) → c < 2 → ledger c 0 won_not_loaded ≡ share to_nobody c 0 won_not_loaded
 won_ledgers zero less = refl
 won_ledgers (suc zero) less = refl
@@ -136,7 +136,7 @@ won_begun zero less e = omega arith
 won_begun (suc zero) less e = absurd (cc)
 won_begun (suc (suc c)) less e = absurd (omega (arith, less))
 
--- the report agrees with the assignment that gives nothing
+-- the report agrees with the assignment that gives nothing to anybody
 pub won_agrees : AgreesWith to_nobody won_not_loaded
 won_agrees = agrees_on_lane to_nobody (5 ∷ []) (5 ∷ []) won_diaries (record {
   elsewhere = λ p j. refl;

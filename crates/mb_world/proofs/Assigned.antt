@@ -11,7 +11,7 @@ use Rattle.mb_world.specs.Agreement.{AgreesWith}
 use Rattle.mb_world.specs.Reporting.{is_taken, is_took}
 use Rattle.mb_world.proofs.Lists.{items_where-same, is_took-at, taken-items_where, last_below, last_below-at, last_below-some, last_below-none}
 
--- the winner that a note of consumer c names: c, if c took the item, or the consumer to which c lost it
+-- the winner that a note of consumer c names: c, if c took the item, the consumer to which c lost it, or none
 abbrev pub winner_named : ℕ → Note → Option ℕ
 winner_named c (Took x) = Some c
 winner_named c (Lost w) = Some w
@@ -19,12 +19,12 @@ winner_named c Undecided = None
 
 -- what must hold of the notes of a report of n consumers so that an assignment agrees with it
 pub record AreNotesRight (n : ℕ) (r : ReportView) : Type 0 where
-  -- a note of an item taken has the value that was put
+  -- a note that an item was taken has the item that was put at its position
   pub value : (c p j x : ℕ) → note c p j r ≡ Some (Took x) → slice_get (items_put p r) j ≡ Some x
   -- there are no more notes than items, and a begun claim is on an item
   pub within : (c p : ℕ) → length (notes c p r) ≤ length (items_put p r)
   pub begun_within : (c p : ℕ) → is_begun c p r ≡ true → length (notes c p r) < length (items_put p r)
-  -- two notes on one item name one winner
+  -- if two notes on one item both name a winner, they name the same one
   pub one : (c d p j : ℕ) (a b : Note) (v w : ℕ) → note c p j r ≡ Some a → note d p j r ≡ Some b
       → winner_named c a ≡ Some v → winner_named d b ≡ Some w → v ≡ w
   -- a loss names another consumer, which competed

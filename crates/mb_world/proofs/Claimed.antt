@@ -1,4 +1,4 @@
--- The parts of claims, access by access.
+-- The steps of a consumer on a cell (`claim_part`), and how one more access to the claims changes them.
 use Rattle.std.proofs.Common.{◌≡◌, ◌⊎◌, ℕ, List, ◌∷◌, refl, inl, inr}
 use Rattle.std.proofs.lemmas.Bool.{cases_eq, eq-eqb, ne_eqb}
 use Rattle.mb_world.specs.Imports.{ClaimAccess, claim_part}

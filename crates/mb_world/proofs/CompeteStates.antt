@@ -87,7 +87,7 @@ module _ (s : WorldState) (h : WorldHistory) (is : IsWorldAfter h s) (c p : ℕ)
       → IsClaimPrefix (plan s h is).claims c (claim_part c k (claim_accesses g)) r → z ≡ r
   one_stage g z r = known.world.stage c (claim_part c k (claim_accesses g)) z r
 
-  -- if the claim has not ended after the step, each claim has ended exactly if it had before, and in the same way
+  -- if after the step no note says how the claim has ended, each claim has ended as just the same notes say as before
   ends_stay : ((n : Note) → Ends (plan s h is).claims (a ∷ h) c k n → ⊥) → (e j : ℕ) (n : Note)
       → Ends (plan s h is).claims h e j n ↔ Ends (plan s h is).claims (a ∷ h) e j n
   ends_stay still e j n = by (cases_eq e c) (cases_eq j k)
@@ -144,13 +144,13 @@ module _ (s : WorldState) (h : WorldHistory) (is : IsWorldAfter h s) (c p : ℕ)
           are_notes;
     }
 
-    -- if the claim has not ended, the notes stay as they are
+    -- if no note says how the claim has ended, the event leaves the state with the notes as they were
     pub keeps_notes : ((n : Note) → Ends (plan s h is).claims (a ∷ h) c k n → ⊥)
         → EventAdds (event.Step c p word) (answer.Claimed k x.object x.turn.act r)
         (with_place c p d (record s { words = words })) h
     keeps_notes still = claim_adds s.notes is.notes_count (notes_kept s h is c p cs ps a adds (ends_stay still))
 
-    -- if the claim has ended as note n says, and as no other note says, then n is the one note that is written
+    -- if the claim has ended as note n says, and as no other note says, the event leaves the state with note n written
     pub sets_note : (n : Note) → Ends (plan s h is).claims (a ∷ h) c k n
         → ((m : Note) → Ends (plan s h is).claims (a ∷ h) c k m → n ≡ m)
         → EventAdds (event.Step c p word) (answer.Claimed k x.object x.turn.act r)

@@ -1,4 +1,4 @@
--- By the report a consumer competed for an item exactly if it has an access to the claim on the item's cell.
+-- By the report a consumer competed for an item exactly if it made an access to its claim on the item's cell.
 use Rattle.std.proofs.Common.{◌≡◌, ◌≢◌, ◌⊎◌, ◌↔◌, ℕ, ◌<◌, true, List, [], length, Some, sym, ◌∙◌, subst, inl, inr, get_or}
 use Rattle.std.specs.Prelude.{reverse, slice_get}
 use Rattle.std.proofs.lemmas.Option.{slice_get-get_or}
@@ -33,13 +33,13 @@ module _ (plan : Plan) (hs : Histories) (known : Known plan hs)
   on_lane : HasPosition (linked_cells p hs.pool) j k
   on_lane = at_reverse (linked_cells p hs.pool) j k here
 
-  -- a claim that has ended has an access
+  -- a claim whose stage is not `Going` has an access
   not_fresh : (i : ℕ) (s : Stage) → IsClaimPrefix plan.claims c (claim_part c i hs.claims) s → s ≢ stage.Going
       → claim_part c i hs.claims ≢ []
   not_fresh i s q over none =
       over (known.stage c [] s stage.Going (subst (λ xs. IsClaimPrefix plan.claims c xs s) none q) (fresh c cs))
 
-  -- a claim that has ended with a note has an access
+  -- a claim that has ended as some note says has an access
   end_made : (i : ℕ) (n : Note) → EndsAs plan.claims c i n (parts_of c hs) → claim_part c i hs.claims ≢ []
   end_made i (Took v) e = not_fresh i stage.Won e.0 (λ f. cc)
   end_made i (Lost w) e = not_fresh i (stage.Lost w) e (λ f. cc)
@@ -49,7 +49,7 @@ module _ (plan : Plan) (hs : Histories) (known : Known plan hs)
   cell_at : (i : ℕ) → HasPosition diary.cells j i → i ≡ k
   cell_at i at = at_one (linked_cells p hs.pool) j i k (placed plan hs known c p cs d diary j i at) on_lane
 
-  -- if consumer c competed for the item by its diary, it has an access to the claim on cell k
+  -- if consumer c competed for the item by its diary, it made an access to its claim on cell k
   has_access : (j < length d.notes) ⊎ ((length d.notes ≡ j) × (d.begun ≡ true)) → claim_part c k hs.claims ≢ []
   has_access (inl before) =
       let n = get_or d.notes j Undecided in
@@ -63,7 +63,7 @@ module _ (plan : Plan) (hs : Histories) (known : Known plan hs)
       subst (λ i. HasPosition diary.cells i q.0) (sym last.0 ∙ next.0) at.1 in
       subst (λ i. claim_part c i hs.claims ≢ []) (cell_at q.0 there) q.2
 
-  -- consumer c competed for the item by the report exactly if it has an access to the claim on cell k
+  -- consumer c competed for the item by the report exactly if it made an access to its claim on cell k
   pub competes : HasCompeted c p j r ↔ (claim_part c k hs.claims ≢ [])
   competes = (
     λ h. has_access (by h),

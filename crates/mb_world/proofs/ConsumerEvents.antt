@@ -33,7 +33,7 @@ module _ (plan : Plan) (h : WorldHistory) (known : EventKnown plan h) (c p word 
       let same = one_lane_of (pool_accesses h) known.one_lane c c there.lane p a on made.1 in
       record { consumer = there.known; lane = subst (λ (q : ℕ). q < plan.lanes) same there.below }
 
-  -- a step that is refused has no access
+  -- a step that is refused has no access that keeps the history lawful
   pub step_never_both : (r : Answer) (a : WorldAccess) → IsRefused plan (event.Step c p word) r h → IsStep a
       → IsWorldLawful plan (a ∷ h) → ⊥
   step_never_both r a (inl (past, _)) made lawful = let i = inside a made lawful in omega (arith, past, i.lane)
@@ -61,7 +61,7 @@ module _ (plan : Plan) (h : WorldHistory) (known : EventKnown plan h) (c p word 
         → v ≡ value_in w (pool_accesses h)
     loaded x lawful w v e = (subst (λ z. IsWorldLawful plan (z ∷ h)) e lawful).cells_memory.0
 
-    -- the history of the claims with the step is lawful
+    -- if a step of a claim keeps the history of the world lawful, it keeps that of the claims lawful, too
     claimed : (x : WorldAccess) → IsWorldLawful plan (x ∷ h) → (k : ℕ) (t : ObjectTurn) → x ≡ claim_step c k t
         → IsClaimLawful plan.claims (claim_access c k t ∷ claim_accesses h)
     claimed x lawful k t e =
@@ -71,7 +71,7 @@ module _ (plan : Plan) (h : WorldHistory) (known : EventKnown plan h) (c p word 
     random : (x : WorldAccess) → HasRandom word x → (k : ℕ) (t : ObjectTurn) → x ≡ claim_step c k t → t.turn.word ≡ word
     random x with_word k t e = subst (λ z. HasRandom word z) e with_word
 
-    -- two accesses for which the step asks load one value if they are of one word, and are one step if on one cell
+    -- two accesses for which the step asks find one value if both load one word, and are one step if on one cell
     alike : AreAlike plan.claims c p a b
     alike = record {
       loads = λ w v u e f. loaded a la w v e ∙ sym (loaded b lb w u f);
@@ -82,7 +82,7 @@ module _ (plan : Plan) (h : WorldHistory) (known : EventKnown plan h) (c p word 
           (random a made_a.2 k x e ∙ sym (random b made_b.2 k y f)));
     }
 
-    -- two accesses for which the step asks are equal
+    -- two accesses for which the step asks, and which keep the history lawful, are equal
     pub one_step_access : a ≡ b
     one_step_access =
         let i = inside a made_a la in

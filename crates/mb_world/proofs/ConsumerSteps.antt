@@ -1,4 +1,4 @@
--- One more access of a consumer in a lawful history of a world.
+-- One more access of a consumer, after which the history of a world stays lawful.
 use Rattle.std.proofs.Common.{◌≡◌, ◌⊎◌, ℕ, ◌<◌, Bool, true, false, cond, List, ◌∷◌, Option, Some, None, refl, sym, ◌∙◌, ap, subst, inl, inr, eq-eqb, eqb-true}
 use Rattle.std.specs.Prelude.{filter, nat_eq}
 use Rattle.std.proofs.lemmas.Bool.{and_parts, cases_Bool, cases_eq}
@@ -117,7 +117,7 @@ module _ (plan : Plan) (h : WorldHistory) (lawful : IsWorldLawful plan h)
       ap (λ (ls : List ℕ). filter (is_on c p ls) (a ∷ h)) (linked_same c p a h own)
       ∙ ap (λ (b : Bool). cond b (a ∷ lane_part c p h) (lane_part c p h)) on
 
-  -- the parts of other consumers, and those on other lanes, stay as they are
+  -- the parts of other consumers, and those of c on other lanes, stay as they are
   pub other_parts : (d q : ℕ) → ((d ≡ c) → (q ≡ p) → ⊥) → lane_part d q (a ∷ h) ≡ lane_part d q h
   other_parts d q other =
       ap (λ (ls : List ℕ). filter (is_on d q ls) (a ∷ h)) (linked_same c q a h own)
@@ -180,22 +180,22 @@ module _ (plan : Plan) (h : WorldHistory) (lawful : IsWorldLawful plan h)
         on = subst (λ (ls : List ℕ). is_on d y.lane ls x ≡ true) (sym (linked_same c y.lane a h own)) y.on;
       }
 
-  -- with one more access, values in the accesses to the cells are below 2^64, and each producer there has a lane
+  -- with one more access of c, true to memory, values in accesses to cells are below 2^64, and producers have lanes
   fits_cells : (b : WorldAccess) → IsBy c b → IsTrueTo b h → AllFit plan.lanes (pool_accesses (b ∷ h))
   fits_cells (ToCells b) by_c true_to = (true_to.0, subst (ProcessFits plan.lanes) (sym by_c) tt, lawful.cells_fit)
   fits_cells (ToClaims b) by_c true_to = lawful.cells_fit
 
-  -- with one more access, values and random words of the accesses to the claims are below 2^64
+  -- with one more access that is true to memory, values and random words of accesses to the claims are below 2^64
   fits_claims : (b : WorldAccess) → IsTrueTo b h → claim.AreInWords (claim_accesses (b ∷ h))
   fits_claims (ToCells b) true_to = lawful.claims_fit
   fits_claims (ToClaims b) true_to = (true_to.0, lawful.claims_fit)
 
-  -- with one more access, the accesses to the cells are true to memory
+  -- with one more access that is true to memory, all accesses to the cells are
   tells_cells : (b : WorldAccess) → IsTrueTo b h → memory.IsMemoryTrue (pool_accesses (b ∷ h))
   tells_cells (ToCells b) true_to = (true_to.1, lawful.cells_memory)
   tells_cells (ToClaims b) true_to = lawful.cells_memory
 
-  -- with one more access, the accesses to the claims are true to memory
+  -- with one more access that is true to memory, all accesses to the claims are
   tells_claims : (b : WorldAccess) → IsTrueTo b h → claim.IsMemoryTrue (claim_accesses (b ∷ h))
   tells_claims (ToCells b) true_to = lawful.claims_memory
   tells_claims (ToClaims b) true_to = (true_to.1, lawful.claims_memory)

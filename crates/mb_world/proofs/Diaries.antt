@@ -18,14 +18,14 @@ use Rattle.mb_world.proofs.Positions.{HasPosition, at_has, at_once, at_one, at_r
 use Rattle.mb_world.proofs.Loads.{met_link, read_or_not}
 use Rattle.mb_world.proofs.ReaderParts.{loaded-read, read-loaded}
 
--- as many values are put as cells are linked
+-- as many items are put on a lane as cells are linked there
 pub values_length : (p : ℕ) (pool : History) → length (values_put p pool) ≡ length (linked_cells p pool)
 values_length p pool =
     let items : ℕ → ℕ = λ k. item_of k pool in
     length-map (put_list p pool) (λ (e : Entry). e.value)
     ∙ (length-reverse (map (entry_of items) (linked_cells p pool)) ∙ length-map (linked_cells p pool) (entry_of items))
 
--- the value at position j of those put is the item of the cell linked at position j
+-- the item put at position j is the item of the cell linked at position j
 value_at : (p j k : ℕ) (pool : History) → HasPosition (linked_cells p pool) j k
     → slice_get (values_put p pool) j ≡ Some (item_of k pool)
 value_at p j k pool at =
@@ -45,24 +45,24 @@ module _ (plan : Plan) (hs : Histories) (known : Known plan hs) where
   one_stage : (c k : ℕ) (s r : Stage) → Comes c k s → Comes c k r → s ≡ r
   one_stage c k s r = known.stage c (claim_part c k hs.claims) s r
 
-  -- a claim that goes on has not ended
+  -- no note says how a claim that goes on has ended
   going_on : (c k : ℕ) → Comes c k stage.Going → (n : Note) → Ends c k n → ⊥
   going_on c k going (Took v) end = let e = one_stage c k stage.Going stage.Won going end.0 in cc
   going_on c k going (Lost w) end = let e = one_stage c k stage.Going (stage.Lost w) going end in cc
   going_on c k going Undecided end = let e = one_stage c k stage.Going stage.Undecided going end in cc
 
-  -- a claim that is won has ended as no note says, if its consumer has not loaded the item
+  -- no note says how a claim that is won has ended, if its consumer has not loaded the item
   not_taken : (c k : ℕ) → Comes c k stage.Won → ((v : ℕ) → HasRead (Item k) v (parts_of c hs).reads → ⊥)
       → (n : Note) → Ends c k n → ⊥
   not_taken c k won never (Took v) end = never v end.1
   not_taken c k won never (Lost w) end = let e = one_stage c k stage.Won (stage.Lost w) won end in cc
   not_taken c k won never Undecided end = let e = one_stage c k stage.Won stage.Undecided won end in cc
 
-  -- a claim with a step either has ended as some note says, or as none says
+  -- either some note says how a claim with a step has ended, or none does
   ended_or_not : (c k : ℕ) → claim_part c k hs.claims ≢ [] → ((n : Note) × Ends c k n) ⊎ ((n : Note) → Ends c k n → ⊥)
   ended_or_not c k some = let q = (known.claimant c k some).1 in by_stage q.0 q.1
     where
-      -- a claim of this stage either has ended as some note says, or as none says
+      -- either some note says how a claim of this stage has ended, or none does
       by_stage : (s : Stage) → Comes c k s → ((n : Note) × Ends c k n) ⊎ ((n : Note) → Ends c k n → ⊥)
       by_stage stage.Going q = inr (going_on c k q)
       by_stage stage.Won q = elim (read_or_not (parts_of c hs).reads (Item k)) [
@@ -72,7 +72,7 @@ module _ (plan : Plan) (hs : Histories) (known : Known plan hs) where
       by_stage (stage.Lost w) q = inl (Lost w, q)
       by_stage stage.Undecided q = inl (Undecided, q)
 
-  -- a consumer that loaded a cell's link has ended its claim there
+  -- if a consumer loaded a cell's link, its claim there has ended as some note says
   ended_past : (c k v : ℕ) → c < consumers_of plan → HasLoaded (hs.reader_of c) (Link k) v hs.pool
       → (n : Note) × Ends c k n
   ended_past c k v cs loaded = by_stage (fit.ended k v read).0 (fit.ended k v read).1 (fit.ended k v read).2
@@ -83,7 +83,7 @@ module _ (plan : Plan) (hs : Histories) (known : Known plan hs) where
       read : HasRead (Link k) v (parts_of c hs).reads
       read = read-loaded (hs.reader_of c) hs.pool (Link k) v loaded
 
-      -- a claim of this stage, which is not `Going`, has ended if the consumer loaded its cell's link
+      -- a claim of this stage, which is not `Going`, has ended as some note says, if its cell's link was loaded
       by_stage : (s : Stage) → Comes c k s → s ≢ stage.Going → (n : Note) × Ends c k n
       by_stage stage.Going q over = absurd (over refl)
       by_stage stage.Won q over = let item = fit.taken k v read q in (Took item.0, (q, item.1))
@@ -111,11 +111,11 @@ module _ (plan : Plan) (hs : Histories) (known : Known plan hs) where
         let s = known.start (hs.reader_of c) p diary.cells diary.met.met in
         omega (arith, ap length s.1, length-append s.0 diary.cells)
 
-    -- note j is the end of the claim on the cell that was met at position j
+    -- note j says how the claim on the cell that was met at position j has ended
     pub note_at : (j : ℕ) (n : Note) → slice_get d.notes j ≡ Some n → (k : ℕ) × HasPosition diary.cells j k × Ends c k n
     note_at j n e = let q = diary.notes j n e in (q.0, at_reverse diary.cells j q.0 q.1, q.2)
 
-    -- a claim that has ended has a note
+    -- a claim on a cell met that has ended as a note says has a note in the diary
     noted : (j k : ℕ) (n : Note) → HasPosition diary.cells j k → Ends c k n → j < length d.notes
     noted j k n at end = diary.all j k n (reverse_at diary.cells j k at) end
 
@@ -144,7 +144,7 @@ module _ (plan : Plan) (hs : Histories) (known : Known plan hs) where
             let q = note_at (length diary.cells) n (slice_get-get_or d.notes (length diary.cells) Undecided more) in
             omega (arith, at_within diary.cells (length diary.cells) q.0 q.1)
 
-    -- a cell met whose claim has not ended is the last one met, and the claims on all cells before it have notes
+    -- if no note says how the claim on a cell met has ended, it is the last cell met, and those before it have notes
     pub open_last : (j k : ℕ) → HasPosition diary.cells j k → ((n : Note) → Ends c k n → ⊥)
         → (length d.notes ≡ j) × (suc j ≡ length diary.cells)
     open_last j k at none = (omega (arith, not_more, no_less, last), last)
@@ -178,7 +178,7 @@ module _ (plan : Plan) (hs : Histories) (known : Known plan hs) where
       | inr none ↦ inr ((open_last j k at none).0, diary.begun.1 (k, at_has diary.cells j k at, some, none))
     ]
 
-    -- a note of an item taken has the value that was put at its position
+    -- a note that an item was taken has the item that was put at its position
     pub value_of : (j x : ℕ) → slice_get d.notes j ≡ Some (Took x) → slice_get (values_put p hs.pool) j ≡ Some x
     value_of j x e =
         let q = note_at j (Took x) e in

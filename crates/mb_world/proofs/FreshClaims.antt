@@ -1,4 +1,4 @@
--- A claim on some objects goes on before its first access.
+-- A claim on at least one object goes on before its first access, and which shapes give each cell an object.
 use Rattle.std.proofs.Common.{◌≢◌, ℕ, zero, suc, ◌<◌, ◌≤◌, Bool, true, false, List, [], ◌∷◌, ◌++◌, ◌≡◌, refl, inl, arith}
 use Rattle.std.proofs.lemmas.Bool.{false≢true}
 use Rattle.mb_quorum.specs.Quorum.{IsQuorumTable, QuorumTable}
@@ -17,7 +17,7 @@ goes_from : (t : QuorumTable) (kinds : List Kind) (c : ℕ) → kinds ≢ [] →
 goes_from t [] c some opens = absurd (some refl)
 goes_from t (kind ∷ kinds) c some opens = inl (record { turns = []; all = refl; going = opens kind; is = refl })
 
--- a claim of a consumer on a cell with objects goes on before its first access
+-- a claim on a cell with objects goes on before its first access, if the table and the objects keep their laws
 pub fresh_goes : (cs : Claims) → IsQuorumTable cs.table → ((o : Object) → IsQuorumTable o.table → IsDeciding o)
     → cs.kinds ≢ []
     → (c : ℕ) → c < cs.table.values → IsClaimPrefix cs c [] stage.Going

@@ -1,11 +1,11 @@
--- Grids: rows and columns in one list, row by row. No element of the grid changes, or one does.
+-- Grids: rows and columns in one list, row by row. What holds of all elements after none has changed, or one.
 use Rattle.std.proofs.Common.{◌≡◌, ◌⊎◌, ℕ, zero, suc, ◌+◌, ◌*◌, ◌<◌, List, [], ◌∷◌, length, Some, refl, sym, ◌∙◌, ap, subst, inl, inr, arith}
 use Rattle.std.specs.Prelude.{slice_get, slice_set}
 use Rattle.std.proofs.lemmas.Bool.{cases_eq}
 use Rattle.std.proofs.lemmas.Nat.{same_from_place}
 use Rattle.mb_world.proofs.NewWorlds.{position_within}
 
--- an element set at a position of a list is at that position
+-- an element set at a position within a list is at that position then
 pub get_set_same : {X : Type 0} (xs : List X) (i : ℕ) (x : X) → i < length xs → slice_get (slice_set xs i x) i ≡ Some x
 get_set_same [] i x less = absurd (omega arith)
 get_set_same (y ∷ xs) zero x less = refl

@@ -22,7 +22,7 @@ module _ (plan : Plan) (hs : Histories) (known : Known plan hs) where
   met_lane : (q p : ℕ) → HasMetEnd q p hs.pool → HasMetLane q p
   met_lane q p end = by_word end.0 end.1 end.2 end.3
     where
-      -- if the link past the cells met held the end mark, they are all cells of the lane
+      -- if the reader met these cells of the lane, and loaded the end mark past them, they are all cells of the lane
       met_all : (ks : List ℕ) → HasMet q p ks hs.pool → HasLoaded q (place_past p ks) END hs.pool → HasMetLane q p
       met_all ks met loaded =
           let all = known.end q p ks met loaded in

@@ -123,7 +123,7 @@ apart : (x : ℕ) (xs : List ℕ) → (Has xs x → ⊥) → AllByRecursion (λ 
 apart x [] none = tt
 apart x (y ∷ ys) none = (ne_eqb x y (λ e. none (inl (sym e))), apart x ys (λ has. none (inr has)))
 
--- a list that has each number once has distinct numbers, as the library says it
+-- if a list has each number once, the library's `IsDistinct` holds of it
 distinct : (xs : List ℕ) → IsOnceEach xs → IsDistinct eqb xs
 unfolding IsDistinct
 distinct [] once = tt
@@ -137,7 +137,7 @@ listed (x ∷ xs) q is = elim (cases_Bool (eqb q x)) [
   | inr other ↦ inr (listed xs q (sym (ap (λ b. b || list_any (eqb q) xs) other) ∙ is))
 ]
 
--- if one more cell is found, fewer cells were met before than the pool has
+-- if each cell of the lane is below n and linked once, fewer than n cells were met before a look finds one more
 pub walk_fits : (s : PoolState) (p k n : ℕ) (ks : List ℕ) (at : Cursor) → look_in at s ≡ look.Cell k → WalksOn s p ks at
     → (pool : History) → IsAfter pool s → IsOnceEach (linked_cells p pool)
     → ((i : ℕ) → Has (linked_cells p pool) i → i < n) → length ks < n

@@ -7,7 +7,7 @@ use Rattle.mb_world.specs.Plan.{Histories}
 use Rattle.mb_world.specs.Theorem.{HasCompeted, HasTaken, HasTakenOrLost, MainTheorem, ReportView, is_begun, items_put, note, notes}
 use Rattle.mb_world.specs.Agreement.{AreAllTaken, IsLeftBesideBegun}
 
--- the report agrees with one assignment, and has no undecided note
+-- the main theorem holds of the report, and no note is undecided
 module _ (hs : Histories) (r : ReportView) (main_theorem : MainTheorem hs.pool hs.reader_of r)
     (decided : (c p j : ℕ) → note c p j r ≢ Some Undecided) where
   -- if nobody took an item, and consumer d did not lose it, then d has no note on it

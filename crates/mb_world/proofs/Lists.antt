@@ -27,7 +27,7 @@ is_took-at (Some (Took x)) e = (x, refl)
 is_took-at (Some (Lost w)) e = absurd (cc)
 is_took-at (Some Undecided) e = absurd (cc)
 
--- the values in the notes of items taken are the items at the positions of these notes
+-- if each note of an item taken has the item at its position, the items of these notes are those at their positions
 pub taken-items_where : (ns : List Note) (xs : List ℕ) (f : ℕ → Bool) → length ns ≤ length xs
     → ((j : ℕ) → f j ≡ is_took (slice_get ns j))
     → ((j x : ℕ) → slice_get ns j ≡ Some (Took x) → slice_get xs j ≡ Some x)
@@ -63,7 +63,7 @@ pub last_below-at : (n : ℕ) (f : ℕ → Bool) (c : ℕ) → last_below n f �
 last_below-at zero f c e = absurd (cc)
 last_below-at (suc n) f c e = at_top n f c (last_below-at n f c) (f n) refl e
 
--- if one more number is tested and one of them passes, a number is found
+-- let a number be found below n if one passes there. Then one is found below n + 1 if one passes below n + 1
 some_top : (n : ℕ) (f : ℕ → Bool) (c : ℕ) → (c < n → (d : ℕ) × (last_below n f ≡ Some d)) → c < suc n → f c ≡ true
     → (b : Bool) → f n ≡ b → (d : ℕ) × (cond b (Some n) (last_below n f) ≡ Some d)
 some_top n f c below h e true k = (n, refl)

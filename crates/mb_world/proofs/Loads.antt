@@ -8,7 +8,7 @@ use Rattle.mb_world.specs.Fitting.{HasRead}
 use Rattle.mb_world.proofs.Positions.{HasPosition, at_within}
 use Rattle.mb_world.proofs.ReaderParts.{has_part}
 
--- who loaded a cell's link was given the cell
+-- a reader that loaded a cell's link was given the cell
 pub gave-link : (lanes : ℕ) (d : History) (a : PoolAccess) (k : ℕ) → IsReaderPath lanes d → Has d a → a.word ≡ Link k
     → Gave k d
 gave-link lanes [] a k path has w = absurd has
@@ -22,7 +22,7 @@ gave-gift [] a k has gift = absurd has
 gave-gift (b ∷ d) a k (inl e) gift = inl (subst (λ (x : PoolAccess). IsGift k x.word x.act) (sym e) gift)
 gave-gift (b ∷ d) a k (inr has) gift = inr (gave-gift d a k has gift)
 
--- a load of the link past cells that finds k + 1 gives cell k
+-- a load of the link past cells that finds k + 1, which is no end mark, gives cell k
 pub gift_past : (p : ℕ) (ks : List ℕ) (k : ℕ) → k + 1 ≢ END → IsGift k (place_past p ks) (Load (k + 1))
 gift_past p [] k ne = (refl, ne)
 gift_past p (j ∷ ks) k ne = (refl, ne)
@@ -57,7 +57,7 @@ IsTold w d = ((v : ℕ) × HasRead w v d) ⊎ ((v : ℕ) → HasRead w v d → �
 older_read : (b : PoolAccess) (d : History) (w : Word) → (v : ℕ) × HasRead w v d → (v : ℕ) × HasRead w v (b ∷ d)
 older_read b d w h = (h.0, (h.1.0, inr h.1.1, h.1.2, h.1.3))
 
--- if a word was loaded or was not, so it is after one more access that is no load of the word
+-- if `IsTold` holds of the older accesses, it holds with one more that is no load of the word
 other_access : (b : PoolAccess) (d : History) (w : Word) → ((u : ℕ) → b.word ≡ w → b.act ≡ Load u → ⊥) → IsTold w d
     → IsTold w (b ∷ d)
 other_access b d w other (inl h) = inl (older_read b d w h)
@@ -68,7 +68,7 @@ other_access b d w other (inr n) = inr (λ u h. none u h.0 h.1 h.2 h.3)
     none u a (inl e) ew ea = other u (ap (λ (y : PoolAccess). y.word) e ∙ ew) (ap (λ (y : PoolAccess). y.act) e ∙ ea)
     none u a (inr m) ew ea = n u (a, m, ew, ea)
 
--- if a word was loaded or was not, so it is after one more access to the word
+-- if `IsTold` holds of the older accesses, it holds with one more to the word
 by_act : (d : History) (b : PoolAccess) (w : Word) (x : PoolAct) → b.word ≡ w → b.act ≡ x → IsTold w d
     → IsTold w (b ∷ d)
 by_act d b w (Load v) same is rest = inl (v, (b, inl refl, same, is))
@@ -76,12 +76,12 @@ by_act d b w (Store v) same is rest = other_access b d w (λ u _ e. let f : Stor
 by_act d b w (FetchAdd x i) same is rest =
     other_access b d w (λ u _ e. let f : FetchAdd x i ≡ Load u = sym is ∙ e in cc) rest
 
--- each word was loaded or was not
+-- of each word either a value was loaded, or none was
 pub read_or_not : (d : History) (w : Word) → IsTold w d
 read_or_not [] w = inr (λ v h. h.1)
 read_or_not (b ∷ d) w = by_word (cases_Bool (is_same_word b.word w)) (read_or_not d w)
   where
-    -- the word was loaded or was not, whether or not the newest access is to it
+    -- `IsTold` holds with the newest access, whether or not that is to the word
     by_word : (is_same_word b.word w ≡ true) ⊎ (is_same_word b.word w ≡ false) → IsTold w d → IsTold w (b ∷ d)
     by_word (inl same) rest = by_act d b w b.act (is_same_word-eq b.word w same) refl rest
     by_word (inr other) rest = other_access b d w (λ u e _. differs e) rest

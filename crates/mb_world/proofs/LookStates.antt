@@ -118,7 +118,7 @@ module _ (s : WorldState) (h : WorldHistory) (is : IsWorldAfter h s) (c p : ℕ)
   abbrev a : WorldAccess
   a = loaded s h is c p cs ps known (word_of at) may
 
-  -- if the word holds i, and the path goes on with a load of i from the link past the cells met, this is that load
+  -- if the word holds i, a path that goes on with a load of i from the link past the cells met goes on with the load a
   on_link : (held : Option (List ObjectTurn)) (ks : List ℕ) (i : ℕ) → v ≡ i
       → ConsumerPath (plan s h is).claims c p (link_load c p at_link.cells i ∷ lane_part c p h) ks at_link.notes held
       → ConsumerPath (plan s h is).claims c p (a ∷ lane_part c p h) ks at_link.notes held

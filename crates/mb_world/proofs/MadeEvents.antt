@@ -1,4 +1,4 @@
--- A producer's event that its lane's place does not refuse has an access.
+-- A producer's event that the producer's place does not refuse has an access.
 use Rattle.std.proofs.Common.{◌≡◌, ◌<◌, ◌^◌, ℕ, ◌∷◌, Option, Some, None, refl, subst, inl, inr, arith}
 use Rattle.mb_cells.specs.declared.answer.Finish.TheVariants as finish
 use Rattle.mb_cells.specs.declared.answer.Push.TheVariants as push
@@ -26,7 +26,7 @@ module _ (plan : Plan) (h : WorldHistory) (p : ℕ) (ps : p < plan.lanes) (lane 
     -- ---- an offer that is not refused has an access
     module _ (x : ℕ) (xs : x < 2 ^ 64) (small : value_in Counter (pool_accesses h) < 2 ^ 64)
         (next : (e : Entry) → offer_refusal lane ≡ None → IsLanePrefix plan.claims.cells p (fetch p e ∷ done)) where
-      -- an offer is refused or made, by what the lane's place says
+      -- an offer is refused or made, by whether the producer's place refuses it
       by_offer : (z : Option _) → offer_refusal lane ≡ z → IsRefusedOrMade plan (event.Offer p x) h
       by_offer (Some why) e = inl (answer.Offered why, inr (ps, (lane, why, here, e, refl)))
       by_offer None e =
@@ -62,7 +62,7 @@ module _ (plan : Plan) (h : WorldHistory) (p : ℕ) (ps : p < plan.lanes) (lane 
       )
       pushed (Item k) v e word = (tt, (answer.Pushed (push.Item k), refl))
 
-      -- a push is refused or made, by what the lane's place says
+      -- a push is refused or made, by whether the producer's place names a store
       by_push : (z : Option (Word × ℕ)) → push_store p lane ≡ z → IsRefusedOrMade plan (event.Push p) h
       by_push None e = inl (answer.Pushed push.Idle, inr (ps, (lane, here, e, refl)))
       by_push (Some (w, v)) e =
@@ -87,7 +87,7 @@ module _ (plan : Plan) (h : WorldHistory) (p : ℕ) (ps : p < plan.lanes) (lane 
         link None = (tt, refl)
         link (Some k) = (tt, refl)
 
-        -- a finish is refused or made, by what the lane's place says
+        -- a finish is refused or made, by whether the producer's place refuses it
         by_finish : (z : Option _) → finish_refusal lane ≡ z → IsRefusedOrMade plan (event.Finish p) h
         by_finish (Some why) e = inl (answer.Finished why, inr (ps, (lane, why, here, e, refl)))
         by_finish None e =

@@ -100,7 +100,7 @@ module _ (q : ℕ) (h : History)
       (at_has (s.0 ++ cells_met p (part (Reader q) h)) at.0 k
       (at_start s.0 (cells_met p (part (Reader q) h)) at.0 k at.1))
 
-  -- the reader's part met each of these cells once
+  -- if each cell of the lane is linked there once, the reader's part met each once
   pub once_in : (p : ℕ) → IsOnceEach (linked_cells p h) → IsOnceEach (cells_met p (part (Reader q) h))
   once_in p once =
       let s = start p (cells_met p (part (Reader q) h)) (met_in q p h) in

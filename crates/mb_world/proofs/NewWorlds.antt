@@ -30,14 +30,14 @@ module _ (setup : Setup)
     (fresh : (c : ℕ) → c < consumers_of (plan_in setup) → IsClaimPrefix (plan_in setup).claims c [] stage.Going)
     (one_stage : (c : ℕ) (s r : Stage) → IsClaimPrefix (plan_in setup).claims c [] s
     → IsClaimPrefix (plan_in setup).claims c [] r → s ≡ r) where
-  -- no claim has ended
+  -- no note says how a claim has ended
   no_end : (c k : ℕ) → c < consumers_of (plan_in setup) → (n : Note)
       → EndsAs (plan_in setup).claims c k n (parts_of c (histories_of [])) → ⊥
   no_end c k cs (Took v) e = e.1.1
   no_end c k cs (Lost w) e = let d = one_stage c (stage.Lost w) stage.Going e (fresh c cs) in cc
   no_end c k cs Undecided e = let d = one_stage c stage.Undecided stage.Going e (fresh c cs) in cc
 
-  -- a world of zeros, with all consumers at the heads and without a note, is what the empty history leaves
+  -- a world whose words are all 0, with all consumers at the heads and without notes, is what the empty history leaves
   pub empty_after : (pool : PoolState) (words : List ℕ) (places : List Place) (notes : List (Option Note))
       → IsWorldLawful (plan_in setup) []
       → lane_count pool ≡ (plan_in setup).lanes → cell_count pool ≡ (plan_in setup).claims.cells

@@ -80,7 +80,7 @@ module _ (plan : Plan) (h : WorldHistory) (lawful : IsWorldLawful plan h) (known
       cc
 
   -- ---- if nothing is found, all cells were met and the lane has not ended
-  -- if the link past these cells holds 0, these are all cells of the lane, which has not ended
+  -- if the link past these first cells of the lane holds 0, they are all cells of the lane, which has not ended
   all_met : (ks : List ℕ) → IsStart ks (linked_cells p (pool_accesses h))
       → value_in (place_past p ks) (pool_accesses h) ≡ 0
       → (ks ≡ linked_cells p (pool_accesses h)) × (has_ended p (pool_accesses h) ≡ false)

@@ -46,7 +46,7 @@ module _ (t : Assignment) (xs ys : List ℕ) (ds : List DiaryView) where
     no_notes : (c p : ℕ) → diary c p r ≡ None → notes c p r ≡ []
     no_notes c p none = ap (λ (o : Option DiaryView). option_map_or (λ d. d.notes) o []) none
 
-    -- an item is taken exactly by the consumer to which it is given. This and the next lemmas go by `inside_or_not`
+    -- an item is taken exactly by the consumer to which it is given. This proof and some below go by `inside_or_not`
     taken : (c p j : ℕ) → HasTaken c p j r ↔ (t p j ≡ Some c)
     taken c p j = by p (inside_or_not c p)
       where
@@ -72,7 +72,7 @@ module _ (t : Assignment) (xs ys : List ℕ) (ds : List DiaryView) where
             ∙ sym (items_where-none (λ j. is_consumer c (t 0 j)) xs (λ j. not_given (t 0 j) c (out.1 j)))
         by (suc q) (inr out) = ap (filter_map item_taken) (no_notes c (suc q) out.0)
 
-    -- an item is given only to a consumer that competed for it
+    -- only items that were put are given, and only to consumers that competed for them
     competitors : (c p j : ℕ) → t p j ≡ Some c → (j < length (items_put p r)) × HasCompeted c p j r
     competitors c p j e = by p (inside_or_not c p) e
       where

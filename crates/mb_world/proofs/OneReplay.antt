@@ -1,4 +1,4 @@
--- A list of events has at most one replay.
+-- After a lawful history a list of events has at most one replay.
 use Rattle.std.proofs.Common.{◌≡◌, List, [], ◌∷◌, Option, Some, None, refl, sym, ◌∙◌, ap, ap₂, subst}
 use Rattle.mb_world.specs.declared.event.Answer.{Answer}
 use Rattle.mb_world.specs.declared.event.Answer.TheVariants as answer
@@ -22,7 +22,7 @@ module _ (plan : Plan) (h : WorldHistory) (known : EventKnown plan h) where
   one_access (event.Finish p) a b x_a la x_b lb = one_finish plan h known p a b x_a la x_b lb
   one_access (event.Step c p word) a b x_a la x_b lb = one_step_access plan h known c p word a b x_a la x_b lb
 
-  -- an event that is refused has no access
+  -- an event that is refused has no access that keeps the history lawful
   pub never_both : (e : Event) (r : Answer) (a : WorldAccess) → IsRefused plan e r h → IsAccessOf e a h
       → IsWorldLawful plan (a ∷ h) → ⊥
   never_both (event.Offer p x) r a refused made lawful = offer_never_both plan h known p x r a refused made lawful
@@ -72,7 +72,7 @@ module _ (plan : Plan) (known : (h : WorldHistory) → IsWorldLawful plan h → 
   replay_lawful (e ∷ es) (r ∷ rs) was now lawful (a, entry, rest) =
       replay_lawful es rs (with_access a was) now (lawful_on e r a was lawful entry) rest
 
-  -- events have at most one list of answers, and lead to at most one history
+  -- after a lawful history a list of events has at most one list of answers, and leads to at most one history
   pub one_replay : (es : List Event) (rs ss : List Answer) (was now then : WorldHistory) → IsWorldLawful plan was
       → IsReplay plan es rs was now → IsReplay plan es ss was then → (rs ≡ ss) × (now ≡ then)
   one_replay [] [] [] was now then lawful x y = (refl, x ∙ sym y)

@@ -1,4 +1,4 @@
--- Two histories, of the claims and of the pool, have one report.
+-- Two histories, of the claims and of the pool, have at most one report.
 use Rattle.std.proofs.Common.{◌≡◌, ◌+◌, ◌*◌, ◌/◌, ◌%◌, ◌<◌, ℕ, zero, suc, Bool, true, false, List, [], ◌∷◌, length, Some, None, refl, sym, ◌∙◌, ap, subst, arith, get_or}
 use Rattle.std.proofs.lemmas.Option.{slice_get-get_or, slice_get_within}
 use Rattle.std.proofs.Math.Nat.{div-lt_iff_lt-mul, mod-add-div, mod-lt}
@@ -58,7 +58,7 @@ module _ (plan : Plan) (hs : Histories) (known : Known plan hs) where
   abbrev Ends : ℕ → ℕ → Note → Type 0
   Ends c k n = EndsAs plan.claims c k n (parts_of c hs)
 
-  -- ---- a claim has one end
+  -- ---- a claim has at most one end
   -- a claim has one stage
   one_stage : (c k : ℕ) (s r : Stage) → HasStageIn plan.claims c k s (parts_of c hs)
       → HasStageIn plan.claims c k r (parts_of c hs) → s ≡ r
@@ -80,7 +80,7 @@ module _ (plan : Plan) (hs : Histories) (known : Known plan hs) where
   one_end c k Undecided (Lost z) x y = let e = one_stage c k stage.Undecided (stage.Lost z) x y in cc
   one_end c k Undecided Undecided x y = refl
 
-  -- ---- a consumer has one diary on a lane
+  -- ---- a consumer has at most one diary on a lane
   module _ (c p : ℕ) (cs : c < consumers_of plan) where
     -- if one diary has cell k at position j of the cells met, the other has it there, too
     same_at : (d e : DiaryView) (x : IsDiaryOf plan c p hs d) (y : IsDiaryOf plan c p hs e) (j k : ℕ)
@@ -118,8 +118,8 @@ module _ (plan : Plan) (hs : Histories) (known : Known plan hs) where
         let made : diary_of d.consumer d.lane d.notes d.begun ≡ diary_of e.consumer e.lane e.notes e.begun = cc in
         made
 
-  -- ---- there is one report
-  -- two reports have the same diaries
+  -- ---- there is at most one report
+  -- two reports of the same histories have the same diaries
   same_diary : (r s : ReportView) → IsReportOf plan hs r → IsReportOf plan hs s → StandsIn r.diaries s.diaries
   same_diary r s x y i d is =
       let less : i < consumers_of plan * plan.lanes =
@@ -138,7 +138,7 @@ module _ (plan : Plan) (hs : Histories) (known : Known plan hs) where
       let one = one_diary c p cs first.0 other.0 first.2 other.2 in
       ap (λ (j : ℕ). slice_get s.diaries j) (sym position) ∙ (other.1 ∙ ap Some (sym one ∙ same))
 
-  -- two reports with one list of diaries have the same lanes
+  -- two reports of the same histories, with one list of diaries and as many lanes, have the same lanes
   same_lane : (r s : ReportView) → r.diaries ≡ s.diaries → length r.lanes ≡ length s.lanes → IsReportOf plan hs r
       → IsReportOf plan hs s → StandsIn r.lanes s.lanes
   same_lane r s diaries lanes x y p l is =

@@ -13,14 +13,14 @@ use Rattle.mb_world.proofs.Tracks.{AreEnds, EndsIn, Tracks, ends_some}
 use mathlib.Core.List.{reverse-cons}
 
 -- ---- ends of claims along cells, and what was given
--- there are as many notes as cells
+-- if `AreEnds` holds of cells and notes, there are as many notes as cells
 pub ends_length : (E : ℕ → Note → Type 0) (ks : List ℕ) (ns : List Note) → AreEnds E ks ns → length ns ≡ length ks
 ends_length E [] [] h = refl
 ends_length E [] (n ∷ ns) h = absurd h
 ends_length E (k ∷ ks) [] h = absurd h
 ends_length E (k ∷ ks) (n ∷ ns) h = ap suc (ends_length E ks ns h.1)
 
--- the note at position j (the first first) is the note of the cell at position j: E holds of the two
+-- if `AreEnds` holds, so does E of the note at position j and the cell at position j, both counted from the oldest
 pub ends_at : (E : ℕ → Note → Type 0) (ks : List ℕ) (ns : List Note) (j : ℕ) (n : Note) → AreEnds E ks ns
     → slice_get (reverse ns) j ≡ Some n → (k : ℕ) × HasPosition ks j k × E k n
 ends_at E [] [] j n h e = absurd (cc)
@@ -46,7 +46,7 @@ gave-some (a ∷ d) k (inr g) = let q = gave-some d k g in (q.0, inr q.1, q.2)
 module _ (cs : Claims) (c : ℕ)
     (one_stage : (c : ℕ) (xs : List ObjectTurn) (s r : Stage) → IsClaimPrefix cs c xs s → IsClaimPrefix cs c xs r
     → s ≡ r) where
-  -- a claim that is held has not ended
+  -- no note says how a claim that is held has ended
   open_end : (done : WorldHistory) (k : ℕ) (qs : List ℕ) (ns : List Note) (xs : List ObjectTurn) → IsOnceEach (k ∷ qs)
       → Tracks cs c done (k ∷ qs) ns (Some xs) → (n : Note) → EndsIn cs c done k n → ⊥
   open_end done k qs ns xs once y n e = by y.is_open.0 y.is_open.1 y.is_open.2 n e
@@ -66,7 +66,7 @@ module _ (cs : Claims) (c : ℕ)
       by (stage.Lost u) q still m w = cc
       by stage.Undecided q still m w = cc
 
-  -- a claim on a cell met that has ended has its note
+  -- a claim on a cell met that has ended as a note says has its note
   pub noted_within : (done : WorldHistory) (ks : List ℕ) (ns : List Note) (held : Option (List ObjectTurn))
       → IsOnceEach ks → Tracks cs c done ks ns held
       → (j k : ℕ) (n : Note) → HasPosition ks j k → EndsIn cs c done k n → j < length ns
@@ -78,11 +78,11 @@ module _ (cs : Claims) (c : ℕ)
   noted_within done (q ∷ qs) ns (Some xs) once y j k n (inr at) e =
       omega (arith, at_within qs j k at, ends_length (EndsIn cs c done) qs ns y.ended)
 
-  -- cell k is one of these, consumer c has made steps of its claim there, and the claim has not ended
+  -- cell k is one of these, consumer c has made steps of its claim there, and no note says how the claim has ended
   abbrev pub IsOpenAt : WorldHistory → List ℕ → ℕ → Type 0
   IsOpenAt done ks k = Has ks k × (claim_part c k (claim_accesses done) ≢ []) × ((n : Note) → EndsIn cs c done k n → ⊥)
 
-  -- if a claim is begun, some claim with an access has not ended
+  -- if the claim that is held is begun, `IsOpenAt` holds of some cell
   pub begun_open : (done : WorldHistory) (ks : List ℕ) (ns : List Note) (held : Option (List ObjectTurn))
       → IsOnceEach ks → Tracks cs c done ks ns held
       → has_begun held ≡ true → (k : ℕ) × IsOpenAt done ks k
@@ -92,7 +92,7 @@ module _ (cs : Claims) (c : ℕ)
   begun_open done (q ∷ qs) ns (Some (x ∷ xs)) once y b =
       (q, (inl refl, (λ e. let d : x ∷ xs ≡ [] = sym y.is_held ∙ e in cc), open_end done q qs ns (x ∷ xs) once y))
 
-  -- if a claim with an access has not ended, a claim is begun
+  -- if `IsOpenAt` holds of some cell, a claim is held there and is begun
   pub open_begun : (done : WorldHistory) (ks : List ℕ) (ns : List Note) (held : Option (List ObjectTurn))
       → Tracks cs c done ks ns held
       → (k : ℕ) → IsOpenAt done ks k → has_begun held ≡ true

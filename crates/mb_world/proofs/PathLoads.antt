@@ -48,7 +48,7 @@ met_there p ks a older is at =
     ∙ ap (λ b. cond b (push_if (cell_given a.act) ks) ks)
     (subst (λ w. is_same_word w (place_past p ks) ≡ true) (sym at) (is_same_word-refl (place_past p ks)))
 
--- an access to another word meets no cell
+-- an access to another word than the link past the cells met, or the head if none was met, meets no cell
 pub met_elsewhere : (p : ℕ) (a : PoolAccess) (older : History)
     → is_same_word a.word (place_past p (cells_met p older)) ≡ false
     → cells_met p (a ∷ older) ≡ cells_met p older

@@ -1,4 +1,4 @@
--- Positions in lists that have the newest element first. They count from the right: the oldest is at position 0.
+-- Positions in lists. In lists with the newest element first they count from the right: the oldest is at position 0.
 use Rattle.std.proofs.Common.{◌≡◌, ◌⊎◌, ℕ, zero, suc, ◌<◌, List, [], ◌∷◌, ◌++◌, length, Some, refl, sym, ◌∙◌, ap, subst, inl, inr, arith}
 use Rattle.std.proofs.lemmas.Bool.{cases_lt}
 use Rattle.std.proofs.lemmas.List.{length-map, length-reverse}
@@ -100,7 +100,7 @@ pub at_start : (later ks : List ℕ) (j k : ℕ) → HasPosition ks j k → HasP
 at_start [] ks j k h = h
 at_start (x ∷ later) ks j k h = inr (at_start later ks j k h)
 
--- if a list has k at position j from the right, the list mapped by f has f of k there
+-- if a list has k at position j from the right, the list mapped by f and reversed has f of k there from the left
 pub mapped_at : {A : Type 0} (f : ℕ → A) (xs : List ℕ) (j k : ℕ) → HasPosition xs j k
     → slice_get (reverse (map f xs)) j ≡ Some (f k)
 mapped_at f [] j k h = absurd h

@@ -50,8 +50,8 @@ module _ (plan : Plan) (h : WorldHistory) (known : EventKnown plan h) (p : ℕ) 
       (eq-eqb p p refl))
       (lawful.producers p)
 
-  -- ---- offers have at most one access or one refusal
-  -- an offer has at most one access
+  -- ---- offers have at most one access and at most one refusal, and never both
+  -- an offer has at most one access that keeps the history lawful
   pub one_offer : (x : ℕ) (a b : WorldAccess) → IsAccessOf (event.Offer p x) a h → IsWorldLawful plan (a ∷ h)
       → IsAccessOf (event.Offer p x) b h → IsWorldLawful plan (b ∷ h) → a ≡ b
   one_offer x a b (n, is_a) la (m, is_b) lb =
@@ -64,7 +64,7 @@ module _ (plan : Plan) (h : WorldHistory) (known : EventKnown plan h) (p : ℕ) 
       (number n a is_a la ∙ sym (number m b is_b lb))
       ∙ sym is_b)
 
-  -- an offer that is refused has no access
+  -- an offer that is refused has no access that keeps the history lawful
   pub offer_never_both : (x : ℕ) (r : Answer) (a : WorldAccess) → IsRefused plan (event.Offer p x) r h
       → IsAccessOf (event.Offer p x) a h → IsWorldLawful plan (a ∷ h) → ⊥
   offer_never_both x r a refused (n, is_a) la = by refused
@@ -95,7 +95,7 @@ module _ (plan : Plan) (h : WorldHistory) (known : EventKnown plan h) (p : ℕ) 
       let one : why ≡ because = cc in
       e ∙ (ap answer.Offered one ∙ sym f)
 
-  -- ---- pushes and finishes have at most one access or one refusal
+  -- ---- pushes and finishes have at most one access and at most one refusal, and never both
   -- at each phase a push stores no end mark in a head or link
   no_mark_of : (link w : Word) (done : Phase) → PhaseFits plan.claims.cells done
       → stage_push_store link (stage_of done) ≡ stored w END
@@ -123,7 +123,7 @@ module _ (plan : Plan) (h : WorldHistory) (known : EventKnown plan h) (p : ℕ) 
       by None ne = ne refl
       by (Some k) ne = ne refl
 
-  -- a push has at most one access
+  -- a push has at most one access that keeps the history lawful
   pub one_push : (a b : WorldAccess) → IsAccessOf (event.Push p) a h → IsWorldLawful plan (a ∷ h)
       → IsAccessOf (event.Push p) b h → IsWorldLawful plan (b ∷ h) → a ≡ b
   one_push a b (w, v, push_a, is_a) la (u, x, push_b, is_b) lb =
@@ -147,7 +147,7 @@ module _ (plan : Plan) (h : WorldHistory) (known : EventKnown plan h) (p : ℕ) 
       same : stored w v ≡ stored u x
       same = sym (pushes w v a push_a is_a la) ∙ pushes u x b push_b is_b lb
 
-  -- a push that is refused has no access
+  -- a push that is refused has no access that keeps the history lawful
   pub push_never_both : (r : Answer) (a : WorldAccess) → IsRefused plan (event.Push p) r h
       → IsAccessOf (event.Push p) a h
       → IsWorldLawful plan (a ∷ h) → ⊥
@@ -170,7 +170,7 @@ module _ (plan : Plan) (h : WorldHistory) (known : EventKnown plan h) (p : ℕ) 
   push_refused_once r s (inr (ps, _)) (inl (past, _)) = absurd (omega (arith, past, ps))
   push_refused_once r s (inr (_, (lane, at, idle, e))) (inr (_, (other, there, still, f))) = e ∙ sym f
 
-  -- a finish has at most one access
+  -- a finish has at most one access that keeps the history lawful
   pub one_finish : (a b : WorldAccess) → IsAccessOf (event.Finish p) a h → IsWorldLawful plan (a ∷ h)
       → IsAccessOf (event.Finish p) b h → IsWorldLawful plan (b ∷ h) → a ≡ b
   one_finish a b (w, link_a, is_a) la (u, link_b, is_b) lb =
@@ -191,7 +191,7 @@ module _ (plan : Plan) (h : WorldHistory) (known : EventKnown plan h) (p : ℕ) 
             | inr mark ↦ mark.1.0
           ]
 
-  -- a finish that is refused has no access
+  -- a finish that is refused has no access that keeps the history lawful
   pub finish_never_both : (r : Answer) (a : WorldAccess) → IsRefused plan (event.Finish p) r h
       → IsAccessOf (event.Finish p) a h
       → IsWorldLawful plan (a ∷ h) → ⊥

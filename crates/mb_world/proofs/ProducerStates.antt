@@ -60,7 +60,7 @@ module _ (s : WorldState) (h : WorldHistory) (is : IsWorldAfter h s) (p : ℕ) (
         ap (λ (who : Process). cond (is_same_process (Reader d) who) (a ∷ part (Reader d) (pool_accesses h))
         (part (Reader d) (pool_accesses h))) maker
 
-    -- after the access each claim has ended exactly if it had before, and in the same way
+    -- after the access each claim has ended as just the same notes say as before
     ends_stay : (d j : ℕ) (n : Note) → Ends (plan s h is).claims h d j n
         ↔ Ends (plan s h is).claims (ToCells a ∷ h) d j n
     ends_stay d j (Took v) = (
@@ -163,7 +163,7 @@ module _ (s : WorldState) (h : WorldHistory) (is : IsWorldAfter h s) (p : ℕ) (
     pub pushed : IsPushed w v
     pub named : answer_to (plan s h is).claims.cells w (Store v) ≡ Some (answer.Pushed z)
 
-  -- a push makes a store of the number of a cell, plus one, in the lane's next link, and this answer names it
+  -- a push may store a cell's number plus one, no end mark, in the link past `last`, and `push.Link` names that store
   pushes_link : (last : Option ℕ) (cell : ℕ) → cell + 1 ≢ END → IsPush (link_after p last) (cell + 1) (push.Link cell)
   pushes_link last cell other = by last
     where
@@ -217,12 +217,12 @@ module _ (s : WorldState) (h : WorldHistory) (is : IsWorldAfter h s) (p : ℕ) (
       by lane.Open e t later = rests (ap (stage_push_store (next_link p lane_here)) e) t later
 
   -- ---- how finishes change the world
-  -- word w is a head or a link, and the answer to a store of the end mark there says that the lane is ended
+  -- word w is a head or a link, and the answer to a store of the end mark there says that the lane has ended
   record IsMark (w : Word) : Type 0 where
     pub link : IsLinkWord w
     pub named : answer_to (plan s h is).claims.cells w (Store END) ≡ Some (answer.Finished finish.Ended)
 
-  -- the lane's next link is a head or a link, and the answer to a store of the end mark there says that the lane is
+  -- the lane's next link is a head or a link, and the answer to a store of the end mark there says that the lane has
   -- ended
   marks : (last : Option ℕ) → IsMark (link_after p last)
   marks last = by last

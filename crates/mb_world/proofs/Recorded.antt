@@ -28,7 +28,7 @@ module _ (plan : Plan) (hs : Histories) (known : Known plan hs) where
   end_named c k (Lost u) w cs end e = (stage.Lost u, (cs, end), cc)
   end_named c k Undecided w cs end e = absurd (cc)
 
-  -- notes at one position of a lane name one winner
+  -- if two notes at one position of a lane both name a winner, they name the same one
   one_winner : (c d p j : ℕ) (x y : DiaryView) (n m : Note) (v w : ℕ) → c < consumers_of plan → d < consumers_of plan
       → Diary c p x → Diary d p y → slice_get x.notes j ≡ Some n → slice_get y.notes j ≡ Some m
       → winner_named c n ≡ Some v → winner_named d m ≡ Some w → v ≡ w
@@ -69,7 +69,7 @@ module _ (plan : Plan) (hs : Histories) (known : Known plan hs) where
     competed_in c p j cs ps (inr next) = inr
         (rw (notes_is plan hs r is c p cs ps) next.0, rw (begun_is plan hs r is c p cs ps) next.1)
 
-    -- a note that an item was taken has the value that was put
+    -- a note that an item was taken has the item that was put at its position
     value : (c p j x : ℕ) → note c p j r ≡ Some (Took x) → slice_get (items_put p r) j ≡ Some x
     value c p j x e =
         let i = note_in plan hs r is c p j (Took x) e in
@@ -120,7 +120,7 @@ module _ (plan : Plan) (hs : Histories) (known : Known plan hs) where
             let some = (known.winner a.0).competed c w (stage.Lost w) (i.0, a.2) refl in
             absurd (omega (arith, (known.claimant w a.0 some).0))
 
-    -- notes at one position of a lane name one winner
+    -- if two notes at one position of a lane both name a winner, they name the same one
     one : (c d p j : ℕ) (n m : Note) (u w : ℕ) → note c p j r ≡ Some n → note d p j r ≡ Some m
         → winner_named c n ≡ Some u → winner_named d m ≡ Some w → u ≡ w
     one c d p j n m u w e f en fm =

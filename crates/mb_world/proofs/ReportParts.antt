@@ -43,7 +43,7 @@ once_apart (x ∷ xs) ys k once (inl e) there =
 once_apart (x ∷ xs) ys k once (inr m) there = once_apart xs ys k once.1 m there
 
 -- ---- the cells that have notes
--- each cell in `closed` was met
+-- each cell in `closed`, the cells met whose claims have notes, was met
 pub closed_has : (ks : List ℕ) (z : Option (List ObjectTurn)) (k : ℕ) → Has (closed ks z) k → Has ks k
 closed_has ks None k has = has
 closed_has [] (Some xs) k has = absurd has

@@ -65,7 +65,7 @@ module _ (plan : Plan) (hs : Histories) (r : ReportView) (is : IsReportOf plan h
   pub inside : (c p : ℕ) → (diary c p r ≡ None → ⊥) → IsInside plan c p
   inside c p some = by_cases (cases_lt c (consumers_of plan)) (cases_lt p plan.lanes)
     where
-      -- if the mailbox lacks the consumer or the lane, there is no diary
+      -- the mailbox has the consumer and the lane: if it lacked one, there would be no diary
       by_cases : (c < consumers_of plan) ⊎ (consumers_of plan ≤ c) → (p < plan.lanes) ⊎ (plan.lanes ≤ p)
           → IsInside plan c p
       by_cases (inl cs) (inl ps) = (cs, ps)

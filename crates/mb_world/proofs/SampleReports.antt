@@ -68,7 +68,7 @@ no_item k v (a, inr (inr (inl e)), w, _) =
     let f : Head 0 ≡ Item k = subst (λ (b : PoolAccess). b.word ≡ Item k) (sym e) w in cc
 no_item k v (a, inr (inr (inr none)), w, _) = none
 
--- a diary that says that consumer 1 took an item is no diary of consumer 1
+-- a diary whose one note says that consumer 1 took an item is no diary of consumer 1
 not_taken : (p x : ℕ) → IsNoDiary 1 p (diary_with 1 p (Took x ∷ []))
 not_taken p x d = let n = d.notes 0 (Took x) refl in no_item n.0 x n.2.1
 
@@ -91,7 +91,7 @@ no_silence lost d =
     let within : at.0 < 0 = d.all at.0 0 (Lost 0) (reverse_at d.cells at.0 0 at.1) lost in
     omega (arith, within)
 
--- the claim of consumer 1 on cell 1 goes on, so it has not ended: the same steps have one stage
+-- the claim of consumer 1 on cell 1 goes on, so no note says how it has ended: the same steps have one stage
 no_end : (one_stage : (xs : List ObjectTurn) (s r : Stage) → IsClaimPrefix two_cells 1 xs s
     → IsClaimPrefix two_cells 1 xs r → s ≡ r)
     → IsClaimPrefix two_cells 1 (first_step ∷ []) stage.Going → (n : Note)
@@ -100,7 +100,7 @@ no_end one_stage goes (Took x) end = let e = one_stage (first_step ∷ []) stage
 no_end one_stage goes (Lost w) end = let e = one_stage (first_step ∷ []) stage.Going (stage.Lost w) goes end in cc
 no_end one_stage goes Undecided end = let e = one_stage (first_step ∷ []) stage.Going stage.Undecided goes end in cc
 
--- the claim of consumer 1 on cell 1 has an access and has not ended, so the diary on lane 1 must say that it is begun
+-- the claim of consumer 1 on cell 1 has an access and goes on, so the diary on lane 1 must say that a claim is begun
 pub no_rest : (one_stage : (xs : List ObjectTurn) (s r : Stage) → IsClaimPrefix two_cells 1 xs s
     → IsClaimPrefix two_cells 1 xs r → s ≡ r)
     → IsClaimPrefix two_cells 1 (first_step ∷ []) stage.Going → IsNoDiary 1 1 claim_missing

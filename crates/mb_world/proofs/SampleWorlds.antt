@@ -72,7 +72,7 @@ module _ (laws : Laws) where
             subst (λ (l : WorldHistory). ConsumerPath two_cells c p l (k ∷ ks) ns (Some (x ∷ xs))) (sym adds.own) next;
       }
 
-  -- if some steps are a prefix of a claim path of consumer c, its claim goes on before the first of them
+  -- if steps are a prefix of a claim path of c (without steps: one that goes on), its claim goes on before them
   none_yet : (c : ℕ) (xs : List ObjectTurn) (s : Stage) → IsClaimPrefix two_cells c xs s → (xs ≡ [] → s ≡ stage.Going)
       → IsClaimPrefix two_cells c [] stage.Going
   none_yet c [] s q is = subst (λ r. IsClaimPrefix two_cells c [] r) (is refl) q

@@ -74,7 +74,7 @@ module _ (cs : Claims) where
       this_load j is =
           subst (λ (l : History). HasRead (Item j) v l) (sym own_loads) (load c w v, inl refl, is, refl)
 
-      -- a load leaves the end of each claim as it was, except that of the consumer's claim whose item it loads
+      -- a load changes the end of no claim but the consumer's own on the cell whose item it loads
       pub load_keeps : (d j : ℕ) (n : Note) → (d ≡ c → w ≡ Item j → ⊥) → Ends h d j n ↔ Ends loaded d j n
       load_keeps d j (Took u) other = (
         λ e. (e.0, more_loads d j u e.1),
@@ -89,7 +89,7 @@ module _ (cs : Claims) where
       abbrev stepped : WorldHistory
       stepped = claim_step c k x ∷ h
 
-      -- the steps of other consumers and on other cells stay as they are
+      -- the steps of other consumers, and those of c on other cells, stay as they are
       other_part : (d j : ℕ) → (d ≡ c → j ≡ k → ⊥)
           → claim_part d j (claim_accesses stepped) ≡ claim_part d j (claim_accesses h)
       other_part d j other = by (cases_eq c d)
@@ -121,13 +121,13 @@ module _ (cs : Claims) where
   module _ (d j : ℕ) (h : WorldHistory)
       (one : (s r : Stage) → IsClaimPrefix cs d (claim_part d j (claim_accesses h)) s
       → IsClaimPrefix cs d (claim_part d j (claim_accesses h)) r → s ≡ r) where
-    -- a claim that goes on has not ended
+    -- no note says how a claim that goes on has ended
     pub going_open : (n : Note) → IsClaimPrefix cs d (claim_part d j (claim_accesses h)) stage.Going → Ends h d j n → ⊥
     going_open (Took v) going e = let f = one stage.Going stage.Won going e.0 in cc
     going_open (Lost w) going e = let f = one stage.Going (stage.Lost w) going e in cc
     going_open Undecided going e = let f = one stage.Going stage.Undecided going e in cc
 
-    -- a claim that is won has not ended before its item is loaded
+    -- no note says how a claim that is won has ended, if its consumer has not loaded the item
     pub won_open : (n : Note) → IsClaimPrefix cs d (claim_part d j (claim_accesses h)) stage.Won
         → ((v : ℕ) → HasItem h d j v → ⊥) → Ends h d j n → ⊥
     won_open (Took v) won unread e = unread v e.1

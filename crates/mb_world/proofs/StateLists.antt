@@ -49,7 +49,7 @@ grid_more P w c p xs y ps count each here e q qs less = elim (cases_lt (e * w + 
       )
 ]
 
--- if the state tells the diaries before consumer c and lane p, and this one, it tells one more of them
+-- if the state tells the diaries before that of consumer c on lane p, and this one of c on p, it tells them all
 pub diaries_more : (s : WorldState) (c p : ℕ) (d : DiaryView) (ds : List DiaryView) → p < (plan_in s.setup).lanes
     → AreDiariesTold s (c * (plan_in s.setup).lanes + p) ds → IsDiaryTold s c p d
     → AreDiariesTold s (c * (plan_in s.setup).lanes + (p + 1)) (ds ++ d ∷ [])

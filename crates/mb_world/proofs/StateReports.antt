@@ -40,17 +40,17 @@ module _ (s : WorldState) (h : WorldHistory) (is : IsWorldAfter h s) (known : Wo
     walk_is p ks over w = sym (w (pool_accesses h) is.pool).cells ∙ put_cells p (pool_accesses h)
 
     -- ---- the note of a cell is the end of the claim there
-    -- if a claim has ended, the state has its note
+    -- if a claim has ended as a note says, the state has this note
     note_of_end : (c k : ℕ) (n : Note) → c < consumers_of plan → k < plan.claims.cells → Ends c k n
         → note_on s c k ≡ Some n
     note_of_end c k n cs less e = let q = is.note c k cs less in ap note_there q.1 ∙ (q.2 n).1 e
 
-    -- each note of the state is the end of the claim there
+    -- each note of the state says how the claim there has ended
     end_of_note : (c k : ℕ) (n : Note) → c < consumers_of plan → k < plan.claims.cells → note_on s c k ≡ Some n
         → Ends c k n
     end_of_note c k n cs less e = let q = is.note c k cs less in (q.2 n).0 (sym (ap note_there q.1) ∙ e)
 
-    -- a claim that has ended has an access
+    -- a claim that has ended as a note says has an access
     end_some : (c k : ℕ) (n : Note) → c < consumers_of plan → Ends c k n → claim_part c k (claim_accesses h) ≢ []
     end_some c k n cs e none = by n e
       where
@@ -74,7 +74,7 @@ module _ (s : WorldState) (h : WorldHistory) (is : IsWorldAfter h s) (known : Wo
       abbrev here : IsOnPath plan c p h
       here = record { cells = at.cells; notes = at.notes; held = at.held; path = at.path }
 
-      -- the cells that the consumer met and whose claims have ended
+      -- the cells that the consumer met and whose claims have notes
       abbrev with_notes : List ℕ
       with_notes = closed at.cells at.held
 
@@ -99,7 +99,7 @@ module _ (s : WorldState) (h : WorldHistory) (is : IsWorldAfter h s) (known : Wo
           let start = known.start c p at.cells (met_all plan h is.lawful known c p here) in
           closed_cut at.cells at.held start.0 (linked p) start.1
 
-      -- a cell of the lane on which the consumer's claim has ended is in `with_notes`
+      -- a cell of the lane on which the consumer's claim has ended as a note says is in `with_notes`
       ended_here : (k : ℕ) (n : Note) → Has (linked p) k → Ends c k n → Has with_notes k
       ended_here k n has e =
           let gave = (sound.fit c cs).met k (end_some c k n cs e) in

@@ -157,7 +157,7 @@ module _ (s : WorldState) (h : WorldHistory) (is : IsWorldAfter h s) where
       notes_count = length-set s.notes (note_position c k) (Some n) ∙ is.notes_count
 
     -- ---- the state after the access
-    -- if its words, places and notes are right after the access, this state is what the longer history leaves
+    -- if its pool, words, places and notes are right after the access, this state is what the longer history leaves
     pub state_after : (words : List ℕ) (places : List Place) (notes : List (Option Note))
         → IsAfter (pool_accesses (a ∷ h)) s.pool → IsMemoryOf plan.claims words (claim_accesses (a ∷ h))
         → length places ≡ consumers_of plan * plan.lanes → ArePlaces (a ∷ h) places

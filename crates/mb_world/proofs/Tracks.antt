@@ -19,13 +19,13 @@ local c done = record { reads = pool_accesses done; claimed = λ k. claim_part c
 abbrev pub EndsIn : Claims → ℕ → WorldHistory → ℕ → Note → Type 0
 EndsIn cs c done k n = EndsAs cs c k n (local c done)
 
--- the cells met whose claims have ended: all of them, or all but the last if a claim is held
+-- the cells met whose claims have notes: all cells met, or all but the last if a claim is held
 abbrev pub closed : List ℕ → Option (List ObjectTurn) → List ℕ
 closed ks None = ks
 closed [] (Some xs) = []
 closed (k ∷ ks) (Some xs) = ks
 
--- if a claim is held, its steps are all that consumer c made on the last cell met
+-- if a claim is held, some cell was met, and the steps of the claim are all that consumer c made on the last one met
 abbrev pub IsHeld : ℕ → WorldHistory → List ℕ → Option (List ObjectTurn) → Type 0
 IsHeld c done ks None = Unit {0}
 IsHeld c done [] (Some xs) = ⊥
@@ -99,7 +99,7 @@ pub record Tracks (cs : Claims) (c : ℕ) (done : WorldHistory) (ks : List ℕ) 
   -- an item was loaded only if the claim there is won
   pub won : (k v : ℕ) → HasRead (Item k) v (pool_accesses done)
       → IsClaimPrefix cs c (claim_part c k (claim_accesses done)) stage.Won
-  -- items and links were loaded only of cells whose claims have ended
+  -- items and links were loaded only of cells whose claims have notes
   pub items : (k v : ℕ) → HasRead (Item k) v (pool_accesses done) → Has (closed ks held) k
   pub links : (k v : ℕ) → HasRead (Link k) v (pool_accesses done) → Has (closed ks held) k
 

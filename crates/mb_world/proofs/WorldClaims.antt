@@ -34,7 +34,7 @@ module _ (plan : Plan) (h : WorldHistory) (lawful : IsWorldLawful plan h) (known
       let at = has_at y.cells k has in
       subst (λ (ls : List ℕ). Has ls k) s.1 (at_has (s.0 ++ y.cells) at.0 k (at_start s.0 y.cells at.0 k at.1))
 
-  -- the cells met are met once each
+  -- each cell met was met once
   pub met_once : (c p : ℕ) (y : IsOnPath plan c p h) → IsOnceEach y.cells
   met_once c p y =
       let s = known.start c p y.cells (met_all c p y) in
@@ -85,7 +85,7 @@ module _ (plan : Plan) (h : WorldHistory) (lawful : IsWorldLawful plan h) (known
         );
   }
 
-  -- if a claim has ended by the consumer's part on the cell's lane, it has ended so by all that the consumer did
+  -- if a claim has ended as a note says by the consumer's part on the cell's lane, it has by all that the consumer did
   pub end_here : (c p k : ℕ) (n : Note) → has_cell (linked_cells p (pool_accesses h)) k ≡ true
       → EndsIn plan.claims c (lane_part c p h) k n → EndsAs plan.claims c k n (parts_of c (histories_of h))
   end_here c p k (Took v) here e = (

@@ -16,7 +16,7 @@ use Rattle.mb_world.proofs.Tracks.{EndsIn, Tracks, closed}
 use Rattle.mb_world.proofs.WorldClaims.{end_here, met_all, met_once, on_lane, steps_there, tracks}
 use Rattle.mb_world.proofs.WorldPool.{load_lane, loads, loads_on, of_lane, on_word, read_there}
 
--- a cell among those whose claims have ended is one of those met, at the same position
+-- a cell in `closed`, those of the cells met whose claims have notes, has the same position among the cells met
 closed_in : (qs : List ℕ) (z : Option (List ObjectTurn)) (j k : ℕ) → HasPosition (closed qs z) j k → HasPosition qs j k
 closed_in qs None j k at = at
 closed_in [] (Some xs) j k at = at
@@ -58,7 +58,7 @@ module _ (plan : Plan) (h : WorldHistory) (lawful : IsWorldLawful plan h) (known
     tracks_here : Tracks plan.claims c (lane_part c p h) ks ns held
     tracks_here = tracks plan h lawful known c p here
 
-    -- the cells met are met once each
+    -- each cell met was met once
     once_here : IsOnceEach ks
     once_here = met_once plan h lawful known c p here
 
@@ -71,11 +71,11 @@ module _ (plan : Plan) (h : WorldHistory) (lawful : IsWorldLawful plan h) (known
         → claim_part c k (claim_accesses (lane_part c p h)) ≡ claim_part c k (claim_accesses h)
     same_steps k has = steps_there plan h lawful known c p k (cell_here k has)
 
-    -- if a claim on a cell met has ended by the part on the lane, it has ended so by all that the consumer did
+    -- if a claim on a cell met has ended as the note says by the part on the lane, it has by all that the consumer did
     ends_globally : (k : ℕ) (n : Note) → Has ks k → EndsHere k n → Ends k n
     ends_globally k n has e = end_here plan h lawful known c p k n (cell_here k has) e
 
-    -- if a claim on a cell met has ended by all that the consumer did, it has ended so by the part on the lane
+    -- if a claim on a cell met has ended as the note says by all that the consumer did, it has by the part on the lane
     ends_locally : (k : ℕ) (n : Note) → Has ks k → Ends k n → EndsHere k n
     ends_locally k (Took v) has e = (
       subst (λ xs. IsClaimPrefix plan.claims c xs stage.Won) (sym (same_steps k has)) e.0,
@@ -88,7 +88,7 @@ module _ (plan : Plan) (h : WorldHistory) (lawful : IsWorldLawful plan h) (known
     ends_locally k Undecided has e =
         subst (λ xs. IsClaimPrefix plan.claims c xs stage.Undecided) (sym (same_steps k has)) e
 
-    -- each note is the end of the claim on the cell at its position
+    -- each note says how the claim on the cell at its position has ended
     notes_tell : (j : ℕ) (n : Note) → slice_get (reverse ns) j ≡ Some n
         → (k : ℕ) × (slice_get (reverse ks) j ≡ Some k) × Ends k n
     notes_tell j n e =
@@ -96,7 +96,7 @@ module _ (plan : Plan) (h : WorldHistory) (lawful : IsWorldLawful plan h) (known
         let at = closed_in ks held j q.0 q.1 in
         (q.0, reverse_at ks j q.0 at, ends_globally q.0 n (at_has ks j q.0 at) q.2)
 
-    -- a claim on a cell met that has ended has its note
+    -- a claim on a cell met that has ended as a note says has its note
     pub ended_within : (j k : ℕ) (n : Note) → slice_get (reverse ks) j ≡ Some k → Ends k n → j < length (reverse ns)
     ended_within j k n at e =
         let position = at_reverse ks j k at in
@@ -105,7 +105,7 @@ module _ (plan : Plan) (h : WorldHistory) (lawful : IsWorldLawful plan h) (known
         (ends_locally k n (at_has ks j k position) e) in
         omega (arith, less, length-reverse ns)
 
-    -- the path's claim is begun exactly if one of the consumer's claims on these cells has an access and has not ended
+    -- the path's claim is begun exactly if one of c's claims on these cells has an access and no note says how it ended
     begun_tells : (has_begun held ≡ true)
         ↔ ((k : ℕ) × Has ks k × (claim_part c k (claim_accesses h) ≢ []) × ((n : Note) → Ends k n → ⊥))
     begun_tells = (

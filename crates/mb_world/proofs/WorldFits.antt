@@ -25,13 +25,13 @@ module _ (plan : Plan) (h : WorldHistory) (lawful : IsWorldLawful plan h) (known
   abbrev Comes : ℕ → ℕ → Stage → Type 0
   Comes c k s = HasStageIn plan.claims c k s (parts_of c (histories_of h))
 
-  -- a claim that has ended has a stage, and does not go on
+  -- a claim that has ended as a note says has a stage, and does not go on
   stage_of_end : (c k : ℕ) (n : Note) → Ends c k n → (s : Stage) × Comes c k s × (s ≢ stage.Going)
   stage_of_end c k (Took v) e = (stage.Won, e.0, λ d. cc)
   stage_of_end c k (Lost w) e = (stage.Lost w, e, λ d. cc)
   stage_of_end c k Undecided e = (stage.Undecided, e, λ d. cc)
 
-  -- if a claim that has ended is won, its item was loaded
+  -- if a claim that has ended as a note says is won, its item was loaded
   item_of_end : (c k : ℕ) (n : Note) → Ends c k n → Comes c k stage.Won
       → (y : ℕ) × HasRead (Item k) y (loads plan h lawful c)
   item_of_end c k (Took v) e won = (v, e.1)
@@ -60,7 +60,7 @@ module _ (plan : Plan) (h : WorldHistory) (lawful : IsWorldLawful plan h) (known
           read = read_there plan h lawful c on.lane w v r word;
         }
 
-    -- if a cell's link was loaded, the claim there has ended
+    -- if a cell's link was loaded, the claim there has ended as some note says
     end_past : (k v : ℕ) → HasRead (Link k) v (loads plan h lawful c) → (n : Note) × Ends c k n
     end_past k v r =
         let l = there (Link k) v r in

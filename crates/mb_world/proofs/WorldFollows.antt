@@ -117,7 +117,7 @@ module _ (plan : Plan) (h : WorldHistory) (lawful : IsWorldLawful plan h) (known
           subst (λ b. FollowsLane on.lane (cond b (a ∷ filter (of_lane plan h lawful on.lane) older)
           (filter (of_lane plan h lawful on.lane) older))) here links.follows
 
-      -- the load is of the link past the cells met there
+      -- a load of a head or a link is of the link past the cells met on that lane, or of its head if none was
       follows : IsLinkWord a.word → a.word ≡ place_past on.lane (cells_met on.lane older)
       follows link =
           first.0 link

@@ -68,7 +68,7 @@ pub data ConsumerPath (cs : Claims) (c p : ℕ) : WorldHistory → List ℕ → 
       → ConsumerPath cs c p older (k ∷ ks) ns (Some xs)
       → ConsumerPath cs c p (item_load c k v ∷ older) (k ∷ ks) (Took v ∷ ns) None
 
--- whether a claim with these steps, if one is held, has an access
+-- whether a claim is held that has made an access: its steps are not empty
 abbrev pub has_begun : Option (List ObjectTurn) → Bool
 has_begun None = false
 has_begun (Some []) = false

@@ -1,4 +1,4 @@
--- What the laws of claims, of cells and of worlds give for one more access after a history of a world.
+-- What the laws of claims, of cells and of worlds give for one more access after a lawful history of a world.
 use Rattle.std.specs.Prelude.{ℕ, ◌≡◌, ◌<◌, ◌⊎◌, List, ◌∷◌, None, Some}
 use Rattle.mb_claim.specs.declared.access.Stage.TheVariants as stage
 use Rattle.mb_cells.specs.declared.lane.Lane.{Lane}
@@ -12,7 +12,7 @@ use Rattle.mb_world.specs.Replay.{IsLaneOf}
 
 pub record EventKnown (plan : Plan) (h : WorldHistory) : Type 0 where
   pub sized : plan.claims.cells < END
-  -- a producer has one place, which names its next access
+  -- a producer has one place. Its next fetch-add or store is one that this place does not refuse
   pub place : (p : ℕ) → (lane : Lane) × IsLaneOf plan p lane h
   pub one_place : (p : ℕ) (lane other : Lane) → IsLaneOf plan p lane h → IsLaneOf plan p other h → lane ≡ other
   pub fetches : (p : ℕ) (lane : Lane) (e : Entry) → IsLaneOf plan p lane h
@@ -23,7 +23,7 @@ pub record EventKnown (plan : Plan) (h : WorldHistory) : Type 0 where
   -- a cell is linked in one lane
   pub one_lane : (p q k : ℕ) → Has (linked_cells p (pool_accesses h)) k → Has (linked_cells q (pool_accesses h)) k
       → p ≡ q
-  -- a claim has one stage, goes on before each step, and has one next access
+  -- a claim has one stage, goes on before each step, and has one next access. With a lawful access the claims stay lawful
   pub one_stage : (c : ℕ) (xs : List ObjectTurn) (s r : Stage) → IsClaimPrefix plan.claims c xs s
       → IsClaimPrefix plan.claims c xs r
       → s ≡ r

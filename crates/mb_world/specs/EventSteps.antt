@@ -19,7 +19,7 @@ pub record EventAdds (e : Event) (r : Answer) (now : WorldState) (h : WorldHisto
   pub left : IsWorldAfter (with_access access h) now
 
 -- ---- places and notes
--- consumer c stands at this place on lane p
+-- the world has consumer c and lane p, and c stands at this place there
 pub record HasPlace (c p : ℕ) (d : Place) (s : WorldState) : Type 0 where
   pub consumer : c < consumers_of (plan_in s.setup)
   pub lane : p < (plan_in s.setup).lanes

@@ -25,8 +25,8 @@ abbrev pub HasRead : Word → ℕ → History → Type 0
 HasRead w v reads = (a : PoolAccess) × Has reads a × (a.word ≡ w) × (a.act ≡ Load v)
 
 -- ---- which cells loads give, and how they follow the links
--- the cell to which an act on a head or a link leads, if it leads to one. A load of 0 leads to none yet, and one of the
--- end mark to none at all
+-- the cell to which an act on a head or a link leads, if it leads to one. A load of 0 leads to none yet, and a load of
+-- the end mark to none at all. No other act leads to a cell
 abbrev pub cell_given : PoolAct → Option ℕ
 cell_given (Load v) = if nat_eq v 0 || nat_eq v END then None else Some (v - 1)
 cell_given (Store _) = None

@@ -1,4 +1,4 @@
--- What the laws of claims and of cells give for two histories.
+-- What the laws of claims and of cells give for two sound histories.
 use Rattle.std.specs.Prelude.{ℕ, ◌≡◌, ◌≢◌, ◌<◌, List, [], ◌∷◌}
 use Rattle.mb_claim.specs.Winner.{HasOneWinner}
 use Rattle.mb_world.specs.Imports.{END, Gave, Has, HasLoaded, HasMet, IsClaimPrefix, IsOnceEach, IsReaderPath, IsStart, Item, ObjectTurn, Reader, Stage}
@@ -7,7 +7,7 @@ use Rattle.mb_world.specs.Plan.{Histories, Plan, consumers_of}
 use Rattle.mb_world.specs.Fitting.{Fits, parts_of}
 
 pub record Known (plan : Plan) (hs : Histories) : Type 0 where
-  -- all claims on a cell have one winner
+  -- all claims on a cell that are won or lost name one winner
   pub winner : (k : ℕ) → HasOneWinner plan.claims k hs.claims
   -- a claim has one stage
   pub stage : (c : ℕ) (xs : List ObjectTurn) (s r : Stage) → IsClaimPrefix plan.claims c xs s
@@ -25,7 +25,7 @@ pub record Known (plan : Plan) (hs : Histories) : Type 0 where
   pub chain : (q k : ℕ) → Gave k (part (Reader q) hs.pool) → (p : ℕ) × ((ks : List ℕ) × HasMet q p (k ∷ ks) hs.pool)
   -- a load of an item found the item of the cell
   pub item : (q k v : ℕ) → HasLoaded q (Item k) v hs.pool → v ≡ item_of k hs.pool
-  -- a reader that loaded the end mark past the cells that it met has met all cells of the lane
+  -- if a reader loaded the end mark past these cells, which it met on a lane, they are all cells of the lane
   pub end : (q p : ℕ) (ks : List ℕ) → HasMet q p ks hs.pool → HasLoaded q (place_past p ks) END hs.pool
       → ks ≡ linked_cells p hs.pool
   -- a cell is linked in one lane, and once there

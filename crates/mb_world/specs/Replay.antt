@@ -45,8 +45,8 @@ IsAccessOf (event.Step c p word) a h =
 abbrev pub answer_to_link : ℕ → Answer
 answer_to_link v = if nat_eq v END then answer.Finished finish.Ended else answer.Pushed (push.Link (v - 1))
 
--- the answer that names an access to a word of the cells, in a pool with this number of cells. None names an act that
--- no event asks for
+-- the answer that names an access to a word of the cells, in a pool with this number of cells. It is `None` for an act
+-- that no event asks for
 abbrev pub answer_to : ℕ → Word → PoolAct → Option Answer
 answer_to cells Counter (FetchAdd x n) = Some (answer.Offered (offer_by_found cells n))
 answer_to cells (Head p) (Store v) = Some (answer_to_link v)
@@ -100,7 +100,7 @@ IsRefused plan (event.Step c p word) r h =
     HasNoLane plan p r ⊎ ((p < plan.lanes) × (consumers_of plan ≤ c) × (r ≡ answer.NoConsumer))
 
 -- ---- the replay of a list of events
--- after a history, the event has this answer and this access, which keeps the history lawful, or it is refused
+-- after a history, the event has this answer: it has this access, which keeps the history lawful, or none and is refused
 abbrev pub HasAnswer : Plan → Event → Answer → Option WorldAccess → WorldHistory → Type 0
 HasAnswer plan e r None h = IsRefused plan e r h
 HasAnswer plan e r (Some a) h = IsAccessOf e a h × AnswerNames plan r a h × IsWorldLawful plan (a ∷ h)

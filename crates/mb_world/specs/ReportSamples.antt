@@ -4,7 +4,7 @@ use Rattle.mb_world.specs.declared.report.Note.{Note}
 use Rattle.mb_world.specs.declared.report.Note.TheVariants.{Took, Lost, Undecided}
 use Rattle.mb_world.specs.Theorem.{Assignment, DiaryView, ReportView}
 
--- consumer c has these notes on lane 0, and perhaps a begun claim after them
+-- the diary of consumer c on lane 0 with these notes, and with a begun claim after them if `begun` is true
 abbrev pub diary_of : ℕ → List Note → Bool → DiaryView
 diary_of c ns begun = record { consumer = c; lane = 0; notes = ns; begun = begun }
 
@@ -12,7 +12,7 @@ diary_of c ns begun = record { consumer = c; lane = 0; notes = ns; begun = begun
 abbrev pub report_of : List ℕ → List ℕ → List DiaryView → ReportView
 report_of items left ds = record { lanes = record { put = items; ended = false; left = left } ∷ []; diaries = ds }
 
--- the first item of lane 0 is given to c, and nothing else to anybody
+-- the first item of lane 0 is given to c, and all others to nobody
 abbrev pub first_to : ℕ → Assignment
 first_to c zero zero = Some c
 first_to c zero (suc j) = None
@@ -35,7 +35,7 @@ won_not_loaded = report_of (5 ∷ []) (5 ∷ []) (diary_of 0 [] true ∷ diary_o
 abbrev pub diary_on : ℕ → ℕ → List Note → DiaryView
 diary_on c p ns = record { consumer = c; lane = p; notes = ns; begun = false }
 
--- two lanes with one item each, and two consumers with these diaries
+-- the report of two lanes with one item each, of which none is left, and with these diaries
 abbrev pub two_lanes : List DiaryView → ReportView
 two_lanes ds = record {
   lanes = record { put = 5 ∷ []; ended = false; left = [] } ∷ record { put = 6 ∷ []; ended = false; left = [] } ∷ [];
@@ -59,11 +59,11 @@ abbrev pub lost_to_a_third : ReportView
 lost_to_a_third = report_of (5 ∷ []) []
     (diary_of 0 (Took 5 ∷ []) false ∷ diary_of 1 (Lost 2 ∷ []) false ∷ diary_of 2 [] true ∷ [])
 
--- the items left are in another order
+-- both items are left, and are reported in another order than they were put
 abbrev pub left_out_of_order : ReportView
 left_out_of_order = report_of (10 ∷ 11 ∷ []) (11 ∷ 10 ∷ []) (diary_of 0 [] false ∷ [])
 
--- an item that nobody came for is not reported as left
+-- an item that nobody competed for is not reported as left
 abbrev pub left_omitted : ReportView
 left_omitted = report_of (10 ∷ []) [] (diary_of 0 [] false ∷ [])
 

@@ -8,7 +8,7 @@ use Rattle.mb_world.specs.Theorem.{DiaryView, LaneView, ReportView, items_where,
 use Rattle.mb_world.specs.Fitting.{EndsAs, parts_of}
 
 -- ---- what is reported of a lane
--- the values of the items put into lane p, the first linked first
+-- the items put into lane p, the first linked first
 abbrev pub values_put : ℕ → History → List ℕ
 values_put p pool = map (λ e. e.value) (put_list p pool)
 
@@ -54,10 +54,10 @@ pub record IsDiaryOf (plan : Plan) (c p : ℕ) (hs : Histories) (d : DiaryView) 
   -- note j is the end of c's claim on the cell at position j of them, the first met first
   pub notes : (j : ℕ) (n : Note) → slice_get d.notes j ≡ Some n →
       (k : ℕ) × (slice_get (reverse cells) j ≡ Some k) × EndsAs plan.claims c k n (parts_of c hs)
-  -- each claim of c on these cells that has ended has its note
+  -- each claim of c on these cells that has ended as a note says has its note
   pub all : (j k : ℕ) (n : Note) → slice_get (reverse cells) j ≡ Some k →
       EndsAs plan.claims c k n (parts_of c hs) → j < length d.notes
-  -- the diary says that a claim is begun exactly if a claim of c on one of these cells has an access and has not ended
+  -- the diary says that a claim is begun exactly if c's claim on one of these cells has an access, but no end with a note
   pub begun : (d.begun ≡ true) ↔
       ((k : ℕ) × Has cells k × ((parts_of c hs).claimed k ≢ [])
       × ((n : Note) → EndsAs plan.claims c k n (parts_of c hs) → ⊥))

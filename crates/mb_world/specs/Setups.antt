@@ -23,7 +23,7 @@ shaped_plan shape producers consumers cells pairs name = record {
   lanes = producers;
 }
 
--- the plan of these numbers of producers, consumers, cells and pairs over this table, if each cell has pairs alone
+-- the plan of these numbers and this name, as in `shaped_plan`, if each cell has pairs alone
 abbrev pub plan_of : ℕ → ℕ → ℕ → ℕ → TableName → Plan
 plan_of = shaped_plan plain
 
@@ -43,7 +43,7 @@ pairs_in setup = pair_count setup.layout
 abbrev pub shape_in : Setup → Shape
 shape_in setup = shape_of setup.layout
 
--- the first reason to refuse a setup that may have at most `most` cells, if there is one
+-- the first reason, if there is one, to refuse a setup of these numbers, which may have at most `most` cells
 abbrev pub refusal_above : ℕ → ℕ → ℕ → ℕ → ℕ → Option SetupFault
 refusal_above most producers consumers cells pairs =
     if nat_lt producers 1 || nat_lt MAX_PRODUCERS producers then Some BadProducers

@@ -1,4 +1,4 @@
--- What the state of a world says of its report, read off its words, its places and its notes.
+-- What the state of a world says of its report, read off its pool, its places and its notes.
 use Rattle.std.specs.Prelude.{ℕ, ◌≡◌, ◌+◌, ◌*◌, ◌<◌, Bool, false, not, Option, Some, None, List, length, map, filter, slice_get}
 use Rattle.std.specs.Option.{option_map_or}
 use Rattle.std.specs.List.{filter_map}
@@ -36,7 +36,7 @@ note_on s c k = note_there (slice_get s.notes (c * (plan_in s.setup).claims.cell
 abbrev pub is_taken_on : WorldState → ℕ → Bool
 is_taken_on s k = any_below (consumers_of (plan_in s.setup)) (λ c. is_took (note_on s c k))
 
--- whether consumer c holds a claim on lane p that has an access
+-- whether consumer c holds a claim on a cell of lane p that has made an access
 abbrev pub begun_on : WorldState → ℕ → ℕ → Bool
 begun_on s c p = option_map_or has_begun_at (slice_get s.places (c * (plan_in s.setup).lanes + p)) false
 
@@ -57,7 +57,7 @@ pub record IsDiaryTold (s : WorldState) (c p : ℕ) (d : DiaryView) : Type 0 whe
   pub notes : d.notes ≡ filter_map (note_on s c) cells
   pub begun : d.begun ≡ begun_on s c p
 
--- the state tells these diaries of the first n pairs of consumers and lanes, in their order
+-- the state tells these diaries: the first n, consumer by consumer, and of each consumer lane by lane
 pub record AreDiariesTold (s : WorldState) (n : ℕ) (ds : List DiaryView) : Type 0 where
   pub count : length ds ≡ n
   pub each : (c p : ℕ) → p < (plan_in s.setup).lanes → c * (plan_in s.setup).lanes + p < n →

@@ -13,9 +13,9 @@ use Rattle.mb_world.specs.WorldKnown.{WorldKnown}
 
 pub record StepKnown (s : WorldState) (h : WorldHistory) (c p : ℕ) : Type 0 where
   pub world : WorldKnown (plan_in s.setup) h
-  -- an access with which the consumer's path goes on keeps the history lawful
+  -- an access that is true to memory and with which the consumer's path goes on keeps the history lawful
   pub goes : (a : WorldAccess) (ks : List ℕ) (ns : List Note) (held : Option (List ObjectTurn)) → IsTrueTo a h
       → ConsumerPath (plan_in s.setup).claims c p (a ∷ lane_part c p h) ks ns held
       → ConsumerAdds (plan_in s.setup) c p a h
-  -- a load leaves the pool as it is
+  -- a load that the reader may make leaves the pool as it is
   pub stays : (w : Word) → LoadGoesOn w s.pool

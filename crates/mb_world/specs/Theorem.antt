@@ -94,7 +94,7 @@ pub record IsLossTo (t : Assignment) (c w p j : ℕ) (r : ReportView) : Type 0 w
   pub assigned : (t p j ≡ Some w) ⊎ (t p j ≡ None)  -- t gives it to w or to nobody
 
 pub record AreGiven (t : Assignment) (r : ReportView) : Type 0 where
-  -- Point 1 of README's: an item is taken just by the consumer that t gives it to, who competed. Losses name one other
+  -- README's point 1: c took an item exactly if t gives it to c, who competed. All losses of it name one other consumer
   pub taken : (c p j : ℕ) → HasTaken c p j r ↔ (t p j ≡ Some c)
   pub competitors : (c p j : ℕ) → t p j ≡ Some c → (j < length (items_put p r)) × HasCompeted c p j r
   pub losses : (c w p j : ℕ) → HasLostTo c w p j r → IsLossTo t c w p j r
@@ -121,7 +121,7 @@ IsSettled r =
     → (d : ℕ) × HasCompeted d p j r × (HasTakenOrLost d p j r → ⊥)
 
 -- The main theorem, for some `assignment`. `Mailbox::gather` promises it by `IsGathered` of mb_mailbox: `pool` is what
--- was done (for a made-up one point 4 may be empty). It promises each diary by `lists`. Point 5 follows from `losses`
+-- was done (of a made-up one point 4 may say nothing). `lists` of `gather` promises each diary. `losses` imply point 5
 pub record MainTheorem (pool : History) (reader_of : ℕ → ℕ) (r : ReportView) : Type 0 where
   pub assignment : Assignment
   pub given : AreGiven assignment r

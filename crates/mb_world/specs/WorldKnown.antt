@@ -1,4 +1,4 @@
--- What the laws of claims and of cells give for a history of a world.
+-- What the laws of claims and of cells give for a history of a world whose accesses to cells are lawful.
 use Rattle.std.specs.Prelude.{ℕ, ◌≡◌, ◌<◌, List}
 use Rattle.mb_world.specs.Imports.{Has, HasMet, IsClaimPrefix, IsOnceEach, IsStart, ObjectTurn, Stage, linked_cells}
 use Rattle.mb_world.specs.Plan.{Plan}

@@ -1,5 +1,5 @@
 -- A world of two lanes, two consumers and two cells, with one pair of objects over the unary table. Below are what was
--- done in it, and its report and reports that are not its own.
+-- done in it, its report, and reports and diaries that are not its own.
 use Rattle.std.specs.Prelude.{ℕ, true, false, List, [], ◌∷◌, ◌++◌, map}
 use Rattle.mb_cells.specs.LanePath.{fetch, store}
 use Rattle.mb_claim.specs.Samples.{won_and_lost}
@@ -65,7 +65,7 @@ first_taken = item_load 0 0 5 ∷ first_won
 abbrev pub lost_steps : List ObjectTurn
 lost_steps = claim_part 1 0 won_and_lost
 
--- then consumer 1 has come to the item 5 and lost it
+-- then consumer 1 has found the item 5 and lost it
 abbrev pub first_lost : WorldHistory
 first_lost = map (claim_step 1 0) lost_steps ++ link_load 1 0 [] 1 ∷ first_taken
 
@@ -77,7 +77,7 @@ second_met = link_load 1 1 [] 2 ∷ first_lost
 abbrev pub second_begun : WorldHistory
 second_begun = claim_step 1 1 first_step ∷ second_met
 
--- then producer 0 has finished, and consumer 1 has met the end of lane 0
+-- then producer 0 has stored its end mark, and consumer 1 has loaded it
 abbrev pub all_done : WorldHistory
 all_done = link_load 1 0 (0 ∷ []) END ∷ stores 0 (Link 0) END ∷ second_begun
 

@@ -18,8 +18,8 @@ use Rattle.mb_world.specs.ConsumerPath.{ConsumerPath}
 use Rattle.mb_world.specs.Worlds.{IsWorldLawful}
 
 -- the state of a world: its setup, the pool of cells, the words of the claims, where each consumer stands on each lane,
--- and its note on each cell. The place of consumer c on lane p is at c times the lanes plus p. Its note on cell k is at
--- c times the cells plus k
+-- and its note on each cell, if it has one. The place of consumer c on lane p is at position c * lanes + p, and its note
+-- on cell k at position c * cells + k
 pub record WorldState : Type 0 where
   pub setup : Setup
   pub pool : PoolState
@@ -35,8 +35,8 @@ IsPlaceAt layout c p (k ∷ ks) (Some xs) (At cell claim) =
     (cell ≡ k) × (consumer_of claim ≡ c) × IsClaimIn layout claim xs
 IsPlaceAt layout c p _ _ _ = ⊥
 
--- after a history, the place is that of consumer c on lane p: what c did there leads to these cells, these notes and
--- this claim, and so to this place
+-- after a history, the place is that of consumer c on lane p: what c did there leads to `cells`, `notes` and the claim
+-- `held`, if any, and so to this place
 pub record IsPlaceAfter (setup : Setup) (c p : ℕ) (h : WorldHistory) (d : Place) : Type 0 where
   pub cells : List ℕ
   pub notes : List Note
@@ -44,7 +44,7 @@ pub record IsPlaceAfter (setup : Setup) (c p : ℕ) (h : WorldHistory) (d : Plac
   pub path : ConsumerPath (plan_in setup).claims c p (lane_part c p h) cells notes held
   pub is : IsPlaceAt (layout_of setup) c p cells held d
 
--- after a history, consumer c has this note or none on cell k: it says how c's claim there has ended, if it has
+-- after a history, consumer c has this note on cell k, or none: it is n exactly if c's claim there has ended as n says
 abbrev pub IsNoteAfter : Setup → ℕ → ℕ → WorldHistory → Option Note → Type 0
 IsNoteAfter setup c k h o =
     (n : Note) → (o ≡ Some n) ↔ EndsAs (plan_in setup).claims c k n (parts_of c (histories_of h))

@@ -9,7 +9,7 @@ use Rattle.mb_world.specs.Plan.{Plan, consumers_of}
 use Rattle.mb_world.specs.World.{IsBy, ToCells, ToClaims, WorldAccess, WorldHistory, claim_accesses, is_on, lane_part, pool_accesses}
 use Rattle.mb_world.specs.ConsumerPath.{ConsumerPath}
 
--- what consumer c did on lane p is a prefix of a consumer path, and leads to these cells, these notes and this claim
+-- what consumer c did on lane p is a prefix of a consumer path. It leads to `cells`, `notes` and the claim `held`, if any
 pub record IsOnPath (plan : Plan) (c p : ℕ) (h : WorldHistory) : Type 0 where
   pub cells : List ℕ
   pub notes : List Note
@@ -25,12 +25,12 @@ pub record IsOnLane (plan : Plan) (c : ℕ) (a : WorldAccess) (h : WorldHistory)
 
 -- the history is a lawful one of a world with this plan
 pub record IsWorldLawful (plan : Plan) (h : WorldHistory) : Type 0 where
-  -- the end mark is the link of no cell
+  -- the link to a cell, its number + 1, is never the end mark
   pub sized : plan.claims.cells < END
-  -- values and random words are below 2^64, and each producer has a lane
+  -- values and random words are below 2^64, and each producer with an access has a lane
   pub cells_fit : AllFit plan.lanes (pool_accesses h)
   pub claims_fit : claim.AreInWords (claim_accesses h)
-  -- each access reads what was stored last in its word. No word is both of the cells and of the claims
+  -- each access that loads finds what was stored last in its word, or 0. No word is both of the cells and of the claims
   pub cells_memory : cell.IsMemoryTrue (pool_accesses h)
   pub claims_memory : claim.IsMemoryTrue (claim_accesses h)
   -- each producer's part is a prefix of a lane path
@@ -41,7 +41,7 @@ pub record IsWorldLawful (plan : Plan) (h : WorldHistory) : Type 0 where
   pub no_others : (c : ℕ) (a : WorldAccess) → Has h a → IsBy c a → IsOnLane plan c a h
 
 -- ---- one more access
--- the access may follow by its values alone: they are below 2^64, and it reads what was stored last in its word
+-- the access may follow by its values alone: they are below 2^64, and if it loads, it finds what its word holds
 abbrev pub IsTrueTo : WorldAccess → WorldHistory → Type 0
 IsTrueTo (ToCells a) h = ActFits a.act × cell.ReadsLast a.word a.act (pool_accesses h)
 IsTrueTo (ToClaims a) h =
@@ -57,7 +57,7 @@ pub record ConsumerAdds (plan : Plan) (c p : ℕ) (a : WorldAccess) (h : WorldHi
   pub lawful : IsWorldLawful plan (a ∷ h)
   -- the part of c on lane p has one access more
   pub own : lane_part c p (a ∷ h) ≡ a ∷ lane_part c p h
-  -- all other parts of consumers on lanes stay as they are
+  -- the part of each other consumer, and that of c on each other lane, stays as it is
   pub others : (d q : ℕ) → (d ≡ c → q ≡ p → ⊥) → lane_part d q (a ∷ h) ≡ lane_part d q h
 
 -- what one more access, of a producer, adds to a lawful history

@@ -1,5 +1,5 @@
-//! Laws of mailboxes and their reports. The functions compute nothing: their contracts are the laws. Their bodies name
-//! the laws of claims and of cells that they use. Their proofs are in `proofs/laws/`, one folder for each. They use the
+//! Laws of mailboxes, their reports, and the events of worlds. The functions compute nothing: their contracts are the
+//! laws, and their bodies name the laws that they use. The proof of each is in its own folder of `proofs/laws/`, and uses
 //! lemmas of `proofs/`.
 ghost use Rattle.std.specs.Prelude.{ℕ, ◌+◌, ◌^◌, ◌≡◌, ◌≢◌, ◌↔◌, ◌<◌, List, [], ◌∷◌, ◌++◌, IsSome, Option, Some, true, false, reverse, slice_get};
 ghost use Rattle.mb_world.specs.Vocabulary.{ReportView, diary, note, Assignment, AgreesWith, AreAllTaken, HasCompeted, IsLeftBesideBegun, IsSettled, HasLastObject, Histories, Plan, consumers_of};
@@ -105,8 +105,8 @@ pub fn parts_tell_cells_met()
     sound_histories_are_known();
 }
 
-/// A lawful history of a world, cut into that of its claims and that of its cells, is sound. So one assignment agrees
-/// with its report.
+/// A lawful history of a world, cut into that of its claims and that of its cells, is sound, if the quorum table is
+/// lawful. So the main theorem holds of its report.
 pub fn worlds_are_sound()
     ensures sound { (plan : Plan) (h : WorldHistory) → IsQuorumTable plan.claims.table
         → IsWorldLawful plan h → AreSound plan (histories_of h) }
@@ -135,7 +135,7 @@ pub fn paths_lead_to_one_place()
     claims_have_one_next_op();
 }
 
-/// The diary of a consumer on a lane follows from the place to which its path there has led.
+/// In a lawful world the diary of a consumer on a lane follows from the place to which its path there has led.
 pub fn places_tell_diaries()
     ensures diary { (plan : Plan) (h : WorldHistory) (c p : ℕ) (ks : List ℕ) (ns : List Note)
         (held : Option (List ObjectTurn)) → IsQuorumTable plan.claims.table → IsWorldLawful plan h
@@ -152,7 +152,7 @@ pub fn places_tell_diaries()
     worlds_are_known();
 }
 
-/// A step returns that it found nothing exactly if there is nothing. That is: its consumer holds no claim on the lane
+/// A step's answer is that it found nothing exactly if there is nothing: its consumer holds no claim on the lane
 /// and has met all cells that are linked there, and the lane has not ended.
 pub fn nothing_is_exact()
     ensures { (plan : Plan) (h : WorldHistory) (c p word : ℕ) (r : Answer) (a : Option WorldAccess)
@@ -253,7 +253,7 @@ pub fn events_are_refused_for_what_was_done()
 /// A producer's event that is not refused has an access that keeps the history lawful. So it is refused exactly if it
 /// has none. For steps, `World::apply` says so.
 pub fn events_of_producers_are_refused_or_made()
-    // The counter stays below 2^64, as the number of cells and lanes together is.
+    // The item is below 2^64, and so is the counter, as the number of cells and lanes together is.
     ensures offer { (plan : Plan) (h : WorldHistory) (p x : ℕ) → IsQuorumTable plan.claims.table
         → IsWorldLawful plan h → p < plan.lanes → x < 2 ^ 64
         → plan.claims.cells + plan.lanes < 2 ^ 64 → IsRefusedOrMade plan (event.Offer p x) h }

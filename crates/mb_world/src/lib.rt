@@ -2,7 +2,7 @@
 //!
 //! An [`Event`] is one step of a producer or of a consumer: one access of one word, or none if it is refused. Its
 //! [`Answer`] names that access. [`World::apply`] makes it, in a number of instructions that does not grow with what
-//! was done before. [`World::report`] reads the lanes and the notes at any time.
+//! was done before. [`World::report`] reads lanes, places and notes at any time.
 //!
 //! The main theorem (`specs/Theorem.antt`) is a law of [`laws`]. It speaks of all histories, also of those of threads,
 //! for which no world is made. [`samples`] shows what the definitions admit, and what they refuse.

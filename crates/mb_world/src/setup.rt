@@ -1,4 +1,4 @@
-//! The numbers that make up a world, and when they are refused.
+//! The numbers and the layout that make up a world, and when the numbers are refused.
 ghost use Rattle.std.specs.Prelude.{◌≤◌};
 ghost use Rattle.mb_claim.specs.declared.layout.TheConstants.{MAX_LARGE_CELLS};
 

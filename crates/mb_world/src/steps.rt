@@ -1,4 +1,4 @@
-//! The laws of one more access, which a world and a mailbox for threads use. A world has one history
+//! The laws of one more access, which a world and a mailbox for threads use. A world has one history, which stays lawful
 //! ([`history_extends`]). A consumer among threads has two parts of its own, which fit ([`parts_fit_on`]). Its loads
 //! tell which cells it met ([`loads_meet_cells`]). The functions compute nothing: their contracts are the laws. Their
 //! proofs are in `proofs/steps/`, one folder for each. They use the lemmas of `proofs/`.
@@ -24,7 +24,7 @@ use mb_claim::laws::prefixes_have_one_stage;
 
 /// Lawful histories of a world grow by one access after another.
 pub fn history_extends()
-    // The history without an access is lawful, if the end mark is the link of no cell.
+    // The history without an access is lawful, if the link to a cell, its number + 1, is never the end mark.
     ensures empty { (plan : Plan) → plan.claims.cells < END → IsWorldLawful plan [] }
 
     // An access of a consumer may follow if it is true to memory and extends the consumer's path on a lane.
@@ -74,7 +74,7 @@ pub fn parts_fit_on()
 /// The cells that a reader's own loads met on a lane: how they grow load by load, and what they are in a lawful history
 /// with these loads.
 pub fn loads_meet_cells()
-    // A load of the link past the cells met so far meets the cell to which it leads, if it leads to one.
+    // A load of the link past the cells met so far meets the cell to which it leads, if it leads to one, and else none.
     ensures cell { (q p k : ℕ) (reads : History) → k + 1 ≢ END
         → cells_met p (load q (place_past p (cells_met p reads)) (k + 1) ∷ reads)
         ≡ k ∷ cells_met p reads }

@@ -25,9 +25,9 @@ pub struct World<A: Allocator + Drop> {
     setup: Setup,
     pool: Pool<A>,
     words: ClaimWords<A>,
-    /// Where each consumer stands on each lane, consumer by consumer.
+    /// Where each consumer stands on each lane: consumer by consumer, and for each consumer lane by lane.
     places: Vec<Place, A>,
-    /// The note of each consumer on each cell, if it has one, consumer by consumer.
+    /// The note of each consumer on each cell, if it has one: consumer by consumer, and for each consumer cell by cell.
     notes: Vec<Option<Note>, A>,
 }
 

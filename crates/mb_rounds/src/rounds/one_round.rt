@@ -22,9 +22,9 @@ impl<A: Allocator + Clone + Drop + Send + Sync> Rounds<A> {
     ghost use Rattle.mb_rounds.specs.declared.rounds.RoundFault.TheVariants.{BadBudget, TooManySources};
 
     /// Runs one round over a mailbox of its own, with a thread for each producer of the setup and for each source of
-    /// random words. The oldest items carried are dealt, as many as the setup has cells. The call returns after all
-    /// threads have ended. It gives items out and runs none. What consumer c took is `taken[c]`, and is the caller's
-    /// from then on.
+    /// random words. The oldest items carried are dealt: as many as the setup has cells, or all if they are fewer. The
+    /// call returns after all threads have ended. It gives items out and runs none. What consumer c took is `taken[c]`,
+    /// and is the caller's from then on.
     ///
     /// `budget` is the most accesses of one poll, at least 1. Each worker asks the gate before each put or poll, and
     /// stops if it is not let through. Items that were not put or not taken are carried, in front of those that were
@@ -49,8 +49,8 @@ impl<A: Allocator + Clone + Drop + Send + Sync> Rounds<A> {
         ensures refused { OnErr result (self.new ≡ self.old) }
         ensures setup { self.new.setup ≡ self.old.setup }
 
-        // The oldest items went into a mailbox, and one assignment agrees with its report. What its ledgers have is
-        // given out, and the rest stays. Each worker, with this budget and these sources, put or polled until it was
+        // The oldest items went into a mailbox, and one assignment agrees with its report. What the ledgers have is
+        // given out, and the rest is carried. Each worker, with this budget and these sources, put or polled until it was
         // done or stopped. `worked` counts those that were stopped.
         ensures round { IfOk result (λ o. IsRound (G.may_stop gate.now) (G.may_pass gate.now)
             (terms_of self.old.setup budget (map R.stream sources.items)) self.old.carried

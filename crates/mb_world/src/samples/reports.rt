@@ -1,4 +1,4 @@
-//! Sample reports: with which of them an assignment agrees, and which of them are settled.
+//! Sample reports: with which of them an assignment agrees, which are settled, and where a report has its diaries.
 ghost use Rattle.std.specs.Prelude.{◌≡◌, [], ◌∷◌};
 ghost use Rattle.mb_world.specs.ReportSamples.{begun_beyond, diaries_by_lane, first_to, left_and_taken, left_omitted, left_out_of_order, lost_to_a_third, lost_to_each_other, lost_to_itself};
 ghost use Rattle.mb_world.specs.ReportSamples.{noted_beyond, other_value, taken_and_lost, taken_on_both, to_nobody, two_takers, winner_stayed_away, won_not_loaded};
@@ -27,7 +27,7 @@ pub fn reports_settle()
     agreeing_reports_are_settled();
 }
 
-/// Assignments with which a report does not agree.
+/// Assignments with which sample reports do not agree, though they agree with others.
 pub fn assignments_are_told()
     ensures other { AgreesWith (first_to 1) taken_and_lost → ⊥ }
     ensures nobody { AgreesWith to_nobody taken_and_lost → ⊥ }

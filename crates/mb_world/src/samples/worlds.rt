@@ -1,4 +1,4 @@
-//! A small sample world: what is done in it, and what is reported of it.
+//! A small sample world: what is done in it, what is reported of it, and what may be neither done nor reported.
 ghost use Rattle.std.specs.Prelude.{[], ◌∷◌, Some, None};
 ghost use Rattle.mb_claim.specs.declared.access.Stage.TheVariants as stage;
 ghost use Rattle.mb_world.specs.PathSamples.{first_step, two_cells};
@@ -24,7 +24,7 @@ pub fn worlds_go_on()
         (lane_part 0 0 all_done) (0 ∷ []) (Took 5 ∷ []) None }
     ensures away { ConsumerPath two_cells 0 1 (lane_part 0 1 all_done) [] [] None }
 
-    // Consumer 1 has lost the item of lane 0, and met the end after it. On lane 1 its claim goes on.
+    // Consumer 1 has lost the item of lane 0, and loaded the end mark after it. On lane 1 its claim goes on.
     ensures lost { ConsumerPath two_cells 1 0
         (lane_part 1 0 all_done) (0 ∷ []) (Lost 0 ∷ []) None }
     ensures begun { ConsumerPath two_cells 1 1

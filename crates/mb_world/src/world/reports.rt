@@ -1,4 +1,4 @@
-//! The report of a world, read off its words, its places and its notes.
+//! The report of a world, read off its pool, its places and its notes.
 use super::World;
 use crate::known::worlds_are_known;
 use crate::laws::{last_objects_settle_items, shaped_setups_have_last_objects, worlds_are_sound};
@@ -157,7 +157,7 @@ impl<A: Allocator + Clone + Drop> World<A> {
         }
     }
 
-    /// Whether a consumer has taken the item of cell `k`.
+    /// Whether some consumer has taken the item of cell `k`.
     fn is_taken(&self, k: u32) -> bool
         requires { k < (plan_in self.now.setup).claims.cells }
         ensures { result ≡ is_taken_on self.now k }
@@ -170,7 +170,7 @@ impl<A: Allocator + Clone + Drop> World<A> {
         false
     }
 
-    /// The note of consumer `c` on cell `k`.
+    /// The note of consumer `c` on cell `k`, if it has one.
     fn note(&self, c: u32, k: u32) -> Option<Note>
         requires consumer { c < consumers_of (plan_in self.now.setup) }
         requires cell { k < (plan_in self.now.setup).claims.cells }

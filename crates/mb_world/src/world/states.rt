@@ -1,5 +1,5 @@
-//! The state of a world after one event. The functions compute nothing: their contracts are the laws that the calls of
-//! a world use. Their bodies name the laws that they use themselves.
+//! The state of a world after one event. The functions compute nothing: their contracts are laws, which the calls of a
+//! world or other laws here use. The body of each names the laws that it uses itself.
 ghost use Rattle.std.specs.Prelude.{ℕ, ◌≡◌, ◌≢◌, ◌<◌, List, [], ◌∷◌};
 ghost use Rattle.mb_claim.specs.declared.access.Stage.TheVariants as stage;
 ghost use Rattle.mb_claim.specs.declared.claim.Claim.{Claim};
@@ -33,7 +33,7 @@ fn steps_are_known()
 
 /// How a look of a consumer that holds no claim changes the state. It *looks* as it loads the link at its cursor.
 pub(super) fn looks_leave_states()
-    // The consumer stands before a link of the pool.
+    // The cursor of the consumer is at a head or a link of the pool.
     ensures within { (s : WorldState) (h : WorldHistory) (c p : ℕ) (at : Cursor)
         → IsWorldAfter h s → HasPlace c p (Before at) s → IsWithin at s.pool }
 
@@ -110,7 +110,7 @@ pub(super) fn calls_leave_states()
         → SameSize s.pool pool
         → EventAdds (event.Finish p) (answer.Finished z) (with_pool pool s) h }
 
-    // If the producer's place refuses the call, the pool stays.
+    // If the producer's place refuses an offer or a finish, the pool stays.
     ensures offer_refused { (s : WorldState) (h : WorldHistory) (p x : ℕ) (r : Answer)
         (pool : PoolState) → IsWorldAfter h s → p < (plan_in s.setup).lanes
         → IsRefused (plan_in s.setup) (event.Offer p x) r h → OfferKeeps s.pool p pool

@@ -109,7 +109,7 @@ impl<A: Allocator + Drop> World<A> {
     }
 }
 
-/// The note of a claim whose last access led to this stage: lost or undecided, and else none.
+/// The note of a claim whose last access led to this stage, if the stage is lost or undecided, and else none.
 #[inline(always)]
 fn end_note(stage: Stage) -> Option<Note>
     ensures { result ≡ note_of stage }

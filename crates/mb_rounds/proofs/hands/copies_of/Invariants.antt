@@ -1,4 +1,4 @@
--- Loop invariants of `copies_of`: each of the lists read so far was copied.
+-- What the loop of `copies_of` keeps: the copies so far are those of the lists read so far.
 use Rattle.std.specs.Prelude.{◌≡◌, take, vec_len}
 use Rattle.mb_mailbox.specs.Worked.{lists_in}
 use Rattle.mb_rounds.proofs.hands.copies_of.Given as goal

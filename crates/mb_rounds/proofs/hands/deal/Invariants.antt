@@ -1,4 +1,5 @@
--- Loop invariants of `deal`: the lists cut so far, each a fair share, and what remains are the items in their order.
+-- What the loop of `deal` keeps: lists and rest are the items in their order, each list is a fair share, and the rest
+-- is enough for fair shares of the lists to come, and not too much. After the last list nothing remains.
 use Rattle.std.specs.Prelude.{◌≡◌, ◌++◌, ◌-◌, ◌/◌, length, vec_len}
 use Rattle.std.specs.List.{All, concat}
 use Rattle.mb_mailbox.specs.Worked.{lists_in}

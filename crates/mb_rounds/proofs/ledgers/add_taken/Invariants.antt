@@ -1,4 +1,4 @@
--- Loop invariants of `add_taken`: what was added are the items that the notes read so far say were taken.
+-- What the loop of `add_taken` keeps: what was added are the items that the notes read so far say were taken.
 use Rattle.std.specs.Prelude.{◌≡◌, ◌++◌, take}
 use Rattle.mb_rounds.specs.Round.{taken_in}
 use Rattle.mb_rounds.proofs.ledgers.add_taken.Given as goal

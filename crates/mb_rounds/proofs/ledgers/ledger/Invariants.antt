@@ -1,4 +1,4 @@
--- Loop invariants of `ledger`: the items are those that the consumer took on the lanes before this one.
+-- What the loop of `ledger` keeps: the items so far are those that the consumer took on the lanes before the next one.
 use Rattle.std.specs.Prelude.{◌≡◌}
 use Rattle.mb_rounds.specs.Round.{taken_below}
 use Rattle.mb_rounds.proofs.ledgers.ledger.Given as goal

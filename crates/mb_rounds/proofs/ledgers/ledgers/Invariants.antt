@@ -1,4 +1,4 @@
--- Loop invariants of `ledgers`: the lists have what each consumer before this one took.
+-- What the loop of `ledgers` keeps: the lists so far have what each consumer before the next one took.
 use Rattle.std.specs.Prelude.{◌≡◌}
 use Rattle.mb_mailbox.specs.Worked.{lists_in}
 use Rattle.mb_rounds.specs.Round.{ledgers_of}

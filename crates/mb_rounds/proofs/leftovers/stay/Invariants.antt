@@ -1,5 +1,5 @@
--- Loop invariants of `stay`: of the lanes read so far, what stays is in the list, lane by lane: first the items that
--- were put and that nobody took, and then those of the lane's list that were not put.
+-- What the loop of `stay` keeps: the list has what stays of the lanes read so far, lane by lane: the items put that
+-- nobody took, and then those of the lane's list that were not put.
 use Rattle.std.specs.Prelude.{◌≡◌, take}
 use Rattle.mb_mailbox.specs.Worked.{lists_in}
 use Rattle.mb_rounds.specs.Round.{staying}

@@ -1,4 +1,4 @@
--- Loop invariants of `before_heads`: the places so far are before the heads of their lanes.
+-- What the loops of `before_heads` keep: the places so far are before the heads of their lanes.
 use Rattle.std.proofs.Common.{◌*◌, ◌+◌}
 use Rattle.mb_world.specs.Places.{AreAtHeads}
 use Rattle.mb_world.proofs.world.before_heads.Given as goal

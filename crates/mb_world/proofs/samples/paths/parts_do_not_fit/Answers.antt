@@ -9,7 +9,7 @@ use Rattle.mb_world.specs.Fitting.{cells_met}
 use Rattle.mb_world.specs.PathSamples.{two_cells, won_steps}
 use Rattle.mb_world.proofs.samples.paths.parts_do_not_fit.Goals as goal
 
--- a claim of consumer 0 on a cell goes on before its first step, if one that is won goes on before its last
+-- a claim of consumer 0 goes on before its first step, if claims do before each step, and `won_steps` win one
 fresh : ((x : ObjectTurn) (xs : List ObjectTurn) (s : Stage) → IsClaimPrefix two_cells 0 (x ∷ xs) s
     → IsClaimPrefix two_cells 0 xs stage.Going) → IsClaimPrefix two_cells 0 won_steps stage.Won
     → IsClaimPrefix two_cells 0 [] stage.Going

@@ -2,7 +2,7 @@
 use Rattle.std.proofs.Common.{refl}
 use Rattle.mb_world.proofs.samples.reports.assignments_are_told.Goals as goal
 
--- consumer 0 has taken the item, so an assignment with which the report agrees gives the item to consumer 0
+-- consumer 0 has taken the item, so each assignment with which the report agrees gives the item to consumer 0
 pub returns-clause-other : goal.returns-clause-other
 returns-clause-other c agrees = let e = (agrees.given.taken 0 0 0).0 (5, refl) in cc
 

@@ -17,7 +17,7 @@ use Rattle.mb_world.proofs.world.World.compete.Goals as goal
 use Rattle.mb_world.proofs.world.World.compete.Goals.{After-as_layout}
 use Rattle.mb_world.proofs.world.World.compete.Goals.{in-Some, in_default-end_note}
 
--- What holds once the place has been read and holds a claim
+-- what holds once the place was read, and holds a claim
 module _ (g : Over) (c : After-as_layout g) where
   -- the state before the access
   abbrev s : WorldState

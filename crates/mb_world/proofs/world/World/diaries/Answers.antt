@@ -5,7 +5,7 @@ use Rattle.mb_world.specs.WorldState.{WorldState}
 use Rattle.mb_world.proofs.StateLists.{diaries_more}
 use Rattle.mb_world.proofs.world.World.diaries.Goals as goal
 
--- if the state tells the diaries so far, it tells them with the next one, too
+-- if the state tells the diaries so far, it tells these and the next one
 pub loop-p-preserved : goal.loop-p-preserved
 loop-p-preserved g c =
     let s = c.args.self.now in

@@ -1,4 +1,4 @@
--- Loop invariants of `World::diaries`: the diaries of all consumers on all lanes.
+-- What the loops of `World::diaries` keep: the state tells the diaries so far, those before consumer `c` and lane `p`.
 use Rattle.std.proofs.Common.{◌*◌, ◌+◌}
 use Rattle.mb_world.specs.Setups.{plan_in}
 use Rattle.mb_world.specs.StateReport.{AreDiariesTold}

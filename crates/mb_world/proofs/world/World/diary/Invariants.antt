@@ -1,4 +1,4 @@
--- Loop invariants of `World::diary`: the diary of consumer `c` on lane `p`.
+-- What the loop of `World::diary` keeps: the notes so far are the consumer's notes on the cells so far.
 use Rattle.std.proofs.Common.{◌≡◌, take}
 use Rattle.std.specs.List.{filter_map}
 use Rattle.mb_world.specs.StateReport.{note_on}

@@ -1,4 +1,4 @@
--- Proof of `World::is_taken`: whether a consumer has taken the item of cell `k`.
+-- Proof of `World::is_taken`: whether some consumer has taken the item of cell `k`.
 use Rattle.std.proofs.Common.{sym, ◌∙◌, ◌≡◌, ap, subst, ◌<◌}
 use Rattle.mb_world.specs.Plan.{consumers_of}
 use Rattle.mb_world.specs.Reporting.{is_took}

@@ -1,4 +1,4 @@
--- Loop invariants of `World::is_taken`: whether a consumer has taken the item of cell `k`.
+-- What the loop of `World::is_taken` keeps: none of the consumers so far has a note that it took the item of cell `k`.
 use Rattle.std.proofs.Common.{◌≡◌, false}
 use Rattle.mb_world.specs.Reporting.{any_below, is_took}
 use Rattle.mb_world.specs.StateReport.{note_on}

@@ -1,4 +1,4 @@
--- Loop invariants of `World::lane`: the report of lane `p`.
+-- What the loop of `World::lane` keeps: of the cells so far, all items are in `put`, and those not taken in `left`.
 use Rattle.std.proofs.Common.{◌≡◌, not, filter, map, take}
 use Rattle.mb_cells.specs.State.{item_in}
 use Rattle.mb_world.specs.StateReport.{is_taken_on}

@@ -41,7 +41,7 @@ links-preserved g c =
       walks = goes;
     })
 
--- fewer cells were met before than the pool has, so the loop ends
+-- before a pass that finds a cell, fewer cells were met than the pool has, so there is one less to meet
 pub links-smaller : goal.links-smaller
 links-smaller g c =
     let s = c.args.self.now in
@@ -60,14 +60,14 @@ links-smaller g c =
     (λ i has. (c.cells_stand_once.ensures.within (size_of s.pool) old.0 c.args.p i old.1.lawful has).1) in
     omega (arith, fits, is.1.cells, ap length c.in_ok-push-in-Cell.ensures.items, length-append ks (k ∷ []))
 
--- if nothing is found, these are all cells of the lane, which has not ended
+-- if nothing is found, the cells met are all cells of the lane, which has not ended
 pub returns-in-Nothing-clause-walked : goal.returns-in-Nothing-clause-walked
 returns-in-Nothing-clause-walked g c =
     walk_ends c.args.self.now.pool c.args.p c.links.cells.items c.links.cursor false
     (subst (λ (q : PoolState). look_in c.links.cursor q ≡ look.Nothing) (ap (λ (w : WorldState). w.pool) c.self.view_is)
     (sym c.look.ensures.shown ∙ c.in-Nothing.is)) c.links.invariant.walks
 
--- if the end mark is found, these are all cells of the lane, which has ended
+-- if the end mark is found, the cells met are all cells of the lane, which has ended
 pub returns-in-Ended-clause-walked : goal.returns-in-Ended-clause-walked
 returns-in-Ended-clause-walked g c =
     walk_ends c.args.self.now.pool c.args.p c.links.cells.items c.links.cursor true

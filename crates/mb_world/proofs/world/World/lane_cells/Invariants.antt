@@ -1,12 +1,11 @@
--- Loop invariants of `World::lane_cells`: the cells of lane `p`, along the links from its head, and whether the lane
--- has ended.
+-- What the loop of `World::lane_cells` keeps and makes smaller.
 use Rattle.std.proofs.Common.{◌<◌, ◌-◌, All, length}
 use Rattle.mb_cells.specs.State.{IsWithin}
 use Rattle.mb_world.specs.Setups.{plan_in}
 use Rattle.mb_world.proofs.LaneWalks.{WalksOn}
 use Rattle.mb_world.proofs.world.World.lane_cells.Given as goal
 
--- the cells met are the pool's, and the walk along the links has come to the cursor
+-- the cells met so far and the cursor are the pool's, and looks from the cursor on find the rest of the lane
 abbrev pub invariant-links : goal.invariant-links
 invariant-links g l = record {
   within : All (λ k. k < (plan_in l.self.setup).claims.cells) l.cells.items;
@@ -14,6 +13,6 @@ invariant-links g l = record {
   walks : WalksOn l.self.pool l.p l.cells.items l.cursor;
 }
 
--- the number of cells of the pool that were not met yet
+-- what gets smaller in each pass of the loop: the number of cells of the pool that were not met yet
 abbrev pub decreases-links : goal.decreases-links
 decreases-links g l = (plan_in l.self.setup).claims.cells - length l.cells.items

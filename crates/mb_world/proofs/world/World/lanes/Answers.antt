@@ -2,7 +2,7 @@
 use Rattle.mb_world.proofs.StateLists.{lanes_more}
 use Rattle.mb_world.proofs.world.World.lanes.Goals as goal
 
--- if the state tells the reports of the lanes so far, it tells them with that of the next lane, too
+-- if the state tells the reports of the lanes so far, it tells these and that of the next lane
 pub loop-p-preserved : goal.loop-p-preserved
 loop-p-preserved g c =
     rw (c.in_ok-push.ensures.items)

@@ -1,4 +1,4 @@
--- Loop invariants of `World::lanes`: the reports of all lanes.
+-- What the loop of `World::lanes` keeps: the state tells the reports so far, those of the first `p` lanes.
 use Rattle.mb_world.specs.StateReport.{AreLanesTold}
 use Rattle.mb_world.proofs.world.World.lanes.Given as goal
 
