@@ -7,7 +7,7 @@ use Rattle.mb_claim.proofs.KindLaws.{AreDeciding}
 use Rattle.mb_claim.proofs.Family.{Family, step, ended, lawful_here, output_holds, next, next_decided, none_named}
 use Rattle.mb_claim.proofs.Family.{Ended}
 
--- if P holds of each consumer's input, it holds of each winner that a stage names
+-- P, which holds of the inputs of a family, holds of each winner that a stage names
 pub winner_holds :
     (t : QuorumTable) (hs : ℕ → List Access) → AreDeciding t
     → (ks : List Kind) (o : ℕ) (P : ℕ → Type 0) (fam : Family t ks o hs P)

@@ -70,7 +70,7 @@ module _ (t : QuorumTable) (kinds : List Kind) (c object : ℕ) (pc : Pc) (xs : 
         then_here (stage_for c u)
         (inr (inl (record { turns = x ∷ p.turns; value = u; all = refl; path = path; is = refl })))
 
-    -- if the turn ends this object's path undecided, the claim has the stage that no turns have on the later objects
+    -- if the turn ends this object's path undecided, the claim has the stage of an empty part on the later objects
     undecided_then :
         (u : ℕ) (s : Stage) → IsPath t p.kind p.input (x ∷ p.turns) (answer false u)
         → IsClaimPrefixFrom t c p.after (suc object) u [] s → IsClaimPrefixFrom t c kinds 0 c longer s
@@ -122,7 +122,8 @@ module _ (t : QuorumTable) (kinds : List Kind) (c object : ℕ) (pc : Pc) (xs : 
     )
 
 -- ---- the access that a place names may come next
--- objects over a table keep the laws of one more access: it goes on with a path, and the history stays lawful
+-- objects over a table keep the laws of one access more: it goes on with a path, finds what its place allows, and the
+-- history stays lawful
 pub record AreStepping (t : QuorumTable) : Type 0 where
   pub steps :
       (kind : Kind) (inputs : ℕ → ℕ) (h : List Access) (p : ℕ) (pc : Pc) (op : Op) (word : ℕ)

@@ -1,4 +1,4 @@
--- Loop invariants of `mask_of_bits`: the mask of the register 2i + (bit i of `bits`), for each i below the width.
+-- What the loop of `mask_of_bits` keeps: `mask` has the register 2j + (bit j of `bits`), for each j below `i`, alone.
 use Rattle.std.proofs.Common.{◌≡◌}
 use Rattle.mb_quorum.specs.Bits.{named_register}
 use Rattle.mb_quorum.specs.Mask.{mask_of}
