@@ -1,4 +1,4 @@
--- The conciliators of a row: after each comes a ratifier, and its last attempt is at most 7.
+-- The conciliators of a layout: after each comes a ratifier, and its last attempt is at most 7.
 use Rattle.std.proofs.Common.{◌≡◌, ◌≤◌, ℕ, zero, suc, Bool, true, false, Some, List, ◌++◌, slice_get, refl, arith}
 use Rattle.std.proofs.lemmas.Option.{none-some, same_Some}
 use Rattle.mb_quorum.specs.Width.{width_of}

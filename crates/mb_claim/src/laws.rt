@@ -225,8 +225,8 @@ pub fn cells_stand_alone()
         → held_at k o reg (on_cell k h) ≡ held_at k o reg h }
 {}
 
-/// A layout has a quorum table with 1 to `MAX_VALUES` values. It has a pair or a last object, and at most `MAX_PAIRS`
-/// pairs.
+/// A layout has a lawful quorum table with 1 to `MAX_VALUES` values. It has a pair or a last object, and at most
+/// `MAX_PAIRS` pairs.
 pub fn layouts_are_sound()
     ensures table { (layout : Layout) → IsQuorumTable (quorums_of layout) }
     ensures consumers { (layout : Layout) → (1 ≤ consumer_count layout)

@@ -1,4 +1,4 @@
--- What the loop of `mask_of_bits` keeps: `mask` has the register 2j + (bit j of `bits`), for each j below `i`, alone.
+-- What the loop of `mask_of_bits` keeps: `mask` has exactly the registers 2j + (bit j of `bits`) with j below `i`.
 use Rattle.std.proofs.Common.{◌≡◌}
 use Rattle.mb_quorum.specs.Bits.{named_register}
 use Rattle.mb_quorum.specs.Mask.{mask_of}

@@ -15,7 +15,7 @@ by_choice : {X : Type 0} (b : Bool) → (b ≡ true → X) → (b ≡ false → 
 by_choice true so else = so refl
 by_choice false so else = else refl
 
--- if the budget is ample and each object passed took at most `LONGEST` accesses, so many are left before this object
+-- with an ample budget, if each object passed took at most `LONGEST` accesses, `LONGEST` are left before this object
 still_ample : (layout : Layout) (most left o : ℕ) → AMPLE ≤ most → o < length (kinds_of layout)
     → most ≤ left + LONGEST * o → LONGEST ≤ left
 still_ample layout most left o ample low few =
