@@ -72,7 +72,7 @@ abbrev pub Member : QuorumTable → ℕ → List Kind → ℕ → ℕ → List O
 Member t c ks o v xs s = ((xs ≡ []) × (s ≡ Going)) ⊎ IsClaimPrefixFrom t c ks o v xs s
 
 -- the consumer has passed object o, which left it undecided with this value, and `rest` are its steps on later objects.
--- If `rest` comes to an object from o + 1 on with some input, all its steps come there from o on with that input
+-- If `rest`, from o + 1 on, comes to an object with some input, all steps from o on come there with that input
 pub record Came (t : QuorumTable) (k : Kind) (ks : List Kind) (o v : ℕ) (xs : List ObjectTurn) (value : ℕ)
     (rest : List ObjectTurn) : Type 0 where
   pub path : IsPath t k v (turns_at o xs) (answer false value)

@@ -104,7 +104,7 @@ module _ (t : QuorumTable) (kinds : List Kind) (c object : ℕ) (pc : Pc) (xs : 
     ended law [] e false u path l = (Undecided, undecided_here u path e)
     ended law (k ∷ ks) e false u path l = (Going, passed_here law k ks e u path l)
 
-    -- if the turns here with one more are a prefix of a path on this object, so are the longer turns of a claim path
+    -- if the turns here with one more are a prefix of a path there, the longer turns are a prefix of a claim path
     pub goes_on :
         AreDeciding t
         → ((u : ℕ) (d : Bool) → IsPath t p.kind p.input (x ∷ p.turns) (answer d u) → u < t.values)

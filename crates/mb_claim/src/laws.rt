@@ -22,8 +22,8 @@ use mb_deciding::laws::{
 };
 use mb_deciding::steps::{places_have_turns_left, turns_name_the_next_op};
 
-/// All claims on a cell that are won or lost name one winner, for all orders of accesses and all random words. It has
-/// competed. `HasOneWinner` also says that who lost names another consumer, and when a claim is undecided.
+/// All claims on a cell that are won or lost name one winner, which competed, for all orders of accesses and all random
+/// words. `HasOneWinner` also says that who lost names another consumer, and when a claim is undecided.
 pub fn claims_have_one_winner()
     ensures { (cs : Claims) (h : List ClaimAccess) (k : ℕ) → ClaimsAreSound cs → IsClaimLawful cs h
         → HasOneWinner cs k h }
