@@ -7,7 +7,7 @@ use Rattle.mb_claim.proofs.KindLaws.{AreDeciding}
 use Rattle.mb_claim.proofs.Family.{Family, step, ended, lawful_here, output_holds, next, next_decided, none_named}
 use Rattle.mb_claim.proofs.Family.{Ended}
 
--- if P holds of each consumer's input, it holds of each winner that a stage names
+-- P, which holds of the inputs of a family, holds of each winner that a stage names
 pub winner_holds :
     (t : QuorumTable) (hs : ℕ → List Access) → AreDeciding t
     → (ks : List Kind) (o : ℕ) (P : ℕ → Type 0) (fam : Family t ks o hs P)
@@ -25,7 +25,7 @@ module _ (t : QuorumTable) (k : Kind) (ks : List Kind) (o : ℕ) (hs : ℕ → L
       → StageNames d (step t k ks o hs P fam d).stage w → w ≡ u
   late c d u w p n = winner_holds t hs law ks (suc o) (λ a. a ≡ u) (next_decided t k ks o hs P fam (law k) c u p) d w n
 
-  -- if any two winners that c and d name from the next object on are equal, so are two decided on object o or later
+  -- if any two winners that c and d name from the next object on are equal, so are any two from object o on (`Ended`)
   agree_by :
       (c d u w : ℕ) → ((a b : ℕ) → StageNames c (step t k ks o hs P fam c).stage a
       → StageNames d (step t k ks o hs P fam d).stage b → a ≡ b)

@@ -64,7 +64,7 @@ object_kept k o h =
     (Some (record { process = a.consumer; turn = a.step.turn })) None) None) e)) h
 
 -- ---- the cut history is lawful
--- one access more keeps the cut history true to memory. Cases: whether it is on cell k
+-- an access true to memory keeps the cut history true to memory. Cases: whether it is on cell k
 memory_by :
     (k : ℕ) (a : ClaimAccess) (h : List ClaimAccess) (q : Bool) → eqb a.cell k ≡ q
     → ReadsLast a.step.turn.act (object_history a.cell a.step.object h) → IsMemoryTrue (on_cell k h)
@@ -78,19 +78,19 @@ memory_by k a h true e reads older =
     )
 memory_by k a h false e reads older = older
 
--- the cut history is true to memory
+-- if a history is true to memory, so is the cut history
 memory_cut : (k : ℕ) (h : List ClaimAccess) → IsMemoryTrue h → IsMemoryTrue (on_cell k h)
 memory_cut k [] m = tt
 memory_cut k (a ∷ h) m = memory_by k a h (eqb a.cell k) refl m.0 (memory_cut k h m.1)
 
--- one access more keeps the values and random words below 2 ^ 64. Cases: whether the cut history has it
+-- if an access and a history have numbers below 2 ^ 64, so has the history with it. Cases: whether the access is kept
 words_by :
     (a : ClaimAccess) (xs : List ClaimAccess) (q : Bool) → IsInWords a.step.turn → AreInWords xs
     → AreInWords (cons_option (cond q (Some a) None) xs)
 words_by a xs true w older = (w, older)
 words_by a xs false w older = older
 
--- the cut history has values and random words below 2 ^ 64
+-- if a history has values and random words below 2 ^ 64, so has the cut history
 words_cut : (k : ℕ) (h : List ClaimAccess) → AreInWords h → AreInWords (on_cell k h)
 words_cut k [] w = tt
 words_cut k (a ∷ h) w = words_by a (on_cell k h) (eqb a.cell k) w.0 (words_cut k h w.1)

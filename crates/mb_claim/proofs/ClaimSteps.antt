@@ -156,8 +156,8 @@ stands_first t kinds kind c pc first below at =
       place = at;
     }
 
--- if a turn ended its object's path undecided, a claim is the claim of the turns (`IsClaimOf`) in two cases: it stands
--- on the next object, or there is none and it is undecided
+-- if a turn ended its object's path undecided, a begun claim is the claim of the turns (`IsClaimOf`) in two cases: it
+-- stands on the next object, or there is none and it is undecided
 pub claim_passed :
     (t : QuorumTable) (kinds : List Kind) (claim : Claim) (c object : ℕ) (pc : Pc) (xs : List ObjectTurn)
     (p : StandsAt t kinds c object pc xs) (x : Turn) (u : ℕ)
@@ -186,7 +186,7 @@ claim_passed t kinds claim c object pc xs p x u parts own known begun below path
     (n ∙ sym passed.1)
     (next_object t kinds c object pc xs p x u kind claim.place below path (ap (slice_get kinds) n ∙ is) passed.2))
 
--- if a turn ended its object's path decided, a claim with the stage for the value is the claim of the turns
+-- if a turn ended its object's path decided, a begun claim with the stage for the value is the claim of the turns
 pub claim_decided :
     (t : QuorumTable) (kinds : List Kind) (claim : Claim) (object : ℕ) (pc : Pc) (xs : List ObjectTurn)
     (p : StandsAt t kinds claim.consumer object pc xs) (x : Turn) (u : ℕ)

@@ -11,8 +11,8 @@ use Rattle.mb_claim.proofs.KindLaws.{OfKind}
 use Rattle.mb_claim.proofs.ObjectHistories.{turns_at}
 use Rattle.mb_claim.proofs.Parts.{Member, Forward, Ends, forward}
 
--- The consumers of one cell, from object o on. `hs n` is the history of object n. Each consumer has an input to object
--- o, its steps from there on, and their stage. P holds of the input of each consumer that has such a step.
+-- The consumers of one cell, from object o on. `hs n` is the history of object n, true to memory and in words. Each
+-- consumer has an input to o, its steps from there on, and their stage. If it has such a step, P holds of its input.
 pub record Family (t : QuorumTable) (ks : List Kind) (o : ℕ) (hs : ℕ → List Access) (P : ℕ → Type 0) : Type 0 where
   pub input : ℕ → ℕ
   pub rest : ℕ → List ObjectTurn

@@ -30,7 +30,7 @@ other_part c k a h ne =
     other_by (eqb a.consumer c) (eqb a.cell k) a.step (part_on c k h)
     (λ p q. ne (eqb-true a.consumer c p) (eqb-true a.cell k q))
 
--- an access changes what a history leaves in a word of an object only if it is on that object (tests q and r)
+-- an access changes what a history leaves in a word only if it is on the word's cell (test q) and object (test r)
 held_by :
     (q r : Bool) (x : Access) (reg : Reg) (xs : List Access)
     → value_in reg (cons_option (cond q (cond r (Some x) None) None) xs) ≡ cond q

@@ -1,4 +1,4 @@
--- Laws of the objects over a table, whatever the inputs of their processes.
+-- Laws of the objects over a table, whatever the inputs of their processes, and of acts true to memory.
 use Rattle.std.proofs.Common.{ℕ, ◌≡◌, List, ◌∷◌}
 use Rattle.mb_quorum.specs.Vocabulary.{QuorumTable}
 use Rattle.mb_deciding.specs.Vocabulary.{IsSameOp, ReadsLast, IsPrefix, object_of, IsDeciding, IsRatifying}

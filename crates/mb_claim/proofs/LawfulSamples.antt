@@ -1,5 +1,4 @@
--- Two lawful histories of `specs/Samples.antt`. In one, consumer 0 wins and consumer 1 loses. In
--- the other, both are undecided.
+-- Two samples that are lawful. In one, consumer 0 wins and consumer 1 loses. In the other, both are undecided.
 use Rattle.std.proofs.Common.{◌≡◌, ◌≢◌, ℕ, Bool, true, false, cond, eqb, Some, None, List, [], ◌∷◌, refl, subst₂, inl}
 use Rattle.std.proofs.Common.{inr, arith}
 use Rattle.std.specs.List.{cons_option}

@@ -66,7 +66,7 @@ pub last_few : (b : Bool) → length (last_row b) ≤ 1
 last_few true = omega arith
 last_few false = omega arith
 
--- a row has the objects of its fast path, of its pairs, and the last one
+-- a row has as many objects as its fast path has, two for each pair, and the last object if there is one
 pub length-row_of :
     (shape : Shape) (s n : ℕ)
     → length (row_of shape s n) ≡ length (fast_row shape.fast) + 2 * n + length (last_row shape.last)

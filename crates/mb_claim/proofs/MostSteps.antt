@@ -1,4 +1,4 @@
--- No more accesses are left to a claim than its layout allows.
+-- No more accesses are left to a claim than its layout allows (`most_accesses`).
 use Rattle.std.proofs.Common.{◌≡◌, ◌<◌, ◌≤◌, ℕ, suc, List, [], ◌∷◌, ◌++◌, refl, ◌∙◌, ap, ap₂, length, drop, arith}
 use Rattle.mb_deciding.specs.Vocabulary.{PcIsAt, most_turns, turns_left}
 use Rattle.mb_claim.specs.{Kind, Pc, Turn, ObjectTurn, Claim, Layout, Stage, Going, Won, Lost, Undecided, IsClaimIn}
@@ -16,7 +16,7 @@ module _ (layout : Layout) (claim : Claim) (xs : List ObjectTurn) (of : IsClaimI
     (most : (kind : Kind) (v : ℕ) (pc : Pc) (turns : List Turn) → v < (quorums_of layout).values
     → PcIsAt (quorums_of layout) kind v pc turns
     → turns_left (quorums_of layout) pc ≤ most_turns (quorums_of layout) kind) where
-  -- a claim that is going has no more accesses left than a claim on this layout makes
+  -- a claim that is going has no more accesses left than its layout allows
   going_most : claim.stage ≡ Going → steps_left layout claim ≤ most_accesses layout
   going_most goes =
       let t = quorums_of layout in
@@ -33,7 +33,7 @@ module _ (layout : Layout) (claim : Claim) (xs : List ObjectTurn) (of : IsClaimI
         most at.kind at.input claim.place at.turns at.within at.place,
       )
 
-  -- a claim with any stage has no more accesses left than a claim on this layout makes
+  -- a claim with any stage has no more accesses left than its layout allows
   by_stage : (s : Stage) → claim.stage ≡ s → steps_left layout claim ≤ most_accesses layout
   by_stage Going e = going_most e
   by_stage Won e = let none = ended_left layout claim Won e won_ended in omega (arith, none)
@@ -41,6 +41,6 @@ module _ (layout : Layout) (claim : Claim) (xs : List ObjectTurn) (of : IsClaimI
       in omega (arith, none)
   by_stage Undecided e = let none = ended_left layout claim Undecided e (λ u. cc) in omega (arith, none)
 
-  -- a claim has no more accesses left than a claim on this layout makes
+  -- a claim has no more accesses left than its layout allows
   pub most_steps : steps_left layout claim ≤ most_accesses layout
   most_steps = by_stage claim.stage refl

@@ -43,7 +43,7 @@ part-object_history c k o h =
     (record { process = a.consumer; turn = a.step.turn }) a.step a.step.turn (turn_by c) (turn_at o) refl refl) h
     ∙ sym (filter_map-filter_map (turn_at o) (step_by c k) h)
 
--- one access more keeps the history of object o true to memory. Cases: whether it is on this cell and object
+-- an access true to memory keeps the history of object o true to memory. Cases: whether it is on this cell and object
 cut_by :
     (k o : ℕ) (a : ClaimAccess) (h : List ClaimAccess) (q r : Bool) → eqb a.cell k ≡ q → eqb a.step.object o ≡ r
     → ReadsLast a.step.turn.act (object_history a.cell a.step.object h) → IsObjectMemoryTrue (object_history k o h)
@@ -57,14 +57,14 @@ cut_by k o a h true true e f reads older = (
 cut_by k o a h true false e f reads older = older
 cut_by k o a h false r e f reads older = older
 
--- the history of one object is true to memory
+-- if a history is true to memory, so is the history of each object
 pub IsMemoryTrue-object_history :
     (k o : ℕ) (h : List ClaimAccess) → IsMemoryTrue h → IsObjectMemoryTrue (object_history k o h)
 IsMemoryTrue-object_history k o [] m = tt
 IsMemoryTrue-object_history k o (a ∷ h) m =
     cut_by k o a h (eqb a.cell k) (eqb a.step.object o) refl refl m.0 (IsMemoryTrue-object_history k o h m.1)
 
--- one access more keeps the values and random words of an object's history below 2 ^ 64
+-- if an access and an object's history have numbers below 2 ^ 64, so has the history with the access
 words_by :
     (a : ClaimAccess) (xs : List Access) (q r : Bool) → IsInWords a.step.turn → AreObjectInWords xs
     → AreObjectInWords (cons_option
@@ -73,7 +73,7 @@ words_by a xs true true w older = (w, older)
 words_by a xs true false w older = older
 words_by a xs false r w older = older
 
--- the values and random words of one object's history are below 2 ^ 64
+-- if the values and random words of a history are below 2 ^ 64, so are those of each object's history
 pub AreInWords-object_history :
     (k o : ℕ) (h : List ClaimAccess) → AreInWords h → AreObjectInWords (object_history k o h)
 AreInWords-object_history k o [] w = tt

@@ -1,4 +1,4 @@
--- The conciliators of a row: after each comes a ratifier, and its last attempt is at most 7.
+-- The conciliators of a layout: after each comes a ratifier, and its last attempt is at most 7.
 use Rattle.std.proofs.Common.{◌≡◌, ◌≤◌, ℕ, zero, suc, Bool, true, false, Some, List, ◌++◌, slice_get, refl, arith}
 use Rattle.std.proofs.lemmas.Option.{none-some, same_Some}
 use Rattle.mb_quorum.specs.Width.{width_of}
@@ -37,7 +37,7 @@ paired_in s (suc n) zero k b e = (same_attempt s k (same_Some (Conciliator s) (C
 paired_in s (suc n) (suc zero) k b e = absurd (no_ratifier k (same_Some Ratifier (Conciliator k) e))
 paired_in s (suc n) (suc (suc o)) k b e = paired_in s n o k b e
 
--- with or without a fast path before these, each conciliator has last attempt s, and a ratifier comes next
+-- with or without a fast path before the pairs, each conciliator has last attempt s, and a ratifier comes next
 paired_behind : (f : Bool) (s n o k : ℕ) (b : Bool)
     → slice_get (fast_row f ++ (pairs_of s n ++ last_row b)) o ≡ Some (Conciliator k)
     → IsPaired s k o (fast_row f ++ (pairs_of s n ++ last_row b))

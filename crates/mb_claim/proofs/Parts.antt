@@ -71,7 +71,8 @@ passed_turns t c k ks o v xs s u rest x p =
 abbrev pub Member : QuorumTable → ℕ → List Kind → ℕ → ℕ → List ObjectTurn → Stage → Type 0
 Member t c ks o v xs s = ((xs ≡ []) × (s ≡ Going)) ⊎ IsClaimPrefixFrom t c ks o v xs s
 
--- the consumer has passed object o, which left it undecided with this value, and `rest` are its steps on later objects
+-- the consumer has passed object o, which left it undecided with this value, and `rest` are its steps on later objects.
+-- If `rest`, from o + 1 on, comes to an object with some input, all steps from o on come there with that input
 pub record Came (t : QuorumTable) (k : Kind) (ks : List Kind) (o v : ℕ) (xs : List ObjectTurn) (value : ℕ)
     (rest : List ObjectTurn) : Type 0 where
   pub path : IsPath t k v (turns_at o xs) (answer false value)

@@ -64,7 +64,7 @@ pub record LawfulObject (t : QuorumTable) (kind : Kind) (hs : ℕ → List Acces
   pub same : part c (hs o) ≡ turns
   pub within : inputs c < t.values
 
--- in a family, too, the split of a consumer that passed object o gives its output there, and the later steps
+-- in a family, too, the split of the steps of a consumer that passed object o gives its output there, and later steps
 pub step_passes :
     (t : QuorumTable) (k : Kind) (ks : List Kind) (o : ℕ) (hs : ℕ → List Access) (P : ℕ → Type 0)
     (fam : Family t (k ∷ ks) o hs P) (law : OfKind t k) (c : ℕ) → fam.input c < t.values
@@ -74,7 +74,7 @@ unfolding step
 step_passes t k ks o hs P fam law c l u later x none =
     forward_passes t c k ks o (fam.input c) (fam.rest c) (fam.stage c) law l u later x none (fam.member c)
 
--- the object after those that a consumer passed has a lawful history, with its input w and its turns
+-- the object after those that consumer c passed has a lawful history, with c's input w and c's turns there
 pub family_at :
     (t : QuorumTable) (hs : ℕ → List Access) (law : AreDeciding t) (before : List Kind) (kind : Kind)
     (after : List Kind) (o : ℕ) (P : ℕ → Type 0)

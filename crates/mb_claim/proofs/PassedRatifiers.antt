@@ -7,7 +7,7 @@ use Rattle.mb_claim.proofs.ObjectHistories.{turns_at}
 use Rattle.mb_claim.proofs.Lists.{append_nil_right}
 use Rattle.mb_claim.proofs.Parts.{passed_turns, turns_at-append, turns_at-turns_on_other}
 
--- the consumer was left undecided by object o, with the value u, and later turns follow
+-- object o left the consumer undecided with `value`, and `later` are its steps on later objects, a prefix from there on
 pub record CameUndecided (t : QuorumTable) (c : ℕ) (kind : Kind) (ks : List Kind) (o v : ℕ) (xs : List ObjectTurn)
     (s : Stage)
     : Type 0 where

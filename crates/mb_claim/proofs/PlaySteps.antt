@@ -12,7 +12,7 @@ use Rattle.mb_claim.specs.{history_of, IsEntryAfter, AreEntriesOf, IsPlayed}
 use Rattle.mb_claim.proofs.HistorySteps.{other_part}
 
 -- ---- the entries of a longer run
--- with one more step and its entry, the history of the run has that entry's access too
+-- with one more step and its entry, the history of the run has that entry's access too, if it has one
 history_from-push :
     (cs : Claims) (h : List ClaimAccess) (steps : List (ℕ × ℕ)) (entries : List ClaimEntry) (step : ℕ
     × ℕ) (e : ClaimEntry)

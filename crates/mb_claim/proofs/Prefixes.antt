@@ -76,7 +76,7 @@ completed t c (kind ∷ kinds) o v xs s (inr (inr (u, rest, x, p))) =
 
 -- ---- each beginning of a whole path is a prefix of a claim path
 -- One list is cut in two ways, `later ++ xs` and `rest ++ back`. Either xs ends with all of back, or back is longer
--- than xs and ends with all of it.
+-- than xs and ends with all of xs.
 abbrev IsCut : {A : Type 0} → List A → List A → List A → List A → Type 0
 IsCut {A} later xs rest back =
     ((front : List A) × (xs ≡ front ++ back) × (rest ≡ later ++ front))

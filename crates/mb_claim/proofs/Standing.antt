@@ -57,7 +57,7 @@ module _ (t : QuorumTable) (kinds : List Kind) (c object : ℕ) (pc : Pc) (xs : 
     pub longer_is : longer ≡ turns_on object (x ∷ p.turns) ++ p.front
     longer_is = ap (λ zs. record { object = object; turn = x } ∷ zs) p.all
 
-    -- if the turns here with one more are a prefix from this object on, the longer turns are one from object 0 on
+    -- if the turns here with one more are a prefix from this object on, the longer turns are a prefix from object 0 on
     then_here : (s : Stage) → IsClaimPrefixFrom t c (p.kind ∷ p.after) object p.input (turns_on object (x ∷ p.turns)) s
         → IsClaimPrefixFrom t c kinds 0 c longer s
     then_here s q = subst (λ zs. IsClaimPrefixFrom t c kinds 0 c zs s) (sym longer_is)
@@ -70,7 +70,7 @@ module _ (t : QuorumTable) (kinds : List Kind) (c object : ℕ) (pc : Pc) (xs : 
         then_here (stage_for c u)
         (inr (inl (record { turns = x ∷ p.turns; value = u; all = refl; path = path; is = refl })))
 
-    -- if the turn ends this object's path undecided, the claim has the stage that no turns have on the later objects
+    -- if the turn ends this object's path undecided, the claim has the stage of an empty part on the later objects
     undecided_then :
         (u : ℕ) (s : Stage) → IsPath t p.kind p.input (x ∷ p.turns) (answer false u)
         → IsClaimPrefixFrom t c p.after (suc object) u [] s → IsClaimPrefixFrom t c kinds 0 c longer s
@@ -104,7 +104,7 @@ module _ (t : QuorumTable) (kinds : List Kind) (c object : ℕ) (pc : Pc) (xs : 
     ended law [] e false u path l = (Undecided, undecided_here u path e)
     ended law (k ∷ ks) e false u path l = (Going, passed_here law k ks e u path l)
 
-    -- if the turns here with one more are a prefix of a path on this object, the longer turns are one of a claim path
+    -- if the turns here with one more are a prefix of a path there, the longer turns are a prefix of a claim path
     pub goes_on :
         AreDeciding t
         → ((u : ℕ) (d : Bool) → IsPath t p.kind p.input (x ∷ p.turns) (answer d u) → u < t.values)
@@ -122,7 +122,8 @@ module _ (t : QuorumTable) (kinds : List Kind) (c object : ℕ) (pc : Pc) (xs : 
     )
 
 -- ---- the access that a place names may come next
--- objects over a table keep the laws of one more access: it goes on with a path, and the history stays lawful
+-- objects over a table keep the laws of one access more: it goes on with a path, finds what its place allows, and the
+-- history stays lawful
 pub record AreStepping (t : QuorumTable) : Type 0 where
   pub steps :
       (kind : Kind) (inputs : ℕ → ℕ) (h : List Access) (p : ℕ) (pc : Pc) (op : Op) (word : ℕ)

@@ -7,7 +7,7 @@ use Rattle.mb_deciding.specs.Vocabulary.{turns_left, most_turns}
 use Rattle.mb_claim.specs.{Kind, Claim, Layout, Stage, Going, Won, Lost, Undecided, quorums_of, kinds_of}
 use Rattle.mb_claim.specs.{most_on_objects, steps_left, steps_left_at}
 
--- the objects from object o on allow as many accesses as object o, and then those after it, allow
+-- the objects from object o on allow as many accesses as object o and those after it together
 pub most_from :
     (t : QuorumTable) (kinds : List Kind) (o : ℕ) (kind : Kind) → slice_get kinds o ≡ Some kind
     → most_on_objects t (drop o kinds) ≡ most_turns t kind + most_on_objects t (drop (suc o) kinds)

@@ -83,7 +83,7 @@ closed layout c o v kind stage =
       begun = true;
     }
 
--- ---- stages
+-- ---- stages of claims that have ended, and the ends of stretches
 -- a claim for which a value was decided is not going
 pub stage_for_ended : (c u : ℕ) → stage_for c u ≢ Going
 stage_for_ended c u = by_test (c == u)
@@ -275,7 +275,7 @@ module _ {M : Type 0} (layout : Layout) (parts : PlacesMakeParts (quorums_of lay
         )
 
 -- ---- object by object
--- two claims before their first access to the same object are equal
+-- two claims of one consumer before its first access to one object, with one input, are equal
 one_of : (kind : Option Kind) (there : Kind → Claim) (a b : Claim) → MatchOption kind ⊥ (λ k. a ≡ there k)
     → MatchOption kind ⊥ (λ k. b ≡ there k) → a ≡ b
 one_of None there a b p q = absurd p

@@ -1,4 +1,4 @@
--- In every lawful history of claims, all claims on a cell have one winner.
+-- In every lawful history, all claims on a cell that are won or lost name one winner. Also when a claim is undecided.
 use Rattle.std.proofs.Common.{suc, Bool, true, false, cond, eqb, ◌∷◌, inl, inr, ◌≡◌, ◌≢◌, ◌⊎◌, ℕ, Some, List, [], refl}
 use Rattle.std.proofs.Common.{sym, ◌∙◌, ap, subst, slice_get, arith}
 use Rattle.std.proofs.lemmas.Bool.{cases_eq, eqb-false}
@@ -37,7 +37,7 @@ lost_other t c (k ∷ ks) o v xs w (inl x) same = let h : Lost w ≡ Going = x.i
 lost_other t c (k ∷ ks) o v xs w (inr (inl x)) same = lost_by c x.value w (eqb c x.value) refl x.is same
 lost_other t c (k ∷ ks) o v xs w (inr (inr (u, rest, x, p))) same = lost_other t c ks (suc o) u rest w p same
 
--- ---- the claims on cell k have one winner
+-- ---- the claims on cell k that are won or lost name one winner
 module _ (cs : Claims) (h : List ClaimAccess) (k : ℕ) (law : AreDeciding cs.table)
     (ratifying : AreRatifying cs.table) (lawful : IsClaimLawful cs h) where
   -- if a stage that consumer c has on the cell names u, the stage of c in the family names u
@@ -77,7 +77,7 @@ module _ (cs : Claims) (h : List ClaimAccess) (k : ℕ) (law : AreDeciding cs.ta
   company_by c o x (inl e) = (x.other.process, λ f. x.two (e ∙ sym f), some_part o x.second x.other)
   company_by c o x (inr ne) = (x.one.process, ne, some_part o x.first x.one)
 
-  -- all claims on the cell have one winner
+  -- all claims on the cell that are won or lost name one winner, and the rest of `HasOneWinner` holds
   pub has_one_winner : HasOneWinner cs k h
   has_one_winner =
       record {

@@ -15,7 +15,7 @@ pub record BoardState : Type 0 where
 
 -- the board is the board of a run after these steps, each a consumer and a random word
 pub record IsBoard (layout : Layout) (steps : List (ℕ × ℕ)) (board : BoardState) : Type 0 where
-  -- there is one entry for each step, and each may come after the accesses of those before it
+  -- there is one entry for each step, of its consumer. Each may come after the accesses of the entries before it
   pub fits : AreEntriesOf (claims_in layout 1) steps board.entries []
   -- the accesses of the entries are one lawful history, which leaves the words
   pub memory : IsMemoryOf (claims_in layout 1) board.words (history_of steps board.entries)

@@ -27,8 +27,8 @@ pub record IsClaimLawful (cs : Claims) (h : List ClaimAccess) : Type 0 where
 abbrev pub HasStage : Claims → ℕ → ℕ → Stage → List ClaimAccess → Type 0
 HasStage cs c k s h = (c < cs.table.values) × IsClaimPrefix cs c (part_on c k h) s
 
--- the access may come next in the history. It is of a consumer and a cell of the claims. A load finds what the history
--- leaves in its word. With the access, the consumer's part on the cell is a prefix of its claim path
+-- the access may come next in the history. It is of a consumer and a cell of the claims, and in words. A load finds
+-- what the history leaves in its word. With the access, the consumer's part on the cell is a prefix of its claim path
 pub record MayFollow (cs : Claims) (a : ClaimAccess) (h : List ClaimAccess) : Type 0 where
   -- the access is of one of the consumers
   pub consumer : a.consumer < cs.table.values

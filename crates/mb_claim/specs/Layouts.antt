@@ -51,12 +51,12 @@ abbrev pub max_steps : QuorumTable → ℕ → ℕ
 max_steps t pairs =
     pairs * (spread t.values + 3 + largest_quorum t.write t.values + 2 + largest_quorum t.read t.values)
 
--- the most turns on the fast path, if there is one
+-- the most turns on the fast path, or 0 if there is none
 abbrev pub fast_steps : QuorumTable → Bool → ℕ
 fast_steps t true = 2 * most_turns t Ratifier
 fast_steps t false = 0
 
--- the most turns on the last object, if there is one
+-- the most turns on the last object, or 0 if there is none
 abbrev pub last_steps : Bool → ℕ
 last_steps true = 1
 last_steps false = 0

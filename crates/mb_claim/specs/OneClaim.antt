@@ -31,7 +31,7 @@ placed_at pc claim =
 abbrev pub is_begun : Claim → Bool
 is_begun claim = claim.begun
 
--- a claim stands on one of the layout's objects, at a place there
+-- a claim stands on one of the layout's objects, at a place over the layout's quorum table
 pub record IsOnObject (layout : Layout) (claim : Claim) : Type 0 where
   -- the layout has the object
   pub object : claim.object < length (kinds_of layout)

@@ -72,8 +72,8 @@ IsClaimPrefixFrom t c (kind ∷ kinds) o v xs s =
     ⊎ ((u : ℕ) × (later : List ObjectTurn) × Passes t kind o v xs u later
     × IsClaimPrefixFrom t c kinds (suc o) u later s))
 
--- a part comes to object n with input w. It begins on object o with input v, and whole paths through all objects before
--- object n, all undecided, lead there
+-- a part comes to object n with input w. It begins on object o with input v, and whole paths through all objects from o
+-- to the one before n, all undecided, lead there
 abbrev pub Enters : QuorumTable → List Kind → ℕ → ℕ → List ObjectTurn → ℕ → ℕ → Type 0
 Enters t [] o v xs n w = ⊥
 Enters t (kind ∷ kinds) o v xs n w =

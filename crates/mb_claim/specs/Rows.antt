@@ -20,7 +20,7 @@ abbrev pub last_row : Bool → List Kind
 last_row true = LastObject ∷ []
 last_row false = []
 
--- the objects of a cell of this shape: the fast path, n pairs, and the last object
+-- the objects of a cell of this shape: the fast path if it has one, n pairs, and the last object if it has one
 abbrev pub row_of : Shape → ℕ → ℕ → List Kind
 row_of shape s n = fast_row shape.fast ++ (pairs_of s n ++ last_row shape.last)
 
@@ -58,7 +58,7 @@ row_words r [] = 0
 row_words r (kind ∷ kinds) = width r kind + row_words r kinds
 
 -- how many words a row of this shape has. On the fast path each ratifier has its proposal and registers. Then come the
--- words of the pairs, and the last word
+-- words of n pairs, and the word of the last object, if there is one
 abbrev pub shaped_words : ℕ → Shape → ℕ → ℕ
 shaped_words r shape n =
     length (fast_row shape.fast) * (1 + r) + n * (2 + r) + length (last_row shape.last)

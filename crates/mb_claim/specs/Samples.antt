@@ -31,7 +31,7 @@ won_and_lost =
     (Quorum 0) 1) ∷ access_at 1 0 (Load Value 1)
     ∷ won_alone
 
--- both find the conciliator's word empty, one after the other, and then each finds the other's announcement
+-- both consumers find the conciliator's word empty. Later, in the ratifier, each finds the other's announcement
 abbrev pub both_undecided : List ClaimAccess
 both_undecided =
     access_at 1 1 (Load (Quorum 0) 1) ∷ access_at 1 1 (Store Proposal 2)

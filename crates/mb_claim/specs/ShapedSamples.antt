@@ -1,5 +1,5 @@
--- Histories of claims on one cell, for two consumers and one pair over the unary table, with a fast path or a last
--- object. Some are lawful, and some are not.
+-- Histories of claims on one cell, for two consumers over the unary table: with one pair and a fast path or a last
+-- object, or with a last object alone. Some are lawful, and some are not.
 use Rattle.std.specs.Prelude.{ℕ, Bool, List, [], ◌∷◌}
 use Rattle.mb_quorum.specs.Unary.{unary_table}
 use Rattle.mb_claim.specs.AllClaims.{Claims, claims_of}

@@ -46,7 +46,7 @@ HasPlace cs c k object pc h = (c < cs.table.values)
 -- the claim belongs to a consumer that has made these turns, and says how far it has come
 pub record IsClaimOf (t : QuorumTable) (kinds : List Kind) (claim : Claim)
     (xs : List ObjectTurn) : Type 0 where
-  -- the claim's consumer is one of the table's
+  -- the claim's consumer is a value of the table
   pub known : claim.consumer < t.values
   -- the turns are a prefix of the consumer's claim path, with the claim's stage
   pub prefix : IsClaimPrefixFrom t claim.consumer kinds 0 claim.consumer xs claim.stage

@@ -1,4 +1,4 @@
--- The types of this crate, and their variants, under the names that the other modules use.
+-- The types of this crate, their variants, and its limits, under the names that the other modules use.
 pub use Rattle.mb_claim.specs.declared.access.ObjectTurn.{ObjectTurn}
 pub use Rattle.mb_claim.specs.declared.access.ClaimAccess.{ClaimAccess}
 pub use Rattle.mb_claim.specs.declared.access.ClaimOp.{ClaimOp}

@@ -45,7 +45,7 @@ pub record HasOneWinner (cs : Claims) (k : ℕ) (h : List ClaimAccess) : Type 0 
       (c d u w : ℕ) (s r : Stage) → HasStage cs c k s h → HasStage cs d k r h → StageNames c s u
       → StageNames d r w
       → u ≡ w
-  -- a consumer that has lost names another one
+  -- a consumer that has lost names another consumer
   pub other : (c w : ℕ) → HasStage cs c k (Lost w) h → w ≢ c
   -- the winner has an access to the cell
   pub competed : (c u : ℕ) (s : Stage) → HasStage cs c k s h → StageNames c s u → part_on u k h ≢ []

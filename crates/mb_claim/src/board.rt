@@ -49,7 +49,7 @@ impl<A: Allocator + Copy + Drop> Board<A> {
         })
     }
 
-    /// Adds one step of a consumer, with its random word.
+    /// Adds one step of a consumer, with its random word. If its claim has ended, the step makes no access.
     pub fn step(&mut self, layout: &Layout, consumer: u32, word: u64) -> Result<(), AllocError>
         requires board { (steps : List (ℕ × ℕ)) × IsBoard layout.now steps self.old }
         requires consumer { consumer < consumer_count layout.now }

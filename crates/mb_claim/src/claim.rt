@@ -46,8 +46,7 @@ impl Claim {
         }
     }
 
-    /// The claim of a consumer that has made no access, if each cell has a last object alone
-    /// ([`Layout::exchange`]).
+    /// The claim of a consumer that has made no access, if each cell has a last object alone ([`Layout::exchange`]).
     #[inline(always)]
     pub fn alone(layout: &Layout, consumer: u32) -> Claim
         requires consumer { consumer < consumer_count layout.now }
@@ -82,10 +81,10 @@ impl Claim {
         }
     }
 
-    /// Goes on after the next access, and returns how far the claim has come. Its consumer stays. It needs what
-    /// [`Claim::next`] needs. `seen` is the value that a load or an
-    /// exchange found. It does not count after a store. The random `word` counts only after a load of a conciliator's
-    /// word. If the word cannot hold `seen`, nothing more is said of the stage, and the claim can still be used.
+    /// Goes on after the next access, and returns how far the claim has come. It needs what [`Claim::next`] needs.
+    /// `seen` is the value that a load or an exchange found. It does not count after a store. The random `word` counts
+    /// only after a load of a conciliator's word. If the word of the access cannot hold `seen`, nothing more is said of
+    /// the stage, and the claim can still be used.
     #[inline(always)]
     pub fn after(&mut self, layout: &Layout, seen: u64, word: u64) -> Stage
         requires going { claim_stage self.old ≡ Going }
@@ -95,10 +94,10 @@ impl Claim {
         ensures begun { is_begun self.new ≡ true }
         ensures stage { result ≡ claim_stage self.new }
 
-        // Fewer accesses are left then, whatever `seen` is. So the claim ends.
+        // After the access fewer are left, whatever `seen` is. So each claim comes to an end.
         ensures fewer { steps_left layout.now self.new < steps_left layout.now self.old }
 
-        // The access is one more on the claim's path.
+        // If the word can hold `seen`, the access is one more on the claim's path.
         ensures path { (xs : List ObjectTurn) (next : ClaimOp) → IsClaimIn layout.now self.old xs
             → IsNextOp layout.now self.old next → CanClaimFind layout.now self.old next seen
             → IsClaimIn layout.now self.new (step_of next.object next.op seen word ∷ xs) }
@@ -203,7 +202,7 @@ impl Claim {
         }
     }
 
-    /// Goes on to the next object, if there is one. The output of the claim's object is this value, undecided.
+    /// Goes on to the next object, or is undecided if there is none. Its object left it undecided with this value.
     #[inline(always)]
     fn pass(&mut self, layout: &Layout, value: u32) -> Stage
         requires object { self.old.object < length (kinds_of layout.now) }

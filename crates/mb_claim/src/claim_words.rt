@@ -33,8 +33,7 @@ impl<A: Allocator + Drop> ClaimWords<A> {
     ghost use Rattle.mb_claim.specs.{ClaimAccess, Going, MAX_LARGE_CELLS, IsMemoryOf, IsClaimOn, claims_in, claim_access};
     ghost use Rattle.mb_claim.specs.{consumer_of, claim_stage, is_begun, steps_left, IsWordInLayout, word_address, cell_words};
 
-    /// The words of `cells` cells, at most 2^24, before the first access. The error is that there is no memory for
-    /// them.
+    /// The words of `cells` cells, at most 2^24, before the first access. The error is that memory ran out.
     pub fn new(alloc: A, layout: &Layout, cells: u32) -> Result<ClaimWords<A>, AllocError>
         requires { cells ≤ MAX_LARGE_CELLS }
         ensures { IfOk result (λ words. IsMemoryOf (claims_in layout.now cells) words []) }
@@ -46,8 +45,8 @@ impl<A: Allocator + Drop> ClaimWords<A> {
     }
 
     /// Makes the next access of a claim on its cell, with the random word of this step. It needs a claim that is
-    /// `Going`, and a lawful history that leaves these words and has the claim's accesses (`held`). There is one if the
-    /// claim was new here, and each step of it was made here.
+    /// `Going`, and a lawful history that leaves these words and has the claim's accesses (`held`). There is one if all
+    /// accesses here were steps of claims that were new here, one for each consumer and cell.
     #[inline(always)]
     pub fn step(&mut self, layout: &Layout, claim: &mut Claim, cell: u32, word: u64) -> ClaimStep
         requires going { claim_stage claim.old ≡ Going }

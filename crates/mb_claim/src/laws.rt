@@ -1,7 +1,7 @@
-//! What holds of every lawful history of claims, and of every layout and run. The functions compute nothing: their
-//! contracts are the laws, and their bodies name the laws of deciding objects that they use. If the prover needs help
-//! with a law, its proof is in `proofs/laws`, in a folder of its name. Laws of one access more, for callers that keep
-//! words and histories of their own, are in `steps`.
+//! What holds of every lawful history of claims, and of every claim, layout and run. The functions compute nothing:
+//! their contracts are the laws, and their bodies name the laws that they use. If the prover needs help with a law, its
+//! proof is in `proofs/laws`, in a folder of its name. Laws of one access more, for callers that keep words and
+//! histories of their own, are in `steps`.
 ghost use Rattle.std.specs.Prelude.{ℕ, ◌≡◌, ◌≢◌, ◌+◌, ◌*◌, ◌<◌, ◌≤◌, List, [], ◌∷◌, ◌++◌, Bool, true, false, length};
 ghost use Rattle.std.specs.Prelude.{slice_get, Some, ◌^◌};
 ghost use Rattle.mb_quorum.specs.Vocabulary.{QuorumTable, IsQuorumTable};
@@ -22,7 +22,8 @@ use mb_deciding::laws::{
 };
 use mb_deciding::steps::{places_have_turns_left, turns_name_the_next_op};
 
-/// All claims on a cell that are won or lost name one winner, for all orders of accesses and all random words.
+/// All claims on a cell that are won or lost name one winner, which competed, for all orders of accesses and all random
+/// words. `HasOneWinner` also says that who lost names another consumer, and when a claim is undecided.
 pub fn claims_have_one_winner()
     ensures { (cs : Claims) (h : List ClaimAccess) (k : ℕ) → ClaimsAreSound cs → IsClaimLawful cs h
         → HasOneWinner cs k h }
@@ -132,7 +133,7 @@ pub fn claims_have_steps_left()
     ensures ended { (layout : Layout) (claim : Claim) → claim_stage claim ≢ Going
         → steps_left layout claim ≡ 0 }
 
-    // The bound at first holds after each access, too.
+    // The bound of a new claim holds of every claim, whatever accesses it has made.
     ensures most { (layout : Layout) (claim : Claim) (xs : List ObjectTurn)
         → IsClaimIn layout claim xs → steps_left layout claim ≤ most_accesses layout }
 {
@@ -181,8 +182,8 @@ pub fn last_objects_decide_claims()
 {}
 
 /// In a layout with a fast path: if object 0 has decided for one consumer, nobody comes to a conciliator of that cell.
-/// Nobody does either if a consumer has ended its claim before the first access of any other. In that clause `s` is the
-/// stage of that claim, and `i` the conciliator's last attempt.
+/// Nobody does either if a consumer has ended its claim before the first access of any other (`alone`). In this clause
+/// `s` is the stage of that claim, and `i` the conciliator's last attempt.
 pub fn fast_layouts_avoid_conciliators()
     ensures decided { (layout : Layout) (cells k c u : ℕ) (h : List ClaimAccess)
         → (shape_of layout).fast ≡ true → IsClaimLawful (claims_in layout cells) h
@@ -224,8 +225,8 @@ pub fn cells_stand_alone()
         → held_at k o reg (on_cell k h) ≡ held_at k o reg h }
 {}
 
-/// A layout has a quorum table with 1 to `MAX_VALUES` values. It has a pair or a last object, and at most `MAX_PAIRS`
-/// pairs.
+/// A layout has a lawful quorum table with 1 to `MAX_VALUES` values. It has a pair or a last object, and at most
+/// `MAX_PAIRS` pairs.
 pub fn layouts_are_sound()
     ensures table { (layout : Layout) → IsQuorumTable (quorums_of layout) }
     ensures consumers { (layout : Layout) → (1 ≤ consumer_count layout)
@@ -243,8 +244,8 @@ pub fn limits_have_their_numbers()
     ensures large { MAX_LARGE_CELLS ≡ 2 ^ 24 }
 {}
 
-/// The claim of a consumer that has made no access goes on, and stands on the first object. If there are pairs and no
-/// fast path, that object is a conciliator, and its word is loaded first.
+/// The claim of a consumer that has made no access goes on, is not begun, and stands on the first object. If there are
+/// pairs and no fast path, that object is a conciliator, and its word is loaded first.
 pub fn claims_begin_on_the_first_object()
     ensures fresh { (layout : Layout) (claim : Claim) → IsClaimIn layout claim []
         → (claim_stage claim ≡ Going) × (is_begun claim ≡ false) }
@@ -254,7 +255,7 @@ pub fn claims_begin_on_the_first_object()
         → 1 ≤ pair_count layout → (shape_of layout).fast ≡ false → IsClaimIn layout claim []
         → IsNextOp layout claim next → next.op ≡ to.Load Value }
 
-    // The first load finds at most the number of consumers there.
+    // This first load of a conciliator's word finds at most the number of consumers.
     ensures found { (layout : Layout) (claim : Claim) (next : ClaimOp) (seen : ℕ)
         → 1 ≤ pair_count layout → (shape_of layout).fast ≡ false → IsClaimIn layout claim []
         → IsNextOp layout claim next → CanClaimFind layout claim next seen

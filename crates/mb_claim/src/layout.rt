@@ -191,7 +191,7 @@ impl Layout {
         }
     }
 
-    /// How many objects a row of this shape has. Only this function and the next say in which order they come.
+    /// How many objects a row of this shape has. Only this function and the next say which objects these are.
     fn objects_of(shape: Shape, pairs: u32) -> u32
         requires { pairs ≤ MAX_PAIRS }
         ensures { (s : ℕ) → result ≡ length (row_of shape s pairs) }

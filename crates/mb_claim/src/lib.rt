@@ -11,9 +11,9 @@
 //!
 //! A ratifier that decides a value for one consumer returns that value to all who use it. So all who go on do so with
 //! one value, no later object returns another, and all who win or lose name one winner. Each value is the input of some
-//! consumer that came, so the winner has competed. A conciliator before each ratifier makes it likely that all come to
-//! the ratifier with one value, and then it decides. A consumer that is alone is always decided. On a fast path it is
-//! decided before it comes to a conciliator. With a last object every claim is decided.
+//! consumer that came, so the winner has competed. The conciliator of a pair makes it likely that all come to the
+//! pair's ratifier with one value, and then it decides. The claim of a consumer that is alone is always decided. On a
+//! fast path it is decided before it comes to a conciliator. With a last object every claim is decided.
 //!
 //! # What is here
 //!

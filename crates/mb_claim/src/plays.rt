@@ -10,7 +10,7 @@ use crate::layout::Layout;
 use crate::run::{ClaimRun, PlayFault};
 use std::alloc::{AllocError, Allocator};
 
-/// Runs the claims of all consumers on one cell. Each pair of `steps` is a step of a consumer with its random word. A
+/// Runs the claims of all consumers on one cell. Each pair of `steps` is the consumer of a step, and its random word. A
 /// step of a consumer whose claim has ended makes no access. A consumer makes at most [`Layout::max_steps`] accesses.
 ///
 /// The error is `NoConsumer` if a step is of no consumer of the layout (the first such), and else `NoMemory` if memory

@@ -27,7 +27,7 @@ pub enum ClaimEntry {
     },
 }
 
-/// The steps of a run in order, and what each consumer has at the end.
+/// The steps of a run in order, and how far each consumer's claim has come at the end.
 #[derive(Debug, Drop)]
 pub struct ClaimRun<A: Allocator + Drop> {
     /// One entry for each step, in their order.

@@ -10,14 +10,14 @@ ghost use Rattle.mb_claim.specs.{two_alone, exchanged_once_each, both_found_empt
 use crate::laws::last_objects_decide_claims;
 use mb_deciding::laws::objects_keep_their_promises;
 
-/// Histories that are lawful.
+/// Histories that are lawful, and the stages of their claims.
 pub fn samples_are_lawful()
     // Consumer 0 wins alone, then consumer 1 comes and loses.
     ensures lawful { IsClaimLawful two_consumers won_and_lost }
     ensures won { HasStage two_consumers 0 0 Won won_and_lost }
     ensures lost { HasStage two_consumers 1 0 (Lost 0) won_and_lost }
 
-    // Both are undecided.
+    // Both consumers are undecided.
     ensures contest { IsClaimLawful two_consumers both_undecided }
     ensures first { HasStage two_consumers 0 0 Undecided both_undecided }
     ensures second { HasStage two_consumers 1 0 Undecided both_undecided }
@@ -40,7 +40,7 @@ pub fn faulty_samples_are_unlawful()
     objects_keep_their_promises();
 }
 
-/// Histories with a fast path before the pair.
+/// Histories with a fast path before the pair: a lawful one, and two that are not.
 pub fn fast_paths_come_first()
     // Consumer 0 wins on the first ratifier. Then consumer 1 comes, and loses on the second.
     ensures lawful { IsClaimLawful (two_with true false) lost_at_second }
@@ -52,7 +52,7 @@ pub fn fast_paths_come_first()
     ensures one { IsClaimLawful (two_with true false) skip_one_ratifier → ⊥ }
 {}
 
-/// Histories with a last object after the pair.
+/// Histories with a last object after the pair: a lawful one, and some that are not.
 pub fn last_objects_come_last()
     // A consumer that would be undecided without the last object goes on. Consumer 0 is the first there and wins, and
     // consumer 1 loses to it.
@@ -76,7 +76,7 @@ pub fn last_objects_come_last()
     last_objects_decide_claims();
 }
 
-/// Histories with a last object alone.
+/// Histories with a last object alone: a lawful one, and one that is not.
 pub fn last_objects_stand_alone()
     // Consumer 0 comes first and wins, and consumer 1 loses to it.
     ensures lawful { IsClaimLawful two_alone exchanged_once_each }

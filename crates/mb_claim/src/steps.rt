@@ -1,12 +1,11 @@
-//! Laws of one access more, for callers that keep the words and the history of many claims: a world, or a table of
-//! words that threads share. The functions compute nothing: their contracts are the laws. The proofs begin in
+//! Laws of one access more, and of words, for callers that keep the words and the history of many claims: a world, or a
+//! table of words that threads share. The functions compute nothing: their contracts are the laws. The proofs begin in
 //! `proofs/steps`.
 //!
 //! A table of shared words begins with [`histories_begin_with_zeros`]. Each access of a claim rests on
 //! [`claims_make_steps`]: the claim can be called, its word is one of the cell's, and it can go on with what it finds
-//! there. The words are then those that the history leaves with its access. [`accesses_lengthen_one_part`] says what
-//! that changes for each consumer. [`other_words_are_free`] says that words after those of the claims may hold
-//! anything.
+//! there. After the access the words are those that the history leaves with it. [`accesses_lengthen_one_part`] says
+//! what it adds to each consumer's part. [`other_words_are_free`]: words after those of the claims may hold anything.
 ghost use Rattle.std.specs.Prelude.{ℕ, ◌≡◌, ◌≢◌, ◌+◌, ◌*◌, ◌<◌, ◌≤◌, List, [], ◌∷◌, length, slice_index, slice_set};
 ghost use Rattle.mb_deciding.specs.declared.access.Op.TheVariants as to;
 ghost use Rattle.mb_deciding.specs.Vocabulary.{IsInWords, IsSameOp, IsOpAt, CanFind, reg_of, seen_by};
@@ -37,7 +36,7 @@ pub fn accesses_lengthen_one_part()
     ensures others { (c : ℕ) (a : ClaimAccess) (h : List ClaimAccess) → a.consumer ≢ c
         → part c (a ∷ h) ≡ part c h }
 
-    // The access lengthens the part on one cell, and no other part on a cell.
+    // The access lengthens its consumer's part on its cell, and no other part on a cell.
     ensures own_cell { (a : ClaimAccess) (h : List ClaimAccess)
         → part_on a.consumer a.cell (a ∷ h) ≡ a.step ∷ part_on a.consumer a.cell h }
     ensures other_cells { (c k : ℕ) (a : ClaimAccess) (h : List ClaimAccess) → (a.consumer ≡ c
@@ -49,7 +48,7 @@ pub fn accesses_lengthen_one_part()
 {}
 
 /// What a claim has done determines its next op, whatever memory holds. So a history goes on in one way with the access
-/// of a consumer on a cell.
+/// of a consumer on a cell, but for the random word.
 pub fn claims_have_one_next_op()
     ensures op { (cs : Claims) (c : ℕ) (x y : ObjectTurn) (xs : List ObjectTurn) (s r : Stage)
         → ClaimsAreSound cs
@@ -70,7 +69,7 @@ pub fn claims_have_one_next_op()
     turns_name_the_next_op();
 }
 
-/// The next access of a claim's place, with the value that the history leaves in its word, may follow.
+/// The next access of a claim's place, with the value that the history leaves in its word, may follow the history.
 pub fn places_make_steps()
     ensures follows { (cs : Claims) (c k object : ℕ) (pc : Pc) (op : Op) (word : ℕ)
         (h : List ClaimAccess)
@@ -79,7 +78,7 @@ pub fn places_make_steps()
         → IsInWords (access_after c k object op word h).step.turn
         → MayFollow cs (access_after c k object op word h) h }
 
-    // The place can go on with the value that it finds there.
+    // The place can go on with the value that this access finds.
     ensures found { (cs : Claims) (c k object : ℕ) (pc : Pc) (op : Op) (h : List ClaimAccess)
         → ClaimsAreSound cs → IsClaimLawful cs h → HasPlace cs c k object pc h
         → IsOpAt cs.table pc op
@@ -126,7 +125,7 @@ pub fn words_follow_steps()
         → let a = access_in cs c k object op word words in
         IsInWords a.step.turn → IsMemoryOf cs (words_after cs k object op words) (a ∷ h) }
 
-    // The place can go on with the value that it finds there.
+    // The place can go on with the value that this access finds.
     ensures found { (cs : Claims) (c k object : ℕ) (pc : Pc) (op : Op) (words : List ℕ)
         (h : List ClaimAccess)
         → ClaimsAreSound cs → IsMemoryOf cs words h
@@ -150,7 +149,7 @@ pub fn claims_make_steps()
         → IsClaimIn layout claim xs → claim_stage claim ≡ Going → IsNextOp layout claim next
         → IsWordInLayout layout next.object (reg_of next.op) }
 
-    // The claim can go on with the value that it finds there.
+    // The claim can go on with the value that its next access finds in that word.
     ensures found { (layout : Layout) (cells k : ℕ) (claim : Claim) (next : ClaimOp)
         (words : List ℕ)
         (h : List ClaimAccess) → let cs = claims_in layout cells in IsMemoryOf cs words h
@@ -163,7 +162,7 @@ pub fn claims_make_steps()
     ensures stored { (layout : Layout) (claim : Claim) (next : ClaimOp) (reg : Reg) (value seen : ℕ)
         → next.op ≡ to.Store reg value → CanClaimFind layout claim next seen }
 
-    // If a lawful history ends with the claim's next access, the claim can go on with the value that this found.
+    // If a lawful history ends with the claim's next access, the claim can go on with the value that the access found.
     ensures told { (layout : Layout) (cells k : ℕ) (claim : Claim) (next : ClaimOp) (seen word : ℕ)
         (h : List ClaimAccess)
         → IsClaimLawful (claims_in layout cells)
@@ -189,7 +188,7 @@ pub fn claims_make_steps()
 
 /// Different words have different addresses, which are below the number of words. In a row of pairs the words lie cell
 /// by cell, pair by pair: the conciliator's word, the proposal, the quorum registers. In a row of any shape the words
-/// of the fast path come first, and the last word comes after those of the pairs.
+/// of the fast path come first, and the last object's word comes after those of the pairs.
 pub fn addresses_are_apart()
     ensures apart { (r : ℕ) (kinds : List Kind) (j k o p : ℕ) (reg other : Reg)
         → IsWordOf r kinds o reg → IsWordOf r kinds p other

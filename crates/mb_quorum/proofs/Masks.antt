@@ -20,7 +20,7 @@ shifted_to : (n i : ℕ) → i < 32 → 1 * 2 ^ (2 * i + bit_and (n / 2 ^ i) 1) 
 shifted_to n i within =
     rw (shr_and_one n i) (one_shl (named_register n i) 64 (omega (arith, within, bit_at-lt n i)))
 
--- each pass of the loop adds register 2 i + bit i to the mask
+-- pass i of the loop adds register 2 i + bit i to the mask
 pub mask_of-next :
     (bits i mask : ℕ) → i < 32 → mask ≡ mask_of (named_register bits) i
     → bit_or mask (1 * 2 ^ (2 * i + bit_and (bits / 2 ^ i) 1) % 2 ^ 64) ≡ mask_of (named_register bits) (i + 1)

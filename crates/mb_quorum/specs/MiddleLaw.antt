@@ -310,7 +310,7 @@ breadth_small m most =
     let all : halves 8 ≡ 70 = refl in
     (breadth_is_least m).least 8 (omega (arith, most, all))
 
--- ---- the law
+-- ---- the table keeps the law of quorum tables
 -- in the table of m values, each value is the number of a set
 pub in_table : (m v : ℕ) → v < m → v < choose (breadth_of m) (breadth_of m / 2)
 in_table m v value = omega (arith, value, (breadth_is_least m).enough)

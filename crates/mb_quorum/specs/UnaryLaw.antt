@@ -78,7 +78,7 @@ write_only m v r member =
       | inr other ↦ absurd (omega (arith, bit_at-pow_other v r other, member))
     ]
 
--- ---- the law
+-- ---- the table keeps the law of quorum tables
 -- the write quorum and the read quorum of one value share no register
 apart : (m v w : ℕ) → v < m → v ≡ w → AreDisjoint ((unary_table m).write v) ((unary_table m).read w)
 apart m v w value same r in_write in_read =

@@ -41,7 +41,7 @@ enough_powers (suc i) m h =
       | inr reached ↦ rw (passed_over i m reached) (enough_powers i m reached)
     ]
 
--- the lower one of two powers has the lower exponent
+-- the lower of two powers of two has the lower exponent
 exponent_below : (i c : ℕ) → 2 ^ i < 2 ^ c → i < c
 exponent_below i c lower =
     elim (cases_lt i c) [

@@ -26,7 +26,7 @@ pub fn masks_tell_values_apart()
         → (bit_and (t.write v) (t.read w) ≡ 0) ↔ (v ≡ w) }
 {}
 
-/// Each named table keeps the law of quorum tables, and has the number of values that it is asked for.
+/// Each named table of at most `MAX_VALUES` values keeps the law of quorum tables. It has as many values as asked for.
 pub fn named_tables_are_lawful()
     ensures lawful { (name : TableName) (m : ℕ) → m ≤ MAX_VALUES → IsQuorumTable (table_of name m) }
     ensures values { (name : TableName) (m : ℕ) → (table_of name m).values ≡ m }
@@ -70,12 +70,12 @@ pub fn middle_quorums_are_sets_by_rising_mask()
         ↔ ((r < (middle_table m).registers) × (IsMember ((middle_table m).write v) r → ⊥)) }
 {}
 
-/// The width of the bit table is the least number b with `m <= 2^b`.
+/// The width of the bit table of m values is the least number b with `m <= 2^b`.
 pub fn width_is_the_least()
     ensures { (m : ℕ) → IsLeastWidth m (width_of m) }
 {}
 
-/// A table can have at most 64 values.
+/// A table of this crate can have at most 64 values (`MAX_VALUES`).
 pub fn max_values_is_sixty_four()
     ensures { MAX_VALUES ≡ 64 }
 {}

@@ -2,9 +2,9 @@
 //! no register exactly if they belong to one value.
 //!
 //! A process announces its value by setting the registers of the value's write quorum. If it then finds all
-//! registers of the value's read quorum unset, nobody has announced any other value. The idea is that of James
-//! Aspnes, "A modular approach to shared-memory consensus, with applications to the probabilistic-write model"
-//! (PODC 2010).
+//! registers of the value's read quorum unset, nobody had set the whole write quorum of another value before it began
+//! to read. The idea is that of James Aspnes, "A modular approach to shared-memory consensus, with applications to the
+//! probabilistic-write model" (PODC 2010).
 #![tactic(auto)]
 
 mod bits;

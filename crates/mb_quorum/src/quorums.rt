@@ -4,8 +4,8 @@
 /// No call takes memory. Each table proves the law `lawful` for itself. A user of a table needs that law alone: a
 /// ratifier is right over every lawful table.
 ///
-/// A table of your own needs a `QuorumTable`, a lemma that this is an `IsQuorumTable`, and the four calls. In this one,
-/// value v has the quorums that value m - 1 - v has in the unary table of m values. The whole of it is in
+/// A table of your own needs a `QuorumTable`, a lemma that this is an `IsQuorumTable`, and the four calls. In the
+/// example, value v has the quorums that value m - 1 - v has in the unary table of m values. All of the example is in
 /// `test_libraries`: `src/mirrored.rt`, and `mirrored` and `mirrored_lawful` in `specs/Mirrored.antt`.
 ///
 /// ```

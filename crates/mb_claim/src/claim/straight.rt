@@ -10,7 +10,7 @@ use mb_deciding::steps::paths_are_short;
 use mb_deciding::{Drawing, Kind, through_conciliator, through_last, through_ratifier};
 use mb_quorum::Quorums;
 
-/// The most accesses that a claim can make to one object: no ratifier over any table takes more.
+/// More accesses than a claim can make to one object, over any table: 2 for each of 64 registers, and 10.
 const LONGEST: u64 = 138;
 
 /// A budget that is enough for the longest way through all objects of a cell.
@@ -173,7 +173,7 @@ impl Claim {
         }
     }
 
-    /// Goes through the object, a ratifier. Returns whether another object comes next.
+    /// Goes through the object, a ratifier. Returns whether the claim goes on to another object.
     #[inline(always)]
     fn decide<M: Drawing>(
         layout: &Layout,

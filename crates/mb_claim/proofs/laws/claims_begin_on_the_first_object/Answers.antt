@@ -1,5 +1,5 @@
--- Proof of `laws::claims_begin_on_the_first_object`: the claim of a consumer that has made no access goes on, and
--- stands on the first object.
+-- Proof of `laws::claims_begin_on_the_first_object`: the claim of a consumer that has made no access goes on, is not
+-- begun, and stands on the first object.
 use Rattle.std.proofs.Common.{◌∙◌}
 use Rattle.mb_deciding.specs.Vocabulary.{object_of}
 use Rattle.mb_claim.specs.{Layout, quorums_of}

@@ -1,5 +1,5 @@
--- Proof of `laws::claims_have_one_winner`: the claims on one cell have one winner, for all orders of accesses and all
--- random words.
+-- Proof of `laws::claims_have_one_winner`: all claims on a cell that are won or lost name one winner, for all orders of
+-- accesses and all random words.
 use Rattle.std.proofs.Common.{refl}
 use Rattle.mb_deciding.specs.Vocabulary.{object_of}
 use Rattle.mb_claim.specs.{Ratifier}

@@ -1,5 +1,5 @@
--- Proof of `laws::layouts_are_sound`: a layout has a quorum table with 1 to `MAX_VALUES` values. It has a pair or a
--- last object, and at most `MAX_PAIRS` pairs.
+-- Proof of `laws::layouts_are_sound`: a layout has a lawful quorum table with 1 to `MAX_VALUES` values. It has a pair
+-- or a last object, and at most `MAX_PAIRS` pairs.
 use Rattle.mb_claim.proofs.LayoutObjects.{quorums_lawful, consumers_within, last_without}
 use Rattle.mb_claim.proofs.laws.layouts_are_sound.Goals as goal
 

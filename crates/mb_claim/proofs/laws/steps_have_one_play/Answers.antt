@@ -1,4 +1,4 @@
--- Proof of `laws::steps_have_one_play`: steps have one run at most: the entries and the stages are determined by the
+-- Proof of `laws::steps_have_one_play`: steps have one play at most: the entries and the stages are determined by the
 -- claims and the steps.
 use Rattle.mb_deciding.specs.Vocabulary.{object_of}
 use Rattle.mb_claim.proofs.OnePlay.{one_play}

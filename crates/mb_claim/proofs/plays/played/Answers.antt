@@ -5,7 +5,7 @@ use Rattle.mb_claim.specs.{ClaimEntry, Stage, IsBoard, claims_in, claim_stage, I
 use Rattle.mb_claim.proofs.PlaySteps.{board_played}
 use Rattle.mb_claim.proofs.plays.played.Goals as goal
 
--- two facts of a result, if it is `Ok`, give a third
+-- if P and Q of a value give R, and both hold of a result that is `Ok`, R holds of it
 if_ok : {X E : Type 0} (P Q R : X → Type 0) → ((x : X) → P x → Q x → R x) → (r : Result X E) → IfOk r P → IfOk r Q
     → IfOk r R
 if_ok P Q R joins (Ok x) p q = joins x p q

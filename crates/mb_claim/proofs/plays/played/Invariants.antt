@@ -1,4 +1,4 @@
--- Loop invariants of `played`: the run of steps that are all of consumers of the layout.
+-- What the loop of `played` keeps: the board is the board of a run after the steps so far (`IsBoard`).
 use Rattle.std.proofs.Common.{take}
 use Rattle.mb_claim.specs.{IsBoard}
 use Rattle.mb_claim.proofs.plays.played.Given as goal

@@ -1,4 +1,4 @@
--- Proof of `samples::fast_paths_come_first`: histories with a fast path before the pair.
+-- Proof of `samples::fast_paths_come_first`: histories with a fast path: a lawful one, and two that are not.
 use Rattle.std.proofs.Common.{arith}
 use Rattle.mb_claim.proofs.ShapedSamples.{fast_lawful, fast_won, fast_lost, both_refused, one_refused}
 use Rattle.mb_claim.proofs.samples.fast_paths_come_first.Goals as goal

@@ -1,4 +1,4 @@
--- Proof of `samples::last_objects_come_last`: histories with a last object after the pair.
+-- Proof of `samples::last_objects_come_last`: histories with a pair and a last object, one lawful and some not.
 use Rattle.std.proofs.Common.{arith}
 use Rattle.mb_quorum.specs.Unary.{unary_table}
 use Rattle.mb_claim.specs.{pairs_of, both_undecided}

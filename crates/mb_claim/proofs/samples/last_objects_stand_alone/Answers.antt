@@ -1,4 +1,4 @@
--- Proof of `samples::last_objects_stand_alone`: histories with a last object alone.
+-- Proof of `samples::last_objects_stand_alone`: histories with a last object alone: a lawful one, and one that is not.
 use Rattle.std.proofs.Common.{arith}
 use Rattle.mb_claim.proofs.AloneSamples.{alone_lawful, alone_won, alone_lost, both_empty_refused}
 use Rattle.mb_claim.proofs.samples.last_objects_stand_alone.Goals as goal

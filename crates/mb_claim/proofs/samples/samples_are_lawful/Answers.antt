@@ -1,4 +1,4 @@
--- Proof of `samples::samples_are_lawful`: histories that are lawful.
+-- Proof of `samples::samples_are_lawful`: histories that are lawful, and the stages of their claims.
 use Rattle.std.proofs.Common.{arith}
 use Rattle.mb_claim.proofs.LawfulSamples.{lawful, won, lost, undecided_lawful, first_undecided, second_undecided}
 use Rattle.mb_claim.proofs.samples.samples_are_lawful.Goals as goal

@@ -1,4 +1,4 @@
--- Proof of `steps::addresses_are_apart`: where words of a row lie. Different words have different addresses, in range.
+-- Proof of `steps::addresses_are_apart`: different words have different addresses. Also where words of a row lie.
 use Rattle.std.proofs.Common.{◌≡◌, ◌+◌, ◌*◌, length, ap, arith}
 use Rattle.mb_claim.specs.{Value, Proposal, Quorum, Last, address_of, pairs_of, fast_row}
 use Rattle.mb_claim.proofs.Addresses.{distinct, within, row_words-pairs_of, pair_address}

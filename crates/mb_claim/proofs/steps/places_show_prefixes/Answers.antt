@@ -1,4 +1,4 @@
--- Proof of `steps::places_show_prefixes`: the turns of a claim at a place are a prefix of its path, which goes on.
+-- Proof of `steps::places_show_prefixes`: turns of a claim at a place are a prefix of its path, and the claim is going.
 use Rattle.mb_claim.proofs.Standing.{stands_part, stands_on}
 use Rattle.mb_claim.proofs.steps.places_show_prefixes.Goals as goal
 

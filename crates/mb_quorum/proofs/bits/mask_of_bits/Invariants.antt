@@ -1,4 +1,4 @@
--- Loop invariants of `mask_of_bits`: the mask of the register 2i + (bit i of `bits`), for each i below the width.
+-- What the loop of `mask_of_bits` keeps: `mask` has exactly the registers 2j + (bit j of `bits`) with j below `i`.
 use Rattle.std.proofs.Common.{◌≡◌}
 use Rattle.mb_quorum.specs.Bits.{named_register}
 use Rattle.mb_quorum.specs.Mask.{mask_of}

@@ -1,5 +1,5 @@
--- Proof of `laws::named_tables_are_lawful`: each named table keeps the law of quorum tables, and has the number of
--- values that it is asked for.
+-- Proof of `laws::named_tables_are_lawful`: each named table of at most `MAX_VALUES` values keeps the law of quorum
+-- tables. It has as many values as asked for.
 use Rattle.mb_quorum.specs.TablesLaw.{named_lawful}
 use Rattle.mb_quorum.proofs.laws.named_tables_are_lawful.Goals as goal
 

@@ -1,5 +1,5 @@
--- Loop invariants of `breadth`: the least number of registers that have at least `values` sets of half of them, rounded
--- down.
+-- What the loop of `breadth` keeps: there are at most 8 registers, and fewer registers have fewer than `values` sets of
+-- half of them, rounded down. In each pass `8 - registers` gets smaller.
 use Rattle.std.proofs.Common.{◌≤◌, ◌<◌, ◌-◌, ℕ}
 use Rattle.mb_quorum.specs.Middle.{halves}
 use Rattle.mb_quorum.proofs.middle.breadth.Given as goal

@@ -1,4 +1,4 @@
--- Loop invariants of `Board::finish`: the entries, and how far each claim has come.
+-- What the loop of `Board::finish` keeps: the list has the stages of the claims so far, in their order.
 use Rattle.std.proofs.Common.{◌≡◌, map, take}
 use Rattle.mb_claim.specs.{claim_stage}
 use Rattle.mb_claim.proofs.board.Board.finish.Given as goal

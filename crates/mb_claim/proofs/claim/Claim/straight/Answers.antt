@@ -15,14 +15,14 @@ by_choice : {X : Type 0} (b : Bool) → (b ≡ true → X) → (b ≡ false → 
 by_choice true so else = so refl
 by_choice false so else = else refl
 
--- if the budget is ample, at least `LONGEST` accesses are left before each object, since a cell has few of them
+-- with an ample budget, if each object passed took at most `LONGEST` accesses, `LONGEST` are left before this object
 still_ample : (layout : Layout) (most left o : ℕ) → AMPLE ≤ most → o < length (kinds_of layout)
     → most ≤ left + LONGEST * o → LONGEST ≤ left
 still_ample layout most left o ample low few =
     let all = objects_few layout.shape (spread (quorums_of layout).values) layout.pairs layout.few in
     omega (arith, ample, low, few, all)
 
--- before each object at least 10 accesses are left, which are enough for a conciliator
+-- if there is room before an object, at least 10 accesses are left, which are enough for a conciliator
 has_room : (layout : Layout) (most left o room : ℕ) (ample : Bool) → (ample ≡ true → AMPLE ≤ most)
     → (ample ≡ false → 2 * (quorums_of layout).registers + 10 ≤ room) → room ≤ left → o < length (kinds_of layout)
     → most ≤ left + LONGEST * o → 10 ≤ left
@@ -60,7 +60,7 @@ agree-requires-clause-may g c =
     at.object at.value c.objects.memory at.left c.objects.invariant.steps
     (λ claim mid next. g.M.Drawing.can_make_at mid (site_of layout c.args.begin next.object) next.op) c.requires.may
 
--- In the proofs below, `first` are the accesses up to the object to which `agree` leads.
+-- If a proof below has a `first`, this says that all accesses up to the object to which `agree` leads are the claim's.
 pub decide-requires-clause-may : goal.decide-requires-clause-may
 decide-requires-clause-may g c =
     let layout = c.args.layout.now in

@@ -1,4 +1,4 @@
--- Loop invariants of `Claim::straight`: makes the accesses of a new claim on a cell, object by object.
+-- What the loop of `Claim::straight` keeps before each object. In each pass fewer objects are left.
 use Rattle.std.proofs.Common.{◌≡◌, ◌+◌, ◌*◌, ◌-◌, ◌<◌, ◌≤◌, ℕ, length}
 use Rattle.mb_claim.specs.declared.claim.straight.TheConstants.{LONGEST}
 use Rattle.mb_claim.specs.{Claim, Going, kinds_of, consumer_count, IsStanding, AreClaimSteps, DrawsAndMakesNext}
@@ -7,7 +7,7 @@ use Rattle.mb_claim.proofs.claim.Claim.straight.Given as goal
 abbrev pub decreases-objects : goal.decreases-objects
 decreases-objects g l = length (kinds_of l.layout) - l.at.object
 
--- Before each object: the claim is going there, and made at most `LONGEST` accesses for each object that it passed.
+-- the new claim is before its first access to this object, after at most `LONGEST` accesses for each object passed
 abbrev pub invariant-objects : goal.invariant-objects
 invariant-objects g l = record {
   going : l.at.stage ≡ Going;

@@ -1,4 +1,4 @@
--- Proof of `CellWords::perform`: makes an access to a word of the cell, and notes it as the step made.
+-- Proof of `CellWords::perform`: makes an access to a word of the cell, and keeps it as the step made.
 use Rattle.std.proofs.Common.{◌≡◌, ◌<◌, ◌≤◌, ◌*◌, ℕ, List, length, refl, ◌∙◌, ap, ap₂, slice_index, slice_set, arith}
 use Rattle.std.proofs.lemmas.List.{get_or_read}
 use Rattle.mb_claim.specs.ObjectTypes.{Reg, Act}
@@ -8,7 +8,7 @@ use Rattle.mb_claim.specs.Layouts.{quorums_of, kinds_of, cell_words, word_addres
 use Rattle.mb_claim.proofs.Addresses.{within}
 use Rattle.mb_claim.proofs.claim_words.CellWordsMemory.perform.Goals as goal
 
--- if the block has the words of `cells` cells, the word of a cell below `cells` is among them
+-- if the block has the words of `cells` cells, each word of a cell below `cells` is among them
 inside :
     (layout : Layout) (cells cell object : ℕ) (reg : Reg) (words : List ℕ) (at : ℕ) → IsWordInLayout layout object reg
     → cell < cells → cells * cell_words layout ≤ length words → at

@@ -1,4 +1,5 @@
--- Loop invariants of `Layout::max_steps`: the most accesses that a claim can make.
+-- What the loops of `Layout::max_steps` keep: the sizes of the largest quorums of the values so far, and how many
+-- accesses the objects so far allow. Both are bounded.
 use Rattle.std.proofs.Common.{◌≡◌, ◌≤◌, ◌+◌, ◌*◌, drop}
 use Rattle.mb_deciding.specs.Vocabulary.{largest_quorum}
 use Rattle.mb_claim.specs.{quorums_of, kinds_of, most_on_objects}

@@ -1,4 +1,4 @@
--- Loop invariants of `Layout::of`: the layout with this table, these pairs and this shape.
+-- What the loop of `Layout::of` keeps: the kinds of the objects so far, where each begins, and how many words all have.
 use Rattle.std.proofs.Common.{◌≡◌, ◌<◌, ℕ, length, slice_get, slice_index}
 use Rattle.mb_claim.specs.{row_of, words_before}
 use Rattle.mb_claim.specs.declared.layout.TheConstants.{MAX_OBJECTS}

@@ -1,5 +1,5 @@
--- Loop invariants of `Table::new`: the table of this name with m values, or `BadValues` if m is not in
--- `1..=MAX_VALUES`.
+-- What the loop of `Table::new` keeps: two lists of `MAX_VALUES` masks, which have the write and read quorums of the
+-- values so far in the table of this name.
 use Rattle.std.proofs.Common.{◌≡◌, ◌<◌, ℕ, length, slice_index}
 use Rattle.mb_quorum.specs.declared.values.TheConstants.{MAX_VALUES}
 use Rattle.mb_quorum.specs.Tables.{table_of}
