@@ -179,7 +179,7 @@ propose_step t input value seen word makes same made within =
         checks_reached t v input 0 (t.read input) (record { act = act_of op seen; word = word } ∷ turns) within
         (omega arith) (rest_whole (t.read input)) (prefers_own t v input (acts turns) op seen at.1 is)
 
--- a load of 0 from the least register that is left is a step to the check of the others
+-- a load of 0 from the least register that is left is a step to the check of the others, or to the decided output
 pub clear_step :
     (t : QuorumTable) → IsQuorumTable t → (u left r after seen word : ℕ) (makes : Op → ℕ → Type 0)
     → makes (to.Load (Quorum r)) seen → u < t.values → seen ≡ 0 → IsLeast left r → IsTaken left r after

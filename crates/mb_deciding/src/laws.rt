@@ -23,8 +23,8 @@ pub fn first_movers_win()
         → o.kind ≡ Conciliator s → IsObjectLawful o h → IsFirstMover o h }
 {}
 
-/// What a clear read of a ratifier rules out (`ChecksKeepOut`). That the values of all decided outputs are one rests on
-/// this. It holds of the empty history, and each access with which a process has a prefix of a path keeps it.
+/// What a clear read of a ratifier rules out (`ChecksKeepOut`). The coherence of a ratifier rests on this. It holds of
+/// the empty history. It holds after each access, true to memory, that gives its process a prefix of a path.
 pub fn checks_keep_out()
     ensures empty { (o : Object) → ChecksKeepOut o [] }
     ensures kept { (o : Object) (h : List Access) (p : ℕ) (turn : Turn)
