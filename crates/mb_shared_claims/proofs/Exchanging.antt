@@ -73,7 +73,7 @@ module _ (layout : Layout) (c : ℕ) (alone : kinds_of layout ≡ LastObject ∷
       let so = subst (λ (k : Claim). IsNextOp layout k next) at is in
       (so.object, so.op)
 
-  -- that exchange finds at most the number of consumers
+  -- if that exchange finds what it can find, this is at most the number of consumers
   pub found_alone :
       (claim : Claim) (next : ClaimOp) (found : ℕ) → IsStanding layout c 0 c claim → IsNextOp layout claim next
       → CanClaimFind layout claim next found → found ≤ consumer_count layout

@@ -158,7 +158,7 @@ module _ (t : TableView) (cell : ℕ) {M : Type 0} {K : Type 0} (seat : M → Se
           d.3 ∙ p.keeps,
         )
 
-    -- n accesses of the claim, one after the other, are at most as many as the layout allows
+    -- if the layout bounds each consumer's accesses to a cell, it bounds the number n of accesses made of the claim
     pub few_steps :
         ((h : List ClaimAccess) (c k : ℕ) → IsClaimLawful (claims_in t.layout t.cells) h
         → length (part_on c k h) ≤ most_accesses t.layout)
@@ -207,7 +207,7 @@ module _ (t : TableView) (cell : ℕ) {M : Type 0} {K : Type 0} (seat : M → Se
           may_go_on keeps has n w at before mid next (chain n at before steps) going draw
           (subst (λ x. IsNextOp x at next) same is)
 
-      -- n accesses of the claim over the equal layout are at most as many as the table's layout allows
+      -- if the table's layout bounds each consumer's accesses to a cell, it bounds those made over the equal layout
       pub few_steps_in :
           ((h : List ClaimAccess) (c k : ℕ) → IsClaimLawful (claims_in t.layout t.cells) h
           → length (part_on c k h) ≤ most_accesses t.layout)

@@ -59,7 +59,7 @@ abbrev pub newcomer : View → View
 newcomer (Drawing size roll) = Standing size (length roll) []
 newcomer v = Spent
 
--- what the hub's fetch-add proves: it found how many numbers were issued before
+-- what the hub's fetch-add proves: it found how many numbers were issued. The hub's view then says that one was drawn
 abbrev pub draws : ℕ → Seated → Seated → Type 0
 draws found me now = (found ≡ length (roll_of me.0)) × (now ≡ (drawn me.0, me.1))
 

@@ -13,8 +13,8 @@ use crate::trace::{Fault, Trace};
 use mb_quorum::checked_values;
 use std::alloc::Allocator;
 
-/// Runs one conciliator for m values. Process i has the input `inputs[i]`. Each turn of the schedule has a process and a
-/// random word. It is one access, or none if the process has its output. A process has at most `spread(m) + 3`
+/// Runs one conciliator for m values. Process i has the input `inputs[i]`. Each turn of the schedule has a process and
+/// a random word. It is one access, or none if the process has its output. A process has at most `spread(m) + 3`
 /// accesses.
 ///
 /// It is refused for the reasons for which [`ratify`](crate::ratify) is.
