@@ -202,7 +202,7 @@ checked_zero t q v u left r after made op seen within at is zero_seen least take
           (sym act) next.1,
     )
 
--- if the load of a register finds 1, the path ends undecided
+-- if the load of a register that is left to check finds 1, the path ends undecided
 pub checked_one :
     (t : QuorumTable) → IsQuorumTable t → (v u left : ℕ) (made : List Act) (op : Op) (seen : ℕ) → u < t.values
     → IsInRatifier t v (Check u left) made → IsRatifierOp t (Check u left) op

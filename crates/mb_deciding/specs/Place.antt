@@ -130,7 +130,8 @@ HasReg r LastObject Last = Unit {0}
 HasReg r _ _ = ⊥
 
 -- ---- what the access may find, and what it leads to
--- the load of a process in a conciliator may find v + 1 for a value v. It may find 0 only if the process has not stored
+-- a load of a process at its place in a conciliator may find v + 1 for one of the values v. It may find 0 only if the
+-- process has not stored. A store finds none, so any number will do
 abbrev pub CanMeet : ℕ → ConciliatorPlace → ℕ → Type 0
 CanMeet values (Draw input limit modulus) seen = seen ≤ values
 CanMeet values (Put input) seen = Unit {0}

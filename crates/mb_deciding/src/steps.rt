@@ -19,7 +19,7 @@ pub fn history_extends()
         → IsObjectLawful o (record { process = p; turn = turn } ∷ h) }
 {}
 
-/// After a lawful history a process at its place has a prefix of a path with its next turn, if that finds what is left.
+/// After a lawful history a process at its place has a prefix of a path with its next turn, if that is true to memory.
 pub fn places_lead_on()
     ensures prefix { (o : Object) (h : List Access) (p : ℕ) (pc : Pc) (op : Op) (word : ℕ)
         → ObjectIsSound o → IsObjectLawful o h

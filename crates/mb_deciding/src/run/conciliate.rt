@@ -1,4 +1,4 @@
-//! One conciliator and a schedule.
+//! Runs one conciliator for a schedule.
 
 ghost use Rattle.mb_deciding.specs.{Conciliator, conciliator_of, setup_of, IsValid, IsFirstMover, part, RefusesOnlyFor};
 ghost use Rattle.mb_deciding.specs.{refusal_of, spread, IsTrace, history_of};

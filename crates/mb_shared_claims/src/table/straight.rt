@@ -100,7 +100,7 @@ impl<'a, A: Allocator + Drop, R: Rng> Memory for DrawingWords<'a, A, R> {
         × MayComeNext (claims_in m.table.now.layout m.table.now.cells) m.seat.now.consumer m.cell
         m.seat.now.part (record { object = object; op = op }) };
 
-    // The seat's part gets the access, which came after a lawful history with the part before. Table, cell, source stay.
+    // The seat's part gets the access, made after a lawful history with the part before. Table, cell and source stay.
     ghost makes = { λ m object op seen after.
         let a = access_of m.seat.now.consumer m.cell (record { object = object; op = op }) seen
         m.word in
