@@ -142,7 +142,7 @@ module _ (t : TableView) (cell : ℕ) {M : Type 0} {K : Type 0} (seat : M → Se
               omega (arith, longer, one, p.count);
         }
 
-    -- after n accesses and a draw, the seat may make the claim's next access, and what the memory keeps is as at the start
+    -- after n accesses and a draw, the seat may make the claim's next access. What the memory keeps is as at the start
     pub may_go_on :
         KeepsMemory → HasNextWord → (n w : ℕ) (at : Claim) (before mid : M) (next : ClaimOp)
         → AreClaimSteps t.layout (DrawsAndMakesNext draws makes) claim start n at before → claim_stage at ≡ Going
@@ -159,7 +159,7 @@ module _ (t : TableView) (cell : ℕ) {M : Type 0} {K : Type 0} (seat : M → Se
           d.3 ∙ p.keeps,
         )
 
-    -- if the layout bounds each consumer's accesses to a cell, it bounds the number n of accesses made of the claim
+    -- n is at most the layout's `most_accesses`, if that bounds a consumer's accesses to a cell in each lawful history
     pub few_steps :
         ((h : List ClaimAccess) (c k : ℕ) → IsClaimLawful (claims_in t.layout t.cells) h
         → length (part_on c k h) ≤ most_accesses t.layout)
@@ -199,7 +199,7 @@ module _ (t : TableView) (cell : ℕ) {M : Type 0} {K : Type 0} (seat : M → Se
           → Arrived n at now
       arrives_in n at now steps = arrives n at now (chain n at now steps)
 
-      -- after n accesses over the equal layout and a draw, the seat may make the next access, with the same things kept
+      -- after n accesses over the equal layout and a draw, the seat may make the claim's next access, too
       pub may_go_on_in :
           KeepsMemory → HasNextWord → (n w : ℕ) (at : Claim) (before mid : M) (next : ClaimOp)
           → AreClaimSteps l (DrawsAndMakesNext draws makes) claim start n at before → claim_stage at ≡ Going
@@ -208,7 +208,7 @@ module _ (t : TableView) (cell : ℕ) {M : Type 0} {K : Type 0} (seat : M → Se
           may_go_on keeps has n w at before mid next (chain n at before steps) going draw
           (subst (λ x. IsNextOp x at next) same is)
 
-      -- if the table's layout bounds each consumer's accesses to a cell, it bounds those made over the equal layout
+      -- the number n of accesses over the equal layout is bounded by the table's layout, too
       pub few_steps_in :
           ((h : List ClaimAccess) (c k : ℕ) → IsClaimLawful (claims_in t.layout t.cells) h
           → length (part_on c k h) ≤ most_accesses t.layout)
