@@ -30,7 +30,7 @@ above_limit : (s k limit modulus word : ℕ) → HasLimits s k limit modulus →
 above_limit s k limit modulus word limits none =
     subst (λ n. 2 ^ k ≤ word % n) limits.2 (subst (λ n. n ≤ word % modulus) limits.1 none)
 
--- after an attempt that did not store there is another, whose limit is twice that of the first
+-- after an attempt that did not store there is another, whose limit is twice as large
 pub next_limits :
     (s k limit modulus word : ℕ) → HasLimits s k limit modulus → limit ≤ word % modulus
     → HasLimits s (suc k) (limit * 2) modulus

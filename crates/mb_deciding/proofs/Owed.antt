@@ -67,7 +67,7 @@ unique_ratifier t v turns later a b h k =
     )
 
 -- ---- the paths of a conciliator
--- each input has a path through a conciliator: that of a process that finds its input in the word at once
+-- each input has a path through a conciliator: its only load finds that input in the word
 opens_conciliator : (t : QuorumTable) (s v : ℕ) → IsOpen t (Conciliator s) v []
 opens_conciliator t s v =
     let x : Turn = record { act = Load Value (v + 1); word = 0 } in

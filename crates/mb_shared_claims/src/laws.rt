@@ -94,7 +94,7 @@ pub fn steps_keep_states()
 /// In every state of a table all seats that have won or lost a cell name one winner. So no cell has two winners at any
 /// time, whatever the threads do.
 pub fn seats_have_one_winner()
-    // If two seats have both won a cell, they are one consumer's.
+    // If two seats have both won a cell, they are seats of one consumer.
     ensures won { (k : TableSize) (words : List ℕ) (views : List View) (i j c d cell : ℕ)
         (xs ys : List ClaimAccess)
         → IsClaimsState k words views → HasPartAt views i c xs → HasPartAt views j d ys
