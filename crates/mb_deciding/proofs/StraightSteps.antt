@@ -123,7 +123,7 @@ pub checks_some : (u left : ℕ) → left ≢ 0 → checks_of u left ≡ leads.G
 checks_some u left some =
     ap (λ b. cond b (leads.Out (answer true u)) (leads.Go (InRatifier (Check u left)))) (ne_eqb left 0 some)
 
--- a process that read clear below the bound is at the check of the registers left, or has its output if none is
+-- a process whose check found 0 below the bound is at the check of the registers left, or has its output if none is
 checks_reached :
     (t : QuorumTable) (v u bound left : ℕ) (turns : List Turn) → u < t.values → bound ≤ t.registers
     → IsRest (t.read u) bound left → ReadsClear t v u bound (acts turns)
