@@ -34,7 +34,7 @@ IsRatifierPlace t (Check preference left) = (preference < t.values) × (left ≢
 abbrev pub HasLimits : ℕ → ℕ → ℕ → ℕ → Type 0
 HasLimits s k limit modulus = (k ≤ s) × (limit ≡ 2 ^ k) × (modulus ≡ 2 ^ s)
 
--- the place in a conciliator fits: its input is one of so many values. Limits are those of an attempt, with s at most 63
+-- the place in a conciliator fits: its input is one of so many values. Limits are those of an attempt, where s ≤ 63
 abbrev pub IsConciliatorPlace : ℕ → ConciliatorPlace → Type 0
 IsConciliatorPlace values (Draw input limit modulus) =
     (input < values) × ((s k : ℕ) × (s ≤ 63) × HasLimits s k limit modulus)
