@@ -3,7 +3,7 @@ use Rattle.std.proofs.Common.{◌≡◌, ◌≢◌, suc, List, [], ◌∷◌, �
 use Rattle.mb_deciding.specs.{Act, Turn, acts, Has}
 use Rattle.mb_deciding.proofs.Histories.{not_empty}
 
--- the acts of two lists of turns joined are those of both, joined
+-- the acts of two joined lists of turns are the acts of each list, joined
 pub acts-append : (xs ys : List Turn) → acts (xs ++ ys) ≡ acts xs ++ acts ys
 acts-append [] ys = refl
 acts-append (x ∷ xs) ys = ap (λ zs. x.act ∷ zs) (acts-append xs ys)

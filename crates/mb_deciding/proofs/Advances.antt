@@ -29,7 +29,7 @@ announce_op t input left (to.Store Value w) is = absurd is
 announce_op t input left (to.Store Proposal w) is = absurd is
 announce_op t input left (to.Store (Quorum r) w) is = inl (r, ap (λ n. to.Store (Quorum r) n) is.0, is.1)
 
--- before its first access a process has the same next op as one with its whole write quorum left to announce
+-- a process at `Begin` has the same next op as one with its whole write quorum left to announce
 pub begin_op :
     (t : QuorumTable) (input : ℕ) (op : Op)
     → IsRatifierOp t (Begin input) op ↔ IsRatifierOp t (Announce input (t.write input)) op
@@ -93,7 +93,7 @@ one_least mask r s l m =
     ]
 
 -- ---- a process that announces its input
--- before its first access a process has its whole write quorum left to announce
+-- a process at `Begin` is also at the place with its whole write quorum left to announce
 pub begin_announces :
     (t : QuorumTable) (v input : ℕ) (made : List Act) → IsInRatifier t v (Begin input) made
     → IsInRatifier t v (Announce input (t.write input)) made
@@ -202,7 +202,7 @@ checked_zero t q v u left r after made op seen within at is zero_seen least take
           (sym act) next.1,
     )
 
--- if the load of a register finds 1, the path ends undecided
+-- if the load of a register that is left to check finds 1, the path ends undecided
 pub checked_one :
     (t : QuorumTable) → IsQuorumTable t → (v u left : ℕ) (made : List Act) (op : Op) (seen : ℕ) → u < t.values
     → IsInRatifier t v (Check u left) made → IsRatifierOp t (Check u left) op
@@ -221,7 +221,7 @@ checked_one t q v u left made op seen within at is can some =
       (at.3.0, at.3.1, at.3.2 ∙ ap (λ xs. xs ++ at.3.0) (sym same)),
     )
 
--- if no register is left to check, all registers of the read quorum were loaded and held 0
+-- if all loads of a check so far found 0, and no register is left to check, the whole read quorum was loaded
 pub checked_whole :
     (t : QuorumTable) (v u bound left : ℕ) (made : List Act) → bound ≤ t.registers → IsRest (t.read u) bound left
     → left ≡ 0 → ReadsClear t v u bound made → ReadsClear t v u t.registers made

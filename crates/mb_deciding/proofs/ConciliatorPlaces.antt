@@ -1,4 +1,4 @@
--- The places of a process in a conciliator: what its next turn leads to, and that each place has a next turn.
+-- The places of a process in a conciliator: what its next turn leads to, and that later turns complete a path.
 use Rattle.std.proofs.Common.{◌≡◌, ℕ, suc, ◌+◌, ◌-◌, ◌*◌, ◌<◌, ◌≤◌, ◌%◌, ◌^◌, false, List, [], ◌∷◌, inl, inr, refl, ap}
 use Rattle.std.proofs.Common.{subst, arith, bit_and}
 use Rattle.std.proofs.Math.Numerals.{one-add}
@@ -16,7 +16,7 @@ use Rattle.mb_deciding.proofs.Histories.{not_empty}
 never : (a b : ℕ) → a < b → b ≤ a → ⊥
 never a b l m = omega arith
 
--- a number below 2 ^ s that is not below 2 ^ k shows that attempt k is not the last
+-- if a number is below 2 ^ s and not below 2 ^ k, attempt k is not the last attempt s
 attempts_remain : (k s n : ℕ) → 2 ^ k ≤ n → n < 2 ^ s → suc k ≤ s
 attempts_remain k s n a b =
     elim (cases_lt k s) [ inl l ↦ l | inr l ↦ absurd (let m : 2 ^ s ≤ 2 ^ k = pow_mono l in omega arith) ]
@@ -30,7 +30,7 @@ above_limit : (s k limit modulus word : ℕ) → HasLimits s k limit modulus →
 above_limit s k limit modulus word limits none =
     subst (λ n. 2 ^ k ≤ word % n) limits.2 (subst (λ n. n ≤ word % modulus) limits.1 none)
 
--- after an attempt that did not store there is another, whose limit is twice this one
+-- after an attempt that did not store there is another, whose limit is twice as large
 pub next_limits :
     (s k limit modulus word : ℕ) → HasLimits s k limit modulus → limit ≤ word % modulus
     → HasLimits s (suc k) (limit * 2) modulus

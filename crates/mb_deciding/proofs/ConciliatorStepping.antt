@@ -1,4 +1,4 @@
--- A process at its place in a conciliator: with its next turn it has a prefix of a path. Also what this turn may find.
+-- A process at its place in a conciliator: with its next turn it has a prefix of a path. Also what that turn may find.
 use Rattle.std.proofs.Common.{ℕ, ◌+◌, ◌-◌, ◌*◌, ◌%◌, false, List, [], ◌∷◌, inl, inr}
 use Rattle.std.proofs.Common.{sym, refl, subst, arith}
 use Rattle.std.proofs.lemmas.Bool.{cases_eq, cases_lt}
@@ -30,7 +30,7 @@ pub open_turns :
     (t : QuorumTable) (kind : Kind) (v : ℕ) (turns : List Turn) → IsOpen t kind v turns → IsPrefix t kind v turns
 open_turns t kind v turns p = (p.0, p.2.0, p.2.1)
 
--- if its next turn finds what the history leaves in the word, the part of a process with it is a prefix of a path
+-- if a process's next turn finds what a lawful history leaves in the word, its part with it is a prefix of a path
 pub drawing_next :
     (t : QuorumTable) (s : ℕ) (inputs : ℕ → ℕ) (h : List Access) (p : ℕ) (place : ConciliatorPlace) (op : Op) (word : ℕ)
     → IsObjectLawful (conciliator_of t s inputs) h → IsInConciliator s (inputs p) place (part p h)
@@ -65,7 +65,7 @@ drawing_next t s inputs h p (Look input) op word l at is =
       ),
     )
 
--- the next access of a process finds a value that the word can hold, and not 0 if the process itself has stored
+-- after a lawful history a process's next load finds a value that the word can hold, and not 0 after its own store
 pub drawing_found :
     (t : QuorumTable) (s : ℕ) (inputs : ℕ → ℕ) (h : List Access) (p : ℕ) (place : ConciliatorPlace) (op : Op)
     → IsObjectLawful (conciliator_of t s inputs) h → IsInConciliator s (inputs p) place (part p h)

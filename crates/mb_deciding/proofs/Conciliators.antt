@@ -26,7 +26,7 @@ act_value v u (Store (Quorum r) w) n b e = inl e
 act_value v u (Store Last w) n b e = absurd b
 act_value v u (Exchange reg w f) n b e = absurd b
 
--- after one act a value in the word is among the values stored, if it was among them before
+-- after one act a value in the word is among the values stored, if the value before the act was
 act_stored :
     (v u : ℕ) (act : Act) (n : ℕ) (stored : List ℕ) → StoresInput v act → (n ≡ u + 1 → IsAmong stored (u + 1))
     → value_after Value act n ≡ u + 1 → IsAmong (cons_option (stored_by act) stored) (u + 1)
@@ -153,7 +153,7 @@ module _ (t : QuorumTable) (s : ℕ) (inputs : ℕ → ℕ) where
       elim (subst (λ xs. IsAmong xs (u + 1)) only
       (output_stored h l p u end.0 end.1 end.2 end.3)) [ inl e ↦ sym e | inr none ↦ absurd none ]
 
-  -- if a process has made attempts and a store, the word is not empty
+  -- if attempts and then a store are all that a process has made, the word is not empty
   pub put_filled :
       (h : List Access) → L h → (p k : ℕ) (turns : List Turn) → part p h ≡ turns → IsPut s (inputs p) k turns
       → 0 < value_in Value h

@@ -17,7 +17,7 @@ same_self (Conciliator s) t = refl
 same_self Ratifier t = refl
 same_self LastObject t = refl
 
--- if an object does the same over two tables, these have as many values
+-- if an object does the same over two tables, they have equally many values
 pub same_values : (kind : Kind) (t u : QuorumTable) → IsSameFor kind t u → t.values ≡ u.values
 same_values (Conciliator s) t u same = same
 same_values Ratifier t u same = ap (λ (x : QuorumTable). x.values) same

@@ -10,7 +10,7 @@ below_by_test bound n e = grind (arith, nat_tests)
 pub none_inside : (at all : ℕ) → None ≡ cond (nat_lt at all) (Some at) None → all ≤ at
 none_inside at all e = by_test (nat_lt at all) refl e
   where
-    -- the same in both cases: the test says that the position is below the length, or that it is not
+    -- whatever the test `at < all` says, the position is not below the length
     by_test : (b : Bool) → nat_lt at all ≡ b → None ≡ cond b (Some at) None → all ≤ at
     by_test true is none = cc
     by_test false is none = grind (arith, nat_tests)

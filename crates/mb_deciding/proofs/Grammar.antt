@@ -57,7 +57,7 @@ has_each act (suc n) mask r h m =
     elim (cases_eq r n) [ inl e ↦ here e | inr e ↦ below e ]
 
 -- ---- what came before each act of a path
--- a list in order is still in order after b adds x in front, if x then has before it what has to come before it
+-- a list in order stays so after the test b adds x in front, or nothing, if the list has what has to come before x
 behind_cond :
     (t : QuorumTable) (v : ℕ) (b : Bool) (x : Act) (xs : List Act) → (b ≡ true → Behind t v x xs) → AllBehind t v xs
     → AllBehind t v (cond b (x ∷ xs) xs)
@@ -77,14 +77,14 @@ preference_later : (v : ℕ) (xs ys : List Act) → HasPreference v ys → HasPr
 preference_later v xs ys (inl h) = inl (has_later xs ys (Store Proposal (v + 1)) h)
 preference_later v xs ys (inr h) = inr (h.0, has_later xs ys (Load Proposal (h.0 + 1)) h.1)
 
--- acts in order are still in order after b adds x in front, if x has before it what has to come before it
+-- acts `xs ++ ys` in order stay so after the test b adds x in front, or nothing, if they have what has to come before x
 behind_cond_append :
     (t : QuorumTable) (v : ℕ) (b : Bool) (x : Act) (xs ys : List Act) → Behind t v x (xs ++ ys)
     → AllBehind t v (xs ++ ys) → AllBehind t v (cond b (x ∷ xs) xs ++ ys)
 behind_cond_append t v true x xs ys f h = (f, h)
 behind_cond_append t v false x xs ys f h = h
 
--- if acts are in order and have a preference, they are in order with the loads of a check after them
+-- if acts are in order and the process has a preference, they are in order with loads of 0 of a check after them
 zeros_behind :
     (t : QuorumTable) (v n mask : ℕ) (begin : List Act) → HasPreference v begin → AllBehind t v begin
     → AllBehind t v (zeros_below n mask ++ begin)
@@ -109,7 +109,7 @@ prefers_behind t v u begin (inr h) =
     subst (λ made. HasPreference v made × AllBehind t v made) (sym h)
     (inr (u, inl refl), (all_stored t v, stores_behind t v t.registers))
 
--- if the loads of a check below a bound all found 0, the acts up to them are in order, and have a preference
+-- if the loads of a check below a bound all found 0, the acts with them are in order, and the process has a preference
 clear_behind :
     (t : QuorumTable) (v u n : ℕ) (made : List Act) → ReadsClear t v u n made
     → HasPreference v made × AllBehind t v made
@@ -197,7 +197,7 @@ one_chosen t v u [] h = absurd h
 one_chosen t v u (act ∷ older) h =
     (chosen_later v u (act ∷ []) older (clear_chosen t v u h.0 older h.4), (h.0, h.2, inl (sym h.1)))
 
--- the value of an output was chosen
+-- by a whole path the value of its output was chosen
 pub path_chosen :
     (t : QuorumTable) (v : ℕ) (made : List Act) (d : Bool) (u : ℕ) → IsRatifierPath t v made d u → IsChosen v u made
 path_chosen t v made true u h = clear_chosen t v u t.registers made h

@@ -22,7 +22,7 @@ pub part_older :
 part_older t kind v x turns p =
     (p.0 ++ x ∷ [], p.1, subst (λ xs. IsPath t kind v xs p.1) (sym (append_assoc p.0 (x ∷ []) turns)) p.2)
 
--- if a part is a prefix of a path, it is one without the newest turn, which may be of another process
+-- if turns are a prefix of a path with x in front of them, or with nothing, so are the turns alone
 older_by :
     (t : QuorumTable) (kind : Kind) (v : ℕ) (own : Bool) (x : Turn) (turns : List Turn)
     → IsPrefix t kind v (cons_option (cond own (Some x) None) turns) → IsPrefix t kind v turns
@@ -60,7 +60,7 @@ own_turns a h =
 pub own_some : (a : Access) (h : List Access) → part a.process (a ∷ h) ≢ []
 own_some a h e = not_empty a.turn (part a.process h) (sym (own_turns a h) ∙ e)
 
--- with one more turn of process p, the part of each process q is a prefix of a path, if q is p and if it is not
+-- with one more turn of process p, the part of each process q with a turn is a prefix of a path, whether q is p or not
 longer_by :
     (o : Object) (h : List Access) (p q : ℕ) (turn : Turn)
     → IsObjectLawful o h → o.inputs p < o.table.values → IsPrefix o.table o.kind (o.inputs p) (turn ∷ part p h)
@@ -89,7 +89,7 @@ longer o h p turn l within words reads prefix =
 pub none_lawful : (o : Object) → IsObjectLawful o []
 none_lawful o = record { memory = tt; words = tt; parts = λ p some. absurd (some refl) }
 
--- P holds if the newest turn of some process is `last`: it holds once that turn is made, and after each later access
+-- if P holds once a turn `last` is made, and each later access keeps P, P holds if some process's newest turn is `last`
 pub since_newest :
     (o : Object) (P : List Access → Type 0) (last : Turn)
     → ((a : Access) (h : List Access) → IsObjectLawful o (a ∷ h) → a.turn ≡ last → P (a ∷ h))

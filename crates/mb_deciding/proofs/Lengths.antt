@@ -54,11 +54,11 @@ record Measured (t : QuorumTable) (v n : ℕ) (made : List Act) : Type 0 where
   pub loads : proposal_loads made ≡ first ∷ proposal_loads (announcement t v)
   pub long : length made ≡ n + (extra_acts first + length (announcement t v))
 
--- if n is m and two more, it is this sum
+-- if n is two more than m, it is 0 + (2 + m), the sum that `Measured` asks for
 two_more : (n m : ℕ) → n ≡ suc (suc m) → n ≡ 0 + (2 + m)
 two_more n m e = omega arith
 
--- if n is m and one more, it is this sum
+-- if n is one more than m, it is 0 + (1 + m), the sum that `Measured` asks for
 one_more : (n m : ℕ) → n ≡ suc m → n ≡ 0 + (1 + m)
 one_more n m e = omega arith
 
@@ -91,7 +91,7 @@ clear_measured t v u n made h =
       long = omega (arith, ap length h.2, length-append (zeros_below n (t.read u)) h.0, begin.long);
     }
 
--- n is how many registers a path loads: all of the read quorum if it decides, else those up to one of them
+-- n is how many registers a path with the value u loads: all of u's read quorum if it decides, else those up to one
 abbrev EndsAt : QuorumTable → ℕ → Bool → ℕ → Type 0
 EndsAt t u true n = n ≡ length (zeros_below t.registers (t.read u))
 EndsAt t u false n = (r : ℕ) × (r < t.registers) × IsMember (t.read u) r × (n ≡ suc (length (zeros_below r (t.read u))))
@@ -279,8 +279,8 @@ suffix_cases [] begin (y ∷ later) made e = inl (omega (arith, ap length e, len
 suffix_cases (x ∷ xs) begin (y ∷ later) made e =
     suffix_cases xs begin later made (let same : xs ++ begin ≡ later ++ made = cc in same)
 
--- a prefix of a path has at most two acts more than its write quorum has registers. Or it has chosen the path's
--- preference, and has at most as many acts more as that value's read quorum has registers
+-- a prefix of a path has at most two acts more than its write quorum has registers. Or by it the path's preference was
+-- chosen, and it has at most these acts, and one for each register of the preference's read quorum
 pub part_length :
     (t : QuorumTable) (v : ℕ) (later made : List Act) (d : Bool) (u : ℕ) → IsRatifierPath t v (later ++ made) d u
     → (length made ≤ count_ones (t.write v) + 2) ⊎ (IsChosen v u made ×

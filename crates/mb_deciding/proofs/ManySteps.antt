@@ -1,4 +1,4 @@
--- Accesses made one after the other (`AreSteps`): one more, those that go on from others, and one of an announcement.
+-- Accesses made one after the other (`AreSteps`): one more, two such lists joined, and a store of an announcement.
 use Rattle.std.proofs.Common.{◌≡◌, ◌≢◌, ◌<◌, ◌+◌, ℕ, zero, suc, refl, sym, subst, arith}
 use Rattle.mb_quorum.specs.Quorum.{IsQuorumTable, QuorumTable}
 use Rattle.mb_deciding.specs.{Quorum, Op, Pc, Next, InRatifier, Announce, IsLeast, IsStep, AreSteps, DrawsAndMakes, acts}

@@ -1,4 +1,4 @@
--- The accesses left at a place are at most as many as a process makes on its whole object.
+-- The accesses left at a place are at most `most_turns`. Also how many these are at most on a ratifier.
 use Rattle.std.proofs.Common.{◌≡◌, ℕ, zero, suc, ◌+◌, ◌*◌, ◌^◌, ◌<◌, ◌≤◌, ◌==◌, count_ones, cond, Bool, true, false, List}
 use Rattle.std.proofs.Common.{◌∷◌, length, sym, refl, ap, ◌∙◌, arith}
 use Rattle.std.specs.Int.{bit_at}
@@ -14,7 +14,7 @@ use Rattle.mb_deciding.proofs.Sizes.{each_exact, each_size, largest_bound}
 use Rattle.mb_deciding.proofs.TurnsLeft.{attempts_left}
 
 -- ---- masks whose registers are all in another mask
--- if xs is no longer than ys, it still is not if the same act comes before both, before ys alone, or before none
+-- if xs is no longer than ys, that stays so after one act is put before both, before ys alone, or before none
 cond_within :
     (x : Act) (xs ys : List Act) (p q : Bool) → (p ≡ true → q ≡ true) → length xs ≤ length ys
     → length (cond p (x ∷ xs) xs) ≤ length (cond q (x ∷ ys) ys)

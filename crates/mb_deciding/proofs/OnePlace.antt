@@ -14,7 +14,7 @@ use Rattle.mb_deciding.proofs.Prefixes.{part_by_turns}
 use Rattle.mb_deciding.proofs.RatifierStepping.{checking_next}
 use Rattle.mb_deciding.proofs.ConciliatorStepping.{missed_open, open_turns}
 
--- two ops are equal, if their acts are of one op
+-- two ops are equal if the acts that they make are of one op (`IsSameOp`)
 same_ops : (op next : Op) (x y : ℕ) → IsSameOp (act_of op x) (act_of next y) → op ≡ next
 same_ops (to.Load reg) (to.Load other) x y e = ap to.Load e
 same_ops (to.Load reg) (to.Store other w) x y e = absurd e

@@ -13,7 +13,7 @@ pub conciliator_step :
 conciliator_step t place makes op seen word follows is made reaches =
     record { op = op; seen = seen; is = is; made = made; reached = reached }
   where
-    -- a process of any kind of object reaches what follows: only a conciliator has this place
+    -- a process at this place reaches what follows if the access can find `seen`. Only a conciliator has such a place
     reached :
         (kind : Kind) (v : ℕ) (turns : List Turn) → PcIsAt t kind v (InConciliator place) turns
         → CanFind t (InConciliator place) op seen
@@ -30,7 +30,7 @@ pub ratifier_step :
 ratifier_step t place makes op seen word follows is made reaches =
     record { op = op; seen = seen; is = is; made = made; reached = reached }
   where
-    -- a process of any kind of object reaches what follows: only a ratifier has this place
+    -- a process at this place reaches what follows if the access can find `seen`. Only a ratifier has such a place
     reached :
         (kind : Kind) (v : ℕ) (turns : List Turn) → PcIsAt t kind v (InRatifier place) turns
         → CanFind t (InRatifier place) op seen
@@ -47,7 +47,7 @@ pub last_step :
 last_step t place makes op seen word follows is made reaches =
     record { op = op; seen = seen; is = is; made = made; reached = reached }
   where
-    -- a process of any kind of object reaches what follows: only a last object has this place
+    -- a process at this place reaches what follows if the access can find `seen`. Only a last object has such a place
     reached :
         (kind : Kind) (v : ℕ) (turns : List Turn) → PcIsAt t kind v (InLast place) turns
         → CanFind t (InLast place) op seen

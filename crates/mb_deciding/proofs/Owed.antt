@@ -30,11 +30,11 @@ some_path t v made d u h =
       | inr k ↦ has_some made (Load Proposal (u + 1)) k
     ]
 
--- the acts of a process with input v that uses a ratifier alone
+-- the acts of a process with input v that is the only one to use a ratifier
 lone_path : QuorumTable → ℕ → List Act
 lone_path t v = zeros_below t.registers (t.read v) ++ (Store Proposal (v + 1) ∷ Load Proposal 0 ∷ announcement t v)
 
--- a process that uses a ratifier alone decides its input
+-- these acts are a whole path with the decided output v
 lone_path_decides : (t : QuorumTable) (v : ℕ) → IsRatifierPath t v (lone_path t v) true v
 unfolding lone_path
 lone_path_decides t v = (Store Proposal (v + 1) ∷ Load Proposal 0 ∷ announcement t v, inl (refl, refl), refl)
@@ -67,13 +67,13 @@ unique_ratifier t v turns later a b h k =
     )
 
 -- ---- the paths of a conciliator
--- each input has a path through a conciliator: that of a process that finds its input in the word at once
+-- each input has a path through a conciliator: its only load finds that input in the word
 opens_conciliator : (t : QuorumTable) (s v : ℕ) → IsOpen t (Conciliator s) v []
 opens_conciliator t s v =
     let x : Turn = record { act = Load Value (v + 1); word = 0 } in
     (x ∷ [], not_empty x [], (answer false v, (refl, (refl, (0, omega arith, inl tt)))))
 
--- if a whole path through a conciliator and later turns are again one, there are none, and the outputs are equal
+-- if a path through a conciliator and later turns are again a path, there are no later turns, and the outputs are equal
 unique_conciliator :
     (t : QuorumTable) (s v : ℕ) (turns later : List Turn) (a b : Out) → IsPath t (Conciliator s) v turns a
     → IsPath t (Conciliator s) v (later ++ turns) b → (later ≡ []) × (a ≡ b)
@@ -82,7 +82,7 @@ unique_conciliator t s v turns later a b h k =
     (e.0, same_answer a b (h.0 ∙ sym k.0, e.1))
 
 -- ---- objects of each kind
--- if a whole path through an object and later turns are again one, there are none, and the outputs are equal
+-- if a path through an object and later turns are again a path, there are no later turns, and the outputs are equal
 pub one_end :
     (t : QuorumTable) (kind : Kind) (v : ℕ) (turns later : List Turn) (a b : Out) → IsPath t kind v turns a
     → IsPath t kind v (later ++ turns) b → (later ≡ []) × (a ≡ b)
@@ -133,7 +133,7 @@ bounded o h p l =
     by_kind Ratifier lawful within prefix = ratifier_turns o.table o.inputs h p lawful within prefix
     by_kind LastObject lawful within prefix = last_turns o.table (o.inputs p) (part p h) prefix
 
--- an object of each kind over a quorum table keeps its promises
+-- an object of any kind over a table that keeps the law of quorum tables keeps its promises
 promises_kept_by : (t : QuorumTable) (kind : Kind) (inputs : ℕ → ℕ) → IsQuorumTable t → IsDeciding
     (object_of t kind inputs)
 promises_kept_by t (Conciliator s) inputs law =

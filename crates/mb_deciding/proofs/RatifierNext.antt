@@ -28,7 +28,7 @@ AllFollow t v [] = Unit {0}
 AllFollow t v (a ∷ made) = Follows t v a made × AllFollow t v made
 
 -- ---- each act of a path follows the acts before it
--- if each act of xs follows those before it, it is still so after b adds x in front, if x then follows xs
+-- if each act of xs follows those before it, that stays so after the test b adds x in front, if an x added follows xs
 follow_cond :
     (t : QuorumTable) (v : ℕ) (b : Bool) (x : Act) (xs : List Act) → (b ≡ true → Follows t v x xs) → AllFollow t v xs
     → AllFollow t v (cond b (x ∷ xs) xs)
@@ -50,7 +50,7 @@ prefers_follow t v u begin (inl h) =
 prefers_follow t v u begin (inr h) =
     subst (λ made. AllFollow t v made) (sym h) (refl, stores_follow t v t.registers (omega arith))
 
--- if each act of `xs ++ ys` follows those before it, it is still so after b adds x in front, if x then follows them
+-- if each act of `xs ++ ys` follows those before it, that stays so after b adds x in front, if an x added follows them
 check_cond :
     (t : QuorumTable) (v : ℕ) (b : Bool) (x : Act) (xs ys : List Act) → (b ≡ true → Follows t v x (xs ++ ys))
     → AllFollow t v (xs ++ ys) → AllFollow t v (cond b (x ∷ xs) xs ++ ys)
@@ -67,7 +67,7 @@ zeros_follow t v u (suc n) begin p =
     (λ b. (u, eqb-true (bit_at (t.read u) n) 1 b, (begin, p, refl)))
     (zeros_follow t v u n begin p)
 
--- if the loads of a check below a bound all found 0, each act up to them follows the acts before it
+-- if the loads of a check below a bound all found 0, each act up to the last of them follows the acts before it
 clear_follow : (t : QuorumTable) (v u n : ℕ) (made : List Act) → ReadsClear t v u n made → AllFollow t v made
 clear_follow t v u n made h = subst (λ xs. AllFollow t v xs) (sym h.2) (zeros_follow t v u n h.0 h.1)
 
@@ -91,7 +91,7 @@ pub act_follows :
 act_follows t v later made a d u h = (suffix_follow t v later (a ∷ made) (path_follow t v (later ++ a ∷ made) d u h)).0
 
 -- ---- only one op may follow the same acts
--- if a quorum has equally many registers below r and below s, both of which are its own, then r is s
+-- if r and s are registers of a quorum, and it has equally many registers below r and below s, then r is s
 same_register :
     (act : ℕ → Act) (mask r s : ℕ) → IsMember mask r → IsMember mask s
     → length (acts_below act r mask) ≡ length (acts_below act s mask) → r ≡ s

@@ -50,7 +50,7 @@ own_behind t inputs h l p c k =
     behind_at t (inputs p) (acts (part p h)) c
     (part_behind t (inputs p) (part p h) (l.parts p (has_turns (part p h) c k)).1) k
 
--- in a lawful history the process of the newest access had made before it what has to come before it (`Behind`)
+-- in a lawful history the process of the newest access had made what has to come before that access (`Behind`)
 newest_behind :
     (t : QuorumTable) (inputs : ℕ → ℕ) (a : Access) (h : List Access) → IsObjectLawful (ratifier_of t inputs) (a ∷ h)
     → Behind t (inputs a.process) a.turn.act (acts (part a.process h))
@@ -137,7 +137,7 @@ stored_one t inputs (a ∷ h) l p r k =
           (stored_one t inputs h (lawful_older (ratifier_of t inputs) a h l) p r w)
     ]
 
--- if a process has stored in the proposal, it is not empty
+-- if a process has stored a value in the proposal, the proposal is not empty
 stored_filled :
     (t : QuorumTable) (inputs : ℕ → ℕ) (h : List Access) → IsObjectLawful (ratifier_of t inputs) h → (p v : ℕ)
     → Has (acts (part p h)) (Store Proposal (v + 1)) → 0 < value_in Proposal h
@@ -156,7 +156,7 @@ pub newest_load :
     → IsObjectLawful (ratifier_of t inputs) (a ∷ h) → Load reg x ≡ a.turn.act → x ≡ value_in reg h
 newest_load t inputs a h reg x l e = subst (λ act. ReadsLast act h) (sym e) l.memory.0
 
--- if a process has loaded a value from the proposal, it is not empty
+-- if a process has loaded a value from the proposal, the proposal is not empty
 loaded_filled :
     (t : QuorumTable) (inputs : ℕ → ℕ) (h : List Access) → IsObjectLawful (ratifier_of t inputs) h → (p u : ℕ)
     → Has (acts (part p h)) (Load Proposal (u + 1)) → 0 < value_in Proposal h

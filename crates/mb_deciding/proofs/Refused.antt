@@ -5,7 +5,7 @@ use Rattle.std.proofs.lemmas.Bool.{cond_above}
 use Rattle.mb_quorum.specs.declared.values.TheConstants.{MAX_VALUES}
 use Rattle.mb_deciding.specs.{BadValues, BadInput, NoSuchProcess, first_from, refusal_in, refusal_of}
 
--- if the number of values is in range, the first reason to refuse is one of the inputs and of the schedule's processes
+-- if the number of values is in range, the first reason to refuse is that of inputs and processes alone (`refusal_in`)
 pub refusal_in-of :
     (m v : ℕ) (inputs processes others : List ℕ) → 1 ≤ m → m ≤ MAX_VALUES → v ≡ m → others ≡ processes
     → refusal_in v inputs others ≡ refusal_of m inputs processes
@@ -15,7 +15,7 @@ refusal_in-of m v inputs processes others least most same own =
     (refusal_in m inputs processes) most refl
     ∙ cond_above m 1 (Some BadValues) _ _ least refl))
 
--- if neither a bad input at x nor an unknown process at y is a reason to refuse, there is neither x nor y
+-- x may be the position of a bad input, y that of an unknown process. If neither is a reason to refuse, both are none
 none_of :
     (x y : Option ℕ)
     → option_map_or (λ i. Some (BadInput i)) x (option_map_or (λ i. Some (NoSuchProcess i)) y None) ≡ None

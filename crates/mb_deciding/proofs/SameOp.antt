@@ -1,4 +1,4 @@
--- Two acts of one op after one history are equal.
+-- Two acts of one op that are both true to memory after one history are equal.
 use Rattle.std.proofs.Common.{◌≡◌, List, sym, ap, ap₂, ◌∙◌}
 use Rattle.mb_deciding.specs.{Act, Load, Store, Exchange, Access, IsSameOp, value_in, ReadsLast}
 

@@ -57,7 +57,7 @@ each_size act n mask =
     (mod-lt mask (pow_pos n)) in
     omega (arith, each_exact act n mask)
 
--- no quorum of one of the first n values has more registers than `largest_quorum`
+-- no quorum of one of the values below n has more registers than `largest_quorum`
 pub largest_bound : (quorum : ℕ → ℕ) (n v : ℕ) → v < n → count_ones (quorum v) ≤ largest_quorum quorum n
 largest_bound quorum zero v below = absurd (omega arith)
 largest_bound quorum (suc n) v below =

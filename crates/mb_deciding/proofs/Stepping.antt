@@ -1,5 +1,5 @@
 -- A process at its place in an object of any kind: its turns are an open prefix of a path, and with the next turn still
--- a prefix of one. Also what that turn may find.
+-- a prefix of one. Also what that turn may find, and to which word it goes.
 use Rattle.std.proofs.Common.{ℕ, List, ◌∷◌, sym, subst}
 use Rattle.mb_deciding.specs.{Op, Turn, Access, Out, Kind, Conciliator}
 use Rattle.mb_deciding.specs.{Ratifier, LastObject, Pc, InRatifier, InConciliator, InLast}

@@ -123,7 +123,7 @@ pub checks_some : (u left : ℕ) → left ≢ 0 → checks_of u left ≡ leads.G
 checks_some u left some =
     ap (λ b. cond b (leads.Out (answer true u)) (leads.Go (InRatifier (Check u left)))) (ne_eqb left 0 some)
 
--- a process that read clear below the bound is at the check of the registers left, or has its output if none is
+-- a process whose check found 0 below the bound is at the check of the registers left, or has its output if none is
 checks_reached :
     (t : QuorumTable) (v u bound left : ℕ) (turns : List Turn) → u < t.values → bound ≤ t.registers
     → IsRest (t.read u) bound left → ReadsClear t v u bound (acts turns)
@@ -179,7 +179,7 @@ propose_step t input value seen word makes same made within =
         checks_reached t v input 0 (t.read input) (record { act = act_of op seen; word = word } ∷ turns) within
         (omega arith) (rest_whole (t.read input)) (prefers_own t v input (acts turns) op seen at.1 is)
 
--- a load of 0 from the least register that is left is a step to the check of the others
+-- a load of 0 from the least register that is left is a step to the check of the others, or to the decided output
 pub clear_step :
     (t : QuorumTable) → IsQuorumTable t → (u left r after seen word : ℕ) (makes : Op → ℕ → Type 0)
     → makes (to.Load (Quorum r)) seen → u < t.values → seen ≡ 0 → IsLeast left r → IsTaken left r after

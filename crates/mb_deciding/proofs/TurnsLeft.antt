@@ -1,4 +1,4 @@
--- How many accesses are left at a place: at least one. After each there is one register less left, or one attempt.
+-- How many accesses are left at a place: at least one. Also a mask without one of its registers, and the attempts left.
 use Rattle.std.proofs.Common.{◌≡◌, ◌≢◌, ◌↔◌, ℕ, zero, suc, ◌+◌, ◌-◌, ◌*◌, ◌^◌, ◌<◌, ◌≤◌, ◌==◌, count_ones, cond}
 use Rattle.std.proofs.Common.{Bool, true, false, List, ◌∷◌, length, inl, inr, sym, refl, ap, ap₂, ◌∙◌, subst, arith}
 use Rattle.std.specs.Int.{bit_at}

@@ -115,7 +115,7 @@ other_announced t inputs h q l p u o =
       (b.0, one.0, refl, at.1.1, b.1),
     )
 
--- if an output is undecided, its value was announced
+-- if an output is undecided, and another value than its own was announced, its own was announced, too
 own_announced :
     (t : QuorumTable) (inputs : ℕ → ℕ) (h : List Access) → IsQuorumTable t → IsObjectLawful (ratifier_of t inputs) h
     → (p u : ℕ) → HasOutput (ratifier_of t inputs) p false u h → (w : ℕ) × (w ≢ u) × IsAnnounced

@@ -7,9 +7,9 @@ use Rattle.mb_deciding.specs.Types.{Next, InLast}
 use Rattle.mb_deciding.specs.declared.place.pc.Next.TheVariants as leads
 use Rattle.mb_deciding.specs.Objects.{largest_quorum}
 
--- the most accesses that are left at a place. In a ratifier these are the registers left to announce, a load and a
--- store of the proposal, and a check. In a conciliator they are the attempts left, a store and a last load. In a last
--- object one is left
+-- the most accesses that are left at a place. In a ratifier these are the registers left to set, a load and a store of
+-- the proposal, and the registers left to check: before the check, those of the largest read quorum. In a conciliator
+-- they are the attempts left, a store and a last load. In a last object one is left
 abbrev pub turns_left : QuorumTable → Pc → ℕ
 turns_left t (InRatifier (Begin input)) =
     count_ones (t.write input) + 2 + largest_quorum t.read t.values

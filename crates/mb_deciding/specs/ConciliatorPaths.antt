@@ -25,8 +25,8 @@ abbrev pub IsPut : ℕ → ℕ → ℕ → List Turn → Type 0
 IsPut s v k [] = ⊥
 IsPut s v k (turn ∷ older) = (turn.act ≡ Store Value (v + 1)) × IsDrawn s k older
 
--- the turns are a whole path of input v with the value u: at last u was loaded, either on attempt k, or after the store
--- of attempt k
+-- the turns are a whole path of input v with the value u: at last u was loaded, either on an attempt k, at most s, or
+-- after the store of attempt k
 abbrev pub IsConciliatorPath : ℕ → ℕ → List Turn → ℕ → Type 0
 IsConciliatorPath s v [] u = ⊥
 IsConciliatorPath s v (turn ∷ older) u =

@@ -47,7 +47,7 @@ pub record CourseState : Type 0 where
 
 -- the run is one after the turns of the schedule
 pub record IsCourse (u : ObjectSetup) (schedule : List (ℕ × ℕ)) (run : CourseState) : Type 0 where
-  -- the entries are those of the turns
+  -- each entry is of its turn, and may come after those before it
   pub fits : AreEntriesOf (object_in u) schedule run.entries []
   -- the accesses of the entries are one lawful history, which leaves the words
   pub lawful : IsObjectLawful (object_in u) (history_of schedule run.entries)

@@ -58,7 +58,7 @@ pub record IsDeciding (o : Object) : Type 0 where
       (v : ℕ) (turns later : List Turn) (a b : Out)
       → IsPath o.table o.kind v turns a → IsPath o.table o.kind v (later ++ turns) b
       → (later ≡ []) × (a ≡ b)
-  -- no process has more turns than the most of its kind
+  -- no process has more turns than `most_turns` of the object's kind
   pub bounded :
       (h : List Access) (p : ℕ) → IsObjectLawful o h → length (part p h) ≤ most_turns o.table o.kind
   -- each word holds only a number that a word of this name can hold: 0, or one more than a value, in a register 0 or 1

@@ -19,7 +19,7 @@ pub mod Samples
 pub mod Memory
 pub mod Course
 pub mod Vocabulary
--- what these lines name a clause names without its file: `Rattle.mb_deciding.specs.NAME`
+-- a clause names what these lines pass on without its file: `Rattle.mb_deciding.specs.NAME`
 pub use Types.*
 pub use History.*
 pub use ConciliatorPaths.*

@@ -1,5 +1,5 @@
--- Deciding objects: whole paths of one process, their prefixes, and lawful histories of one object. Also what its words
--- can hold, and how many turns a process makes at most.
+-- Deciding objects: whole paths of one process, their prefixes, and lawful histories of one object. Also its outputs,
+-- the values announced, what the words of an object can hold, and how many turns a process makes at most.
 use Rattle.std.specs.Prelude.{◌≡◌, ◌≢◌, ℕ, zero, suc, ◌+◌, ◌<◌, ◌≤◌, max, count_ones, Bool, true, false, List, [], ◌++◌}
 use Rattle.mb_deciding.specs.OneObject.{Object}
 use Rattle.mb_quorum.specs.Quorum.{QuorumTable, IsMember}
@@ -48,7 +48,7 @@ pub record IsObjectLawful (o : Object) (h : List Access) : Type 0 where
 abbrev pub HasOutput : Object → ℕ → Bool → ℕ → List Access → Type 0
 HasOutput o p d u h = IsPath o.table o.kind (o.inputs p) (part p h) (answer d u)
 
--- a process with input u has stored in a register of u's write quorum
+-- a process with input u has stored 1 in a register of u's write quorum
 abbrev pub IsAnnounced : Object → ℕ → List Access → Type 0
 IsAnnounced o u h =
     (p r : ℕ) × (o.inputs p ≡ u) × IsMember (o.table.write u) r
@@ -61,12 +61,12 @@ CanHold t Proposal n = n ≤ t.values
 CanHold t (Quorum r) n = n ≤ 1
 CanHold t Last n = n ≤ t.values
 
--- the most registers that a quorum of one of the first n values has
+-- the most registers that a quorum of one of the values below n has, and 0 if n is 0
 abbrev pub largest_quorum : (ℕ → ℕ) → ℕ → ℕ
 largest_quorum quorum zero = 0
 largest_quorum quorum (suc v) = max (count_ones (quorum v)) (largest_quorum quorum v)
 
--- the most turns that a process makes on an object
+-- the most turns that a process makes on an object of this kind over the table
 abbrev pub most_turns : QuorumTable → Kind → ℕ
 most_turns t (Conciliator s) = s + 3
 most_turns t Ratifier = largest_quorum t.write t.values + 2 + largest_quorum t.read t.values

@@ -16,22 +16,22 @@ abbrev pub come_to : Option Out → Next → Next
 come_to None next = next
 come_to (Some out) next = leads.Out out
 
--- a process at the place in a ratifier, whose next access found this value, has reached what follows
+-- a process at the place in a ratifier has reached what follows, if its next access found this value and can find it
 abbrev pub RatifierReaches : QuorumTable → RatifierPlace → ℕ → Next → Type 0
 RatifierReaches t place seen follows =
     (v : ℕ) (turns : List Turn) (op : Op) (word : ℕ) → PcIsAt t Ratifier v (InRatifier place) turns
     → IsRatifierOp t place op → CanFind t (InRatifier place) op seen
     → IsReached t Ratifier v follows (record { act = act_of op seen; word = word } ∷ turns)
 
--- a process at the place in a conciliator, whose next access found this value and had this random word, has reached
--- what follows
+-- a process at the place in a conciliator has reached what follows, if its next access found this value, which it can
+-- find, and had this random word
 abbrev pub ConciliatorReaches : QuorumTable → ConciliatorPlace → ℕ → ℕ → Next → Type 0
 ConciliatorReaches t place seen word follows =
     (s v : ℕ) (turns : List Turn) (op : Op) → PcIsAt t (Conciliator s) v (InConciliator place) turns
     → IsConciliatorOp place op → CanFind t (InConciliator place) op seen
     → IsReached t (Conciliator s) v follows (record { act = act_of op seen; word = word } ∷ turns)
 
--- a process at the place in a last object, whose next access found this value, has reached what follows
+-- a process at the place in a last object has reached what follows, if its exchange found this value and can find it
 abbrev pub LastReaches : QuorumTable → LastPlace → ℕ → Next → Type 0
 LastReaches t place seen follows =
     (v : ℕ) (turns : List Turn) (op : Op) (word : ℕ) → PcIsAt t LastObject v (InLast place) turns

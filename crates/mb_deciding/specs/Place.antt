@@ -34,7 +34,7 @@ IsRatifierPlace t (Check preference left) = (preference < t.values) × (left ≢
 abbrev pub HasLimits : ℕ → ℕ → ℕ → ℕ → Type 0
 HasLimits s k limit modulus = (k ≤ s) × (limit ≡ 2 ^ k) × (modulus ≡ 2 ^ s)
 
--- the place in a conciliator fits: its input is one of so many values, and its limits are those of an attempt
+-- the place in a conciliator fits: its input is one of so many values. Limits are those of an attempt, where s ≤ 63
 abbrev pub IsConciliatorPlace : ℕ → ConciliatorPlace → Type 0
 IsConciliatorPlace values (Draw input limit modulus) =
     (input < values) × ((s k : ℕ) × (s ≤ 63) × HasLimits s k limit modulus)
@@ -109,7 +109,7 @@ IsOpAt t (InRatifier place) op = IsRatifierOp t place op
 IsOpAt t (InConciliator place) op = IsConciliatorOp place op
 IsOpAt t (InLast place) op = IsLastOp place op
 
--- the act of an op, with the value that it found
+-- the act of an op that found this value. A store finds none
 abbrev pub act_of : Op → ℕ → Act
 act_of (to.Load reg) seen = Load reg seen
 act_of (to.Store reg value) seen = Store reg value
@@ -130,7 +130,8 @@ HasReg r LastObject Last = Unit {0}
 HasReg r _ _ = ⊥
 
 -- ---- what the access may find, and what it leads to
--- what a load of a conciliator's word may find: 0 if the process itself has not stored, or v + 1 for one of the values
+-- a load of a process at its place in a conciliator may find v + 1 for one of the values v. It may find 0 only if the
+-- process has not stored. A store finds none, so any number will do
 abbrev pub CanMeet : ℕ → ConciliatorPlace → ℕ → Type 0
 CanMeet values (Draw input limit modulus) seen = seen ≤ values
 CanMeet values (Put input) seen = Unit {0}

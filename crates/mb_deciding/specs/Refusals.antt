@@ -9,7 +9,7 @@ use Rattle.mb_deciding.specs.Types.{Fault, BadValues, BadInput, NoSuchProcess, N
 abbrev pub first_from : ℕ → List ℕ → Option ℕ
 first_from bound numbers = position (λ n. nat_le bound n) numbers
 
--- the first reason to refuse inputs for m values and the processes of a schedule, if m is in range
+-- if m is in range: the first reason to refuse inputs for m values and the processes of a schedule, if there is one
 abbrev pub refusal_in : ℕ → List ℕ → List ℕ → Option Fault
 refusal_in m inputs processes =
     option_map_or (λ i. Some (BadInput i))

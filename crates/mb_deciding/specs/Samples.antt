@@ -1,5 +1,5 @@
--- Small histories of process 0 alone, with the input 0, and histories of a last object that several processes use. Some
--- are lawful, and some are not.
+-- Small histories of process 0 alone, with the input 0, on a ratifier, a conciliator and a last object. Also histories
+-- of a last object that several processes use. Some are lawful, and some are not.
 use Rattle.std.specs.Prelude.{ℕ, ◌+◌, List, [], ◌∷◌, map}
 use Rattle.mb_quorum.specs.Unary.{unary_table}
 use Rattle.mb_deciding.specs.Types.{Value, Proposal, Quorum, Last, Act, Load, Store, Exchange, Turn, Access}

@@ -41,8 +41,8 @@ abbrev pub IsOutputOf : Object → ℕ → Option Out → List Access → Type 0
 IsOutputOf o p None h = HasEnded o p h → ⊥
 IsOutputOf o p (Some out) h = HasOutput o p out.decided out.value h
 
--- the entry may come after the history. It is an access of a process without an output, with the output that it gives,
--- or `Done` of a process that has its output
+-- the entry may come after the history. It is an access of a process without an output, and says which output the
+-- process then has, if any. Or it is `Done` of a process that has its output
 abbrev pub IsEntryAfter : Object → ℕ → Entry → List Access → Type 0
 IsEntryAfter o word (entry.Access process act out) h =
     (HasEnded o process h → ⊥)
@@ -61,7 +61,7 @@ AreEntriesOf o (turn ∷ schedule) (e ∷ entries) h =
 
 -- The entries and outputs are what a schedule makes of one object. Each turn is of a process with an input, and has one
 -- entry, of that process. The accesses are lawful for the object. An entry is `Done` exactly if the process has its
--- output. The outputs are those of the paths
+-- output. At the end `outs` has the output, or none, of each process with an input
 pub record IsTrace (u : ObjectSetup) (schedule : List (ℕ × ℕ)) (es : List Entry)
     (outs : List (Option Out)) : Type 0 where
   pub known : All (λ turn. turn.0 < length u.inputs) schedule

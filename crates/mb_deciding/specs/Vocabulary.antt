@@ -1,5 +1,5 @@
--- The definitions that the crates above use in clauses and proofs. Types they take from `specs.declared`, since another
--- crate cannot name a type that a module here passes on.
+-- The definitions that the crates above use in clauses and proofs. These crates take types from `specs.declared`, since
+-- another crate cannot name a type that a module here passes on.
 pub use Rattle.mb_deciding.specs.History.{is_same_reg, reg_of_act, loaded_by, stored_by, value_after, value_in, ReadsLast, IsMemoryTrue, IsSameOp, IsActInWords}
 pub use Rattle.mb_deciding.specs.History.{IsInWords, AreInWords, turn_by, part, acts, Has}
 pub use Rattle.mb_deciding.specs.ConciliatorPaths.{StoresOn, IsMissing, IsDrawn, IsPut, IsConciliatorPath}

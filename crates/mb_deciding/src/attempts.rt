@@ -5,7 +5,7 @@ ghost use Rattle.mb_deciding.specs.{spread};
 
 use mb_quorum::width;
 
-/// The number of the last attempt of a conciliator for m values, from 0 on: one more than the least b with `m <= 2^b`.
+/// The last attempt of a conciliator for m values, counted from 0: one more than the least b with `m <= 2^b`.
 pub fn spread(m: u64) -> u32
     ensures exact { result ≡ spread m }
     ensures least { (b : ℕ) → result ≡ b + 1 → IsLeastWidth m b }

@@ -12,7 +12,7 @@ pub fn objects_keep_their_promises()
 {}
 
 /// What a ratifier promises, too. It decides if all processes with an access have one input. An output is undecided
-/// only if two values were announced.
+/// only if its own value and another one were announced.
 pub fn ratifiers_decide_unless_contested()
     ensures { (o : Object) → ObjectIsSound o → o.kind ≡ Ratifier → IsRatifying o }
 {}
@@ -23,8 +23,8 @@ pub fn first_movers_win()
         → o.kind ≡ Conciliator s → IsObjectLawful o h → IsFirstMover o h }
 {}
 
-/// What a clear read of a ratifier rules out (`ChecksKeepOut`). That the values of all decided outputs are one rests on
-/// this. It holds of the empty history, and each access with which a process has a prefix of a path keeps it.
+/// What a clear read of a ratifier rules out (`ChecksKeepOut`). The coherence of a ratifier rests on this. It holds of
+/// the empty history, and after each access with which a lawful history stays lawful.
 pub fn checks_keep_out()
     ensures empty { (o : Object) → ChecksKeepOut o [] }
     ensures kept { (o : Object) (h : List Access) (p : ℕ) (turn : Turn)

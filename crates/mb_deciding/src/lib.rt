@@ -8,12 +8,12 @@
 //!
 //! A **ratifier** finds out whether all processes agree already. It has a proposal and some registers, all 0 at first.
 //! Its *quorum table*, of [`mb_quorum`], gives each value a write quorum and a read quorum of registers. A write quorum
-//! and a read quorum share a register exactly when they belong to two values. A process sets the write quorum of its
-//! input: it announces it. Then it looks at the proposal. If that is empty, it proposes its input and prefers it, else
-//! it prefers what it finds there. At last it reads the read quorum of its preference. If all is unset, it has decided.
-//! A process with another input that comes later announces that first, so it finds the proposal and prefers the same.
-//! One that came before would have left a register set. If a register is set, some process announced another value, and
-//! the output is undecided.
+//! and a read quorum share a register exactly when they are of different values. A process sets the write quorum of its
+//! input: it announces the input. Then it loads the proposal. If that is empty, it proposes its input and prefers it,
+//! else it prefers what it finds there. At last it loads the read quorum of its preference. If each register holds 0,
+//! its output is decided. A process with another input that comes later announces that input first, so it finds the
+//! proposal and prefers the same. One that came before would have set a register. If a register is set, some process
+//! announced another value, and the output is undecided.
 //!
 //! A **conciliator** makes processes agree, with luck, and never decides. It has one word. A process loads it again and
 //! again. As soon as it finds a value there, that is its output. While it finds the word empty, it stores its input
@@ -22,7 +22,7 @@
 //! random words.
 //!
 //! A **last object** has one word, which each process exchanges once: if it finds the word empty, it stores its input
-//! there in the same access. The value that is there then is every output, and it is decided. The other two kinds need
+//! there in the same access. Every output has the value that is there then, and is decided. The other two kinds need
 //! only loads and stores.
 //!
 //! A conciliator and then a ratifier, again and again, make consensus. The objects and their names are those of James
@@ -32,9 +32,9 @@
 //! # What is here
 //!
 //! - [`Pc`] is the place of one process in an object. [`Pc::next`] returns its next access, and [`Pc::after`] what that
-//!   leads to. It holds no words, so it serves a simulation and threads alike.
+//!   leads to. A place holds no words, so it serves a simulation and threads alike.
 //! - [`through_conciliator`], [`through_ratifier`] and [`through_last`] make all accesses of a process to one object,
-//!   in a memory that draws random words, with a budget that has room for them.
+//!   in a memory that draws random words, with a budget that has room for these accesses.
 //! - [`ratify`] and [`conciliate`] run one object for a whole schedule of turns.
 //! - [`laws`] has what holds of every lawful history of one object, for all orders of accesses and all random words:
 //!   validity, coherence, acceptance and more. These are contracts of functions that compute nothing. [`steps`] is for

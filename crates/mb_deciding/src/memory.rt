@@ -29,7 +29,7 @@ pub struct Site {
     pub begin: usize,
 }
 
-/// A memory with a source of random words. Each access draws one word, before it is made.
+/// A memory with a source of random words. One word is drawn for each access, before the access is made.
 pub trait Drawing: Memory {
     ghost use Rattle.std.specs.Prelude.{ℕ};
     ghost use Rattle.mb_deciding.specs.{Op, Site};

@@ -18,7 +18,7 @@ pub enum Kind {
 /// The output that a process has from a deciding object.
 #[derive(Clone, Copy, PartialEq, Eq, Debug)]
 pub struct Out {
-    /// Whether the object decided. Then no process gets another value from it.
+    /// Whether the object decided. If it did, no process gets another value from it.
     pub decided: bool,
     /// The input of a process that used the object.
     pub value: u32,

@@ -97,7 +97,7 @@ impl Pc {
 
     /// What the next access leads to. It needs a place that fits the table. `seen` is the value that a load or an
     /// exchange found. It does not count after a store. The random `word` counts only after a load of a conciliator's
-    /// word. If the word cannot hold `seen`, the result is still a place of the table or one of its values.
+    /// word. If the word cannot hold `seen`, the result still fits the table: a place, or an output with a value of it.
     #[inline(always)]
     pub fn after<Q: Quorums>(self, q: &Q, seen: u64, word: u64) -> Next
         requires { IsPlace (Q.table q.now) self }

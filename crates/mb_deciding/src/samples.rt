@@ -9,9 +9,9 @@ ghost use Rattle.mb_deciding.specs.{IsObjectLawful, HasOutput, IsPrefix, answer,
 ghost use Rattle.mb_deciding.specs.{history_of_one, clear_turns, hasty_turns, invented_turns, patient_turns};
 ghost use Rattle.mb_deciding.specs.{impatient_turns};
 
-/// Small histories of one process with the input 0. Those with `→ ⊥` are not lawful.
+/// Small histories of one process with the input 0. Clauses with `→ ⊥` refuse a history, or the turns in it.
 pub fn small_histories()
-    // Process 0 announces its input, finds the proposal empty, proposes it, and checks it.
+    // Process 0 announces its input, finds the proposal empty, proposes its input, and checks the read quorum of it.
     ensures clear { IsObjectLawful small_ratifier (history_of_one clear_turns) }
     ensures clear_output { HasOutput small_ratifier 0 true 0 (history_of_one clear_turns) }
 
@@ -30,7 +30,7 @@ pub fn small_histories()
     ensures impatient_part { IsPrefix (unary_table 2) (Conciliator 2) 0 impatient_turns → ⊥ }
 {}
 
-/// Small histories of a last object. Those with `→ ⊥` are not lawful. Each process has its own number as its input.
+/// Histories of a last object, each input the process's own number, and turns of one process. `→ ⊥` refuses them.
 pub fn small_last_objects()
     // Process 0 puts its value into the empty word. The others find that, and leave it there.
     ensures lawful { IsObjectLawful small_last first_decides }

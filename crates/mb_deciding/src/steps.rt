@@ -9,7 +9,8 @@ ghost use Rattle.mb_deciding.specs.{ReadsLast, IsInWords, part, IsObjectLawful, 
 ghost use Rattle.mb_deciding.specs.{HasReg, PcIsAt, IsOpAt, CanFind, turn_after, seen_by, reg_of};
 ghost use Rattle.mb_deciding.specs.{IsSameOp, IsPlace, most_turns, turns_left, Conciliator, Ratifier};
 
-/// The empty history is lawful. It stays lawful with turns true to memory that give their process a prefix of a path.
+/// The empty history is lawful. A lawful history stays so with one turn more, if that is true to memory, is in words,
+/// and gives its process a prefix of a path.
 pub fn history_extends()
     ensures empty { (o : Object) → IsObjectLawful o [] }
     ensures longer { (o : Object) (h : List Access) (p : ℕ) (turn : Turn)
@@ -18,7 +19,7 @@ pub fn history_extends()
         → IsObjectLawful o (record { process = p; turn = turn } ∷ h) }
 {}
 
-/// With its next turn, which finds what the history leaves in the word, a process at its place has a prefix of a path.
+/// After a lawful history a process at its place has a prefix of a path with its next turn, if that is true to memory.
 pub fn places_lead_on()
     ensures prefix { (o : Object) (h : List Access) (p : ℕ) (pc : Pc) (op : Op) (word : ℕ)
         → ObjectIsSound o → IsObjectLawful o h
@@ -76,8 +77,8 @@ pub fn places_have_turns_left()
         → v < t.values → PcIsAt t kind v pc turns → turns_left t pc ≤ most_turns t kind }
 {}
 
-/// How many accesses a process makes at most on a whole object, by the number of registers or of attempts alone. A
-/// budget with room for so many is enough to go through the object.
+/// How many accesses a process makes at most on a ratifier, by its number of registers, and on a conciliator, by its
+/// last attempt s. A budget with room for so many is enough to go through the object.
 pub fn paths_are_short()
     ensures ratifier { (t : QuorumTable)
         → IsQuorumTable t → most_turns t Ratifier ≤ 2 * t.registers + 2 }

@@ -66,7 +66,7 @@ store_same own cell word m n value next reg e =
     ≡ access_of own cell (record { object = next.object; op = op }) n word)
     (sym e) refl
 
--- the access of a seat may be made at the address of its word, which is one of the table's words
+-- an access that may come next from a seat may be made at the address of its word, which is one of the table's words
 pub access_may :
     OwnPart → OtherParts → (t : TableView) (seat : SeatView) (key inside size : TableSize) (me : Seated)
     (slots count id address cell word : ℕ) (next : ClaimOp) (f : ℕ → ℕ) (access : ℕ → ClaimAccess)

@@ -10,7 +10,8 @@ use Rattle.mb_shared_claims.specs.Seats.{SeatView, TableView, name_of, claims_at
 use Rattle.mb_shared_claims.specs.SeatSteps.{access_of, with_access, IsSeatStep, MayComeNext}
 
 -- ---- the laws of claims that are used here
--- if the words hold what a history leaves, after the next access of a claim they hold what the history with it leaves
+-- if the words hold what a history leaves, after the next access of a claim they hold what the history with it leaves.
+-- The claim has made all that its consumer did on the cell in that history, and goes on
 abbrev pub KeepsMemory : Type 0
 KeepsMemory =
     (layout : Layout) (cells k : ℕ) (claim : Claim) (next : ClaimOp) (word : ℕ) (words : List ℕ) (h : List ClaimAccess)
@@ -20,7 +21,8 @@ KeepsMemory =
     → let a = access_in cs (consumer_of claim) k next.object next.op word words in
     IsInWords a.step.turn → IsMemoryOf cs (words_after cs k next.object next.op words) (a ∷ h)
 
--- if the next access of a claim came after a lawful history, it found a value that it can find (`CanClaimFind`)
+-- if the next access of a claim came after a lawful history, it found a value that it can find (`CanClaimFind`). The
+-- claim had made all that its consumer did on the cell in that history, and went on
 abbrev pub FindsTold : Type 0
 FindsTold =
     (layout : Layout) (cells k : ℕ) (claim : Claim) (next : ClaimOp) (seen word : ℕ) (h : List ClaimAccess)
@@ -74,7 +76,7 @@ module _ (cut : CutParts) (t : TableView) (seat : SeatView) (cell : ℕ) (claim 
       (subst (λ c. IsClaimLawful cs (access_of c cell next seen word ∷ comes.0)) (sym own) comes.1) low
       (in_history comes.0 comes.2) going is
 
-  -- if the seat made the claim's next access, that is a step of the seat
+  -- if the seat made the claim's next access, and that led to the claim that follows, it is a step of the seat
   pub seat_step :
       FindsTold → (now : SeatView) (word : ℕ) (follows : Claim) (next : ClaimOp) (seen : ℕ) → seat.table ≡ name_of t
       → IsNextOp t.layout claim next → now ≡ with_access (access_of seat.consumer cell next seen word) seat

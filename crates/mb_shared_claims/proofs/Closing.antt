@@ -28,7 +28,7 @@ count_out_le [] = le_refl 0
 count_out_le (None ∷ rest) = let x = count_out_le rest in omega arith
 count_out_le (Some p ∷ rest) = let x = count_out_le rest in omega arith
 
--- if no seat is out, the part of each number is in the roll
+-- if no seat is out, the part of each number issued is in the roll
 all_in :
     (roll : Roll) (c : ℕ) → count_out roll ≡ 0
     → ((done : List ClaimAccess) × WasTaken roll c done × (taken_part roll c ≡ done))

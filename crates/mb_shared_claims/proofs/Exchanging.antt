@@ -47,12 +47,12 @@ ended_by one t c word (suc w) s r sound prefix empty other =
       is = other w up;
     })))
 
--- a stage that names a winner is neither that of a claim that goes on nor undecided
+-- a stage that names a winner is neither `Going` nor `Undecided`
 names_winner : (b : Bool) (w : ℕ) → let r : Stage = if b then Won else Lost w in (r ≢ Going) × (r ≢ Undecided)
 names_winner true w = ((λ e. cc), (λ e. cc))
 names_winner false w = ((λ e. cc), (λ e. cc))
 
--- the stage to which an exchange leads is neither that of a claim that goes on nor undecided
+-- the stage to which an exchange leads is neither `Going` nor `Undecided`
 pub exchange_ends :
     (c found : ℕ) (r : Stage) → (found ≡ 0 → r ≡ Won) → ((w : ℕ) → found ≡ w + 1 → r ≡ stage_for c w)
     → (r ≢ Going) × (r ≢ Undecided)
@@ -73,7 +73,7 @@ module _ (layout : Layout) (c : ℕ) (alone : kinds_of layout ≡ LastObject ∷
       let so = subst (λ (k : Claim). IsNextOp layout k next) at is in
       (so.object, so.op)
 
-  -- that exchange finds at most the number of consumers
+  -- if that exchange finds what it can find, this is at most the number of consumers
   pub found_alone :
       (claim : Claim) (next : ClaimOp) (found : ℕ) → IsStanding layout c 0 c claim → IsNextOp layout claim next
       → CanClaimFind layout claim next found → found ≤ consumer_count layout

@@ -1,4 +1,4 @@
--- The parts that seats have, after one view is replaced or added.
+-- The views and parts that seats have, after one view is replaced or added.
 use Rattle.std.proofs.Common.{◌≡◌, ◌≢◌, ◌⊎◌, ℕ, zero, suc, List, [], ◌∷◌, ◌++◌, length, set, refl, sym, ap, ◌∙◌}
 use Rattle.std.proofs.Common.{subst, ⊎_elim, inl, inr}
 use mathlib.Core.Option.{some-injective, some-ne-none}

@@ -160,7 +160,7 @@ module _ (k : TableSize) (words : List ℕ) (views : List View) (plan : Plan) (s
           (hub_fits.0, hub_fits.1, is_more ∙ ap suc hub_fits.2));
     }
 
-  -- ---- the hub issues a drawn number: `left` is its view then, `right` the new seat's, `seats` all but `right`
+  -- ---- the hub issues a drawn number: `left` is its view then, `right` the new seat's, `seats` all views but it
   module _ (size : TableSize) (id : ℕ) (roll : Roll) (is : IsViewAt views id (Drawing size roll)) where
     drawing_fits : FitsTable k plan count id (Drawing size roll)
     drawing_fits = s.fits id (Drawing size roll) is

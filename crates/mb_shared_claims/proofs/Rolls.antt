@@ -25,7 +25,7 @@ module _ {A : Type 0} where
   get-set_same (x ∷ xs) zero a b e = refl
   get-set_same (x ∷ xs) (suc i) a b e = get-set_same xs i a b e
 
-  -- every other position has the same element as before
+  -- after the element at a position is replaced, every other position has the same element as before
   pub get-set_other : (xs : List A) (i k : ℕ) (a : A) → k ≢ i → slice_get (set xs i a) k ≡ slice_get xs k
   get-set_other [] i k a n = refl
   get-set_other (x ∷ xs) zero zero a n = absurd (n refl)
@@ -33,7 +33,7 @@ module _ {A : Type 0} where
   get-set_other (x ∷ xs) (suc i) zero a n = refl
   get-set_other (x ∷ xs) (suc i) (suc k) a n = get-set_other xs i k a (λ e. n (ap suc e))
 
-  -- an element of the new list is the new one, at its position, or one of the old list
+  -- after the element at i is replaced by a, an element at k is a, and k is i, or it was at k before
   pub get-set :
       (xs : List A) (i k : ℕ) (a b : A) → slice_get (set xs i a) k ≡ Some b
       → ((k ≡ i) × (a ≡ b)) ⊎ (slice_get xs k ≡ Some b)

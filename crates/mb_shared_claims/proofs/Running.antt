@@ -83,7 +83,8 @@ module _ (t : TableView) (cell : ℕ) {M : Type 0} {K : Type 0} (seat : M → Se
       (own_cell : OwnCell) (finds : FindsTold)
       (low : cell < t.cells) (named : (seat start).table ≡ name_of t) (own : consumer_of claim ≡ (seat start).consumer)
       (stands : IsClaimIn t.layout claim (part_on (seat start).consumer cell (seat start).part)) where
-    -- what n accesses led to: they are steps of the seat, and the claim has made all that its consumer did on the cell
+    -- n accesses were steps of the seat, and led to this claim. It has made all that its consumer did on the cell, n
+    -- accesses more than at the start. Its consumer, the table, and what the memory keeps are the same
     pub record Arrived (n : ℕ) (at : Claim) (now : M) : Type 0 where
       pub steps : AreSeatSteps t.layout cell claim (seat start) (stream start) n at (seat now) (stream now)
       pub keeps : kept now ≡ kept start
@@ -141,7 +142,7 @@ module _ (t : TableView) (cell : ℕ) {M : Type 0} {K : Type 0} (seat : M → Se
               omega (arith, longer, one, p.count);
         }
 
-    -- after n accesses and a draw, the seat may make the claim's next access
+    -- after n accesses and a draw, the seat may make the claim's next access. What the memory keeps is as at the start
     pub may_go_on :
         KeepsMemory → HasNextWord → (n w : ℕ) (at : Claim) (before mid : M) (next : ClaimOp)
         → AreClaimSteps t.layout (DrawsAndMakesNext draws makes) claim start n at before → claim_stage at ≡ Going
@@ -158,7 +159,7 @@ module _ (t : TableView) (cell : ℕ) {M : Type 0} {K : Type 0} (seat : M → Se
           d.3 ∙ p.keeps,
         )
 
-    -- n accesses of the claim, one after the other, are at most as many as the layout allows
+    -- n is at most the layout's `most_accesses`, if that bounds a consumer's accesses to a cell in each lawful history
     pub few_steps :
         ((h : List ClaimAccess) (c k : ℕ) → IsClaimLawful (claims_in t.layout t.cells) h
         → length (part_on c k h) ≤ most_accesses t.layout)
@@ -198,7 +199,7 @@ module _ (t : TableView) (cell : ℕ) {M : Type 0} {K : Type 0} (seat : M → Se
           → Arrived n at now
       arrives_in n at now steps = arrives n at now (chain n at now steps)
 
-      -- after n accesses over the equal layout and a draw, the seat may make the claim's next access
+      -- after n accesses over the equal layout and a draw, the seat may make the claim's next access, too
       pub may_go_on_in :
           KeepsMemory → HasNextWord → (n w : ℕ) (at : Claim) (before mid : M) (next : ClaimOp)
           → AreClaimSteps l (DrawsAndMakesNext draws makes) claim start n at before → claim_stage at ≡ Going
@@ -207,7 +208,7 @@ module _ (t : TableView) (cell : ℕ) {M : Type 0} {K : Type 0} (seat : M → Se
           may_go_on keeps has n w at before mid next (chain n at before steps) going draw
           (subst (λ x. IsNextOp x at next) same is)
 
-      -- n accesses of the claim over the equal layout are at most as many as the table's layout allows
+      -- the number n of accesses over the equal layout is bounded by the table's layout, too
       pub few_steps_in :
           ((h : List ClaimAccess) (c k : ℕ) → IsClaimLawful (claims_in t.layout t.cells) h
           → length (part_on c k h) ≤ most_accesses t.layout)

@@ -8,7 +8,7 @@ use Rattle.mb_shared_claims.specs.Seats.{ClaimTable, IsClaimSeat, TableView, nam
 use Rattle.mb_shared_claims.specs.ViewSteps.{Seated}
 
 -- ---- the consumer of a seat
--- the consumer of a seat is one of those of its table's layout
+-- the consumer of a seat is one of the consumers of its table's layout
 pub seat_known :
     (me : Seated) (c : ℕ) (id : TableId) (t : TableView) → IsClaimSeat me c → table_of id me.0 ≡ name_of t
     → c < consumer_count t.layout

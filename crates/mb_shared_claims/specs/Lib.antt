@@ -7,7 +7,7 @@ pub mod Seats
 pub mod SeatSteps
 pub mod ManySeatSteps
 pub mod Vocabulary
--- what these lines name a clause names without its file: `Rattle.mb_shared_claims.specs.NAME`
+-- a clause names what these lines pass on without its file: `Rattle.mb_shared_claims.specs.NAME`
 pub use Types.*
 pub use Views.*
 pub use ViewSteps.*

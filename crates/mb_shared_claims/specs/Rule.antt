@@ -39,9 +39,9 @@ FitsTable k plan drawn seat Spent = Unit {0}
 pub record IsStateOf (k : TableSize) (words : List ℕ) (views : List View) (plan : Plan) : Type 0 where
   -- the history is lawful, and leaves the words of the cells
   pub memory : IsMemoryOf (claims_of_size k) words plan.history
-  -- after those there is the roster, and nothing else
+  -- after the words of the cells there is the roster, and nothing else
   pub wide : length words ≡ roster k + 1
-  -- there are at most as many numbers as consumers
+  -- at most as many numbers were drawn as there are consumers
   pub few : slice_index words (roster k) ≤ consumer_count k.layout
   -- each number issued was drawn
   pub drawn : plan.given ≤ slice_index words (roster k)
@@ -51,7 +51,7 @@ pub record IsStateOf (k : TableSize) (words : List ℕ) (views : List View) (pla
   pub parts :
       (seat c : ℕ) (xs : List ClaimAccess) → HasPartAt views seat c xs
       → (c < plan.given) × (plan.place c ≡ seat) × (xs ≡ part c plan.history)
-  -- nobody else has done anything
+  -- a consumer whose number was not issued has done nothing
   pub others : (c : ℕ) → plan.given ≤ c → part c plan.history ≡ []
   -- each view fits the table
   pub fits : (seat : ℕ) (v : View) → IsViewAt views seat v → FitsTable k plan (slice_index words (roster k)) seat v

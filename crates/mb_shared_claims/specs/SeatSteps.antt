@@ -29,13 +29,13 @@ pub record IsSeatStep
   pub adds : now ≡ with_access (access_of seat.consumer cell next seen word) seat
   -- the access came after a lawful history of all claims, in which the seat's consumer had done its part and no more
   pub comes : ComesAfter (claims_at seat.table) (access_of seat.consumer cell next seen word) seat.part
-  -- the claim that follows is the one after that access, whatever led to the claim before
+  -- the claim that follows is the one after that access, whatever turns led to the claim before
   pub path :
       (xs : List ObjectTurn) → IsClaimIn layout claim xs
       → IsClaimIn layout follows (step_of next.object next.op seen word ∷ xs)
 
--- an op of consumer c on a cell may come next, if c has done this. For all words and all histories with this part of c,
--- the words after the op are those that the history with its access leaves
+-- an op of consumer c on a cell may come next, if c has done this: after each history with this part of c, if the op's
+-- access is in words, the history with that access leaves what the op makes of the words that the history left
 abbrev pub MayComeNext : Claims → ℕ → ℕ → List ClaimAccess → ClaimOp → Type 0
 MayComeNext cs c cell done next =
     (word : ℕ) (words : List ℕ) (h : List ClaimAccess) → IsMemoryOf cs words h → part c h ≡ done

@@ -78,7 +78,7 @@ size_in Spent = None
 abbrev pub table_of : TableId → View → ClaimTable
 table_of id v = record { id = id; size = size_in v }
 
--- a table has the words of its cells, the roster after them, and no slots. Its rule knows its size
+-- a table has at most `MAX_LARGE_CELLS` cells. It has their words, then the roster, no slots, and a rule of its size
 pub record IsTable (id : TableId) (key size : TableSize) : Type 0 where
   pub told : key ≡ size
   pub words : id.words ≡ roster size + 1

@@ -28,7 +28,7 @@ abbrev pub with_one_more : ClaimAccess → View → View
 with_one_more a (Standing size own done) = Standing size own (a ∷ done)
 with_one_more a v = v
 
--- the access came after a lawful history of all claims, in which its consumer had done this
+-- the access came after a history of all claims in which its consumer had done this, and with it the history is lawful
 abbrev pub ComesAfter : Claims → ClaimAccess → List ClaimAccess → Type 0
 ComesAfter cs a done =
     (h : List ClaimAccess) × IsClaimLawful cs (a ∷ h) × (part a.consumer h ≡ done)
@@ -59,7 +59,7 @@ abbrev pub newcomer : View → View
 newcomer (Drawing size roll) = Standing size (length roll) []
 newcomer v = Spent
 
--- what the hub's fetch-add proves: it found how many numbers were issued before
+-- what the hub's fetch-add proves: it found how many numbers were issued. The hub's view then says that one was drawn
 abbrev pub draws : ℕ → Seated → Seated → Type 0
 draws found me now = (found ≡ length (roll_of me.0)) × (now ≡ (drawn me.0, me.1))
 

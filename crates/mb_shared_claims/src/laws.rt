@@ -2,7 +2,7 @@
 //! functions compute nothing: their contracts are the laws.
 //!
 //! Between any two steps of any seats, the words and the views of a table are a state of the claims. The rule of each
-//! table says so: [`ClaimsRule`](crate::rule::ClaimsRule). It is checked at each step.
+//! table says so: [`ClaimsRule`](crate::rule::ClaimsRule). The prover sees to it at each step.
 ghost use Rattle.std.specs.Prelude.{ℕ, suc, ◌≡◌, ◌≢◌, ◌+◌, ◌<◌, ◌≤◌, Some, None, List, [], ◌∷◌, ◌++◌, length};
 ghost use Rattle.std.specs.Prelude.{replicate, slice_get, slice_index, slice_set};
 ghost use Rattle.mb_deciding.specs.declared.object.Kind.TheVariants.{Ratifier};
@@ -19,7 +19,7 @@ use mb_claim::steps::{
     other_words_are_free,
 };
 
-/// What a state of the claims is.
+/// What holds of each state of the claims: its words and parts are those of one lawful history.
 pub fn states_have_one_history()
     // Some lawful history leaves the words. Its parts are exactly those that the seats have.
     ensures history { (k : TableSize) (words : List ℕ) (views : List View)
@@ -94,7 +94,7 @@ pub fn steps_keep_states()
 /// In every state of a table all seats that have won or lost a cell name one winner. So no cell has two winners at any
 /// time, whatever the threads do.
 pub fn seats_have_one_winner()
-    // If two seats have both won a cell, they are one consumer's.
+    // If two seats have both won a cell, they are seats of one consumer.
     ensures won { (k : TableSize) (words : List ℕ) (views : List View) (i j c d cell : ℕ)
         (xs ys : List ClaimAccess)
         → IsClaimsState k words views → HasPartAt views i c xs → HasPartAt views j d ys

@@ -2,14 +2,14 @@
 //!
 //! # How threads claim
 //!
-//! A table has the words of the claims on some cells. One more word, the *roster*, counts the numbers issued. `new`
+//! A table has the words of the claims on some cells. One more word, the *roster*, counts the numbers drawn. `new`
 //! makes a table with one hub. The hub issues each consumer's number once, with a *seat*: a thread makes its
 //! accesses with it. A seat carries what its consumer has done, its *part*. That is plain data which only proofs see,
 //! so it takes no room and no time. In the end the hub takes the seats back, each with its part.
 //!
-//! Each step is one atomic load, store or compare-exchange of one word, and keeps the table's rule: some lawful history
-//! of claims leaves all words as they are, and its parts are those of the seats. So the laws of [`mb_claim`] about
-//! lawful histories hold of what the threads did, in whatever order: at most one consumer wins a cell.
+//! Each step of a claim is one atomic load, store or compare-exchange of one word. It keeps the table's rule: some
+//! lawful history of claims leaves what the cells' words hold, and its parts are those of the seats. So the laws of
+//! [`mb_claim`] hold of what the threads did, in whatever order: at most one consumer wins a cell.
 //!
 //! # What is here
 //!
@@ -17,9 +17,9 @@
 //!   issues the next number, [`SharedClaims::take_in`] takes a seat back, and [`SharedClaims::close`] says that all
 //!   parts are of one history. Each call needs that hub and seat are of this table.
 //! - [`SharedClaims::step`] makes the next access of a claim from a [`ClaimSeat`]. It takes no lock and never waits.
-//!   [`SharedClaims::straight`] makes those of a new claim, faster.
-//! - [`laws`] has what the rule says of each state of a table, that each kind of step keeps it, and that no cell has two
-//!   winners. [`rule`] has the rule itself, and [`view`] what a seat knows. Programs need none of these three.
+//!   [`SharedClaims::straight`] makes the accesses of a new claim, faster.
+//! - [`laws`] has what the rule says of each state of a table, that each kind of step keeps it, and that no cell has
+//!   two winners. [`rule`] has the rule itself, and [`view`] what a seat knows. Programs need none of these three.
 #![tactic(auto)]
 
 mod hub;

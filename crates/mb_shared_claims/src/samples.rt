@@ -24,14 +24,14 @@ pub fn words_and_views_disagree()
         → slice_index words (address_in (claims_of_size k) 0 o reg) ≡ 1
         → IsClaimsState k words (Handing k [] ∷ []) → ⊥ }
 
-    // A number on the roster that was not issued, and an issued number that is not on the roster.
+    // The roster counts a number that was not issued, or does not count one that was.
     ensures not_given { (k : TableSize) (words : List ℕ) → slice_index words (roster k) ≡ 1
         → IsClaimsState k words (Handing k [] ∷ []) → ⊥ }
     ensures not_drawn { (k : TableSize) (words : List ℕ) (views : List View)
         → slice_index words (roster k) ≡ 0
         → IsClaimsState k words (Handing k (None ∷ []) ∷ views) → ⊥ }
 
-    // An issued number whose seat is nowhere, and one with two seats.
+    // The seat of an issued number is nowhere, or an issued number has two seats.
     ensures gone { (k : TableSize) (words : List ℕ)
         → IsClaimsState k words (Handing k (None ∷ []) ∷ []) → ⊥ }
     ensures twice { (k : TableSize) (words : List ℕ)

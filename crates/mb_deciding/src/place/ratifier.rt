@@ -8,7 +8,7 @@ pub enum RatifierPlace {
         /// The process's input.
         input: u32,
     },
-    /// The process announces its input.
+    /// The process announces its input, or has done so and is about to load the proposal.
     Announce {
         /// The process's input.
         input: u32,
@@ -20,7 +20,7 @@ pub enum RatifierPlace {
         /// The process's input.
         input: u32,
     },
-    /// The process checks its preference.
+    /// The process checks the read quorum of its preference.
     Check {
         /// The value that the process stored in the proposal, or found there.
         preference: u32,

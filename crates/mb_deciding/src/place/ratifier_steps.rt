@@ -45,7 +45,7 @@ impl RatifierPlace {
         }
     }
 
-    /// The next access of a process that still has to set these registers.
+    /// The next access of a process that has these registers left to set: a store, or if none is left, a load.
     #[inline(always)]
     fn announcing(left: u64) -> Op
         ensures { (t : QuorumTable) (input : ℕ) → IsRatifierOp t (Announce input left) result }
@@ -57,7 +57,7 @@ impl RatifierPlace {
         }
     }
 
-    /// What follows the next access of a process that still has to set these registers.
+    /// What follows the next access of a process that has these registers left to set, or none.
     #[inline(always)]
     fn announced<Q: Quorums>(&mut self, q: &Q, input: u32, left: u64, seen: u64) -> Option<Out>
         requires { input < (Q.table q.now).values }

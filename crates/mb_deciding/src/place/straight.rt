@@ -78,7 +78,7 @@ fn met(values: u32, input: u32, seen: u64) -> u32
 }
 
 /// Goes through a ratifier with this input. Returns the output. With r registers it makes at most `2r + 2` accesses,
-/// and `left` must have room for those that a whole path can have (`most_turns`). Else it is as
+/// and `left` must have room for those that a whole path can have (`most_turns`). Apart from that it is like
 /// [`through_conciliator`].
 #[inline(always)]
 pub fn through_ratifier<Q: Quorums, M: Drawing>(
@@ -124,8 +124,8 @@ pub fn through_ratifier<Q: Quorums, M: Drawing>(
     Out::decided(preference)
 }
 
-/// Loads the proposal of a ratifier, after the announcement of this input, and stores the input there if the proposal
-/// is empty. Returns the preference.
+/// Loads the proposal of a ratifier, after the announcement of this input, and stores the input there if it finds no
+/// value of the table. Returns the preference.
 #[inline(always)]
 fn prefer<Q: Quorums, M: Drawing>(
     q: &Q,
@@ -159,7 +159,7 @@ fn prefer<Q: Quorums, M: Drawing>(
 }
 
 /// Goes through a last object with this input. Returns the value of the output. It makes one access, which `left` must
-/// have room for. Else it is as [`through_conciliator`].
+/// have room for. Apart from that it is like [`through_conciliator`].
 #[inline(always)]
 pub fn through_last<Q: Quorums, M: Drawing>(
     q: &Q,

@@ -1,4 +1,4 @@
-//! One conciliator and a schedule.
+//! Runs one conciliator for a schedule.
 
 ghost use Rattle.mb_deciding.specs.{Conciliator, conciliator_of, setup_of, IsValid, IsFirstMover, part, RefusesOnlyFor};
 ghost use Rattle.mb_deciding.specs.{refusal_of, spread, IsTrace, history_of};
@@ -13,9 +13,9 @@ use crate::trace::{Fault, Trace};
 use mb_quorum::checked_values;
 use std::alloc::Allocator;
 
-/// Runs one conciliator for m values. Process i has the input `inputs[i]`. Each pair of the schedule is a turn of a
-/// process with its random word: one access, or none if the process has its output. A process has at most
-/// `spread(m) + 3` accesses.
+/// Runs one conciliator for m values. Process i has the input `inputs[i]`. Each turn of the schedule has a process and
+/// a random word. It is one access, or none if the process has its output. A process has at most `spread(m) + 3`
+/// accesses.
 ///
 /// It is refused for the reasons for which [`ratify`](crate::ratify) is.
 pub fn conciliate<A: Allocator + Copy + Drop>(

@@ -1,4 +1,4 @@
-//! One ratifier and a schedule.
+//! Runs one ratifier for a schedule.
 
 ghost use Rattle.mb_deciding.specs.{Ratifier, ratifier_of, setup_of, IsValid, IsCoherent, IsAccepted, IsContested};
 ghost use Rattle.mb_deciding.specs.{part, most_turns, RefusesOnlyFor, refusal_of, IsTrace, history_of, plain_schedule};

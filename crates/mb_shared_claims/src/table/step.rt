@@ -23,7 +23,7 @@ impl<A: Allocator + Drop> SharedClaims<A> {
     ghost use Rattle.mb_shared_claims.specs.{Claim, Going, name_of, IsSeatStep, MayComeNext, ComesAfter, access_of, with_access};
 
     /// Makes the next access of a claim of the seat's consumer on a cell, with the random word of this step. Returns
-    /// how far the claim has come.
+    /// the claim's stage after it.
     #[inline(always)]
     pub fn step(&self, seat: &mut ClaimSeat, claim: &mut Claim, cell: u32, word: u64) -> Stage
         requires table { seat.old.table ≡ name_of self.now }
@@ -37,7 +37,7 @@ impl<A: Allocator + Drop> SharedClaims<A> {
         // The access came after a lawful history, and the claim is then the one after that access.
         ensures step { IsSeatStep self.now.layout cell word claim.old seat.old claim.new seat.new }
 
-        // So the claim has made all that its consumer has done on the cell, and can be stepped again.
+        // So the claim has made all that its consumer has done on the cell, and can be stepped again if it goes on.
         ensures standing { IsClaimIn self.now.layout claim.new
             (part_on seat.new.consumer cell seat.new.part) }
         ensures consumer { consumer_of claim.new ≡ consumer_of claim.old }
@@ -92,7 +92,7 @@ impl<A: Allocator + Drop> SharedClaims<A> {
         let mut claim = Claim::alone(layout, consumer);
         let next = claim.next(layout);
 
-        // A cell has one word, so its address is the cell's number.
+        // A cell has one word, so the address of that word is the cell's number.
         let found = self.make_at::<Brand>(seat, cell as usize, cell, next, word);
 
         // Only the contract names the claim. What was found determines its stage.
@@ -178,7 +178,7 @@ impl<A: Allocator + Drop> SharedClaims<A> {
     }
 }
 
-/// How the only access of a consumer's claim ends it, if its exchange found this value.
+/// How a consumer's claim that is one exchange ends, if the exchange found this value.
 #[inline(always)]
 fn stage_found(consumer: u32, found: u64) -> Stage
     requires { found ≤ 2 ^ 8 }
@@ -188,7 +188,7 @@ fn stage_found(consumer: u32, found: u64) -> Stage
     if found == 0 || found == u64::from(consumer) + 1 {
         return Stage::Won;
     }
-    // The cast tells the compiler that the number has eight bits. That determines what kind of note it needs.
+    // The cast tells the compiler that the number has eight bits, and so which kind of note a caller makes of it.
     Stage::Lost(u32::from((found - 1) as u8))
 }
 
@@ -215,14 +215,14 @@ impl<'a, A: Allocator + Drop> Memory for SeatWords<'a, A> {
     ghost use Rattle.mb_claim.specs.Vocabulary.{IsWordInLayout, claims_in};
     ghost use Rattle.mb_shared_claims.specs.{name_of, MayComeNext, ComesAfter, access_of, with_access};
 
-    // The op is one that the seat's consumer may make next on the cell, to a word of the layout.
+    // Seat and cell are of the table. The seat's consumer may make this op next on the cell, to a word of the layout.
     ghost can_make = { λ m object op. (m.seat.now.table ≡ name_of m.table.now)
         × (m.cell < m.table.now.cells)
         × IsWordInLayout m.table.now.layout object (reg_of op)
         × MayComeNext (claims_in m.table.now.layout m.table.now.cells) m.seat.now.consumer m.cell
         m.seat.now.part (record { object = object; op = op }) };
 
-    // The access is then in the seat's part, and came after a lawful history with that part.
+    // The seat's part gets the access, which came after a lawful history with the part before. The seat is the same.
     ghost makes = { λ m object op seen after.
         let a = access_of m.seat.now.consumer m.cell (record { object = object; op = op }) seen
         m.word in

@@ -22,9 +22,9 @@ impl<A: Allocator + Drop> SharedClaims<A> {
     ghost use Rattle.mb_shared_claims.specs.{Claim, Going, name_of, AreSeatSteps};
 
     /// Makes the accesses of a new claim of the seat's consumer on a cell, each with the next word of `rng`. It goes
-    /// object by object, as long as 10 of `most` accesses and 2 for each quorum register are left. For a last object
-    /// one is enough. As many calls of [`SharedClaims::step`] make the same accesses. If the claim goes on then, that
-    /// call makes the rest, from the claim of [`Claim::standing`].
+    /// object by object, as long as 10 accesses, and 2 more for each quorum register, are left of `most`. For a last
+    /// object one is enough. As many calls of [`SharedClaims::step`] make the same accesses. If the claim goes on after
+    /// them, `step` makes the rest, from the claim of [`Claim::standing`].
     #[inline(always)]
     pub fn straight<R: Rng>(
         &self,
@@ -100,7 +100,7 @@ impl<'a, A: Allocator + Drop, R: Rng> Memory for DrawingWords<'a, A, R> {
         × MayComeNext (claims_in m.table.now.layout m.table.now.cells) m.seat.now.consumer m.cell
         m.seat.now.part (record { object = object; op = op }) };
 
-    // The seat's part has the access more, which came after a lawful history with the part before. Nothing else changes.
+    // The seat's part gets the access, made after a lawful history with the part before. Table, cell and source stay.
     ghost makes = { λ m object op seen after.
         let a = access_of m.seat.now.consumer m.cell (record { object = object; op = op }) seen
         m.word in
@@ -131,8 +131,8 @@ impl<'a, A: Allocator + Drop, R: Rng> Drawing for DrawingWords<'a, A, R> {
         × (after.table.now ≡ m.table.now) × (after.cell ≡ m.cell)
         × (after.seat.ghost_name ≡ m.seat.ghost_name) × (after.rng.ghost_name ≡ m.rng.ghost_name) };
 
-    // The op is one that the seat's consumer may make next on the cell, to a word of the site's object. The site is
-    // where that object is in the cell, whose words can be addressed.
+    // Seat and cell are of the table. The seat's consumer may make this op next on the cell, to a word of the site's
+    // object. The site is where that object is in the cell, whose words can be addressed.
     ghost can_make_at = { λ m site op. (m.seat.now.table ≡ name_of m.table.now)
         × (m.cell < m.table.now.cells)
         × IsWordInLayout m.table.now.layout site.object (reg_of op)

@@ -1,5 +1,4 @@
--- Proof of `laws::checks_keep_out`: what a clear read rules out (`ChecksKeepOut`): the fact on which the one
--- winner rests.
+-- Proof of `laws::checks_keep_out`: what a clear read of a ratifier rules out (`ChecksKeepOut`).
 use Rattle.std.proofs.Common.{◌∷◌}
 use Rattle.mb_deciding.proofs.Histories.{longer}
 use Rattle.mb_deciding.proofs.Winner.{ratifier_keeps_out}

@@ -1,5 +1,4 @@
--- Proof of `steps::paths_are_short`: how many accesses a process makes at most on a whole object, by the number of
--- registers or of attempts alone.
+-- Proof of `steps::paths_are_short`: how many accesses a process makes at most on a ratifier and on a conciliator.
 use Rattle.mb_deciding.proofs.MostLeft.{ratifier_short}
 use Rattle.mb_deciding.proofs.steps.paths_are_short.Goals as goal
 

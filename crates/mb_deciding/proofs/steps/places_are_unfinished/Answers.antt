@@ -1,4 +1,4 @@
--- Proof of `steps::places_are_unfinished`: the turns of a process at a place are a prefix of a path that has not ended.
+-- Proof of `steps::places_are_unfinished`: the turns of a process at a place are an open prefix of a path.
 use Rattle.mb_deciding.proofs.Stepping.{at_open, at_part, at_unfinished, at_word}
 use Rattle.mb_deciding.proofs.steps.places_are_unfinished.Goals as goal
 

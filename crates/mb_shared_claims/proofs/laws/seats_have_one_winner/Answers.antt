@@ -29,7 +29,7 @@ pub returns-clause-won : goal.returns-clause-won
 returns-clause-won g k words views i j c d cell xs ys state one other won too =
     returns-clause-named g k words views i j c d cell c d xs ys Won Won state one other won too refl refl
 
--- the history of the state is lawful, so each of its ratifiers is used with some inputs
+-- the history of the state is lawful, so in it each ratifier of a cell is used with some inputs
 pub returns-clause-checks : goal.returns-clause-checks
 returns-clause-checks g k words views state =
     let told = g.states_have_one_history.ensures.history k words views state in

@@ -1,4 +1,4 @@
--- Proof of `laws::states_have_one_history`: what a state of the claims is.
+-- Proof of `laws::states_have_one_history`: the words and parts of each state of the claims are of one lawful history.
 use Rattle.std.proofs.Common.{◌≢◌, ◌≤◌, ℕ, List, [], sym, ◌∙◌, arith}
 use native.Mathlib.Decide.{dec_le}
 use Rattle.mb_claim.specs.Vocabulary.{part}

@@ -14,7 +14,7 @@ use Rattle.mb_shared_claims.proofs.laws.steps_keep_states.Goals as goal
 pub returns-clause-new : goal.returns-clause-new
 returns-clause-new g k = begins k (g.histories_begin_with_zeros.ensures.memory (claims_of_size k))
 
--- each clause takes the plan of the state before its step, and gives the plan that explains the table after it
+-- each clause from here on takes the plan of the state before its step, and gives one that explains the state after it
 pub returns-clause-access : goal.returns-clause-access
 returns-clause-access g k size words views id own cell word done next held is low has may small =
     let cs = claims_of_size k in

@@ -1,4 +1,4 @@
--- Proof of `samples::words_and_views_disagree`: words and views that do not come from a history and a hub.
+-- Proof of `samples::words_and_views_disagree`: words and views of a table that are no state.
 use Rattle.std.proofs.Common.{[], arith, ap, refl, sym, ◌∷◌, ◌≡◌, ◌∙◌, ℕ, List, subst, suc, zero, Some, None}
 use mathlib.Core.Option.{some-injective, some-ne-none}
 use Rattle.mb_claim.specs.Vocabulary.{held_at, part}

@@ -1,4 +1,4 @@
--- Proof of `prefer`: loads the proposal of a ratifier, and stores the input there if the proposal is empty.
+-- Proof of `prefer`: loads the proposal of a ratifier, and stores the input there if it finds no value of the table.
 use Rattle.std.proofs.Common.{◌≡◌, ◌≤◌, ◌<◌, ◌+◌, ◌-◌, arith, refl, ap}
 use Rattle.mb_quorum.specs.Quorum.{QuorumTable}
 use Rattle.mb_deciding.specs.{Proposal, InRatifier, Announce, Propose, checks_of}
@@ -32,7 +32,7 @@ returns-then-seen-from-clause-steps g c =
           within same),
     )
 
--- In both proofs `first` is the load that finds no value of the table. The process is then about to store its input.
+-- In both proofs below `first` is the load that finds no value of the table. The process stores its input next.
 pub perform_at-requires : goal.perform_at-requires
 perform_at-requires g c =
     let t : QuorumTable = g.Q.Quorums.table c.args.q.now in

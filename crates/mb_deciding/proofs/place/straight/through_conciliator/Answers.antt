@@ -9,7 +9,7 @@ use Rattle.mb_deciding.proofs.ManySteps.{one_more}
 use Rattle.mb_deciding.proofs.StraightSteps.{met_step, missed_step, found_step, put_step, look_step}
 use Rattle.mb_deciding.proofs.place.straight.through_conciliator.Goals as goal
 
--- In each proof below `at` is the place before the load of this attempt. `one_more` adds one access to those before it.
+-- In each proof below `at` is the place before the newest attempt's load. `one_more` adds one access to those made.
 pub returns-then-seen-ne0-clause-steps : goal.returns-then-seen-ne0-clause-steps
 returns-then-seen-ne0-clause-steps g c =
     let t : QuorumTable = g.Q.Quorums.table c.args.q.now in
@@ -44,7 +44,7 @@ draws-preserved g c =
           c.perform_at-seen.ensures c.if-seen-ne0.false c.if-word-modulus.false);
     }
 
--- In the proofs below `puts` are the accesses up to the attempt that stores, and `looks` those up to the store.
+-- In the proofs below `puts` are the accesses up to the attempt that stores. In the last two `looks` adds the store.
 pub perform_at-requires : goal.perform_at-requires
 perform_at-requires g c =
     let t : QuorumTable = g.Q.Quorums.table c.args.q.now in

@@ -1,4 +1,4 @@
--- Loop invariants of `through_conciliator`: takes a process through a conciliator whose last attempt is `s`.
+-- What the loop of `through_conciliator` keeps: each access so far was an attempt that did not store.
 use Rattle.std.proofs.Common.{◌≡◌, ◌+◌, ℕ}
 use Rattle.mb_deciding.specs.{Conciliator, InConciliator, Draw, HasLimits, AreSteps, DrawsAndMakes, first_place}
 use Rattle.mb_deciding.specs.declared.place.pc.Next.TheVariants as leads
@@ -7,7 +7,7 @@ use Rattle.mb_deciding.proofs.place.straight.through_conciliator.Given as goal
 abbrev pub decreases-draws : goal.decreases-draws
 decreases-draws g l = l.left
 
--- Before each round of the loop `made` attempts were made, with one access each.
+-- Before each pass of the loop `made` attempts were made, with one access each. None of them stored.
 abbrev pub invariant-draws : goal.invariant-draws
 invariant-draws g l = record {
   made : ℕ;

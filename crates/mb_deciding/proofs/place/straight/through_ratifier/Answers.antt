@@ -50,8 +50,8 @@ announces-preserved g c =
           c.without-mask.ensures.taken c.perform_at.ensures);
     }
 
--- In both proofs `first` are the stores of the announcement, after which no register is left to announce. `joined` adds
--- the accesses of `prefer`.
+-- In the next two proofs `first` are the stores of the announcement, after which no register is left to announce.
+-- `joined` adds the accesses of `prefer`.
 pub prefer-preference-requires-clause-may : goal.prefer-preference-requires-clause-may
 prefer-preference-requires-clause-may g c n word at before mid op steps drawn is =
     let t : QuorumTable = g.Q.Quorums.table c.args.q.now in
@@ -106,7 +106,7 @@ checks-init g c =
 pub overflow_sub-left-in-checks : goal.overflow_sub-left-in-checks
 overflow_sub-left-in-checks g c = omega (arith, c.checks.invariant.room, some_ones c.checks.mask c.checks-test.true)
 
--- In the proofs below `before` are the accesses up to the load, which is of the least register that is left.
+-- If a proof below has `before`, that is the accesses up to the load, which is of the least register that is left.
 pub returns-then-perform_at-ne0-clause-steps : goal.returns-then-perform_at-ne0-clause-steps
 returns-then-perform_at-ne0-clause-steps g c =
     let t : QuorumTable = g.Q.Quorums.table c.args.q.now in

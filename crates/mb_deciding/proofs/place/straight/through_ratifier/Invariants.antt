@@ -1,4 +1,4 @@
--- Loop invariants of `through_ratifier`: takes a process through a ratifier, from its first access to its output.
+-- What the loops of `through_ratifier` keep: the accesses so far led to this place, and `left` has room for the rest.
 use Rattle.std.proofs.Common.{◌≡◌, ◌+◌, ◌<◌, ◌≤◌, ℕ, count_ones}
 use Rattle.mb_deciding.specs.{Ratifier, InRatifier, Announce, AreSteps, DrawsAndMakes, first_place, most_turns, turns_left, checks_of}
 use Rattle.mb_deciding.specs.declared.place.pc.Next.TheVariants as leads

@@ -1,4 +1,4 @@
--- Loop invariants of `Course::begin`: a run before its first turn, with room for `turns` entries.
+-- What the loop of `Course::begin` keeps: for each input so far there is the place of a process without an access.
 use Rattle.std.proofs.Common.{◌≡◌, ◌<◌, ℕ, get_or, length, []}
 use Rattle.mb_quorum.specs.Quorum.{QuorumTable}
 use Rattle.mb_deciding.specs.{Next, IsReached, IsSameFor}

@@ -1,4 +1,4 @@
--- Loop invariants of `Course::finish`: ends the run, and returns the entries and the output of each process.
+-- What the loop of `Course::finish` keeps: for each process so far there is its output, or none.
 use Rattle.std.proofs.Common.{◌≡◌, map, take}
 use Rattle.mb_deciding.specs.{out_of}
 use Rattle.mb_deciding.proofs.run.Course.finish.Given as goal

@@ -1,5 +1,4 @@
--- Proof of `SharedClaims::enroll`: the seat of the next number: 0 first, then 1, and so on to the last of the layout's
--- consumers.
+-- Proof of `SharedClaims::enroll`: issues the seat of the next number.
 use Rattle.std.proofs.Common.{◌≡◌, ◌<◌, ◌++◌, sym, ap, ◌∙◌, subst, [], ◌∷◌, None, length, length-append, arith}
 use Rattle.mb_shared_claims.specs.Types.{TableSize, Handing, Drawing, Standing}
 use Rattle.mb_shared_claims.specs.Views.{claims_of_size}

@@ -1,4 +1,4 @@
--- Choices for the calls of `SharedClaims::exchange`: the access of a claim that is one exchange.
+-- What the proof of `SharedClaims::exchange` picks for its call of `make_at`.
 use Rattle.mb_shared_claims.specs.SeatSteps.{access_of}
 use Rattle.mb_shared_claims.proofs.table.SharedClaims.exchange.Given as goal
 

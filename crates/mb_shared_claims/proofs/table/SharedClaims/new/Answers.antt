@@ -1,5 +1,4 @@
--- Proof of `SharedClaims::new`: a table of this layout with `cells` cells, all words 0, and its hub, which has issued
--- no number.
+-- Proof of `SharedClaims::new`: a table of this layout, all words 0, and its hub, which has issued no number.
 use Rattle.std.proofs.Common.{rules, ◌≡◌, ◌+◌, length, sym, ap, ◌∙◌, subst, [], ◌∷◌, replicate}
 use Rattle.mb_shared_claims.specs.Types.{TableSize, Handing}
 use Rattle.mb_shared_claims.specs.Views.{claims_of_size}

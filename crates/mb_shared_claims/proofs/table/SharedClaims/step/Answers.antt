@@ -1,5 +1,4 @@
--- Proof of `SharedClaims::step`: makes the next access of a claim of the seat's consumer on a cell, with the random
--- word of this step.
+-- Proof of `SharedClaims::step`: makes the next access of a claim of the seat's consumer on a cell.
 use Rattle.std.proofs.Common.{rules, ◌≡◌, List, ◌∷◌, sym, ap, ◌∙◌, subst}
 use Rattle.mb_claim.specs.Vocabulary.{part_on, step_of, IsNextOp, IsClaimIn, CanClaimFind}
 use Rattle.mb_shared_claims.specs.Types.{Layout, ObjectTurn}

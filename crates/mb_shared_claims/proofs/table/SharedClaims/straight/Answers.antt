@@ -27,9 +27,9 @@ module _ (g : Over) (c : After-begin g) where
       (first_path c.places_show_prefixes.ensures.prefix c.args.self.now.layout c.args.seat.now.consumer start known
       first)
 
--- Each clause needs two facts, which come after `start` in this order. A draw changes only the random word and its
--- source. An access changes only the seat: its part is longer by that access. The facts `seat` and `rng` say that the
--- caller gets back the seat and the source as the accesses left them in its memory
+-- In this proof and the next the lemmas take two facts right after `start`. A draw changes only the random word and its
+-- source. An access changes only the seat: its part is longer by that access. In the next proof `seat` and `rng` say
+-- that the caller gets back the seat and the source as the accesses left them
 pub straight-requires-clause-may : goal.straight-requires-clause-may
 straight-requires-clause-may g c start stands n word at before mid next steps going drawn is =
     let here = (goal.at.straight-requires-clause-may g c).After-begin in

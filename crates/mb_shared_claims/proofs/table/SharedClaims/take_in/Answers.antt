@@ -33,7 +33,7 @@ load-requires g c =
     let taking = j.2 ∙ (λ i. (took_in (c.hub.invariant.is i).0 (c.seat.invariant.is i).0, (c.hub.invariant.is i).1)) in
     (j.0 ∙ same, omega arith, settle_asked _ _ _ _ _ _ _ _ taking)
 
--- the seat was out, so the hub counts one seat at least
+-- the seat was out, so the hub counts at least one seat as out
 pub overflow_sub-hub : goal.overflow_sub-hub
 overflow_sub-hub g c =
     let j = c.join_seat.ensures in

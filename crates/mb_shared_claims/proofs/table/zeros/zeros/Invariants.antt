@@ -9,7 +9,7 @@ invariant-loop-words g l = record {
   most : length l.words.items ≤ l.many;
 }
 
--- the words are all 0, there is room for `many`, and each round of the loop has added one word
+-- the words are all 0, there is room for `many`, each pass of the loop added one word, and the piece ends within `many`
 abbrev pub invariant-loop : goal.invariant-loop
 invariant-loop g l = record {
   zeros : l.words.items ≡ replicate (length l.words.items) 0;
@@ -18,6 +18,6 @@ invariant-loop g l = record {
   most : length l.initial.words.items + l.piece ≤ l.many;
 }
 
--- each round adds at least one word, so fewer are missing after it
+-- how many words are missing: each pass of the loop adds at least one
 abbrev pub decreases-loop-words : goal.decreases-loop-words
 decreases-loop-words g l = l.many - length l.words.items

@@ -1,5 +1,4 @@
--- Proof of `RatifierPlace::checked`: what follows the load of the least register that is left of the preference's read
--- quorum.
+-- Proof of `RatifierPlace::checked`: what follows the load of the least register that is left to check.
 use Rattle.std.proofs.Common.{◌∷◌, sym, subst}
 use Rattle.mb_quorum.specs.Quorum.{IsQuorumTable}
 use Rattle.mb_deciding.specs.{Ratifier, Out, acts, IsPath, act_of}

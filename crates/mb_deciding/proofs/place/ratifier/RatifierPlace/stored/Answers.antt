@@ -1,5 +1,4 @@
--- Proof of `RatifierPlace::stored`: what follows the store in the least of these registers: that register is no longer
--- left.
+-- Proof of `RatifierPlace::stored`: after the store in the least register left, that register is no longer left.
 use Rattle.std.proofs.Common.{◌≡◌, ◌<◌, arith}
 use Rattle.mb_quorum.specs.Quorum.{IsQuorumTable}
 use Rattle.mb_deciding.specs.{acts}

@@ -5,7 +5,7 @@ use Rattle.mb_claim.specs.Vocabulary.{quorums_of, kinds_of, offset}
 use Rattle.mb_shared_claims.proofs.Sites.{word_addressed}
 use Rattle.mb_shared_claims.proofs.table.straight.DrawingWordsDrawing.perform_at.Goals as goal
 
--- the word is one of those of the cell, and all these can be addressed
+-- the word is one of the cell's words, and all of these can be addressed
 pub overflow_add-address : goal.overflow_add-address
 overflow_add-address g c =
     let layout = c.args.self.now.table.now.layout in

@@ -1,4 +1,4 @@
--- Choices for the calls of `DrawingWords::perform_at`: makes an access from the seat.
+-- What the proof of `DrawingWords::perform_at` picks for its call of `make_at`.
 use Rattle.mb_shared_claims.specs.SeatSteps.{access_of}
 use Rattle.mb_shared_claims.proofs.table.straight.DrawingWordsDrawing.perform_at.Given as goal
 

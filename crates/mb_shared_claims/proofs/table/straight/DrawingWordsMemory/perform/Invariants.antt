@@ -1,4 +1,4 @@
--- Choices for the calls of `DrawingWords::perform`: makes an access from the seat.
+-- What the proof of `DrawingWords::perform` picks for its call of `make`.
 use Rattle.mb_shared_claims.specs.SeatSteps.{access_of}
 use Rattle.mb_shared_claims.proofs.table.straight.DrawingWordsMemory.perform.Given as goal
 
