@@ -48,7 +48,7 @@ pub record Leaves (q : ℕ) (x y : Parts) : Type 0 where
   pub more : (k v : ℕ) → HasRead (Item k) v x.reads → HasRead (Item k) v y.reads
   pub left : (k : ℕ) → Has (cells_met q x.reads) k → HasNotPassed k x → HasNotPassed k y
 
--- if an access changes nothing on lane q, the consumer stands there as before, by the new parts, too
+-- if y leaves of lane q what x has (`Leaves`), the consumer stands there by the parts y as it does by x
 pub stands_still : (layout : Layout) (cs : Claims) (c q : ℕ) (x y : Parts) (notes : List Note)
     (place : Place) → Leaves q x y
     → StandsOn layout cs c q x notes place → StandsOn layout cs c q y notes place

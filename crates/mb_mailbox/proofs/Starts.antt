@@ -1,4 +1,4 @@
--- A poll that begins with a claim in a variable, and accesses of that claim.
+-- The fields of a consumer with a claim that it holds on a lane, and accesses of that claim in a poll.
 use Rattle.std.proofs.Common.{◌≡◌, ℕ, zero, suc, ◌+◌, ◌<◌, List, length, sym, ap, ◌∙◌, subst, arith}
 use Rattle.std.specs.Prelude.{Some, None, slice_get, sum_by}
 use Rattle.std.proofs.lemmas.List.{length-set}

@@ -71,10 +71,11 @@ impl<A: Allocator + Clone + Drop> Mailbox<A> {
         ensures lists { IfOk result (λ r.
             IsReportIn self.cells.size.lanes (consumer_count self.claims.layout) hub r) }
 
-        // One assignment of items to competitors accounts for the whole report, and nothing follows an end mark.
+        // The accesses of all that were returned make two sound histories. The report and the main theorem are of
+        // these.
         ensures main_theorem { IfOk result (λ r. IsGathered self hub r) }
 
-        // If a producer found no cell, the put lists together have all cells. If a note is undecided, two consumers
+        // If a producer found no cell, as many items are put as there are cells. If a note is undecided, two consumers
         // or more competed for the item.
         ensures full { IfOk result (λ r. FullTakesAll self hub r) }
         ensures undecided { IfOk result (λ r. UndecidedHasCompany r) }

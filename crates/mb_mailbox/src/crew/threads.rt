@@ -1,4 +1,4 @@
-//! Runs the workers of a run, each in a thread of its own.
+//! Runs the workers of a run, each in a thread of its own, or ends them all in the caller's thread.
 ghost use Rattle.std.specs.Prelude.{◌≡◌, ◌-◌, ◌≤◌, [], vec_capacity, vec_len};
 ghost use Rattle.std.specs.List.{All, AllZip};
 ghost use Rattle.mb_mailbox.specs.Runs.{ArePutsFirst, HasRoom, IsEnd, IsJobOf};
