@@ -88,8 +88,7 @@ module _ (layout : Layout) (c : ℕ) (low : c < consumer_count layout) where
       (fit_in_row (shape_of layout) (spread (quorums_of layout).values) (pair_count layout) 0 first_kind.0
       (last_turn_small layout) first_kind.1) low)
 
-  -- if no turn at all is a prefix of a claim that goes on, there is a claim before the first object that has made no
-  -- turn
+  -- if no turns are a prefix of a claim that goes on, some claim before the first object has made no turn
   pub new_claim : (StandsAt (quorums_of layout) (kinds_of layout) c 0
       (first_place (quorums_of layout) first_kind.0 c) []
       → IsClaimPrefix (claims_in layout 0) c [] stage.Going)

@@ -77,8 +77,7 @@ is_noted plan hs r is c p j n e =
       here = t.2;
     }
 
--- both lists have the last cell first. If ls is ks with later cells added, each cell of ks has the same position in
--- both
+-- both lists have the last cell first. If ls is ks and later cells, each cell of ks has the same position in both
 pub at_start : (ks ls : List ℕ) (j k : ℕ) → IsStart ks ls → slice_get (reverse ks) j ≡ Some k
     → slice_get (reverse ls) j ≡ Some k
 at_start ks ls j k s e =

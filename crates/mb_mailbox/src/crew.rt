@@ -59,8 +59,7 @@ pub enum WorkFault {
     /// is returned. The hub keeps what was returned before.
     NoMemory,
     /// A thread could not be started, for whatever reason: it is started without the caller's allocator. It comes only
-    /// if there is a list or a source. As after `NoMemory`, each producer issued has ended its lane, and all that the
-    /// call issued is returned.
+    /// if there is a list or a source. As after `NoMemory`, each lane issued has ended, and all issued are returned.
     NoThread,
 }
 

@@ -59,7 +59,7 @@ impl<A: Allocator + Clone + Drop> Mailbox<A> {
     ) -> Result<Report<A>, (GatherFault, Mailbox<A>, Hub<A>)>
         requires belongs { IsHubOf self hub }
 
-        // When there is a fault. Mailbox and hub come back with it as they were.
+        // The fault is `Missing` if somebody is missing, and else `NoMemory`. Mailbox and hub come back as they were.
         ensures missing { 0 < count_missing hub.puts + count_missing hub.records
             → result
             ≡ Err (Missing (count_missing hub.puts) (count_missing hub.records), self, hub) }
@@ -71,8 +71,7 @@ impl<A: Allocator + Clone + Drop> Mailbox<A> {
         ensures lists { IfOk result (λ r.
             IsReportIn self.cells.size.lanes (consumer_count self.claims.layout) hub r) }
 
-        // The accesses of all that were returned make two sound histories. The report and the main theorem are of
-        // these.
+        // All accesses returned make two sound histories. The report is of these, and the main theorem holds of it.
         ensures main_theorem { IfOk result (λ r. IsGathered self hub r) }
 
         // If a producer found no cell, as many items are put as there are cells. If a note is undecided, two consumers

@@ -70,7 +70,7 @@ impl<A: Allocator + Drop> Producer<A> {
         ensures closed { (result ≡ Closed) ↔ (is_over self.old ≡ true) }
         ensures closed_same { result ≡ Closed → self.new ≡ self.old }
 
-        // A put ends no lane.
+        // A put ends no lane. The producer keeps its lane and its mailbox.
         ensures stays { is_over self.new ≡ is_over self.old }
         ensures lane { IsSameLane self.old self.new }
         ensures belongs { IsProducerOf mailbox.now self.new }

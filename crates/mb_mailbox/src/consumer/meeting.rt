@@ -15,8 +15,7 @@ use mb_cells::laws::looks_tell_links;
 use mb_cells::{Cursor, Look};
 use std::alloc::Allocator;
 
-/// Loads the link at this cursor, before which the consumer stands on the lane. In `places` its place may be out of
-/// date.
+/// Loads the link at this cursor, before which the consumer stands on the lane. `places` may be out of date there.
 #[inline(always)]
 pub(super) fn meet<A: Allocator + Drop, B: Allocator + Drop>(
     fields: &mut ConsumerFields<A>,

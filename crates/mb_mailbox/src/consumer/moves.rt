@@ -40,7 +40,7 @@ fn laws_hold()
     parts_fit_on();
 }
 
-/// What an access makes of a consumer, and what its place lets it do.
+/// What a consumer's place on a lane lets it do, and what the consumer is after an access there.
 pub(super) fn consumers_move_on()
     // Before a link the consumer may load that link.
     ensures may_look { (s : ConsumerView) (p : ℕ) (at : Cursor) → IsConsumer s → HasLoads s

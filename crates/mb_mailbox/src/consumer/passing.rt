@@ -85,8 +85,7 @@ pub(super) fn pass<A: Allocator + Drop, B: Allocator + Drop, R: Rng>(
     requires wide { HasAllRoom fields.old.reader.table.size.cells fields.old.notes }
     requires alone { kinds_of mailbox.now.claims.layout ≡ LastObject ∷ [] }
 
-    // If it returns no answer, it lost all items that it met, one after another, and `left` is what the budget has
-    // left.
+    // If it returns no answer, it lost each item that it met, and `left` is what is left of the budget.
     ensures passed { result ≡ None → (winners : List ℕ)
         × HasPassed lane left.old winners (R.stream rng.old) (R.stream rng.new)
         (with_fields fields.old) (with_fields fields.new) }

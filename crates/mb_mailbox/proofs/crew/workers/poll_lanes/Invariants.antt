@@ -4,8 +4,7 @@ use Rattle.mb_mailbox.specs.Consumers.{IsConsumerOf}
 use Rattle.mb_mailbox.specs.Jobs.{HasReadMarked, IsOnLanes, IsSameConsumer, accesses_made, count_marks, ends_met}
 use Rattle.mb_mailbox.proofs.crew.workers.poll_lanes.Given as goal
 
--- before each call the marked lanes are lanes of the run, read to their ends. All accesses are those of the calls so
--- far
+-- before each call the marked lanes, all of the run, are read to their ends. All accesses are of the calls so far
 abbrev pub invariant-loop-call : goal.invariant-loop-call
 invariant-loop-call g l = record {
   place : l.at ≤ l.end;
