@@ -177,7 +177,7 @@ full_still laws s x now i m = by (found s x now m)
       idle = refl;
     })
 
--- ---- a finish
+-- ---- what a finish does
 -- a finish that returned `Ended` stored the end mark, and did nothing else
 pub is_end : (s : ProducerView) (now : LaneSeatView) → FinishMakes s.seat finish.Ended now
     → IsEndOfLane s (with_seat now s)

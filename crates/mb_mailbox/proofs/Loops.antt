@@ -111,7 +111,7 @@ module _ {R Z : Type 0} (m : MailboxView) (h was now : HubView) where
   }
 
 -- ---- what is taken back
--- if a hub takes back those of the ends `ds` and then that of d, it has taken back those of the list with d at its end
+-- the hub after the ends `ds` and then d were taken back is the hub after the list with d at its end was taken back
 pub took_more : {Z : Type 0} (ds : List (Done Z)) (d : Done Z) (h was now : HubView) → was ≡ with_taken ds h
     → now ≡ with_taken_one d was → now ≡ with_taken (ds ++ d ∷ []) h
 took_more [] d h was now e is = is ∙ ap (with_taken_one d) e

@@ -1,4 +1,4 @@
--- A load of the link before which a consumer stands.
+-- What comes of a load of the link before which a consumer stands: no note, and an answer or none.
 use Rattle.std.proofs.Common.{◌≡◌, ◌≢◌, ◌⊎◌, ℕ, inl, inr, refl, sym}
 use Rattle.std.specs.Prelude.{None}
 use Rattle.mb_cells.specs.declared.answer.Look.TheVariants as look

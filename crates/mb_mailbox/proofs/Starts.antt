@@ -70,7 +70,7 @@ module _ {Z : Type 0} (m : MailboxView) (pending : PendingClaim) (f : ConsumerFi
     room = let wide = start.wide in omega (arith, few, wide);
   }
 
-  -- the consumer's table of claims is that of the mailbox
+  -- the consumer's table of claims has the mailbox's layout and number of cells
   pub table : seat.table.size ≡ Some (record { layout = m.claims.layout; cells = m.claims.cells })
   table = ap (λ (t : ClaimTable). t.size) start.belongs.claims
 

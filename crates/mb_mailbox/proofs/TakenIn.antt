@@ -37,7 +37,7 @@ at (Some x ∷ xs) (suc n) e = by (at xs n e)
     by (here y f) = here y f
     by (past f low) = past f (omega arith)
 
--- if a part was returned for each number of the roll, no seat is out: issued, and not returned
+-- if a part was returned for each number of the roll, no seat is out, that is, issued and not returned
 pub none_out : (roll : Roll) → ((c : ℕ) → c < length roll → (done : List ClaimAccess)
     × (slice_get roll c ≡ Some (Some done)))
     → count_out roll ≡ 0
@@ -134,7 +134,7 @@ module _ (m : MailboxView) (h : HubView) (claims : List ClaimAccess) (pool : His
           let none : taken_part h.claims.roll c ≡ [] = taken_none h.claims.roll c (subst (λ n. n ≤ c) i.seats low) in
           never (ap kept_of e) (λ j. record { reads = sym reads j; claimed = λ k. steps c [] none k j })
 
--- if no consumer is missing, no seat of the claims is out: issued, and not returned
+-- if no consumer is missing, no seat of the claims is out, that is, issued and not returned
 pub all_in : (h : HubView) → IsHub h → count_missing h.records ≡ 0 → count_out h.claims.roll ≡ 0
 all_in h i all = none_out h.claims.roll (λ c low. by c low (at h.records c all))
   where

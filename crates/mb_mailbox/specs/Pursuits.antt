@@ -45,8 +45,8 @@ competed p k claim seat s =
     moved_to p (place_after k claim (claim_stage claim)) (note_of (claim_stage claim)) s.reader.part
     seat.part s
 
--- n accesses on lane p led from the consumer `from` to the one that `competed` makes of `s`, and `IsConsumer` holds of
--- that one. Its claim on cell k came to `claim`, and its seat of the claims is `seat`
+-- n accesses on lane p led from the consumer `from` to the one that `competed` makes of `s`, of which `IsConsumer`
+-- holds. Its claim on cell k came to `claim`, and its seat of the claims to `seat`, the seat of `s` with a new part
 pub record HasCompeted (p k n : ℕ) (claim : Claim) (t u : Stream) (from s : ConsumerView)
     (seat : SeatView) : Type 0 where
   pub same : seat ≡ record s.seat { part = seat.part }

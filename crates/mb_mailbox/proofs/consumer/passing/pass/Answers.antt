@@ -117,7 +117,7 @@ module _ (g : Over) (c : After-settle g) where
       c.settle.ensures.pursued from 1 left t held.claim held.standing
       (c.in-Cell.ensures.looks (slice_set c.meet.new.fields.places.items c.args.lane (At c.in-Cell.cell held.claim)) t)
 
-  -- with the load of the link it is a poll whose budget is `rest`, and which leaves `left` of it
+  -- the load of the link and the claim make a poll whose budget is `rest`, and which leaves `left` of it
   polled : (left : ℕ) → claim_takes c.settle.result + left + 1 ≡ c.items.rest
       → IsPollOf c.args.lane c.items.rest c.settle.result t u from past
       × (accesses_made past + left ≡ accesses_made from + c.items.rest)

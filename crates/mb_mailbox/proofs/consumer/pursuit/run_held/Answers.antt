@@ -33,7 +33,7 @@ refilled (x ∷ items) (w ∷ ws) e = ap (λ zs. w ∷ zs) (refilled items ws (o
 
 -- the consumer with these fields, whose place on the lane has the claim
 module _ (g : Over) (c : After-stage g) where
-  -- `base` is the consumer of these fields. `with_claim` is the same, with the claim put into its place
+  -- `base` is the consumer with these fields. `with_claim` is `base` with the claim set at its place on the lane
   abbrev base : ConsumerView
   base = with_fields c.args.fields.now
 

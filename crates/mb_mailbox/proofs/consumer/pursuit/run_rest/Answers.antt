@@ -51,7 +51,7 @@ module _ (g : Over) (c : After-has_history g) where
       pending.claim (part_on seat.consumer c.args.cell seat.part) c.requires.held.standing path
 
 module _ (g : Over) (c : After-standing-claim g) where
-  -- the layout that the mailbox returned is its own
+  -- the layout that the mailbox's claims returned is the layout of the mailbox
   layout_is : c.args.mailbox.now.claims.layout ≡ c.layout-layout.result.now
   layout_is = sym (c.layout-layout.ensures ∙ ap (λ (v : MailboxView). v.claims.layout) c.mailbox.view_is)
 
