@@ -57,7 +57,7 @@ on_end q (y ∷ ys) x = by (nat_eq q y.lane) (on_end q ys x)
     by true rest = ap (λ zs. y.note ∷ zs) rest
     by false rest = rest
 
--- a note on this lane is added to the lane's list
+-- a note on this lane is added at the end of the lane's list
 on_here : (q : ℕ) (xs : List Noted) (x : Noted) → x.lane ≡ q → on_lane q (xs ++ x ∷ [])
     ≡ on_lane q xs ++ x.note ∷ []
 on_here q xs x e =

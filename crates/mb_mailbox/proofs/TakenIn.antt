@@ -173,7 +173,7 @@ module _ (m : MailboxView) (h : HubView) (pool : History) (i : IsHub h) (belongs
         (subst (λ (t : CellsName). entry.cell < t.size.cells) (sym belongs.cells) low));
   }
 
-  -- a lane that was never issued has no items, and no end mark
+  -- `Tells` holds of a lane that was never issued: by the hub and by the history it has no items and no end mark
   silent : (p : ℕ) → slice_get h.puts p ≡ None → part (Producer p) pool ≡ [] → Tells m h pool p
   silent p e none = record {
     items = ap (λ o. option_map_or (λ (l : PutListView). l.items) (kept_of o) []) e ∙ values p [] none;

@@ -59,7 +59,7 @@ impl<A: Allocator + Clone + Drop> Mailbox<A> {
     ) -> Result<Report<A>, (GatherFault, Mailbox<A>, Hub<A>)>
         requires belongs { IsHubOf self hub }
 
-        // The fault is `Missing` if somebody is missing, and else `NoMemory`. Mailbox and hub come back as they were.
+        // The fault is `Missing` if somebody is missing, else only `NoMemory`. Mailbox and hub come back as they were.
         ensures missing { 0 < count_missing hub.puts + count_missing hub.records
             → result
             ≡ Err (Missing (count_missing hub.puts) (count_missing hub.records), self, hub) }

@@ -48,7 +48,7 @@ pub fn what_was_not_given_is_empty()
     ensures begun { (h : HubView) (c p : ℕ) → length h.records ≤ c → begun_in c p h ≡ false }
 {}
 
-/// Of who was issued and is now returned, the report has the items and the end mark, or the notes and the begun claims.
+/// The report has what those issued bring back: a producer's items and end mark, a consumer's notes and begun claims.
 pub fn what_was_taken_in_is_told()
     ensures items { (h : HubView) (s : ProducerView)
         → slice_get h.puts s.seat.lane ≡ Some None
@@ -89,7 +89,7 @@ pub fn last_objects_settle_what_is_gathered()
     shaped_setups_have_last_objects();
 }
 
-/// If a consumer's claims had no access before its calls, their random words are the source's first words, in order.
+/// If a consumer's claims had no access before its calls, the claims' random words are the source's first, in order.
 pub fn calls_draw_the_first_words()
     ensures { (from end budget : ℕ) (made : List Call) (source left : Stream)
         (old new : ConsumerView)
