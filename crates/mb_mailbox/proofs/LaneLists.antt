@@ -151,7 +151,7 @@ list_few p (suc n) zero xs l e =
 list_few p (suc n) (suc q) xs l e = list_few (suc p) n q xs l e
 
 -- ---- several losses on one lane
--- the notes of losses on a lane are added to the list of that lane
+-- if losses on one lane come at the end of all notes, they come at the end of that lane's list
 losses_more : (n p : ℕ) (to : List ℕ) (xs : List Noted) (l : List Note) → slice_get (by_lane n xs) p ≡ Some l
     → by_lane n (xs ++ map (λ (w : ℕ). noted p (Lost w)) to)
     ≡ slice_set (by_lane n xs) p (l ++ map (λ (w : ℕ). Lost w) to)

@@ -126,9 +126,9 @@ module _ {Z : Type 0} (may_stop may_pass : Who → ℕ → Type 0) where
   -- `from` on and below `end` to its end mark. If the run is not aborted, it has made its calls with this budget and
   -- the words of this source, and nothing else. What follows is of a consumer that had made no access before. If it was
   -- not stopped, it has loaded one end mark for each of these lanes. In any case it has loaded one for each of these
-  -- that it has read to its end. If the run is not aborted, it has loaded no head of another lane. If it was stopped
-  -- and the run is not aborted, it was stopped before a call, and has loaded fewer end marks than there are of these
-  -- lanes
+  -- lanes that it has read to its end, and no other. If the run is not aborted, it has loaded no head of another lane.
+  -- If it was stopped and the run is not aborted, it was stopped before a call, and has loaded fewer end marks than
+  -- there are of these lanes
   pub record IsPollEnd (from end budget : ℕ) (source : Stream) (s : ConsumerView) (d : PollDone Z) : Type 0 where
     pub same : IsSameConsumer s d.consumer
     pub read : d.stopped ≡ false → (p : ℕ) → from ≤ p → p < end → HasReadToEnd p d.consumer

@@ -1,4 +1,4 @@
-//! One thread for each worker.
+//! Starts the workers of a run, each in a thread of its own if one can be made.
 ghost use Rattle.std.specs.Prelude.{◌≡◌, ◌-◌, ◌≤◌, [], ◌∷◌, vec_capacity, vec_len};
 ghost use Rattle.std.specs.List.{All, AllZip};
 ghost use Rattle.mb_mailbox.specs.Begun.{IsAborted, Promises};

@@ -43,7 +43,7 @@ fn run_in<
     join_all(rt, running, done)
 }
 
-/// Runs one thread for each job and joins all. `begun` and `done` have room for all.
+/// Runs a worker for each job, in a thread if one can be made, and joins all. `begun` and `done` have room for all.
 pub(super) fn run<
     A: Allocator + Drop + Send + Sync,
     W: Threads + Wait + Sync,
