@@ -91,8 +91,8 @@ impl<A: Allocator + Drop> Producer<A> {
     }
 
     /// Ends the lane by one store: no item comes after those that it has. It returns `Ended`. If the lane had ended
-    /// before, it returns `Closed` and makes no access. It never returns `Busy`, since each item put is linked. It takes
-    /// no lock and no memory.
+    /// before, it returns `Closed` and makes no access. It never returns `Busy`: each item put is linked. It takes no
+    /// lock and no memory.
     pub fn finish<B: Allocator + Drop>(&mut self, mailbox: &Mailbox<B>) -> Finish
         requires belongs { IsProducerOf mailbox.now self.old }
         ensures ended { result ≡ finish.Ended → IsEndOfLane self.old self.new }
