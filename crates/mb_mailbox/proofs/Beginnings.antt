@@ -15,7 +15,7 @@ use Rattle.mb_mailbox.specs.Imports.{Claim, IsClaimIn, IsStanding, Layout, Objec
 use Rattle.mb_mailbox.proofs.Lists.{get_some, some_same}
 
 -- ---- which claim it is
--- if `MatchOption` says that x has a kind and the claim is f of it, there is this kind
+-- if `MatchOption` says that x is some kind, and the claim is f of it, there is such a kind
 picked : (x : Option Kind) (f : Kind → Claim) (claim : Claim) → MatchOption x ⊥ (λ kind. claim ≡ f kind)
     → (kind : Kind) × (x ≡ Some kind) × (claim ≡ f kind)
 picked None f claim is = absurd is
@@ -39,7 +39,7 @@ module _ (layout : Layout) (c o v : ℕ) (claim : Claim) (is : IsStanding layout
       let x = picked (slice_get (kinds_of layout) o) (standing layout c o v) other also in
       standing_is.2 ∙ ap (standing layout c o v) (some_same standing_is.0 x.0 (sym standing_is.1 ∙ x.1)) ∙ sym x.2
 
-  -- if the claim can be called with the layout, its object is one of the layout's, and its input one of the values
+  -- the claim's object is one of the layout's. If the claim fits the layout, its input is one of the table's values
   pub standing_object : o < length (kinds_of layout)
   standing_object = slice_get_within (kinds_of layout) o standing_is.0 standing_is.1
 
@@ -88,7 +88,7 @@ module _ (layout : Layout) (c : ℕ) (low : c < consumer_count layout) where
       (fit_in_row (shape_of layout) (spread (quorums_of layout).values) (pair_count layout) 0 first_kind.0
       (last_turn_small layout) first_kind.1) low)
 
-  -- there is a claim of the consumer before the first object, which has made no turn
+  -- if no turns are a prefix of a claim that goes on, some claim before the first object has made no turn
   pub new_claim : (StandsAt (quorums_of layout) (kinds_of layout) c 0
       (first_place (quorums_of layout) first_kind.0 c) []
       → IsClaimPrefix (claims_in layout 0) c [] stage.Going)

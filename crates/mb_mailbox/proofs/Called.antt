@@ -1,4 +1,4 @@
--- What holds of the calls of a worker still holds with one call more.
+-- What holds of the calls of a worker: of no call, and still with one call more.
 use Rattle.std.proofs.Common.{◌≡◌, ℕ, suc, ◌<◌, ◌≤◌, ⊎_elim, [], ◌∷◌, refl, sym, ap, ◌∙◌, subst, arith}
 use Rattle.std.proofs.Math.Nat.{le-suc_iff}
 use Rattle.mb_mailbox.specs.Imports.{Stream}
@@ -14,7 +14,7 @@ module _ (may_pass : Who → ℕ → Type 0) where
   pub none_passed : (w : Who) (calls : ℕ) → calls ≡ 0 → ArePassed may_pass w calls
   none_passed w calls none n low high = absurd (omega (arith, none, low, high))
 
-  -- if the gate let one call more through, it let all of them through
+  -- if the gate let these calls and one call more through, it let all of them through
   pub passed_more : (w : Who) (calls now : ℕ) → now ≡ suc calls → ArePassed may_pass w calls
       → may_pass w now → ArePassed may_pass w now
   passed_more w calls now e was one n low high =

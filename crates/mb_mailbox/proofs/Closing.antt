@@ -71,7 +71,7 @@ data Found (old : LaneSeatView) (x : ℕ) (now : LaneSeatView) : Type 0 where
       }
       → Found old x now
 
--- if a fetch-add was made and the offer returned `Full`, the number found is no number of a cell
+-- `Found` holds if a fetch-add was made and the offer returned `Full`: the number found is no number of a cell
 found_by : (old : LaneSeatView) (x n : ℕ) (now : LaneSeatView) (b : Bool)
     → stage_offer_refusal old.place.stage ≡ None → nat_lt n old.table.size.cells ≡ b
     → offer.Full ≡ cond b (offer.Cell n) offer.Full
@@ -144,7 +144,7 @@ full_lane s x now m = by (found s x now m)
       lane = ap (λ (v : LaneSeatView). v.lane) is;
     }
 
--- if a fetch-add of its own found no cell, an offer returns Full as long as the lane has not ended
+-- if a fetch-add of the producer found no cell, an offer returns `Full` as long as the lane has not ended
 pub stays_full : PutLaws → (s : ProducerView) (x : ℕ) (answer : Offer) (now : LaneSeatView)
     → HasPart s.seat → OfferMakes s.seat x answer now
     → FoundNoCell s → is_over s ≡ false → answer ≡ offer.Full
@@ -177,7 +177,7 @@ full_still laws s x now i m = by (found s x now m)
       idle = refl;
     })
 
--- ---- a finish
+-- ---- what a finish does
 -- a finish that returned `Ended` stored the end mark, and did nothing else
 pub is_end : (s : ProducerView) (now : LaneSeatView) → FinishMakes s.seat finish.Ended now
     → IsEndOfLane s (with_seat now s)

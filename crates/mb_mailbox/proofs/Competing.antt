@@ -1,4 +1,4 @@
--- A claim that a poll keeps in a variable makes one access after another.
+-- `HasCompeted` holds before a claim's first access in a poll, and after each of its accesses.
 use Rattle.std.proofs.Common.{◌≡◌, ℕ, ◌+◌, ◌∷◌, refl, sym, ap, ◌∙◌, subst}
 use Rattle.std.specs.Prelude.{Option, Some, None, List, slice_get, slice_set}
 use Rattle.mb_claim.specs.declared.access.ClaimOp.{ClaimOp}
@@ -17,8 +17,8 @@ use Rattle.mb_mailbox.proofs.Lists.{set_here, set_same, set_twice, some_same}
 use Rattle.mb_mailbox.proofs.Made.{claim_made}
 use Rattle.mb_mailbox.proofs.Polls.{steps_more}
 
--- `IsConsumer` still holds after an access of the consumer's claim, and by `IsNext` that access is its next one on the
--- lane. Both are clauses of laws in src/consumer/moves.rt
+-- `IsConsumer` still holds after an access of the consumer's claim, and by `IsNext` that access is the consumer's next
+-- one on the lane. Both are clauses of laws in src/consumer/moves.rt
 abbrev pub MovesOn : Type 0
 MovesOn = (s : ConsumerView) (p k word seen : ℕ) (claim now : Claim) (next : ClaimOp)
     → IsConsumer s → HasLoads s → HasPlace p (At k claim) s

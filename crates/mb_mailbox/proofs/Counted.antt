@@ -31,7 +31,7 @@ counted plan hs r is =
         ap (λ (v : LaneView). length v.put) same ∙ length-map (put_list p hs.pool) (λ (z : Entry). z.value)
 
 -- ---- which diary has a note, and where
--- if the choice of o if a test holds, and else of `None`, is x, then the test holds, and o is x
+-- if the value that is o if a test holds, and else `None`, is some x, the test holds, and o is x
 some_chosen : {X : Type 0} (b : Bool) (o : Option X) (x : X) → (if b then o else None) ≡ Some x
     → (b ≡ true) × (o ≡ Some x)
 some_chosen true o x e = (refl, e)
@@ -77,7 +77,7 @@ is_noted plan hs r is c p j n e =
       here = t.2;
     }
 
--- both lists have the last cell first. If ls is ks with more cells after it, each cell has the same position in both
+-- both lists have the last cell first. If ls is ks and later cells, each cell of ks has the same position in both
 pub at_start : (ks ls : List ℕ) (j k : ℕ) → IsStart ks ls → slice_get (reverse ks) j ≡ Some k
     → slice_get (reverse ls) j ≡ Some k
 at_start ks ls j k s e =

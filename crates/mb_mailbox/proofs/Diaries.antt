@@ -133,7 +133,7 @@ get_past (x ∷ xs) ys (suc i) j e = get_past xs ys i j (omega (arith, e))
 pub next_row : (c w : ℕ) → (c + 1) * w ≡ c * w + w
 next_row c w = grind arith
 
--- if diary q of consumer e is at place c * w or later, e is at least c. Before (c + 1) * w it is at most c (`not_past`)
+-- diary q of consumer e is at place e * w + q. From c * w on e is at least c, before (c + 1) * w at most c (`not_past`)
 not_before : (w c e q : ℕ) → q < w → c * w ≤ e * w + q → e < c → ⊥
 not_before w c e q low from less =
     let most : (e + 1) * w ≤ c * w = mul-le-mul_right w (omega (arith, less)) in
@@ -244,7 +244,7 @@ row_kept w c h ds all old none more =
     subst (AreDiaries w h ((c + 1) * w)) (sym more)
     (rows_more w c h ds (outline_row c None w) old (row_without c w h none))
 
--- ---- what was taken
+-- ---- which items were taken, by the diaries
 -- the notes of a consumer in the diaries are those in the hub's record of it
 among_told : (w n c p : ℕ) (h : HubView) (ds : List DiaryView) → AreDiaries w h (n * w) ds → c < n → p < w
     → notes_among w c p ds ≡ notes_in c p h

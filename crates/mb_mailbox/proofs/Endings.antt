@@ -1,4 +1,4 @@
--- What a poll leaves as it was, and when a consumer has read a lane to its end.
+-- What a poll leaves as it was, when a consumer has read a lane to its end, and how many notes it has there then.
 use Rattle.std.proofs.Common.{◌≡◌, ◌≢◌, ℕ, List, [], ◌∷◌, ◌++◌, length, refl, sym, ap, ◌∙◌, subst, inr}
 use Rattle.std.specs.Prelude.{Option, Some, None, slice_get}
 use Rattle.std.specs.Option.{option_map_or}

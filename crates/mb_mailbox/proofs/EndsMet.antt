@@ -90,7 +90,7 @@ ended poll.NoLane e = absurd (cc)
 
 module _ (p budget : ℕ) (answer : Poll) (s t : Stream) (old new : ConsumerView)
     (i : IsPollOf p budget answer s t old new) where
-  -- a poll adds the end marks that its accesses load
+  -- the end marks loaded after a poll are those loaded before it, and those that its accesses load
   all : ends_met new.reader.part ≡ ends_met (pool_accesses i.accesses) + ends_met old.reader.part
   all = ap (λ (r : ReaderSeatView). ends_met r.part) i.done.reader
       ∙ ends_append (pool_accesses i.accesses) old.reader.part

@@ -86,7 +86,7 @@ module _ {X Y : Type 0} (change : Y → X → X) where
       changed_else (changed_from change (suc n) ys xs) n k (change y) other
       ∙ past (suc n) k ys xs (omega (arith, high))
 
-  -- an element within the changes is changed by the change at its place
+  -- element n + j is changed by change j, which is y
   within : (n j k : ℕ) (ys : List Y) (xs : List X) (y : Y) → slice_get ys j ≡ Some y → k ≡ n + j
       → slice_get (changed_from change n ys xs) k ≡ option_map (change y) (slice_get xs k)
   within n j k [] xs y e at = absurd (cc)

@@ -19,7 +19,7 @@ use Rattle.mb_mailbox.proofs.Parted.{Parted, all_parted, full_parted, parted, st
 use Rattle.mb_mailbox.proofs.Runs.{lanes_of, consumer_ends, consumers, nums, producers, run_beyond, run_cut, run_ends}
 use Rattle.mb_mailbox.proofs.Runs.{run_met, run_of, run_only, run_passes, run_poll_stops, run_polled, run_stops, run_unread}
 
--- there are as many jobs as lists
+-- there are as many producers' jobs as lists
 pub put_count : {Z : Type 0} (m : MailboxView) (p : ℕ) (vs : List (Vec ℕ Z)) (js : List (PutJob Z))
     → ArePutJobs m p vs js → length vs ≡ length js
 put_count m p [] [] a = refl
@@ -51,7 +51,7 @@ nothing_taken lists sources h = record {
   };
 }
 
--- ---- counts of those that were stopped
+-- ---- how many elements of a list pass a test
 at_most_one : (b : Bool) → from_bool b ≤ 1
 at_most_one true = omega arith
 at_most_one false = omega arith

@@ -1,4 +1,4 @@
--- A consumer that holds a claim moves on by one access.
+-- A consumer that holds a claim: what holds of that claim, and of the consumer after one access more.
 use Rattle.std.proofs.Common.{◌≡◌, ◌≢◌, ℕ, ◌<◌, ◌≤◌, List, [], ◌∷◌, ◌++◌, length, reverse, cond, refl, sym, ap, ◌∙◌, subst, inl, ⊎_elim, arith, Some, None, nat_eq, slice_get, sum_by}
 use Rattle.std.proofs.lemmas.Bool.{cases_eq, ne_eqb, eq-eqb}
 use Rattle.std.proofs.lemmas.List.{length-reverse, reverse-append}
@@ -155,7 +155,7 @@ module _ (s : ConsumerView) (p k : ℕ) (claim : Claim) (i : IsConsumer s) (e : 
           })) (λ z j. stepped j z)
           (laws.claims cs c k a.step x i.fit given (holds s p k claim i e).2.left)
 
-      -- the access changes nothing on each other lane
+      -- on each other lane the access leaves the cells met, the claims and the loads of items as they are
       others : (q : ℕ) → q ≢ p → Leaves q x y
       others q ne = record {
         met = refl;
@@ -262,7 +262,7 @@ module _ (s : ConsumerView) (p k : ℕ) (claim : Claim) (i : IsConsumer s) (e : 
       same_item : (j : ℕ) → Item k ≡ Item j → k ≡ j
       same_item j f = cc
 
-      -- the load changes nothing on each other lane
+      -- on each other lane the load leaves the cells met, the claims and the loads of items as they are
       left_else : (q : ℕ) → q ≢ p → Leaves q x z
       left_else q ne = record {
         met = laws.elsewhere q b s.reader.part (no_link q);

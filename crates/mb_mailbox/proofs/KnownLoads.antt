@@ -8,7 +8,7 @@ use Rattle.mb_mailbox.specs.Imports.{END, FollowsLinks, Gave, Has, HasRead, Hist
 use Rattle.mb_mailbox.specs.Imports.{cells_met, linked_cells, load, part, place_past}
 use Rattle.mb_mailbox.proofs.Totals.{put_total, total, total_most}
 
--- what the laws say of the loads of a reader in a lawful history
+-- what the laws say of a reader's loads in a lawful history: of the cells that it met, and of the cells that they gave
 pub record Known (size : PoolSize) (reads : History) : Type 0 where
   pub apart : (p q k : ℕ) → Has (cells_met p reads) k → Has (cells_met q reads) k → p ≡ q
   pub once : (p : ℕ) → IsOnceEach (cells_met p reads)

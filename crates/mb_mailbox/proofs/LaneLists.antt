@@ -57,7 +57,7 @@ on_end q (y ∷ ys) x = by (nat_eq q y.lane) (on_end q ys x)
     by true rest = ap (λ zs. y.note ∷ zs) rest
     by false rest = rest
 
--- a note on this lane is added to the lane's list
+-- a note on this lane is added at the end of the lane's list
 on_here : (q : ℕ) (xs : List Noted) (x : Noted) → x.lane ≡ q → on_lane q (xs ++ x ∷ [])
     ≡ on_lane q xs ++ x.note ∷ []
 on_here q xs x e =
@@ -151,7 +151,7 @@ list_few p (suc n) zero xs l e =
 list_few p (suc n) (suc q) xs l e = list_few (suc p) n q xs l e
 
 -- ---- several losses on one lane
--- the notes of losses on a lane are added to the list of that lane
+-- if losses on one lane come at the end of all notes, they come at the end of that lane's list
 losses_more : (n p : ℕ) (to : List ℕ) (xs : List Noted) (l : List Note) → slice_get (by_lane n xs) p ≡ Some l
     → by_lane n (xs ++ map (λ (w : ℕ). noted p (Lost w)) to)
     ≡ slice_set (by_lane n xs) p (l ++ map (λ (w : ℕ). Lost w) to)

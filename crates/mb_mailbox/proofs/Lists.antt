@@ -29,7 +29,7 @@ set_twice [] i a b = refl
 set_twice (x ∷ xs) zero a b = refl
 set_twice (x ∷ xs) (suc i) a b = ap (λ ys. x ∷ ys) (set_twice xs i a b)
 
--- after element i is set to a, element i is a
+-- if a list has an element i, that element is a after it is set to a
 pub set_here : {X : Type 0} (xs : List X) (i : ℕ) (a b : X) → slice_get xs i ≡ Some b
     → slice_get (slice_set xs i a) i ≡ Some a
 set_here [] i a b e = absurd (cc)

@@ -1,4 +1,4 @@
--- The invariants of the loops of a run still hold after one more element is done.
+-- What the loops of a run keep with one element more, and what holds before and after them.
 use Rattle.std.proofs.Common.{◌≡◌, ℕ, zero, suc, ◌+◌, ◌<◌, ◌||◌, Bool, true, false, refl, List, [], ◌∷◌, ◌++◌, ◌-◌, ◌*◌, ◌≤◌, length, map, min, sym, ap, ◌∙◌, subst, arith}
 use Rattle.std.specs.Prelude.{Vec}
 use Rattle.std.proofs.Math.Nat.{mul-suc}
@@ -87,7 +87,7 @@ module _ {R Z : Type 0} (m : MailboxView) (h was now : HubView) where
         hub = g.hub;
       }
 
-  -- the hub has issued no consumer yet
+  -- if the hub has issued no consumer yet, `ArePollsGiven` holds for no sources
   abbrev pub no_polls_given : (first : List (Job R Z)) → now ≡ h → ArePollsGiven m [] true first first h now
   no_polls_given first e = record {
     polls = [];
@@ -111,7 +111,7 @@ module _ {R Z : Type 0} (m : MailboxView) (h was now : HubView) where
   }
 
 -- ---- what is taken back
--- the hub has taken back the producer or consumer of one end more
+-- the hub after the ends `ds` and then d were taken back is the hub after the list with d at its end was taken back
 pub took_more : {Z : Type 0} (ds : List (Done Z)) (d : Done Z) (h was now : HubView) → was ≡ with_taken ds h
     → now ≡ with_taken_one d was → now ≡ with_taken (ds ++ d ∷ []) h
 took_more [] d h was now e is = is ∙ ap (with_taken_one d) e

@@ -31,7 +31,7 @@ among_end [] m = omega arith
 among_end (x ∷ ms) m = let rest = among_end ms m in omega (arith, rest)
 
 -- ---- a mark at the end
--- a mark at the end adds one note at the end: that of the mark and of the word after those of the marks before
+-- a mark at the end adds one note at the end. The note's word is the first after the words of the marks before
 told_end : (t : ℕ) (ms : List Mark) (m : Mark) (ws : List ℕ)
     → told_from t (ms ++ m ∷ []) ws ≡ told_from t ms ws ++ told m (word_at ws (t + words_among ms)) ∷ []
 told_end t [] m ws =
@@ -111,7 +111,7 @@ told_any (mark.Lost p u) x y e = refl
 told_any (mark.LostFar p) x y e = absurd (omega (arith, e))
 told_any (mark.Undecided p) x y e = refl
 
--- if a mark is added, and its word if it needs one, one note is added at the end: that of this mark and word
+-- if a mark is added, and its word if it needs one, one note is added at the end: the note of this mark and this word
 pub told_push : (ms : List Mark) (ws : List ℕ) (m : Mark) (o : Option ℕ) → words_among ms ≡ length ws
     → words_in m ≡ option_map_or (λ w. 1) o 0
     → all_told (ms ++ m ∷ []) (ws ++ option_map_or (λ w. w ∷ []) o [])

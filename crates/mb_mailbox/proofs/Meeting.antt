@@ -1,4 +1,4 @@
--- A load of the link before which a consumer stands.
+-- What comes of a load of the link before which a consumer stands: no note, and an answer or none.
 use Rattle.std.proofs.Common.{◌≡◌, ◌≢◌, ◌⊎◌, ℕ, inl, inr, refl, sym}
 use Rattle.std.specs.Prelude.{None}
 use Rattle.mb_cells.specs.declared.answer.Look.TheVariants as look
@@ -8,7 +8,7 @@ use Rattle.mb_mailbox.specs.ConsumerStep.{link_answer}
 use Rattle.mb_mailbox.specs.Consumers.{ConsumerView}
 use Rattle.mb_mailbox.specs.Steps.{AnswerTells, note_with}
 
--- the load adds no note
+-- no answer of such a load comes with a note
 pub quiet : (l : Look) → note_with (link_answer l) ≡ None
 quiet look.Nothing = refl
 quiet look.Ended = refl

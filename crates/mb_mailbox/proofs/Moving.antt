@@ -112,7 +112,7 @@ module _ (laws : Laws) (s : ConsumerView) (p : ℕ) (at : Cursor) (i : IsConsume
   elsewhere q ne = past_apart p q ks (cells_met q s.reader.part)
       (λ k m n. (loads_known laws s h).apart p q k m n) (λ f. ne (sym f))
 
-  -- the load changes nothing on each other lane
+  -- on each other lane the load leaves the cells met, the claims and the loads of items as they are
   others : (v q : ℕ) → q ≢ p → Leaves q x (y v)
   others v q ne = record {
     met = laws.elsewhere q (a v) s.reader.part (elsewhere q ne);

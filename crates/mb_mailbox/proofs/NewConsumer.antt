@@ -1,4 +1,4 @@
--- A consumer that has done nothing.
+-- `IsConsumer` holds of a consumer that has done nothing.
 use Rattle.std.proofs.Common.{◌≡◌, ℕ, List, [], refl, sym, ◌∙◌, subst}
 use Rattle.mb_shared_cells.specs.Vocabulary.{PartList}
 use Rattle.mb_world.specs.PartSteps.{no_parts}

@@ -76,7 +76,7 @@ module _ {R Z : Type 0} (may_stop may_pass : Who → ℕ → Type 0) (stream : R
       (ends_at m js ds (All-tail (IsJobOf m) j js a) z.1)
 
 -- ---- what the ends of both kinds say together
--- if x counts by f as h x does by g, the sum over a list is the sum over the list mapped by h
+-- if f x is g (h x) for each x, the sum of f over a list is the sum of g over the list mapped by h
 pub sum_same : {X Y : Type 0} (f : X → ℕ) (g : Y → ℕ) (h : X → Y) → ((x : X) → f x ≡ g (h x))
     → (xs : List X) → sum_by f xs ≡ sum_by g (map h xs)
 sum_same f g h e [] = refl

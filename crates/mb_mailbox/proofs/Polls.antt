@@ -74,7 +74,7 @@ pub history_extends : (p : ℕ) (answer : Option Poll) (s t : Stream) (old new :
     → IsStep p answer s t old new → AreSteps p 1 answer s t old new
 history_extends p answer s t old new st = steps_more p 0 answer s s t old old new (no_steps p s old) st
 
--- ---- polls
+-- ---- the poll that steps make
 -- steps make a poll if they are at most the budget, and just as many as the budget if the poll is spent
 pub poll_of : (p n budget : ℕ) (x : Poll) (s t : Stream) (old new : ConsumerView)
     → AreSteps p n (outcome x) s t old new → n ≤ budget

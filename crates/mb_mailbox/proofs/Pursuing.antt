@@ -1,4 +1,4 @@
--- What a poll with its claim in a variable comes to: the consumer stands past the cell, or is at the cell again.
+-- What a poll comes to after accesses of its claim: the consumer stands past the cell, or still holds the claim.
 use Rattle.std.proofs.Common.{◌≡◌, ◌≢◌, ℕ, ◌+◌, List, refl, sym, ap, ◌∙◌, subst, arith}
 use Rattle.std.specs.Prelude.{Option, Some, None, slice_get, slice_set}
 use Rattle.mb_claim.specs.declared.access.Stage.TheVariants as stage
@@ -20,7 +20,7 @@ use Rattle.mb_mailbox.proofs.Made.{at_views, item_made}
 use Rattle.mb_mailbox.proofs.Polls.{steps_more}
 use Rattle.mb_mailbox.proofs.Telling.{noted}
 
--- `b` has the consumer's fields, in which the place on lane p is out of date: the consumer holds this claim there
+-- `b` has the consumer's fields, in which the place on lane p may be out of date: the consumer holds this claim there
 module _ (b : ConsumerView) (p k : ℕ) (claim : Claim) where
   -- the consumer that holds the claim
   abbrev s : ConsumerView

@@ -305,7 +305,7 @@ module _ {Z : Type 0} (m : MailboxView) (may_stop may_pass : Who → ℕ → Typ
       (consumer_end d.consumer d.stopped) (consumer_ends ds)
       (λ t. a.0.unread t (All-head F d ds on)) (unread_of from end budget (suc c) ds a.1 (All-tail F d ds on))
 
-  -- ---- a whole run: each lemma `run_X` below is the lemma `X_of` above, over all ends of the run
+  -- ---- a whole run: each lemma `run_X` below but `run_of` is `X_of` above (`run_met` is `mets_of`), over all ends
   module _ {R : Type 0} (stream : R → Stream) (h : HubView) (from end budget : ℕ) (vs : List (Vec ℕ Z))
       (js : List (PutJob Z)) (ds : List (PutDone Z)) (ks : List (PollJob R Z)) (es : List (PollDone Z))
       (i : IsHub h) (putting : ArePutJobs m (length h.puts) vs js)

@@ -1,4 +1,4 @@
--- A poll makes few accesses: the load of a link, those of one claim, and the load of an item.
+-- A poll makes few accesses: the load of a link, the accesses of one claim, and the load of an item.
 use Rattle.std.proofs.Common.{◌≡◌, ◌≢◌, ◌⊎◌, ◌+◌, ◌<◌, ◌≤◌, ℕ, suc, Bool, true, false, List, [], ◌∷◌, ◌++◌, length, reverse, cond, refl, sym, ap, ◌∙◌, subst, inl, inr, arith}
 use Rattle.std.specs.Prelude.{Option, Some, None, slice_get}
 use Rattle.std.specs.Option.{option_map_or}
@@ -198,7 +198,7 @@ one_note p (Some n) notes low =
 module _ (p budget : ℕ) (answer : Poll) (s t : Stream) (old new : ConsumerView)
     (i : IsPollOf p budget answer s t old new) (was : IsConsumer old) (is : IsConsumer new)
     (told : AnswerTells p (outcome answer) old new) (low : p < old.reader.table.size.lanes) where
-  -- a poll meets at most one cell
+  -- in a poll of a lane a consumer meets at most one cell more
   pub one_met : length (cells_met p new.reader.part) ≤ suc (length (cells_met p old.reader.part))
   one_met = by (outcome answer) refl
     where

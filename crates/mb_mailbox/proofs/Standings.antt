@@ -41,14 +41,14 @@ same_length cs c (k ∷ ks) [] x e = absurd e
 same_length cs c (k ∷ ks) (n ∷ ns) x e = omega (arith, same_length cs c ks ns x e.1)
 
 -- ---- lanes on which nothing changes
--- y says of lane q all that x says: the cells met, the claims on them, and which of them are not passed
+-- y keeps of lane q what x has: the cells met, their claims, and which are not passed. It has x's loads of items, too
 pub record Leaves (q : ℕ) (x y : Parts) : Type 0 where
   pub met : cells_met q y.reads ≡ cells_met q x.reads
   pub claims : (k : ℕ) → Has (cells_met q x.reads) k → x.claimed k ≡ y.claimed k
   pub more : (k v : ℕ) → HasRead (Item k) v x.reads → HasRead (Item k) v y.reads
   pub left : (k : ℕ) → Has (cells_met q x.reads) k → HasNotPassed k x → HasNotPassed k y
 
--- if an access changes nothing on lane q, the consumer stands there as before, by the new parts, too
+-- if y leaves of lane q what x has (`Leaves`), the consumer stands there by the parts y as it does by x
 pub stands_still : (layout : Layout) (cs : Claims) (c q : ℕ) (x y : Parts) (notes : List Note)
     (place : Place) → Leaves q x y
     → StandsOn layout cs c q x notes place → StandsOn layout cs c q y notes place

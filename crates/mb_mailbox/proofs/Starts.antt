@@ -1,4 +1,4 @@
--- A poll that begins with a claim in a variable, and accesses of that claim.
+-- The fields of a consumer with a claim that it holds on a lane, and accesses of that claim in a poll.
 use Rattle.std.proofs.Common.{◌≡◌, ℕ, zero, suc, ◌+◌, ◌<◌, List, length, sym, ap, ◌∙◌, subst, arith}
 use Rattle.std.specs.Prelude.{Some, None, slice_get, sum_by}
 use Rattle.std.proofs.lemmas.List.{length-set}
@@ -70,7 +70,7 @@ module _ {Z : Type 0} (m : MailboxView) (pending : PendingClaim) (f : ConsumerFi
     room = let wide = start.wide in omega (arith, few, wide);
   }
 
-  -- the consumer's table of claims is that of the mailbox
+  -- the consumer's table of claims has the mailbox's layout and number of cells
   pub table : seat.table.size ≡ Some (record { layout = m.claims.layout; cells = m.claims.cells })
   table = ap (λ (t : ClaimTable). t.size) start.belongs.claims
 

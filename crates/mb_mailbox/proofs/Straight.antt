@@ -1,4 +1,4 @@
--- How many accesses of a claim on one cell there are.
+-- How many accesses a consumer's claim makes on its cell.
 use Rattle.std.proofs.Common.{◌≡◌, ◌+◌, ◌≤◌, ℕ, zero, suc, List, ◌∷◌, length, sym, ◌∙◌, ap, subst, arith}
 use Rattle.std.specs.Prelude.{Some}
 use Rattle.mb_claim.specs.Vocabulary.{IsClaimLawful, part}

@@ -37,7 +37,7 @@ at (Some x ∷ xs) (suc n) e = by (at xs n e)
     by (here y f) = here y f
     by (past f low) = past f (omega arith)
 
--- if a part was returned for each number of the roll, no seat is out
+-- if a part was returned for each number of the roll, no seat is out, that is, issued and not returned
 pub none_out : (roll : Roll) → ((c : ℕ) → c < length roll → (done : List ClaimAccess)
     × (slice_get roll c ≡ Some (Some done)))
     → count_out roll ≡ 0
@@ -134,7 +134,7 @@ module _ (m : MailboxView) (h : HubView) (claims : List ClaimAccess) (pool : His
           let none : taken_part h.claims.roll c ≡ [] = taken_none h.claims.roll c (subst (λ n. n ≤ c) i.seats low) in
           never (ap kept_of e) (λ j. record { reads = sym reads j; claimed = λ k. steps c [] none k j })
 
--- if no consumer is missing, no seat of the claims is out
+-- if no consumer is missing, no seat of the claims is out, that is, issued and not returned
 pub all_in : (h : HubView) → IsHub h → count_missing h.records ≡ 0 → count_out h.claims.roll ≡ 0
 all_in h i all = none_out h.claims.roll (λ c low. by c low (at h.records c all))
   where
@@ -173,7 +173,7 @@ module _ (m : MailboxView) (h : HubView) (pool : History) (i : IsHub h) (belongs
         (subst (λ (t : CellsName). entry.cell < t.size.cells) (sym belongs.cells) low));
   }
 
-  -- a lane that was never issued has no items, and no end mark
+  -- `Tells` holds of a lane that was never issued: by the hub and by the history it has no items and no end mark
   silent : (p : ℕ) → slice_get h.puts p ≡ None → part (Producer p) pool ≡ [] → Tells m h pool p
   silent p e none = record {
     items = ap (λ o. option_map_or (λ (l : PutListView). l.items) (kept_of o) []) e ∙ values p [] none;

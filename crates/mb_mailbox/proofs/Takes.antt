@@ -107,7 +107,7 @@ take_by p most left winners answer s t u start mid new was rest one over tells =
   told_from p (outcome answer) start mid new (passed_known p most winners s t start mid was) tells,
 )
 
--- ---- the cursor in a variable
+-- ---- items passed while a variable has the cursor
 -- a consumer with these fields, but with the cursor `at` on lane p, has passed items of lane p. Its own field for the
 -- place there may be out of date. `left` is what is left of `most`
 pub record HasPassedTo {Z : Type 0} (m : MailboxView) (p most : ℕ) (s t : Stream) (start : ConsumerView) (at : Cursor)

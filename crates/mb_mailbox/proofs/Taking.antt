@@ -101,7 +101,7 @@ pursued_on p a n rest most left x t u from new sum so =
       is = so.is;
     }
 
--- ---- one exchange
+-- ---- a claim that is one exchange
 -- one access of a new claim, made from this seat, led to a claim at this stage
 abbrev pub IsOneAccess : Layout → ℕ → SeatView → Stream → Stage → SeatView → Stream → Type 0
 IsOneAccess layout k seat s st after t =

@@ -65,7 +65,7 @@ module _ (cs : Claims) (c : ℕ) (x : Parts) where
       let f : Some Undecided ≡ None = sym (ap note_of s) ∙ o.unnoted in
       absurd (cc)
 
--- the diary with a consumer's notes on a lane, and with what its place says of a begun claim, is that of its parts
+-- by the histories, a consumer's diary on a lane has its notes there, and says whether the claim at its place is begun
 pub diary_is : (plan : Plan) (layout : Layout) (c p : ℕ) (hs : Histories) (notes : List Note) (place : Place)
     → ((xs : List ObjectTurn) (s r : Stage) → IsClaimPrefix plan.claims c xs s
     → IsClaimPrefix plan.claims c xs r → s ≡ r)

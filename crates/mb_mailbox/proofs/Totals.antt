@@ -16,7 +16,7 @@ unfolding total
 shift f zero = refl
 shift f (suc n) = omega (arith, shift f n)
 
--- if each element counts by g as its place does by f, the sum over the list is the sum over its places
+-- if g of each element is f of its place, the sum of g over the list is the sum of f over the places
 pub summed : {X : Type 0} (g : X → ℕ) (f : ℕ → ℕ) (xs : List X)
     → ((j : ℕ) (x : X) → slice_get xs j ≡ Some x → g x ≡ f j)
     → sum_by g xs ≡ total f (length xs)
@@ -41,7 +41,7 @@ unfolding total
 total_most f g zero each = omega arith
 total_most f g (suc n) each = let here = each n in let rest = total_most f g n each in omega (arith, here, rest)
 
--- if each element counts by g at most as its place does by f, the sum over the list is at most that over its places
+-- if g of each element is at most f of its place, the sum of g over the list is at most the sum of f over the places
 pub sum_most : {X : Type 0} (g : X → ℕ) (f : ℕ → ℕ) (xs : List X)
     → ((j : ℕ) (x : X) → slice_get xs j ≡ Some x → g x ≤ f j)
     → sum_by g xs ≤ total f (length xs)
@@ -54,7 +54,7 @@ sum_most g f (x ∷ xs) each =
     let next = sum_by-cons g x xs in
     omega (arith, rest, here, whole, next)
 
--- if, besides, one element counts less than its place does, the sum over the list is less than that over its places
+-- if, besides, g of one element is less than f of its place, the sum of g is less than the sum of f
 pub sum_less : {X : Type 0} (g : X → ℕ) (f : ℕ → ℕ) (xs : List X) (p : ℕ) → p < length xs
     → ((j : ℕ) (x : X) → slice_get xs j ≡ Some x → g x ≤ f j)
     → ((x : X) → slice_get xs p ≡ Some x → g x < f p) → sum_by g xs < total f (length xs)

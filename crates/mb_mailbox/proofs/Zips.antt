@@ -30,7 +30,7 @@ zip_as R S step [] (y ∷ ys) z = absurd z
 zip_as R S step (x ∷ xs) [] z = absurd z
 zip_as R S step (x ∷ xs) (y ∷ ys) z = (step x y z.0, zip_as R S step xs ys z.1)
 
--- the two lists have one length
+-- if a relation holds of two lists place by place, they have the same length
 pub zip_length : {A B : Type 0} (R : A → B → Type 0) (xs : List A) (ys : List B) → AllZip R xs ys
     → length xs ≡ length ys
 zip_length R xs ys z = sym (AllZip-long R xs ys z)

@@ -1,4 +1,4 @@
--- What the workers that were begun promise, and how their ends keep the promises.
+-- What the workers of a run promise, that the run is aborted if one got no thread, and which ends keep the promises.
 use Rattle.std.specs.Prelude.{ℕ, ◌≡◌, None, Option, Some, true}
 use Rattle.mb_mailbox.specs.declared.gate.Who.{Who}
 use Rattle.mb_mailbox.specs.Imports.{Stream}

@@ -1,4 +1,4 @@
--- The words of consumers that proofs and clauses with long heads use: what a consumer is, one step of it, and a poll.
+-- The words of consumers from several files, for files that use many of them: what a consumer is, its steps and polls.
 pub use Rattle.mb_mailbox.specs.declared.consumer.Poll.{Poll}
 pub use Rattle.mb_mailbox.specs.Consumers.{AreEnds, ConsumerIsAt, ConsumerIsBefore, ConsumerView, IsConsumer, IsConsumerOf, StandsOn, parts_of}
 pub use Rattle.mb_mailbox.specs.ConsumerStep.{ConsumerStep, link_answer, stage_answer}

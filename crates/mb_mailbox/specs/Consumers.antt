@@ -34,8 +34,8 @@ pub record ConsumerIsBefore (cs : Claims) (c p : ℕ) (x : Parts) (notes : List 
   pub word : word_of at ≡ place_past p (cells_met p x.reads)
   pub ended : AreEnds cs c (cells_met p x.reads) (reverse notes) x
 
--- the consumer holds a claim on cell k, the last that it met on lane p. That cell has no note, and each cell before
--- it has one
+-- the consumer holds a claim on cell k, the last that it met on lane p, and has loaded neither the item nor the link
+-- there. That cell has no note, and each cell before it has one
 pub record ConsumerIsAt (layout : Layout) (cs : Claims) (c p : ℕ) (x : Parts) (notes : List Note) (k : ℕ)
     (claim : Claim) : Type 0 where
   pub cells : List ℕ

@@ -1,4 +1,4 @@
--- How the lists of items are moved into the outline of a report, each to its lane, and a diary with other notes.
+-- How the lists of items are moved into the outline of a report, each to its lane. Diaries with other notes, or none.
 use Rattle.std.specs.Prelude.{ℕ, zero, suc, ◌≡◌, List, [], ◌∷◌, Option, Some, None, length, slice_get}
 use Rattle.mb_world.specs.Theorem.{DiaryView, LaneView}
 use Rattle.mb_mailbox.specs.Imports.{Note}

@@ -20,7 +20,7 @@ count_missing [] = 0
 count_missing (Some x ∷ xs) = count_missing xs
 count_missing (None ∷ xs) = suc (count_missing xs)
 
--- ---- what was returned, by numbers. At the number of one that was not returned is `None`
+-- ---- what was returned, by numbers: `None` is at the number of each that was not returned
 -- what was returned with this number, or `None` if nothing was
 abbrev pub kept_at : {X : Type 0} → List (Option X) → ℕ → Option X
 kept_at xs n = option_map_or (λ o. o) (slice_get xs n) None
@@ -88,7 +88,7 @@ pub record AreLanesOutlined (consumers : ℕ) (h : HubView) (n : ℕ) (ls : List
   pub count : length ls ≡ n
   pub each : (p : ℕ) → p < n → slice_get ls p ≡ Some (lane_outline consumers p h)
 
--- these are the first n diaries: consumer by consumer, lane by lane
+-- these are the first n diaries of the hub's report: consumer by consumer, and for each consumer lane by lane
 pub record AreDiaries (lanes : ℕ) (h : HubView) (n : ℕ) (ds : List DiaryView) : Type 0 where
   pub count : length ds ≡ n
   pub each : (c p : ℕ) → p < lanes → c * lanes + p < n

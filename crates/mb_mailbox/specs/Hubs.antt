@@ -56,7 +56,7 @@ pub record IsConsumerRecord
       → StandsOn size.layout (claims_in size.layout size.cells) c p (parts_by c reads done)
       notes place
 
--- the hub of this mailbox that has issued no number
+-- the hub of this mailbox that has issued no producer and no consumer
 abbrev pub hub_empty : MailboxView → HubView
 hub_empty m = record {
   cells = record { table = m.cells; roll = empty_roll };

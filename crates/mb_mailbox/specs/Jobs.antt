@@ -101,12 +101,12 @@ pub record HasPolled (may_stop may_pass : Who → ℕ → Type 0) (from end budg
   pub stop : stopped ≡ true → IsStopBefore may_stop (who.Consumer old.seat.consumer) (suc calls)
 
 module _ {Z : Type 0} (may_stop may_pass : Who → ℕ → Type 0) where
-  -- `d` is the end of job `j`: the producer put a beginning of its list, and ended its lane. If it was not stopped,
-  -- `full` counts the rest of the list. If that is not 0, a fetch-add of the producer found no cell. If it was
-  -- stopped, `full` is 0. If it was stopped and the run is not aborted, it put less than its list, and was stopped
-  -- before the call for the next item. In that case, if a fetch-add of it found no cell, one did so before this job. If
-  -- the run is not aborted, the gate let each of its calls through: one for each item that it put, and one for the item
-  -- that found no cell, if there is one
+  -- `d` is the end of job `j`: the producer, of the same lane, put a beginning of its list, and ended its lane. If it
+  -- was not stopped, `full` counts the rest of the list. If that is not 0, a fetch-add of the producer found no cell.
+  -- If it was stopped, `full` is 0. If it was stopped and the run is not aborted, it put less than its list, and was
+  -- stopped before the call for the next item. In that case, if a fetch-add of it found no cell, one did so before this
+  -- job. If the run is not aborted, the gate let each of its calls through: one for each item that it put, and one for
+  -- the item that found no cell, if there is one
   pub record IsPutEnd (j : PutJob Z) (d : PutDone Z) : Type 0 where
     pub same : IsSameLane j.producer d.producer
     pub over : is_over d.producer ≡ true
@@ -122,12 +122,13 @@ module _ {Z : Type 0} (may_stop may_pass : Who → ℕ → Type 0) where
     pub passed_full : d.aborted ≡ false → d.stopped ≡ false → d.full ≢ 0
         → may_pass (who.Producer j.producer.seat.lane) (suc (length d.producer.items))
 
-  -- `d` is the end of consumer `s`: if it was not stopped, it has read each lane from `from` on and below `end` to
-  -- its end mark. If the run is not aborted, it has made its calls with this budget and the words of this source, and
-  -- nothing else. What follows is of a consumer that had made no access before. If it was not stopped, it has loaded
-  -- one end mark for each of these lanes. Stopped or not, it has loaded one for each of these lanes that it has read to
-  -- its end. If the run is not aborted, it has loaded no head of another lane. If it was stopped and the run is not
-  -- aborted, it was stopped before a call, and has loaded fewer end marks than there are of these lanes
+  -- `d` is the end of consumer `s`, whose tables and numbers it has: if it was not stopped, it has read each lane from
+  -- `from` on and below `end` to its end mark. If the run is not aborted, it has made its calls with this budget and
+  -- the words of this source, and nothing else. What follows is of a consumer that had made no access before. If it was
+  -- not stopped, it has loaded one end mark for each of these lanes. In any case it has loaded one for each of these
+  -- lanes that it has read to its end, and no other. If the run is not aborted, it has loaded no head of another lane.
+  -- If it was stopped and the run is not aborted, it was stopped before a call, and has loaded fewer end marks than
+  -- there are of these lanes
   pub record IsPollEnd (from end budget : ℕ) (source : Stream) (s : ConsumerView) (d : PollDone Z) : Type 0 where
     pub same : IsSameConsumer s d.consumer
     pub read : d.stopped ≡ false → (p : ℕ) → from ≤ p → p < end → HasReadToEnd p d.consumer

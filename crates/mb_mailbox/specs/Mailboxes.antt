@@ -1,4 +1,4 @@
--- A mailbox: its two tables.
+-- A mailbox: its two tables, and its plan.
 use Rattle.std.specs.Prelude.{◌≡◌, ◌≤◌}
 use Rattle.mb_mailbox.specs.Imports.{CellsName, Plan, TableView, claims_in}
 

@@ -1,4 +1,4 @@
--- How a consumer moves on by one access.
+-- A consumer before an access: its place, loads and claim. And what it has loaded, and what it is, after the access.
 use Rattle.std.specs.Prelude.{ℕ, ◌≡◌, List, ◌∷◌, Option, Some, slice_get, slice_set}
 use Rattle.mb_shared_cells.specs.Vocabulary.{HasHistory}
 use Rattle.mb_mailbox.specs.Imports.{Claim, ClaimAccess, History, IsClaimIn, Item, Note}

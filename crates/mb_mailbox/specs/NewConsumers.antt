@@ -6,7 +6,7 @@ use Rattle.mb_mailbox.specs.LaneNotes.{NotesView}
 use Rattle.mb_world.specs.declared.place.Place.{Place}
 use Rattle.mb_world.specs.declared.place.Place.TheVariants.{Before}
 
--- there are this many places, and that of each lane p is before the head of lane p
+-- there are this many places, and place p is before the head of lane p
 pub record AreHeads (lanes : ℕ) (places : List Place) : Type 0 where
   pub count : length places ≡ lanes
   pub each : (p : ℕ) (place : Place) → slice_get places p ≡ Some place → place ≡ Before (Head p)

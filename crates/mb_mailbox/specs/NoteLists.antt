@@ -1,4 +1,4 @@
--- The notes of a consumer, which have their room from the beginning.
+-- The room for a consumer's notes, and the notes after one more was added.
 use Rattle.std.specs.Prelude.{ℕ, ◌≡◌, ◌<◌, ◌≤◌, Option, length, sum_by}
 use Rattle.mb_mailbox.specs.Imports.{Note}
 use Rattle.mb_mailbox.specs.LaneNotes.{NotesView}

@@ -45,8 +45,8 @@ competed p k claim seat s =
     moved_to p (place_after k claim (claim_stage claim)) (note_of (claim_stage claim)) s.reader.part
     seat.part s
 
--- n accesses on lane p led from the consumer `from` to `s` as it is after its claim on cell k came to `claim`. Its
--- seat of the claims is then `seat`
+-- n accesses on lane p led from the consumer `from` to the one that `competed` makes of `s`, of which `IsConsumer`
+-- holds. Its claim on cell k came to `claim`, and its seat of the claims to `seat`, the seat of `s` with a new part
 pub record HasCompeted (p k n : ℕ) (claim : Claim) (t u : Stream) (from s : ConsumerView)
     (seat : SeatView) : Type 0 where
   pub same : seat ≡ record s.seat { part = seat.part }
@@ -66,8 +66,8 @@ abbrev pub claim_takes : Poll → ℕ
 claim_takes (poll.Took x) = 2
 claim_takes _ = 1
 
--- after n accesses on lane p, further ones come to this answer, and leave `left` of a budget of `most`. If the poll is
--- spent, nothing is left
+-- after n accesses on lane p, further ones come to this answer of a claim, and leave `left` of a budget of `most`. If
+-- the poll is spent, nothing is left, and else each cell met on the lane has a note
 pub record IsPursuit (p n most left : ℕ) (answer : Poll) (t u : Stream) (from new : ConsumerView)
     : Type 0 where
   pub made : ℕ

@@ -65,7 +65,7 @@ module _ {Z : Type 0} where
   with_abort (done.Put d) = done.Put (record d { aborted = true })
   with_abort (done.Poll d) = done.Poll (record d { aborted = true })
 
-  -- the hub after it has taken back the producer or consumer of this end, and by `with_taken` of each end in order
+  -- the hub after it has taken back the producer or consumer of this end. `with_taken` does so for each end, in order
   abbrev pub with_taken_one : Done Z → HubView → HubView
   with_taken_one (done.Put d) h = with_taken_producer d.producer h
   with_taken_one (done.Poll d) h = with_taken_consumer d.consumer h

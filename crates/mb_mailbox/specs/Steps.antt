@@ -36,7 +36,7 @@ LeadTo p answer (a ∷ older) s =
     ConsumerStep (claims_at s.seat.table) s.seat.consumer p (parts_after older s) a answer
     × LeadTo p None older s
 
--- ---- notes
+-- ---- the notes that come with answers
 -- the note that comes with an answer
 abbrev pub note_with : Option Poll → Option Note
 note_with (Some (poll.Took x)) = Some (Took x)

@@ -87,13 +87,13 @@ AreCutByCells cells p (list ∷ lists) (l ∷ ls) =
     × AreCutByCells cells (suc p) lists ls
 AreCutByCells cells p _ _ = ⊥
 
--- ---- notes
+-- ---- notes on the items of a run
 -- on each of these lanes, from p on, the consumer has as many notes as the lane's producer put items
 abbrev pub HasNoteAtEach : ℕ → List ProducerEnd → ConsumerRecordView → Type 0
 HasNoteAtEach p [] kept = Unit {0}
 HasNoteAtEach p (l ∷ ls) kept = (length (notes_on p kept.notes) ≡ length l.put) × HasNoteAtEach (suc p) ls kept
 
--- ---- end marks
+-- ---- end marks that consumers loaded
 -- consumer c has loaded the end mark of lane p, past cells of this lane that it met. By its path it met these cells
 -- before it loaded the end mark
 pub record HasMetEnd (c p : ℕ) (reads : History) : Type 0 where

@@ -48,7 +48,7 @@ pub(crate) struct ConsumerFields<A: Allocator + Drop> {
     pub(crate) notes: Notes<A>,
 }
 
-/// A consumer: its two seats, its place on each lane, and its notes there. They fit each other.
+/// A consumer: its two seats, its places and its notes, which agree (`IsConsumer`), with room for a note on each cell.
 #[derive(Drop)]
 pub struct Consumer<A: Allocator + Drop> {
     pub(crate) fields: ConsumerFields<A>,
@@ -89,9 +89,8 @@ impl<A: Allocator + Drop> Consumer<A> {
         self.fields.seat.consumer()
     }
 
-    /// The two parts of a consumer fit each other. They determine its place on each lane and its notes there. Each of
-    /// them is the consumer's part of some lawful history. This computes nothing: its contract is a law of all
-    /// consumers.
+    /// The two parts of a consumer fit each other. They determine its place on each lane and its notes there. Each part
+    /// is the consumer's part of some lawful history. This computes nothing: its contract is a law of all consumers.
     pub fn keeps_its_parts(&self)
         ensures parts { IsConsumer self.now }
         ensures loads { HasLoads self.now }

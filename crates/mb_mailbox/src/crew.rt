@@ -59,7 +59,7 @@ pub enum WorkFault {
     /// is returned. The hub keeps what was returned before.
     NoMemory,
     /// A thread could not be started, for whatever reason: it is started without the caller's allocator. It comes only
-    /// if there is a list or a source. What was issued is then as after `NoMemory`.
+    /// if there is a list or a source. As after `NoMemory`, each lane issued has ended, and all issued are returned.
     NoThread,
 }
 
@@ -82,9 +82,9 @@ impl Error for WorkFault {}
 /// Numbers are issued in the order of the lists and of the sources. Before its n-th put or poll each worker asks the
 /// gate, and stops if that returns `false`.
 ///
-/// It runs no item. Each `Took` note of the report that [`Mailbox::gather`] returns is an item to be run, once. So is
-/// each item that is left. What was not put is in no report: it is the rest of a list after the items that its lane has
-/// put. So keep a copy of the lists.
+/// It runs no item. In the report that [`Mailbox::gather`] returns, the item of each `Took` note is to be run once, and
+/// so is each item that is left. What was not put is in no report: it is the rest of a list after the items that its
+/// producer put. So keep a copy of the lists.
 ///
 /// `budget` is the most accesses of one poll, at least 1. A claim that is cut short is kept and goes on at the next
 /// poll. So with a small budget the gate is asked more often, and a poll costs more. Each consumer draws its random

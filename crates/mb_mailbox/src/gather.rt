@@ -59,7 +59,7 @@ impl<A: Allocator + Clone + Drop> Mailbox<A> {
     ) -> Result<Report<A>, (GatherFault, Mailbox<A>, Hub<A>)>
         requires belongs { IsHubOf self hub }
 
-        // When there is a fault. Mailbox and hub come back with it as they were.
+        // The fault is `Missing` if somebody is missing, else only `NoMemory`. Mailbox and hub come back as they were.
         ensures missing { 0 < count_missing hub.puts + count_missing hub.records
             → result
             ≡ Err (Missing (count_missing hub.puts) (count_missing hub.records), self, hub) }
@@ -71,10 +71,10 @@ impl<A: Allocator + Clone + Drop> Mailbox<A> {
         ensures lists { IfOk result (λ r.
             IsReportIn self.cells.size.lanes (consumer_count self.claims.layout) hub r) }
 
-        // One assignment of items to competitors accounts for the whole report, and nothing follows an end mark.
+        // All accesses returned make two sound histories. The report is of these, and the main theorem holds of it.
         ensures main_theorem { IfOk result (λ r. IsGathered self hub r) }
 
-        // If a producer found no cell, the put lists together have all cells. If a note is undecided, two consumers
+        // If a producer found no cell, as many items are put as there are cells. If a note is undecided, two consumers
         // or more competed for the item.
         ensures full { IfOk result (λ r. FullTakesAll self hub r) }
         ensures undecided { IfOk result (λ r. UndecidedHasCompany r) }

@@ -24,7 +24,7 @@ use std::marker::Model;
 /// Why no producer or consumer was issued.
 #[derive(Clone, Copy, PartialEq, Eq, Debug)]
 pub enum HubFault {
-    /// The hub has issued all numbers of the setup.
+    /// The hub has issued all producers, or all consumers, of the setup.
     AllGiven,
     /// The allocator refused the memory that the producer or consumer needs.
     NoMemory,
@@ -84,8 +84,8 @@ impl<A: Allocator + Drop> Hub<A> {
     ghost use Rattle.mb_mailbox.specs.Hubs.{with_taken_consumer, with_taken_producer};
     ghost use Rattle.mb_mailbox.specs.Producers.{IsProducerOf};
 
-    /// The parts of the cells that were returned to a hub are those of one lawful history. This computes nothing: its
-    /// contract is a law of all hubs.
+    /// `IsHub` holds of each hub, and the parts of the cells that were returned to it are those of one lawful history.
+    /// This computes nothing: its contract is a law of all hubs.
     pub fn has_history(&self)
         ensures kept { IsHub self.now }
         ensures pool { (pool : History)

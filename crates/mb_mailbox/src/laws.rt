@@ -48,7 +48,7 @@ pub fn what_was_not_given_is_empty()
     ensures begun { (h : HubView) (c p : ℕ) → length h.records ≤ c → begun_in c p h ≡ false }
 {}
 
-/// The report has what was returned: the producer's own items, and the consumer's own notes.
+/// The report has what those issued bring back: a producer's items and end mark, a consumer's notes and begun claims.
 pub fn what_was_taken_in_is_told()
     ensures items { (h : HubView) (s : ProducerView)
         → slice_get h.puts s.seat.lane ≡ Some None
@@ -89,7 +89,7 @@ pub fn last_objects_settle_what_is_gathered()
     shaped_setups_have_last_objects();
 }
 
-/// The random words of a consumer's claims are the first words of the source from which its calls draw, in order.
+/// If a consumer's claims had no access before its calls, the claims' random words are the source's first, in order.
 pub fn calls_draw_the_first_words()
     ensures { (from end budget : ℕ) (made : List Call) (source left : Stream)
         (old new : ConsumerView)
@@ -121,8 +121,8 @@ pub fn hubs_have_one_report()
         → IsReportIn lanes consumers h r → IsReportIn lanes consumers h s → r ≡ s }
 {}
 
-/// Samples of `count_missing`. And `UndecidedHasCompany` refuses a report in which one consumer has an undecided note,
-/// and no other competed.
+/// Samples of `count_missing` and of `UndecidedHasCompany`. The latter admits a report in which two consumers have an
+/// undecided note, and refuses one in which one has, and no other competed.
 pub fn sample_reports()
     ensures two_missing { count_missing {X = ℕ} (None ∷ Some 7 ∷ None ∷ []) ≡ 2 }
     ensures none_missing { count_missing {X = ℕ} (Some 7 ∷ Some 8 ∷ []) ≡ 0 }

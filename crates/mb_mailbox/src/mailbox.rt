@@ -1,4 +1,4 @@
-//! The words of a mailbox.
+//! A mailbox, and the most accesses that a claim in it can make.
 use mb_shared_cells::SharedCells;
 use mb_shared_claims::SharedClaims;
 use std::alloc::Allocator;

@@ -228,7 +228,7 @@ fn file_mark<A: Allocator + Drop>(
     }
 }
 
-/// Adds a note to the diary of its lane, if there is one.
+/// Adds a note to the diary of its lane, if that lane has one.
 #[inline(always)]
 fn file<A: Allocator + Drop>(row: &mut [Diary<A>], lane: u8, note: Note) -> Result<(), NoMemory>
     ensures notes { IfOk result (λ _. map (λ d. d.notes) row.new
@@ -280,7 +280,7 @@ fn file_singly<A: Allocator + Drop>(
     Ok(at)
 }
 
-/// Whether the mark [`AHEAD`] places on is a loss on this lane. It only guesses whether those between are.
+/// Whether the mark [`AHEAD`] places on is a loss on this lane. This only guesses whether the marks between are, too.
 #[inline(always)]
 fn is_run(lane: u8, marks: &[Mark], from: usize) -> bool {
     match marks.get(from.wrapping_add(AHEAD)) {

@@ -70,7 +70,7 @@ impl<A: Allocator + Drop> Producer<A> {
         ensures closed { (result ≡ Closed) ↔ (is_over self.old ≡ true) }
         ensures closed_same { result ≡ Closed → self.new ≡ self.old }
 
-        // A put ends no lane.
+        // A put ends no lane. The producer keeps its lane and its mailbox.
         ensures stays { is_over self.new ≡ is_over self.old }
         ensures lane { IsSameLane self.old self.new }
         ensures belongs { IsProducerOf mailbox.now self.new }
@@ -91,8 +91,8 @@ impl<A: Allocator + Drop> Producer<A> {
     }
 
     /// Ends the lane by one store: no item comes after those that it has. It returns `Ended`. If the lane had ended
-    /// before, it returns `Closed` and makes no access. It never returns `Busy`, since each item put is linked. It takes
-    /// no lock and no memory.
+    /// before, it returns `Closed` and makes no access. It never returns `Busy`: each item put is linked. It takes no
+    /// lock and no memory.
     pub fn finish<B: Allocator + Drop>(&mut self, mailbox: &Mailbox<B>) -> Finish
         requires belongs { IsProducerOf mailbox.now self.old }
         ensures ended { result ≡ finish.Ended → IsEndOfLane self.old self.new }

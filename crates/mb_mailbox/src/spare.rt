@@ -7,7 +7,7 @@ use std::alloc::Allocator;
 /// allocator is worth.
 const SPARE: usize = 512;
 
-/// Gives back the room that a list does not need, if it is not small.
+/// Gives back the room that a list does not need, if it is at least [`SPARE`] places.
 pub(crate) fn trim<T, A: Allocator + Drop>(list: &mut Vec<T, A>)
     ensures { list.new.items ≡ list.old.items }
 {

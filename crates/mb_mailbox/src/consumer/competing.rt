@@ -1,4 +1,4 @@
-//! Accesses of a claim in a row, as many as a budget allows.
+//! Accesses of a claim, one after another, until it has ended or the budget is used up.
 ghost use Rattle.std.specs.Prelude.{ℕ, ◌≡◌, ◌≢◌, ◌+◌, ◌<◌, true};
 ghost use Rattle.mb_claim.specs.declared.access.Stage.TheVariants as stage;
 ghost use Rattle.mb_mailbox.specs.Imports.{AreSeatSteps, IsClaimIn, claim_stage, consumer_of, name_of, part_on, shape_of};
@@ -8,8 +8,8 @@ use mb_shared_claims::{ClaimSeat, SharedClaims};
 use rand_core::Rng;
 use std::alloc::Allocator;
 
-/// Makes accesses of a claim that is going, each with the next word of `rng`, until it has ended or the budget `left` is
-/// used up. Returns how far the claim has come.
+/// Makes accesses of a claim that is going, each with the next word of `rng`, until it has ended or the budget `left`
+/// is used up. Returns the claim's stage.
 #[inline(always)]
 pub(super) fn compete<B: Allocator + Drop, R: Rng>(
     claims: &SharedClaims<B>,

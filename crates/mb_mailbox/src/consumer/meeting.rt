@@ -15,7 +15,7 @@ use mb_cells::laws::looks_tell_links;
 use mb_cells::{Cursor, Look};
 use std::alloc::Allocator;
 
-/// Loads the link at this cursor, before which the consumer stands on the lane. Its place there may be out of date.
+/// Loads the link at this cursor, before which the consumer stands on the lane. `places` may be out of date there.
 #[inline(always)]
 pub(super) fn meet<A: Allocator + Drop, B: Allocator + Drop>(
     fields: &mut ConsumerFields<A>,
@@ -27,18 +27,18 @@ pub(super) fn meet<A: Allocator + Drop, B: Allocator + Drop>(
     requires lane { lane < array_vec_len fields.old.places }
     requires belongs { IsConsumerOf mailbox.now (with_fields fields.old) }
 
-    // The load is the next access on the lane, whatever place it leads to.
+    // The load is one step on the lane, whatever the places are after it.
     ensures looks { (places : List Place) (t : Stream) → AreSteps lane 1 (link_answer result) t t
         (at_link lane at (with_fields fields.old))
         (record (with_fields fields.new) { places = places }) }
 
-    // If it leads to no cell, the consumer stays there.
+    // If the link leads to no cell, the consumer stays before it, and `AnswerTells` holds of the answer.
     ensures waits { link_answer result ≢ None
         → IsConsumer (at_link lane at (with_fields fields.new))
         × AnswerTells lane (link_answer result) (at_link lane at (with_fields fields.old))
         (at_link lane at (with_fields fields.new)) }
 
-    // If it leads to a cell, the consumer may begin a claim there.
+    // If the link leads to a cell, the consumer is before the first object of a claim there.
     ensures finds { (k : ℕ) → result ≡ look.Cell k
         → IsBeforeObject mailbox.now.claims.layout lane k 0 fields.new.seat.consumer
         (with_fields fields.new) }
@@ -54,7 +54,7 @@ pub(super) fn meet<A: Allocator + Drop, B: Allocator + Drop>(
     claims_begin_objects();
     fields.reader.has_history();
 
-    // The contract says that the consumer is one of the mailbox's. So it may begin a claim.
+    // The contract of this call says that the number is one of the mailbox's consumers. So there is a claim for it.
     fields.seat.consumer();
     mailbox.cells.look(&mut fields.reader, at)
 }

@@ -1,5 +1,5 @@
-//! How a consumer moves on by one access. The functions compute nothing. Their contracts are the laws on which the
-//! steps stand, and their bodies name the laws below.
+//! How a consumer moves on by one access. The functions compute nothing. Their contracts are laws of a consumer's
+//! accesses, and their bodies name the laws of other crates from which these follow.
 ghost use Rattle.std.specs.Prelude.{ℕ, ◌≡◌, ◌≢◌, ◌+◌, ◌<◌, ◌⊎◌, List, [], ◌∷◌, None, Some, length, sum_by};
 ghost use Rattle.mb_claim.specs.declared.access.ClaimOp.{ClaimOp};
 ghost use Rattle.mb_claim.specs.declared.access.Stage.TheVariants as stage;
@@ -23,7 +23,7 @@ use mb_claim::steps::accesses_lengthen_one_part;
 use mb_shared_cells::laws::known_lanes_are_read_whole;
 use mb_world::steps::{loads_meet_cells, parts_fit_on};
 
-/// The laws of the crates below on which a consumer's moves stand, in one record.
+/// The laws of the crates below from which those of a consumer's moves follow, in one record.
 fn laws_hold()
     ensures { Laws }
 {
@@ -40,14 +40,14 @@ fn laws_hold()
     parts_fit_on();
 }
 
-/// What an access makes of a consumer, and what its place lets it do.
+/// What a consumer's place on a lane lets it do, and what the consumer is after an access there.
 pub(super) fn consumers_move_on()
     // Before a link the consumer may load that link.
     ensures may_look { (s : ConsumerView) (p : ℕ) (at : Cursor) → IsConsumer s → HasLoads s
         → HasPlace p (Before at) s
         → MayRead s.reader.table.size.lanes (word_of at) s.reader.part }
 
-    // If the link leads to no cell, the consumer stays there.
+    // If the link leads to no cell, the consumer stays before it.
     ensures waits { (s : ConsumerView) (p v : ℕ) (at : Cursor) → IsConsumer s → HasLoads s
         → HasPlace p (Before at) s → (v ≡ 0) ⊎ (v ≡ END)
         → IsConsumer (moved_to p (Before at) None (reads_with_link s at v) s.seat.part s) }
@@ -61,8 +61,8 @@ pub(super) fn consumers_move_on()
         → HasTurns s claim []
         → IsConsumer (moved_to p (At k claim) None (reads_with_link s at (k + 1)) s.seat.part s) }
 
-    // A claim that the consumer holds is its own, is on a cell that its loads gave, and goes on or is won. There is
-    // room for its note.
+    // A claim that the consumer holds is its own, and has made the turns of its part there. It goes on or is won. Its
+    // cell is one of the pool, which a load gave. There is room for one more note.
     ensures own { (s : ConsumerView) (p k : ℕ) (claim : Claim) → IsConsumer s
         → HasPlace p (At k claim) s → consumer_of claim ≡ s.seat.consumer }
     ensures turns { (s : ConsumerView) (p k : ℕ) (claim : Claim) → IsConsumer s
@@ -77,7 +77,7 @@ pub(super) fn consumers_move_on()
     ensures room { (s : ConsumerView) (p k : ℕ) (claim : Claim) → IsConsumer s → HasLoads s
         → HasPlace p (At k claim) s → sum_by length s.notes < s.reader.table.size.cells }
 
-    // After an access of that claim, the claim's stage determines its place and its note.
+    // After an access of that claim, the claim's stage determines the consumer's place, and its note if it has one.
     ensures competes { (s : ConsumerView) (p k word seen : ℕ) (claim now : Claim) (next : ClaimOp)
         → IsConsumer s → HasLoads s → HasPlace p (At k claim) s
         → consumer_of now ≡ s.seat.consumer
@@ -103,7 +103,7 @@ pub(super) fn places_tell_steps()
         → ConsumerStep (claims_at s.seat.table) s.seat.consumer p (parts_of s.reader s.seat)
         (ToCells (load s.reader.reader (word_of at) v)) (link_answer (look_of v)) }
 
-    // With a claim that goes on, the next access is the claim's. It leads to a stage.
+    // With a claim that goes on, the next access is the claim's. The stage after it determines the answer.
     ensures competes { (s : ConsumerView) (p k word seen : ℕ) (claim now : Claim) (next : ClaimOp)
         → IsConsumer s → HasPlace p (At k claim) s → claim_stage claim ≡ stage.Going
         → consumer_of now ≡ s.seat.consumer
@@ -128,8 +128,8 @@ pub(super) fn answers_tell_lanes()
         → HasPlace p (Before at) s
         → HasNoteOnEach p s }
 
-    // If a link leads to no cell, the consumer has a note on each cell that it met. If the lane was taken in before
-    // the consumer was given, the consumer has met all that was put there.
+    // After a load of a link that leads to no cell, `AnswerTells` holds: each cell met has a note. If the lane's
+    // producer was returned before the consumer was issued, the consumer has met all that was put there.
     ensures nothing { (s : ConsumerView) (p : ℕ) (at : Cursor) (now : ReaderSeatView) → IsConsumer s
         → HasLoads s → HasPlace p (Before at) s → LookMakes s.reader at look.Nothing now
         → AnswerTells p (Some poll.Nothing) s (record s { reader = now }) }

@@ -1,5 +1,5 @@
-//! Past items that are lost, if each cell has a last object alone. Then a claim is one exchange. The cursor stands in a
-//! variable meanwhile, and the consumer's place on the lane is out of date.
+//! Goes past items that are lost, if each cell has a last object alone. Then a claim is one exchange. A variable has
+//! the cursor meanwhile, and the consumer's place on the lane is out of date.
 ghost use Rattle.std.specs.Prelude.{ℕ, ◌≡◌, ◌≢◌, ◌+◌, ◌<◌, List, [], ◌∷◌, IfSome, None};
 ghost use Rattle.arrayvec.specs.ArrayVec.{array_vec_len};
 ghost use Rattle.mb_cells.specs.declared.cursor.Cursor.TheVariants.{Past};
@@ -22,8 +22,8 @@ use mb_world::Note;
 use rand_core::Rng;
 use std::alloc::Allocator;
 
-/// Makes the exchange of a new claim, and loads the item if the claim is won. It adds the note. The consumer stands past
-/// the cell then, and its place on the lane is out of date.
+/// Makes the exchange of a new claim, and loads the item if the claim is won. It adds the note. The consumer is past
+/// the cell then, but `places` is not changed, so its place on the lane is out of date.
 #[inline(always)]
 fn settle<A: Allocator + Drop, B: Allocator + Drop, R: Rng>(
     fields: &mut ConsumerFields<A>,
@@ -67,8 +67,8 @@ fn settle<A: Allocator + Drop, B: Allocator + Drop, R: Rng>(
     }
 }
 
-/// Goes on past items that the consumer loses, from this cursor on, as long as an item's three accesses are left. If it
-/// comes to another answer, returns that. The place on the lane is up to date again at the end.
+/// Goes on past items that the consumer loses, from this cursor on, as long as the most accesses for an item, three,
+/// are left. If a poll comes to another answer, returns that. The place on the lane is up to date again at the end.
 #[inline(always)]
 pub(super) fn pass<A: Allocator + Drop, B: Allocator + Drop, R: Rng>(
     fields: &mut ConsumerFields<A>,
@@ -85,14 +85,14 @@ pub(super) fn pass<A: Allocator + Drop, B: Allocator + Drop, R: Rng>(
     requires wide { HasAllRoom fields.old.reader.table.size.cells fields.old.notes }
     requires alone { kinds_of mailbox.now.claims.layout ≡ LastObject ∷ [] }
 
-    // Without an answer the items were lost, one after another, and `left` is what is left.
+    // If it returns no answer, it lost each item that it met, and `left` is what is left of the budget.
     ensures passed { result ≡ None → (winners : List ℕ)
         × HasPassed lane left.old winners (R.stream rng.old) (R.stream rng.new)
         (with_fields fields.old) (with_fields fields.new) }
     ensures left { result ≡ None → accesses_made (with_fields fields.new) + left.new
         ≡ accesses_made (with_fields fields.old) + left.old }
 
-    // With an answer they make a take.
+    // If it returns an answer, its polls make a take with that answer, which is not `NoLane` and not `Undecided`.
     ensures taken { IfSome result (λ answer.
         IsTakeOf lane left.old answer (R.stream rng.old) (R.stream rng.new)
         (with_fields fields.old) (with_fields fields.new)

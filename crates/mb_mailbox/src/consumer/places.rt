@@ -1,4 +1,4 @@
-//! The places of a consumer, by the numbers of lanes.
+//! Reads and sets the places of a consumer, by the numbers of lanes. A note comes with a place past a cell.
 ghost use Rattle.std.specs.Prelude.{◌≡◌, ◌<◌, Some, slice_get, slice_set};
 ghost use Rattle.arrayvec.specs.ArrayVec.{array_vec_len};
 ghost use Rattle.mb_cells.specs.declared.cursor.Cursor.TheVariants.{Past};
@@ -73,7 +73,7 @@ pub(super) fn leave<A: Allocator + Drop>(
     notes.push(lane, note);
 }
 
-/// Loads the item of cell `k`, makes the place on this lane be past the cell, and adds the note.
+/// Loads the item of cell `k`, makes the place on this lane be past the cell, and adds the `Took` note.
 #[inline(always)]
 pub(super) fn take<A: Allocator + Drop, B: Allocator + Drop>(
     places: &mut ArrayVec<Place, 16>,

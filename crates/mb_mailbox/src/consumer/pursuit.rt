@@ -1,5 +1,5 @@
-//! What a poll does with a claim. A claim that the consumer holds is stepped in its place. A new claim goes straight
-//! through whole objects, and is kept nowhere meanwhile.
+//! What a poll does with a claim. A claim that the consumer holds goes by steps, and is changed where `places` has it.
+//! A new claim goes straight through whole objects, and `places` does not have it meanwhile.
 ghost use Rattle.std.specs.Prelude.{ℕ, ◌≡◌, ◌≢◌, ◌+◌, ◌<◌, ◌≤◌, None, length, true};
 ghost use Rattle.arrayvec.specs.ArrayVec.{array_vec_len};
 ghost use Rattle.mb_claim.specs.declared.access.Stage.TheVariants as stage;
@@ -20,9 +20,9 @@ use mb_world::{Note, Place};
 use rand_core::Rng;
 use std::alloc::Allocator;
 
-/// Goes on with the claim that the consumer holds on this lane. It goes to the claim's end, to the item if the claim is
-/// won, or until it has made the accesses that are left. It takes the consumer's fields, not the consumer. The claim is
-/// stepped in its place.
+/// Goes on by steps with the claim that the consumer holds on this lane: to the claim's end and, if it is won, the load
+/// of the item, or until it has made the accesses that are left. It takes the consumer's fields, not the consumer. The
+/// claim is changed where `places` has it.
 #[inline(always)]
 pub(super) fn run_held<A: Allocator + Drop, B: Allocator + Drop, R: Rng>(
     fields: &mut ConsumerFields<A>,
@@ -46,8 +46,8 @@ pub(super) fn run_held<A: Allocator + Drop, B: Allocator + Drop, R: Rng>(
         (with_fields fields.new) }
     ensures wide { HasAllRoom fields.new.reader.table.size.cells fields.new.notes }
 
-    // A claim ends after no more accesses than its layout allows, with those made before. If its cell has a last
-    // object, the claim is decided then.
+    // If the poll is spent, `left` and the accesses made on the cell before are together no more than a claim may make.
+    // If each cell has a last object, no claim ends undecided.
     ensures few { (k : ℕ) (claim : Claim) → HasPlace lane (At k claim) (with_fields fields.old)
         → result ≡ poll.Spent
         → left.old + length (part_on fields.old.seat.consumer k fields.old.seat.part)
@@ -65,7 +65,7 @@ pub(super) fn run_held<A: Allocator + Drop, B: Allocator + Drop, R: Rng>(
     } = fields;
     reader.has_history();
     let (cell, claim) = match &mut places.as_mut_slice()[lane as usize] {
-        // (the consumer is at a cell)
+        // This does not come: the consumer is at a cell.
         Place::Before(_) => return Poll::Spent,
         Place::At { cell, claim } => (*cell, claim),
     };
@@ -96,8 +96,8 @@ pub(super) fn run_held<A: Allocator + Drop, B: Allocator + Drop, R: Rng>(
 }
 
 /// Makes the accesses of a new claim, with the clauses of [`run_held`]. As long as there is room for whole objects, it
-/// goes straight through them. [`run_rest`] makes the other accesses. With no budget left the claim is only held, which
-/// takes less by itself than by [`run_rest`].
+/// goes straight through them. [`run_rest`] makes the other accesses. With no budget left the claim is only set in
+/// `places`, which costs less here than in [`run_rest`].
 #[inline(always)]
 pub(super) fn run_new<A: Allocator + Drop, B: Allocator + Drop, R: Rng>(
     fields: &mut ConsumerFields<A>,
@@ -164,8 +164,8 @@ pub(super) fn run_new<A: Allocator + Drop, B: Allocator + Drop, R: Rng>(
     }
 }
 
-/// Goes on with a claim from where its straight accesses ended, with the clauses of [`run_held`]. The claim stands in
-/// its place from there on. `end.left` is the budget.
+/// Goes on with a claim from where its straight accesses ended, with the clauses of [`run_held`]. From there on
+/// `places` has the claim. `end.left` is the budget.
 #[inline(always)]
 fn run_rest<A: Allocator + Drop, B: Allocator + Drop, R: Rng>(
     fields: &mut ConsumerFields<A>,

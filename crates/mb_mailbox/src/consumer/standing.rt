@@ -1,4 +1,4 @@
-//! A claim before its first access to an object, and accesses of a claim in a row. The functions compute nothing.
+//! A claim before its first access to an object, and how many accesses a claim makes. The functions compute nothing.
 ghost use Rattle.std.specs.Prelude.{ℕ, ◌≡◌, ◌+◌, ◌<◌, ◌≤◌, [], List, Some, length};
 ghost use Rattle.mb_mailbox.specs.Imports.{AreSeatSteps, Claim, IsClaimIn, IsLawfulPart, IsStanding, Layout, ObjectTurn, SeatView, Stream};
 ghost use Rattle.mb_mailbox.specs.Imports.{claims_at, consumer_count, kinds_of, most_accesses, part_on};
@@ -8,11 +8,11 @@ use mb_claim::steps::{accesses_lengthen_one_part, claims_make_steps, places_show
 
 /// A claim before its first access to an object.
 pub(super) fn claims_begin_objects()
-    // The claim of a consumer that has made no access begins the first object.
+    // Each consumer has a claim without a turn before the first object, with the consumer's number as input.
     ensures new { (layout : Layout) (c : ℕ) → c < consumer_count layout
         → (claim : Claim) × IsStanding layout c 0 c claim × IsClaimIn layout claim [] }
 
-    // The object is one of the layout's, and the input is one of its consumers.
+    // The object before which a claim stands is one of the layout's, and its input is one of the layout's consumers.
     ensures within { (layout : Layout) (c o v : ℕ) (claim : Claim) (xs : List ObjectTurn)
         → IsStanding layout c o v claim → IsClaimIn layout claim xs
         → (o < length (kinds_of layout)) × (v < consumer_count layout) }
@@ -21,15 +21,15 @@ pub(super) fn claims_begin_objects()
     claims_make_steps();
 }
 
-/// Accesses of a claim in a row.
+/// How many accesses a claim makes.
 pub(super) fn accesses_are_counted()
-    // They lengthen the part on their cell.
+    // n accesses of a claim make the consumer's part on that cell longer by n.
     ensures counted { (layout : Layout) (k n : ℕ) (claim now : Claim) (seat after : SeatView)
         (s t : Stream) → AreSeatSteps layout k claim seat s n now after t
         → length (part_on after.consumer k after.part)
         ≡ n + length (part_on seat.consumer k seat.part) }
 
-    // With those that the seat made there before, they are no more than the layout allows.
+    // These and those that the seat made there before are together no more than a claim of the layout may make.
     ensures few { (layout : Layout) (cells k n : ℕ) (claim now : Claim) (seat after : SeatView)
         (s t : Stream) → seat.table.size ≡ Some (record { layout = layout; cells = cells })
         → AreSeatSteps layout k claim seat s n now after t

@@ -17,7 +17,7 @@ use mb_cells::steps::parts_have_accesses;
 use mb_world::steps::loads_meet_cells;
 
 /// If a consumer has loaded the end mark past all cells that it met on a lane, with a note on each, it has read the
-/// lane to its end. After each poll of another lane this still holds of the lane.
+/// lane to its end. This still holds after a poll of another lane. No poll changes a consumer's tables and numbers.
 pub(super) fn ends_are_kept()
     ensures read { (s : ConsumerView) (p : ℕ) → HasLoads s → HasLoadedEnd p s → HasNoteOnEach p s
         → HasReadToEnd p s }

@@ -8,7 +8,7 @@ use crate::gate::Gate;
 use rand_core::Rng;
 use std::alloc::{AllocError, Allocator};
 
-/// The memory of a run: its allocator, and room for the jobs, for the workers that were begun and for their ends.
+/// The memory of a run: its allocator, and room for the jobs, for their workers (`begun`) and for the workers' ends.
 #[derive(Drop)]
 pub(crate) struct RunMemory<G: Gate, R: Rng + Drop, A: Allocator + Drop> {
     pub(crate) alloc: A,

@@ -1,4 +1,4 @@
-//! One thread for each worker.
+//! Starts the workers of a run, each in a thread of its own if one can be made.
 ghost use Rattle.std.specs.Prelude.{◌≡◌, ◌-◌, ◌≤◌, [], ◌∷◌, vec_capacity, vec_len};
 ghost use Rattle.std.specs.List.{All, AllZip};
 ghost use Rattle.mb_mailbox.specs.Begun.{IsAborted, Promises};
@@ -14,7 +14,7 @@ use std::snapshot::Snapshot;
 use std::sync::{OnceToken, Wait};
 use std::thread::Scope;
 
-/// The end of a worker that got no thread. It says that the run is aborted.
+/// The same end, but it says that the run is aborted. A worker that got no thread has it.
 fn without_thread<A: Allocator + Drop>(end: Done<A>) -> Done<A>
     ensures { result ≡ with_abort end }
 {
@@ -31,7 +31,7 @@ fn without_thread<A: Allocator + Drop>(end: Done<A>) -> Done<A>
 }
 
 /// Starts a worker's thread. If no thread can be made, the run is aborted, and the worker ends here and makes no call.
-/// The workers of all producers were begun before that of a consumer.
+/// A consumer's worker comes after those of all producers. `begun` has the workers before this one.
 fn start<
     's,
     E: 's,
@@ -81,7 +81,7 @@ fn start<
     }
 }
 
-/// Starts a thread for each job, in order. `begun` has room for all.
+/// Starts a worker for each job, in order, and adds it to `begun`, which has room for all.
 pub(super) fn start_all<
     's,
     E: 's,

@@ -1,4 +1,4 @@
-//! Runs the workers of a run, each in a thread of its own.
+//! Runs the workers of a run, each in a thread of its own, or ends them all in the caller's thread.
 ghost use Rattle.std.specs.Prelude.{◌≡◌, ◌-◌, ◌≤◌, [], vec_capacity, vec_len};
 ghost use Rattle.std.specs.List.{All, AllZip};
 ghost use Rattle.mb_mailbox.specs.Runs.{ArePutsFirst, HasRoom, IsEnd, IsJobOf};
@@ -43,7 +43,7 @@ fn run_in<
     join_all(rt, running, done)
 }
 
-/// Runs one thread for each job and joins all. `begun` and `done` have room for all.
+/// Runs a worker for each job, in a thread if one can be made, and joins all. `begun` and `done` have room for all.
 pub(super) fn run<
     A: Allocator + Drop + Send + Sync,
     W: Threads + Wait + Sync,

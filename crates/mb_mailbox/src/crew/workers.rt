@@ -1,4 +1,4 @@
-//! The bodies of the workers.
+//! What a worker does: it puts a list and ends the lane, or it polls lanes.
 ghost use Rattle.std.specs.Prelude.{ℕ, suc, ◌≡◌, ◌≢◌, ◌+◌, ◌<◌, ◌≤◌, ◌⊎◌, [], IfNone, IfSome, false, length, slice_index_or, slice_set, take, true};
 ghost use Rattle.mb_mailbox.specs.Calls.{ArePassed};
 ghost use Rattle.mb_mailbox.specs.Consumers.{IsConsumerOf};
@@ -91,7 +91,7 @@ fn put_items<A: Allocator + Drop, B: Allocator + Drop, G: Gate>(
     }
 }
 
-/// Puts the list in order up to the first item that finds no cell, and ends the lane.
+/// Puts the list in order, up to the first item that finds no cell or to a stop, and ends the lane.
 fn put_list<A: Allocator + Drop, B: Allocator + Drop, G: Gate>(
     mailbox: &Mailbox<B>,
     job: PutJob<A>,
@@ -121,7 +121,7 @@ fn put_list<A: Allocator + Drop, B: Allocator + Drop, G: Gate>(
     }
 }
 
-/// The next lane that has not ended, from `at` on, round and round from `from` to `end`.
+/// The first lane that is not marked in `ended`: from `at` to `end`, and then from `from` to `end`. `None` if all are.
 fn next_lane(ended: &[bool], at: u32, from: u32, end: u32) -> Option<u32>
     requires at { at ≤ end }
     requires few { end ≤ length ended.now }
@@ -189,8 +189,8 @@ fn poll_lane<A: Allocator + Drop, B: Allocator + Drop, R: Rng>(
     poll
 }
 
-/// How many of the latest polls, up to `poll`, have all returned `Nothing` since the last yield. Once they are more
-/// than `lanes`, the thread yields, and the count is 0 again.
+/// How many of the latest polls, up to `poll`, have all returned `Nothing` since the last yield. Before `poll` there
+/// were `idle`. Once they are more than `lanes`, the thread yields, and the count is 0 again.
 fn rest(poll: Poll, idle: u32, lanes: u32) -> u32 {
     match poll {
         Poll::Nothing if idle < lanes => idle + 1,
@@ -202,7 +202,7 @@ fn rest(poll: Poll, idle: u32, lanes: u32) -> u32 {
     }
 }
 
-/// Polls the lanes round and round, each until it has ended.
+/// Polls the lanes round and round, each until it has ended, or until the consumer is stopped.
 fn poll_lanes<A: Allocator + Drop, B: Allocator + Drop, R: Rng + Drop, G: Gate>(
     mailbox: &Mailbox<B>,
     job: PollJob<R, A>,

@@ -22,12 +22,12 @@ use mb_world::steps::parts_fit_on;
 
 /// If no producer and no consumer is missing, what is gathered is sound, and the main theorem holds of its report.
 pub(super) fn gathering_is_sound()
-    // If no consumer is missing, no seat of the claims is out.
+    // If no consumer is missing, each seat of the claims that was issued was returned.
     ensures all_in { (h : HubView) → IsHub h → count_missing h.records ≡ 0
         → count_out h.claims.roll ≡ 0 }
 
-    // Each table, once closed, has one history, in which the part of each process is the one returned to the hub. What
-    // the report of the hub says is what these histories did.
+    // `IsGathered` holds of the hub's report if nobody is missing, the parts of the claims returned to the hub are
+    // those of one history, and its parts of the cells are those of the history `pool`.
     ensures main_theorem { (m : MailboxView) (h : HubView) (r : ReportView) (pool : History)
         → IsMailbox m → IsHub h → IsHubOf m h
         → count_missing h.puts ≡ 0 → count_missing h.records ≡ 0

@@ -1,5 +1,5 @@
-//! How a producer moves on by its calls. The function computes nothing. Its contract is the law from which the clauses
-//! of the calls follow, and its body names the laws from which it follows.
+//! How a producer moves on by its calls. The functions compute nothing. Their contracts are the laws from which the
+//! clauses of the calls follow, and their bodies name the laws from which these follow.
 ghost use Rattle.std.specs.Prelude.{ℕ, ◌≡◌, ◌<◌, ◌++◌, ◌∷◌, [], false, length, true};
 ghost use Rattle.mb_cells.specs.declared.answer.Finish.TheVariants as finish;
 ghost use Rattle.mb_cells.specs.declared.answer.Finish.{Finish};

@@ -14,7 +14,7 @@ use Rattle.mb_mailbox.proofs.Moving.{holds}
 use Rattle.mb_mailbox.proofs.Standings.{same_length}
 use Rattle.mb_mailbox.proofs.laws.noted_lanes_hold_no_claim.Goals as goal
 
--- a consumer with a note on each cell that it met holds no claim: the cell of a held claim has no note
+-- a consumer with a note on each cell that it met on a lane holds no claim there: a held claim's cell has no note
 no_claim : (s : ConsumerView) (p k : ℕ) (claim : Claim) → IsConsumer s → HasNoteOnEach p s
     → slice_get s.places p ≢ Some (At k claim)
 no_claim s p k claim i each at =

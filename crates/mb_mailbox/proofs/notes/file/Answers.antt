@@ -1,4 +1,4 @@
--- Proof of `file`: adds a note to the diary of its lane, if there is one.
+-- Proof of `file`: adds a note to the diary of its lane, if that lane has one.
 use Rattle.std.proofs.Common.{◌≡◌, ◌<◌, [], ap, arith, get_or, length}
 use Rattle.std.specs.Prelude.{Some, slice_get}
 use Rattle.std.proofs.lemmas.Option.{slice_get-get_or}

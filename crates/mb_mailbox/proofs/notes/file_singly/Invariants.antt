@@ -4,7 +4,7 @@ use Rattle.mb_mailbox.specs.LaneNotes.{AreFiled, words_among}
 use Rattle.mb_mailbox.proofs.notes.file_singly.Given as goal
 
 -- the notes of the marks before the next are in the diaries of their lanes, and `read` counts the words that they
--- needed
+-- needed. The diaries changed in nothing but their notes
 abbrev pub invariant-loop-at : goal.invariant-loop-at
 invariant-loop-at g l = record {
   filed : AreFiled l.marks l.words l.at l.row;

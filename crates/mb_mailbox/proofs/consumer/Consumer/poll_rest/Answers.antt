@@ -19,7 +19,7 @@ use Rattle.mb_mailbox.proofs.Polls.{no_steps, history_extends, poll_of}
 use Rattle.mb_mailbox.proofs.consumer.Consumer.poll_rest.{Given.Over, Goals.After-consumer, Goals.After-look}
 use Rattle.mb_mailbox.proofs.consumer.Consumer.poll_rest.Goals as goal
 
--- a poll that goes on with the claim of its place
+-- a poll of a consumer that holds a claim on the lane: `run_held` goes on with it
 module _ (g : Over) (c : goal.After-run_held g) where
   -- `at_claim` is the consumer before the poll, and `past_claim` after it
   abbrev at_claim : ConsumerView
@@ -28,7 +28,7 @@ module _ (g : Over) (c : goal.After-run_held g) where
   abbrev past_claim : ConsumerView
   past_claim = with_fields c.run_held.new.fields
 
-  -- the poll is the rest of a poll, after no access
+  -- after no access `IsPursuit` holds: the whole poll goes on with the claim
   goes_on : IsPursuit c.args.lane 0 c.args.left.now c.run_held.new.left c.run_held.result
       (g.R.Rng.stream c.args.rng.now)
       (g.R.Rng.stream c.run_held.new.rng) at_claim past_claim
@@ -36,7 +36,7 @@ module _ (g : Over) (c : goal.After-run_held g) where
       c.run_held.ensures.pursued at_claim 0 (g.R.Rng.stream c.args.rng.now)
       (no_steps c.args.lane (g.R.Rng.stream c.args.rng.now) at_claim)
 
--- a poll that loads a link
+-- a poll of a consumer that stands before a link, after its load of that link
 module _ (g : Over) (c : After-look g) where
   -- `seen` is the consumer before the load, and `looked` after it
   abbrev seen : ConsumerView
@@ -49,7 +49,7 @@ module _ (g : Over) (c : After-look g) where
   place_is : HasPlace c.args.lane (Before c.in-Before.at) seen
   place_is = c.place_at.ensures ∙ ap (λ (z : Place). Some z) c.in-Before.is
 
-  -- the load is the next access, whatever place it leads to
+  -- the load is one step on the lane, whatever the places are after it
   look_steps : (places : List Place) (l : Look) → LookMakes seen.reader c.in-Before.at l c.look.new.seat
       → note_with (link_answer l) ≡ None
       → AreSteps c.args.lane 1 (link_answer l) (g.R.Rng.stream c.args.rng.now) (g.R.Rng.stream c.args.rng.now)
@@ -61,7 +61,7 @@ module _ (g : Over) (c : After-look g) where
       m refl quiet (λ v. c.places_tell_steps.ensures.looks seen c.args.lane v c.in-Before.at c.self.invariant.0
       place_is) (g.R.Rng.stream c.args.rng.now))
 
-  -- if it leads to no cell, the consumer stays there
+  -- if the link leads to no cell, `IsConsumer` still holds, and there still is room for a note on each cell
   waits : (v : ℕ) → (v ≡ 0) ⊎ (v ≡ END)
       → c.look.new.seat ≡ record seen.reader { part = reads_with_link seen c.in-Before.at v }
       → IsConsumer looked × (c.look.new.seat.table.size.cells ≤ c.self.inside.fields.notes.room)
@@ -73,7 +73,7 @@ module _ (g : Over) (c : After-look g) where
     subst (λ (r : ReaderSeatView). r.table.size.cells ≤ c.self.inside.fields.notes.room) (sym there) c.self.invariant.1,
   )
 
--- a poll that then makes a new claim
+-- a poll whose load found a cell, so that the consumer makes a new claim there
 module _ (g : Over) (c : After-consumer g) where
   -- the consumer's number is one of the mailbox's
   known : c.self.inside.fields.seat.consumer < consumer_count c.args.mailbox.now.claims.layout
@@ -81,20 +81,20 @@ module _ (g : Over) (c : After-consumer g) where
       known_in c.args.mailbox.now (with_fields c.self.inside.fields) c.args.self.now c.self.view_is c.requires.belongs
       c.consumer.result c.consumer.ensures.exact c.consumer.ensures.known
 
-  -- the claim, which has made no access
+  -- the new claim, which stands before the first object and has made no access
   first : (claim : Claim)
       × IsStanding c.args.mailbox.now.claims.layout c.self.inside.fields.seat.consumer 0
       c.self.inside.fields.seat.consumer claim
       × IsClaimIn c.args.mailbox.now.claims.layout claim []
   first = c.claims_begin_objects.ensures.new c.args.mailbox.now.claims.layout c.self.inside.fields.seat.consumer known
 
--- that poll with its claim
+-- the same poll, after the accesses of the new claim
 module _ (g : Over) (c : goal.After-run_new g) where
   -- the consumer after the poll
   abbrev past_new : ConsumerView
   past_new = with_fields c.run_new.new.fields
 
-  -- the poll is the rest of a poll, after one access: the load of the link
+  -- after one access, the load of the link, `IsPursuit` holds: the rest of the poll makes the claim's accesses
   goes_on_new : IsPursuit c.args.lane 1 (c.args.left.now - 1) c.run_new.new.left c.run_new.result
       (g.R.Rng.stream c.args.rng.now)
       (g.R.Rng.stream c.run_new.new.rng) c.args.self.now past_new

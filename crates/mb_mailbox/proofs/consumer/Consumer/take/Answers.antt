@@ -1,4 +1,4 @@
--- Proof of `Consumer::take`: polls of a lane in a row, past the items that are lost.
+-- Proof of `Consumer::take`: polls of a lane one after another, past the items that are lost.
 use Rattle.std.proofs.Common.{◌∙◌, ◌++◌, ◌∷◌, subst, arith}
 use Rattle.mb_mailbox.specs.Steps.{AnswerTells, outcome}
 use Rattle.mb_mailbox.specs.Takes.{IsTakeOf}
@@ -40,7 +40,7 @@ items-preserved g c =
       lane = inv.lane;
     }
 
--- ---- an answer of items that are passed
+-- ---- `take` returns the answer to which `pass_lost` came
 pub returns-in-Some-pass_lost : goal.returns-in-Some-pass_lost
 returns-in-Some-pass_lost g c =
     let p = c.in-Some.lane in
@@ -69,7 +69,7 @@ returns-in-Some-pass_lost g c =
       belongs = c.pass_lost.ensures.belongs;
     }
 
--- ---- an answer of a poll
+-- ---- `take` returns the answer of `poll_apart`, which is no loss
 pub returns-in_default-poll_apart : goal.returns-in_default-poll_apart
 returns-in_default-poll_apart g c =
     let p = c.in-Some.lane in

@@ -8,7 +8,7 @@ use Rattle.mb_mailbox.proofs.consumer.Consumer.take.Given as goal
 abbrev pub decreases-items : goal.decreases-items
 decreases-items g l = l.left
 
--- the polls so far lost to these winners, and `left` is what they left of the budget
+-- the polls so far lost items to these winners, and left `left` of the budget. Consumer and lane are the mailbox's
 abbrev pub invariant-items : goal.invariant-items
 invariant-items g l = record {
   winners : List ℕ;

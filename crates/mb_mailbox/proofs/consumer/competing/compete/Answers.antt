@@ -1,10 +1,10 @@
--- Proof of `compete`: makes accesses of a claim that is going.
+-- Proof of `compete`: makes accesses of a claim that is going, up to its end or the budget's.
 use Rattle.std.proofs.Common.{rules, ◌≡◌, ◌∙◌, suc, ap, arith, sym}
 use Rattle.mb_claim.specs.declared.access.Stage.TheVariants as stage
 use Rattle.mb_mailbox.specs.Imports.{SeatView}
 use Rattle.mb_mailbox.proofs.consumer.competing.compete.Goals as goal
 
--- one access more was made, with the word drawn
+-- to the accesses made so far comes one more, with the word drawn
 pub returns-then-ne-clause-steps : goal.returns-then-ne-clause-steps
 returns-then-ne-clause-steps g c =
     let was = c.steps.invariant in

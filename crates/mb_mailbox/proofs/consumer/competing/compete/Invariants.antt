@@ -1,4 +1,4 @@
--- Loop invariants of `compete`: makes accesses of a claim that is going.
+-- What the loop of `compete` keeps: the claim goes on, and some of the budget is left.
 use Rattle.std.proofs.Common.{◌≡◌, ◌≢◌, ◌+◌, ℕ}
 use Rattle.mb_claim.specs.declared.access.Stage.TheVariants as stage
 use Rattle.mb_mailbox.specs.Imports.{AreSeatSteps, IsClaimIn, claim_stage, consumer_of, name_of, part_on}
@@ -7,7 +7,7 @@ use Rattle.mb_mailbox.proofs.consumer.competing.compete.Given as goal
 abbrev pub decreases-steps : goal.decreases-steps
 decreases-steps g l = l.left
 
--- so many accesses were made as the budget lost, and the claim goes on
+-- as many accesses were made as the budget lost. The claim has the turns of its part, and goes on. Some budget is left
 abbrev pub invariant-steps : goal.invariant-steps
 invariant-steps g l = record {
   steps : (n : ℕ) × (n + l.left ≡ l.fn.left)

@@ -34,7 +34,7 @@ items-init g c =
       lane = c.requires.lane;
     }
 
--- there is as much room for notes as before, if the table is the same
+-- if the table and the notes are the same, there still is room for a note on each cell
 wide_still : (m : MailboxView) (was now : ReaderSeatView) (old new : NotesView) → was.table ≡
     m.cells → now.table ≡ m.cells
     → new ≡ old → HasAllRoom was.table.size.cells old → HasAllRoom now.table.size.cells new
@@ -42,7 +42,7 @@ wide_still m was now old new here there same wide =
     subst (λ (z : CellsName × NotesView). HasAllRoom z.0.size.cells z.1)
     (λ i. ((here ∙ sym there) i, sym same i)) wide
 
--- a claim on a last object takes one access, and one more with its item
+-- a claim on a last object takes one access, or two with the load of its item
 takes_few : (x : Poll) → (1 ≤ claim_takes x) × (claim_takes x ≤ 2)
 takes_few (poll.Took v) = (omega arith, omega arith)
 takes_few (poll.Lost w) = (omega arith, omega arith)
@@ -64,7 +64,7 @@ module _ (g : Over) (c : After-meet g) where
   abbrev words : Stream
   words = g.R.Rng.stream c.items.rng
 
-  -- if the load has an answer, it ends the take
+  -- if the load comes to an answer, which is no loss, the polls so far and this load make a take
   look_ends : (answer : Poll) (new : ConsumerView) → outcome answer ≡ link_answer c.meet.result
       → answer ≢ poll.Spent → ((w : ℕ) → answer ≢ poll.Lost w)
       → new ≡ at_link c.args.lane c.items.at met → link_answer c.meet.result ≢ None
@@ -84,7 +84,7 @@ module _ (g : Over) (c : After-meet g) where
       (poll_of p 1 c.items.rest answer words words waiting new steps (omega (arith, c.items-test.true))
       (λ e. absurd (some e))) over tells
 
-  -- if it has an answer, the consumer keeps what consumers keep
+  -- if the load comes to an answer, `IsConsumer` and `IsConsumerOf` still hold of the consumer
   look_keeps : (new : ConsumerView) → new ≡ at_link c.args.lane c.items.at met → link_answer c.meet.result ≢ None
       → IsConsumer new × IsConsumerOf c.args.mailbox.now new
   look_keeps new is told = (
@@ -93,7 +93,7 @@ module _ (g : Over) (c : After-meet g) where
         (record { cells = c.meet.ensures.belongs.cells; claims = c.meet.ensures.belongs.claims }),
   )
 
--- after the claim
+-- after `settle`, the accesses of the new claim
 module _ (g : Over) (c : After-settle g) where
   abbrev from : ConsumerView
   from = at_link c.args.lane c.items.at (with_fields c.items.fields)
@@ -109,7 +109,7 @@ module _ (g : Over) (c : After-settle g) where
   abbrev u : Stream
   u = g.R.Rng.stream c.settle.new.rng
 
-  -- the claim ends the poll, and leaves this much
+  -- after one access, the load of the link, `IsPursuit` holds of the claim, whatever is left
   pursued : (left : ℕ)
       → IsPursuit c.args.lane 1 (claim_takes c.settle.result + left) left c.settle.result t u from past
   pursued left =
@@ -117,7 +117,7 @@ module _ (g : Over) (c : After-settle g) where
       c.settle.ensures.pursued from 1 left t held.claim held.standing
       (c.in-Cell.ensures.looks (slice_set c.meet.new.fields.places.items c.args.lane (At c.in-Cell.cell held.claim)) t)
 
-  -- with its link it is a poll of what is left
+  -- the load of the link and the claim make a poll whose budget is `rest`, and which leaves `left` of it
   polled : (left : ℕ) → claim_takes c.settle.result + left + 1 ≡ c.items.rest
       → IsPollOf c.args.lane c.items.rest c.settle.result t u from past
       × (accesses_made past + left ≡ accesses_made from + c.items.rest)
@@ -134,12 +134,12 @@ module _ (g : Over) (c : After-settle g) where
       still_of c.args.mailbox.now c.args.lane 1 (claim_takes c.settle.result + 0) 0 c.settle.result t u from past
       (pursued 0) (record { cells = inv.belongs.cells; claims = inv.belongs.claims })
 
-  -- it has as many places
+  -- the lane still has a place
   lanes : c.args.lane < length c.settle.new.fields.places.items
   lanes = subst (λ (ps : List Place). c.args.lane < length ps)
       (sym (c.settle.ensures.places ∙ c.meet.ensures.places)) c.items.invariant.lane
 
-  -- another answer than a loss ends the take
+  -- if the claim is not lost, the polls make a take with its answer, and `AnswerTells` holds of that answer
   claim_ends : (answer : Poll) (new : ConsumerView) → answer ≡ c.settle.result
       → ((w : ℕ) → c.settle.result ≢ poll.Lost w) → new ≡ past
       → IsTakeOf c.args.lane c.args.left.now answer (g.R.Rng.stream c.args.rng.now) u
@@ -207,7 +207,7 @@ items-preserved g c =
       lane = lanes g at;
     })
 
--- ---- where it stops
+-- ---- `stop` needs that the lane has a place
 pub stop-requires : goal.stop-requires
 stop-requires g c =
     subst (λ (ps : List Place). c.args.lane < length ps) (sym c.meet.ensures.places) c.items.invariant.lane

@@ -20,7 +20,7 @@ use Rattle.mb_mailbox.proofs.Taking.{IsOneAccess, only_won, taken}
 use Rattle.mb_mailbox.proofs.consumer.passing.settle.{Given.Over, Goals.After-has_history, Goals.After-exchange-stage}
 use Rattle.mb_mailbox.proofs.consumer.passing.settle.Goals as goal
 
--- the consumer of these fields, with the claim in its place
+-- the consumer with these fields, and with a new claim at its place on the lane
 module _ (g : Over) (c : After-has_history g) where
   -- `claim` begins the first object, `base` is a consumer of these fields, and `with_claim` holds the claim
   abbrev claim : Claim
@@ -35,7 +35,7 @@ module _ (g : Over) (c : After-has_history g) where
   abbrev with_claim : ConsumerView
   with_claim = holding c.args.lane c.args.cell claim base
 
-  -- the claim may go on from these fields
+  -- `Start` holds: the consumer with these fields is the mailbox's, and holds this claim
   start : Start c.args.mailbox.now pending c.args.fields.now
   start = record {
     held = c.requires.held.is;
@@ -49,7 +49,7 @@ module _ (g : Over) (c : After-has_history g) where
   stands : HasPlace c.args.lane (At c.args.cell claim) with_claim
   stands = here c.args.mailbox.now pending c.args.fields.now start
 
-  -- the consumer's loads gave it the cell
+  -- one of the consumer's loads found the cell
   given : Gave c.args.cell c.args.fields.now.reader.part
   given = c.consumers_move_on.ensures.given with_claim c.args.lane c.args.cell claim start.held start.loads stands
 
@@ -81,7 +81,7 @@ module _ (g : Over) (c : After-exchange-stage g) (start : Start c.args.mailbox.n
   abbrev held : ConsumerView
   held = holding c.args.lane c.args.cell first (with_fields c.args.fields.now)
 
-  -- the exchange is one access, by the layout of the mailbox
+  -- the exchange is one access of a new claim, by the layout of the mailbox
   one : IsOneAccess c.args.mailbox.now.claims.layout c.args.cell c.args.fields.now.seat
       (g.R.Rng.stream c.args.rng.now) c.exchange-stage.result c.exchange-stage.new.seat
       (g.R.Rng.stream c.next_u64.new.self)
@@ -108,11 +108,11 @@ module _ (g : Over) (c : After-exchange-stage g) (start : Start c.args.mailbox.n
         e.7,
       )
 
-  -- the claim after it
+  -- the claim after the exchange
   abbrev last : Claim
   last = one.2
 
-  -- accesses that led to the start of it lead on
+  -- if steps led to a consumer that holds a new claim there, `HasCompeted` holds after the exchange
   ran_on : (from : ConsumerView) (n : ℕ) (t : Stream) (other : Claim)
       → IsStanding c.args.mailbox.now.claims.layout c.args.fields.now.seat.consumer 0 c.args.fields.now.seat.consumer
       other

@@ -19,11 +19,11 @@ use Rattle.mb_mailbox.proofs.Starts.{PendingClaim, Start, begun, here, ran, star
 use Rattle.mb_mailbox.proofs.consumer.pursuit.run_held.{Given.Over, Goals.After-compete-stage, Goals.After-has_history-2, Goals.After-stage}
 use Rattle.mb_mailbox.proofs.consumer.pursuit.run_held.Goals as goal
 
--- a place has one cell
+-- if two places at claims are equal, so are their cells
 same_cell : (j k : ℕ) (x y : Claim) → At j x ≡ At k y → j ≡ k
 same_cell j k x y e = cc
 
--- a list that takes the place of one as long is all of what follows
+-- if `ws` is written over `items`, which is as long, the result is `ws`
 refilled : (items ws : List Place) → length ws ≡ length items
     → take (length items) (ws ++ drop (length ws) items) ≡ ws
 refilled [] [] e = refl
@@ -31,9 +31,9 @@ refilled [] (w ∷ ws) e = absurd (omega (arith, e))
 refilled (x ∷ items) [] e = absurd (omega (arith, e))
 refilled (x ∷ items) (w ∷ ws) e = ap (λ zs. w ∷ zs) (refilled items ws (omega (arith, e)))
 
--- the consumer of these fields, whose place holds the claim
+-- the consumer with these fields, whose place on the lane has the claim
 module _ (g : Over) (c : After-stage g) where
-  -- `base` is the consumer of these fields. `with_claim` is the same, with the claim put into its place
+  -- `base` is the consumer with these fields. `with_claim` is `base` with the claim set at its place on the lane
   abbrev base : ConsumerView
   base = with_fields c.args.fields.now
 
@@ -52,7 +52,7 @@ module _ (g : Over) (c : After-stage g) where
       (ap (λ ps. slice_get ps c.args.lane) c.as_mut_slice.ensures.value ∙ c.requires.held.place) in
       c.requires.held.place ∙ ap (λ (z : Place). Some z) (sym read)
 
-  -- what is written to the place
+  -- if x is set in the slice of places, it is set in `places` itself
   written : (x : Place)
       → (with_items c.args.fields.now.places (slice_set c.as_mut_slice.result.now c.args.lane x)).items
       ≡ slice_set c.args.fields.now.places.items c.args.lane x
@@ -62,18 +62,18 @@ module _ (g : Over) (c : After-stage g) where
       (length-set c.as_mut_slice.result.now c.args.lane x ∙ ap (λ (ps : List Place). length ps) value)
       ∙ ap (λ ps. slice_set ps c.args.lane x) value
 
-  -- the lane is still one of those with a place
+  -- after x is set, the lane still has a place
   still_lane : (x : Place) → c.args.lane
       < length (with_items c.args.fields.now.places (slice_set c.as_mut_slice.result.now c.args.lane x)).items
   still_lane x =
       subst (λ ps. c.args.lane < length ps) (sym (written x))
       (subst (λ n. c.args.lane < n) (sym (length-set c.args.fields.now.places.items c.args.lane x)) c.requires.lane)
 
-  -- so the two are the same
+  -- since the claim is in its place already, `with_claim` is `base`
   hold : with_claim ≡ base
   hold = holds_it c.args.lane c.in-At.cell c.in-At.claim base place_is
 
-  -- the claim may go on from these fields
+  -- `Start` holds: the consumer with these fields is the mailbox's, and holds this claim
   start : Start c.args.mailbox.now pending c.args.fields.now
   start = record {
     held = subst IsConsumer (sym hold) c.requires.is;
@@ -86,7 +86,7 @@ module _ (g : Over) (c : After-stage g) where
   stands : HasPlace c.args.lane (At c.in-At.cell c.in-At.claim) with_claim
   stands = here c.args.mailbox.now pending c.args.fields.now start
 
-  -- the consumer's loads gave it the cell
+  -- one of the consumer's loads found the cell
   given : Gave c.in-At.cell c.args.fields.now.reader.part
   given = c.consumers_move_on.ensures.given with_claim c.args.lane c.in-At.cell c.in-At.claim
       start.held start.loads stands
@@ -97,12 +97,12 @@ module _ (g : Over) (c : After-stage g) where
       (c.consumers_move_on.ensures.room with_claim c.args.lane c.in-At.cell c.in-At.claim
       start.held start.loads stands)
 
-  -- accesses that led to the consumer led to it with the claim put into its place
+  -- steps that led to `base` led to `with_claim`
   led : (from : ConsumerView) (n : ℕ) (t u : Stream) → AreSteps c.args.lane n None t u from base
       → AreSteps c.args.lane n None t u from with_claim
   led from n t u so = subst (λ z. AreSteps c.args.lane n None t u from z) (sym hold) so
 
-  -- what is written to the lane's place last counts
+  -- if the place on the lane is set twice, it is as if only the second was set
   places_are : (x place : Place) (places : List Place)
       → places ≡ slice_set
       (with_items c.args.fields.now.places (slice_set c.as_mut_slice.result.now c.args.lane x)).items c.args.lane place
@@ -140,7 +140,7 @@ module _ (g : Over) (c : After-compete-stage g) (start : Start c.args.mailbox.no
   abbrev claim_now : PendingClaim
   claim_now = record { lane = c.args.lane; cell = c.in-At.cell; claim = c.in-At.claim }
 
-  -- accesses that led to the start of these lead on
+  -- if steps led to the consumer that holds the claim, `HasCompeted` holds after the claim's accesses
   ran_on : (from : ConsumerView) (n : ℕ) (t : Stream)
       → AreSteps c.args.lane n None t (g.R.Rng.stream c.args.rng.now) from held
       → HasCompeted c.args.lane c.in-At.cell (made + n) c.compete-stage.new.claim t
@@ -153,11 +153,11 @@ module _ (g : Over) (c : After-compete-stage g) (start : Start c.args.mailbox.no
       c.mailbox.view_is own from n t (g.R.Rng.stream c.args.rng.now) m made c.compete-stage.new.claim
       c.compete-stage.new.seat (g.R.Rng.stream c.compete-stage.new.rng) c.compete-stage.ensures.steps.2
 
-  -- if no budget is left, as many accesses were made as may be
+  -- if no budget is left, as many accesses were made as there was budget
   all_made : c.compete-stage.new.left ≡ 0 → made ≡ c.args.left.now
   all_made none = omega (arith, none, c.compete-stage.ensures.steps.1)
 
--- if as many accesses were made as may be, the claim's layout allows that many, with those before
+-- if no budget is left, the budget and the accesses on the cell before are together no more than a claim may make
 few_made : (g : Over) (c : After-has_history-2 g) → Start c.args.mailbox.now
     (record { lane = c.args.lane; cell = c.in-At.cell; claim = c.in-At.claim }) c.args.fields.now
     → c.compete-stage.new.left ≡ 0

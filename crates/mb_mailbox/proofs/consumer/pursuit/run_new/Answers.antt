@@ -17,7 +17,7 @@ use Rattle.mb_mailbox.proofs.Taking.{AreStraight, pursued_on, some_made, still_c
 use Rattle.mb_mailbox.proofs.consumer.pursuit.run_new.{Given.Over, Goals.After-has_history, Goals.After-straight-end}
 use Rattle.mb_mailbox.proofs.consumer.pursuit.run_new.Goals as goal
 
--- the consumer of these fields, with the claim in its place
+-- the consumer with these fields, and with a new claim at its place on the lane
 module _ (g : Over) (c : After-has_history g) where
   -- `claim` begins the first object, `base` is a consumer of these fields, and `with_claim` holds the claim
   abbrev claim : Claim
@@ -32,7 +32,7 @@ module _ (g : Over) (c : After-has_history g) where
   abbrev with_claim : ConsumerView
   with_claim = holding c.args.lane c.args.cell claim base
 
-  -- the claim may go on from these fields
+  -- `Start` holds: the consumer with these fields is the mailbox's, and holds this claim
   start : Start c.args.mailbox.now pending c.args.fields.now
   start = record {
     held = c.requires.held.is;
@@ -46,7 +46,7 @@ module _ (g : Over) (c : After-has_history g) where
   stands : HasPlace c.args.lane (At c.args.cell claim) with_claim
   stands = here c.args.mailbox.now pending c.args.fields.now start
 
-  -- the consumer's loads gave it the cell
+  -- one of the consumer's loads found the cell
   given : Gave c.args.cell c.args.fields.now.reader.part
   given = c.consumers_move_on.ensures.given with_claim c.args.lane c.args.cell claim start.held start.loads stands
 
@@ -71,7 +71,7 @@ module _ (g : Over) (c : After-has_history g) where
 -- after the straight accesses
 module _ (g : Over) (c : After-straight-end g) (start : Start c.args.mailbox.now
     (record { lane = c.args.lane; cell = c.args.cell; claim = c.requires.held.claim }) c.args.fields.now) where
-  -- the claim at the start, the consumer that holds it, and the seat after the accesses
+  -- the claim at the start, and the consumer that holds it
   abbrev first : Claim
   first = c.requires.held.claim
 
@@ -86,18 +86,18 @@ module _ (g : Over) (c : After-straight-end g) (start : Start c.args.mailbox.now
       (g.R.Rng.stream c.args.rng.now) (c.args.left.now - 1) c.straight-end.result
       c.straight-end.new.seat (g.R.Rng.stream c.straight-end.new.rng)) c.mailbox.view_is c.straight-end.ensures.steps
 
-  -- how many they are, and the claim at their end
+  -- how many straight accesses there are, and the claim after them
   abbrev made : ℕ
   made = straight_on.2
 
   abbrev last : Claim
   last = straight_on.3
 
-  -- with what is left they are the budget of the straight accesses
+  -- the straight accesses and what they left add up to the budget less one access, which is kept for the item
   sum : made + c.straight-end.result.left ≡ c.args.left.now - 1
   sum = straight_on.4
 
-  -- they are accesses of the claim
+  -- the straight accesses are accesses of the claim `first`
   steps : AreSeatSteps c.args.mailbox.now.claims.layout c.args.cell first c.args.fields.now.seat
       (g.R.Rng.stream c.args.rng.now) made last c.straight-end.new.seat (g.R.Rng.stream c.straight-end.new.rng)
   steps =
@@ -107,11 +107,11 @@ module _ (g : Over) (c : After-straight-end g) (start : Start c.args.mailbox.now
       (standing_same c.args.mailbox.now.claims.layout d 0 d straight_on.0 straight_on.1 first c.requires.held.standing)
       straight_on.5
 
-  -- the claim at their end has the stage
+  -- the claim after the straight accesses has the stage that `straight` returned
   stage_is : claim_stage last ≡ c.straight-end.result.stage
   stage_is = straight_on.6.0
 
-  -- if the claim is won, an access is left of the whole budget
+  -- if the claim is won, its accesses, the load of the item and what is left add up to the whole budget
   item_left : c.straight-end.result.stage ≡ stage.Won → made + 1 + c.straight-end.result.left ≡ c.args.left.now
   item_left won =
       let d = c.args.fields.now.seat.consumer in
@@ -122,7 +122,7 @@ module _ (g : Over) (c : After-straight-end g) (start : Start c.args.mailbox.now
       let all = sum in
       omega (arith, some, all, c.if-left-eq0.false)
 
-  -- accesses that led to the start of these lead on
+  -- if steps led to a consumer that holds a new claim there, `HasCompeted` holds after the straight accesses
   ran_on : (from : ConsumerView) (n : ℕ) (t : Stream) (other : Claim)
       → IsStanding c.args.mailbox.now.claims.layout c.args.fields.now.seat.consumer 0 c.args.fields.now.seat.consumer
       other
@@ -242,7 +242,7 @@ returns-in-Undecided g c =
           c.args.fields.now.notes c.leave-in-Undecided.new.notes c.leave-in-Undecided.ensures.notes c.requires.wide;
     }
 
--- after straight accesses the consumer is at the cell with a claim that begins an object
+-- if the claim goes on after its straight accesses, the consumer is at the cell with a claim that begins an object
 pub run_rest-answer-requires-clause-held : goal.run_rest-answer-requires-clause-held
 run_rest-answer-requires-clause-held g c =
     let at = goal.at.run_rest-answer-requires-clause-held g c in
@@ -298,7 +298,7 @@ returns-in-Going-clause-pursued g c from n t other is m =
     (still_steps (base g at.After-has_history) c.args.lane c.args.cell first (made g at.After-straight-end s + n) end t
     (g.R.Rng.stream c.straight-end.new.rng) from c.straight-end.new.seat going so))
 
--- ---- no access may be made: the claim is held before its first
+-- ---- no budget is left: the consumer holds the claim, which has made no access
 pub new-claim-requires : goal.new-claim-requires
 new-claim-requires g c =
     let at = (goal.at.new-claim-requires g c).After-has_history in

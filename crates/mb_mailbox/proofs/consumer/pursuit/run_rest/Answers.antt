@@ -14,7 +14,7 @@ use Rattle.mb_mailbox.proofs.Starts.{PendingClaim, Start, here, table}
 use Rattle.mb_mailbox.proofs.consumer.pursuit.run_rest.{Given.Over, Goals.After-has_history, Goals.After-standing-claim, Goals.After-stay}
 use Rattle.mb_mailbox.proofs.consumer.pursuit.run_rest.Goals as goal
 
--- a claim that goes on is not won
+-- if two places at claims are equal and the first claim goes on, the second is not won
 held_goes : (j k : ℕ) (x y : Claim) → At j x ≡ At k y → claim_stage x ≡ stage.Going → claim_stage y ≡ stage.Won → ⊥
 held_goes j k x y e going won =
     let same : x ≡ y = cc in
@@ -26,7 +26,7 @@ module _ (g : Over) (c : After-has_history g) where
   abbrev pending : PendingClaim
   pending = record { lane = c.args.lane; cell = c.args.cell; claim = c.requires.held.claim }
 
-  -- that claim may go on from these fields
+  -- `Start` holds: the consumer with these fields is the mailbox's, and holds this claim
   start : Start c.args.mailbox.now pending c.args.fields.now
   start = record {
     held = c.requires.held.is;
@@ -36,7 +36,7 @@ module _ (g : Over) (c : After-has_history g) where
     loads = c.has_history.ensures;
   }
 
-  -- its object is one of the layout's, and its input is one of the consumers
+  -- the claim's object is one of the layout's, and its input is one of the consumers
   within : (c.args.end.now.object < length (kinds_of c.args.mailbox.now.claims.layout))
       × (c.args.end.now.value < consumer_count c.args.mailbox.now.claims.layout)
   within =
@@ -51,11 +51,11 @@ module _ (g : Over) (c : After-has_history g) where
       pending.claim (part_on seat.consumer c.args.cell seat.part) c.requires.held.standing path
 
 module _ (g : Over) (c : After-standing-claim g) where
-  -- the layout that the mailbox returned is its own
+  -- the layout that the mailbox's claims returned is the layout of the mailbox
   layout_is : c.args.mailbox.now.claims.layout ≡ c.layout-layout.result.now
   layout_is = sym (c.layout-layout.ensures ∙ ap (λ (v : MailboxView). v.claims.layout) c.mailbox.view_is)
 
-  -- the claim is that which the consumer holds
+  -- the claim that `Claim::standing` returned is the one that the consumer holds
   claim_is : c.requires.held.claim ≡ c.standing-claim.result
   claim_is =
       standing_same c.args.mailbox.now.claims.layout c.args.fields.now.seat.consumer c.args.end.now.object
@@ -83,12 +83,12 @@ module _ (g : Over) (c : After-stay g) (claim_is : c.requires.held.claim ≡ c.s
   abbrev was : ConsumerView
   was = with_fields c.args.fields.now
 
-  -- it is the one that holds the claim
+  -- with the places set by `stay` it is the consumer that holds the claim
   held_is : holding c.args.lane c.args.cell c.requires.held.claim was ≡ record was { places = c.stay.new.places.items }
   held_is = ap (λ (ps : List Place). record was { places = ps })
       (ap (λ z. slice_set c.args.fields.now.places.items c.args.lane (At c.args.cell z)) claim_is ∙ sym c.stay.ensures)
 
-  -- it stands at the claim
+  -- that consumer stands at the claim
   place_is : (there : Place) → slice_get c.args.fields.now.places.items c.args.lane ≡ Some there
       → slice_get c.stay.new.places.items c.args.lane ≡ Some (At c.args.cell c.standing-claim.result)
   place_is there is =
@@ -116,7 +116,7 @@ run_held-requires-clause-lane g c =
     ∙ length-set c.args.fields.now.places.items c.args.lane (At c.args.cell c.standing-claim.result)))
     c.requires.held.lane
 
--- the claim goes on
+-- the claim goes on, so it is not won, and `run_held` needs no budget
 pub run_held-requires-clause-won : goal.run_held-requires-clause-won
 run_held-requires-clause-won g c k claim there won =
     let at = goal.at.run_held-requires-clause-won g c in

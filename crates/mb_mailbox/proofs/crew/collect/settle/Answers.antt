@@ -31,7 +31,7 @@ loop-end-preserved g c =
       all_of = one.belongs;
     }
 
--- in each proof `all` says that the iterator is empty, so all ends were yielded
+-- in each proof below `all` says that the iterator is empty, so all ends were yielded
 pub returns-then-aborted-clause-aborted : goal.returns-then-aborted-clause-aborted
 returns-then-aborted-clause-aborted g c = λ none.
     let all = all_seen _ _ _ c.loop-end.invariant.rest

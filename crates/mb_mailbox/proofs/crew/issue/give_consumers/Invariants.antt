@@ -6,7 +6,7 @@ use Rattle.mb_mailbox.specs.Given.{ArePollsGiven}
 use Rattle.mb_mailbox.specs.Runs.{IsJobOf}
 use Rattle.mb_mailbox.proofs.crew.issue.give_consumers.Given as goal
 
--- after the sources yielded so far: each has a job with a new consumer, and the hub has issued these consumers
+-- each source yielded so far has a job with a new consumer, which the hub has issued. Hub and jobs are the mailbox's
 abbrev pub invariant-loop-rng : goal.invariant-loop-rng
 invariant-loop-rng g l = record {
   rest : l.yielded ++ into_iter_items l.rng-iterator ≡ l.fn.rngs.items;

@@ -6,7 +6,7 @@ use Rattle.mb_mailbox.specs.Given.{ArePutsGiven}
 use Rattle.mb_mailbox.specs.Runs.{IsJobOf}
 use Rattle.mb_mailbox.proofs.crew.issue.give_producers.Given as goal
 
--- after the lists yielded so far: each has a job with a new producer, and the hub has issued these producers
+-- each list yielded so far has a job with a new producer, which the hub has issued. Hub and jobs are the mailbox's
 abbrev pub invariant-loop-list : goal.invariant-loop-list
 invariant-loop-list g l = record {
   rest : l.yielded ++ into_iter_items l.list-iterator ≡ l.fn.items.items;

@@ -4,7 +4,7 @@ use Rattle.std.specs.List.{AllZip}
 use Rattle.mb_mailbox.specs.Begun.{Keeps}
 use Rattle.mb_mailbox.proofs.crew.join.join_all.Given as goal
 
--- after the workers yielded so far: each has its end in `done`, which has room for the rest
+-- each worker yielded so far has its end in `done`, which has room for the rest
 abbrev pub invariant-loop-one : goal.invariant-loop-one
 invariant-loop-one g l = record {
   rest : l.yielded ++ into_iter_items l.one-iterator ≡ l.fn.begun.items;

@@ -5,7 +5,7 @@ use Rattle.mb_mailbox.specs.Begun.{Promises}
 use Rattle.mb_mailbox.specs.Runs.{ArePutsFirst, IsJobOf}
 use Rattle.mb_mailbox.proofs.crew.spawn.start_all.Given as goal
 
--- after the jobs yielded so far: each has its worker in `begun`, which has room for the rest
+-- each job yielded so far has its worker in `begun`, with room for the rest. Of the rest the producers' jobs come first
 abbrev pub invariant-loop-job : goal.invariant-loop-job
 invariant-loop-job g l = record {
   rest : l.yielded ++ into_iter_items l.job-iterator ≡ l.fn.jobs.items;

@@ -4,7 +4,7 @@ use Rattle.std.specs.List.{All, AllZip}
 use Rattle.mb_mailbox.specs.Runs.{IsEnd, IsJobOf}
 use Rattle.mb_mailbox.proofs.crew.threads.end_all.Given as goal
 
--- after the jobs yielded so far: each has its end in `done`, which has room for the rest
+-- each job yielded so far has its end in `done`, which has room for the rest. The rest are jobs of the mailbox
 abbrev pub invariant-loop-job : goal.invariant-loop-job
 invariant-loop-job g l = record {
   rest : l.yielded ++ into_iter_items l.job-iterator ≡ l.fn.jobs.items;

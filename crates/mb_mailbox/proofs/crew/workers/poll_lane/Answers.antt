@@ -9,8 +9,8 @@ use Rattle.mb_mailbox.proofs.Looks.{only_by}
 use Rattle.mb_mailbox.proofs.Marks.{apart, marked, marks_more}
 use Rattle.mb_mailbox.proofs.crew.workers.poll_lane.Goals as goal
 
--- In each proof `there` says that the mailbox has the lane, so the answer is not `NoLane`. Most clauses come twice:
--- for the answer `Ended`, and for any other
+-- `there` says that the mailbox has the lane, so the answer is not `NoLane`. Most clauses come twice: for the answer
+-- `Ended`, and for any other
 pub returns-in-Ended-clause-read : goal.returns-in-Ended-clause-read
 returns-in-Ended-clause-read g c = λ p e.
     let there : c.poll-poll.result ≢ poll.NoLane = λ z.

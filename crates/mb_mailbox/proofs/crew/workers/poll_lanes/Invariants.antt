@@ -4,7 +4,7 @@ use Rattle.mb_mailbox.specs.Consumers.{IsConsumerOf}
 use Rattle.mb_mailbox.specs.Jobs.{HasReadMarked, IsOnLanes, IsSameConsumer, accesses_made, count_marks, ends_met}
 use Rattle.mb_mailbox.proofs.crew.workers.poll_lanes.Given as goal
 
--- before this call the marked lanes are read to their ends, and the consumer made only the accesses of its calls before
+-- before each call the marked lanes, all of the run, are read to their ends. All accesses are of the calls so far
 abbrev pub invariant-loop-call : goal.invariant-loop-call
 invariant-loop-call g l = record {
   place : l.at ≤ l.end;

@@ -4,7 +4,7 @@ use Rattle.mb_mailbox.specs.Producers.{FoundNoCell, IsProducerOf, IsSameLane, is
 use Rattle.mb_mailbox.specs.declared.gate.Who.TheVariants as who
 use Rattle.mb_mailbox.proofs.crew.workers.put_items.Given as goal
 
--- before item i: the items before it are put, and the gate let each of their calls through
+-- the items before item i are put, each into a cell, and the gate let these calls through. The lane has not ended
 abbrev pub invariant-loop-i : goal.invariant-loop-i
 invariant-loop-i g l = record {
   all_of : IsProducerOf l.mailbox l.producer;

@@ -15,8 +15,8 @@ add_outlines-requires g c =
     let room = c.requires.room in
     omega (arith, count, len, next, room)
 
--- In each proof below `more` says that the list has the diaries that were there and then the outlines. `part` says that
--- the notes are added to these outlines
+-- In the proofs below `more` says that the list has the diaries that were there and then the outlines. `part` says that
+-- these outlines are the slice to which `fill` adds the notes
 pub fill-requires : goal.fill-requires
 fill-requires g c =
     let h = c.args.self.now in

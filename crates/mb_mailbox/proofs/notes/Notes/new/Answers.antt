@@ -5,7 +5,7 @@ use Rattle.mb_mailbox.specs.declared.notes.Mark.{Mark}
 use Rattle.mb_mailbox.proofs.LaneLists.{lanes_counted, no_lists, none_counted}
 use Rattle.mb_mailbox.proofs.notes.Notes.new.Goals as goal
 
--- both lists are empty: in both proofs they are replaced by the empty list
+-- the lists of marks and of words are empty: both proofs replace them by the empty list
 pub invariant_of-result : goal.invariant_of-result
 invariant_of-result g c =
     subst (λ (z : List Mark × List ℕ). AreMarked c.args.lanes z.0 z.1)

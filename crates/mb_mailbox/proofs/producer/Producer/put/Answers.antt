@@ -4,7 +4,7 @@ use Rattle.mb_mailbox.specs.Producers.{IsProducer, IsPutInto, ProducerView}
 use Rattle.mb_mailbox.proofs.Putting.{producer_at}
 use Rattle.mb_mailbox.proofs.producer.Producer.put.Goals as goal
 
--- each proof uses the law on an offer that returned a cell and two pushes. `s` is the producer before, by its fields
+-- each proof uses the law on an offer that returned a cell and two pushes. `s` is the producer before them
 pub push_reserved-requires : goal.push_reserved-requires
 push_reserved-requires g c =
     let s = producer_at c.self.inside.seat c.self.inside.items.items in
