@@ -49,7 +49,7 @@ busy_at (Full x) = (λ e. cc, λ e. cc)
 busy_at (Ended None) = (λ e. cc, λ e. cc)
 busy_at (Ended (Some x)) = (λ e. cc, λ e. cc)
 
--- an offer is refused as Full exactly after a fetch-add that found no cell
+-- an offer is refused as Full exactly after a fetch-add that found no cell, until the end mark
 full_at : (phase : Phase) → (stage_offer_refusal (stage_of phase) ≡ Some offer.Full) ↔ (found_none phase ≡ true)
 full_at Open = (λ e. cc, λ e. cc)
 full_at (Offered x) = (λ e. cc, λ e. cc)
