@@ -178,7 +178,7 @@ event_again z n (Step consumer lane word) sized is =
       lt-ltb consumer z.consumers is.1,
     ) refl
 
--- the lines of events, from line n on, are read as these events
+-- the lines of events, from line n on, are read as these events, if they are not too many
 pub events_again : (z : Sizes) (n : ℕ) (events : List Event)
     → setup_refusal z.producers z.consumers z.cells z.pairs ≡ None
     → AllByRecursion (IsEventOf z) events → n + length events ≤ MAX_EVENTS + 2

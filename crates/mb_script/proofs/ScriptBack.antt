@@ -81,7 +81,7 @@ place_takes z n (Step consumer lane word) low has small = (
   small.2,
 )
 
--- if an event passed the tests of its lane and its consumer, it is an event of that world
+-- if an event passed the tests of its lane and its consumer for the world of these sizes, it is an event of that world
 placed_takes : (z : Sizes) (n : ℕ) (d e : Event) → placed (plan_for z) n d ≡ Ok e → Small d → (d ≡ e) × IsEventOf z d
 unfolding placed
 placed_takes z n d e read small =

@@ -54,7 +54,8 @@ moved-to who to seats x is = there (cases_process who x)
     there (inr other) = is
 
 -- ---- what a step leaves for the seats that did not make it
--- a step from seating t to u spares this seat: each process that stands there or at the hub keeps its seat and its part
+-- a step from seating t to u spares this seat: the hub stays where it is, and who was issued stays so. Who stands here
+-- or at the hub keeps seat and part. If this seat is the hub's, nobody is issued, and the roster stays as it is
 pub record Spares (t u : Seating) (roster more seat : ℕ) : Type 0 where
   pub hubs : u.hub ≡ t.hub
   pub enrolled : (who : Process) → IsEnrolled t who → IsEnrolled u who

@@ -30,7 +30,7 @@ abbrev pub IsEnrolled : Seating → Process → Type 0
 IsEnrolled t (Producer p) = p < t.lanes
 IsEnrolled t (Reader r) = r < t.readers
 
--- the view is the hub's: its roll has a place for each process issued, and the parts in it are those of the history
+-- the view is the hub's: its roll has a place for each process issued, and each part in it is that of one at the hub
 pub record IsHub (size : PoolSize) (t : Seating) (seat : ℕ) (own : PoolSize) (roll : Roll) : Type 0 where
   pub sized : own ≡ size
   pub here : seat ≡ t.hub
