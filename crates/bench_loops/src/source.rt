@@ -1,4 +1,4 @@
-//! Random words.
+//! Two sources of words: random words by shifts, and words that are all 0.
 ghost use Rattle.std.specs.Prelude.{ℕ};
 ghost use Rattle.rand_core.specs.Steps.{stream_of};
 ghost use Rattle.bench_loops.specs.Shifts.{shift_steps, word_after};

@@ -10,7 +10,7 @@ abbrev pub by_default : ℕ → ℕ → ℕ → Plan
 by_default producers consumers cells =
     shaped_plan (record { fast = false; last = true }) producers consumers cells 0 Bits
 
--- what it makes if it is asked for the shape `FastLast`: a fast path, a last object, four pairs and the bit table
+-- what `hz_mailbox_new` makes if asked for the shape `FastLast`: a fast path, a last object, four pairs, the bit table
 abbrev pub by_fast_last : ℕ → ℕ → ℕ → Plan
 by_fast_last producers consumers cells =
     shaped_plan (record { fast = true; last = true }) producers consumers cells 4 Bits

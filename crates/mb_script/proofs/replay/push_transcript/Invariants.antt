@@ -1,4 +1,4 @@
--- Loop invariants of `push_transcript`: it applies the events in their order, and appends the line of each with its
+-- Loop invariants of `push_transcript`, which applies the events in their order, and appends the line of each with its
 -- answer.
 use Rattle.std.proofs.Common.{◌≡◌, take, string_bytes}
 use Rattle.mb_world.specs.World.{WorldHistory}

@@ -1,4 +1,4 @@
--- Loop invariants of `read_on`: reads a lane on from the bookmark, with at most `looks` looks.
+-- Loop invariants of `read_on`, which reads a lane on from the bookmark, with at most `looks` looks.
 use Rattle.std.proofs.Common.{◌≡◌}
 use Rattle.mb_cells.specs.Vocabulary.{MayRead, word_of}
 use Rattle.test_libraries.proofs.shared_cells.read_on.Given as goal

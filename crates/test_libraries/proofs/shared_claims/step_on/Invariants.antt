@@ -1,4 +1,4 @@
--- Loop invariants of `step_on`: makes `most` steps of a claim with the random word 0, or fewer if it ends before.
+-- Loop invariants of `step_on`, which makes `most` steps of a claim with the random word 0, or fewer if it ends before.
 use Rattle.std.specs.Prelude.{◌≡◌, ◌≢◌, ℕ}
 use Rattle.mb_claim.specs.Vocabulary.{IsClaimIn, consumer_of, part_on}
 use Rattle.test_libraries.proofs.shared_claims.step_on.Given as goal
