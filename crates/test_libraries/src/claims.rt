@@ -25,7 +25,7 @@ pub(crate) fn stored(consumer: u32, object: u32, reg: Reg, value: u64) -> ClaimE
     }
 }
 
-/// The steps in which consumer 0 wins before consumer 1 comes. The last turn is one of consumer 0, without an access.
+/// The steps in which consumer 0 wins before consumer 1 comes. The last is of consumer 0 again, and makes no access.
 pub(crate) const WON_AND_LOST: [(u64, u64); 12] = [
     (0, 0),
     (0, 0),

@@ -6,7 +6,7 @@ use Rattle.mb_world.specs.WorldState.{IsWorldAfter}
 use Rattle.mb_script.specs.Transcribed.{IsTranscribed}
 use Rattle.mb_script.proofs.replay.push_transcript.Given as goal
 
--- the events so far are applied, and their transcript is appended
+-- the world's setup is as at first, the events so far are applied to it, and their transcript is appended
 abbrev pub invariant-loop-event : goal.invariant-loop-event
 invariant-loop-event g l = record {
   setup : l.world.setup ≡ l.fn.world.setup;
