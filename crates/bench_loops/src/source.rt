@@ -60,7 +60,7 @@ impl Rng for Source {
     }
 }
 
-/// A source of words that are all 0. A claim that is one exchange draws a word, and does the same whatever it is.
+/// A source of words that are all 0. A claim that is one exchange draws a word, and does the same whatever the word is.
 #[derive(Drop)]
 pub struct Zeros;
 

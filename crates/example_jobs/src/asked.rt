@@ -9,7 +9,7 @@ use std::alloc::Global;
 /// The most lanes that a mailbox has.
 pub const MAX_LANES: usize = 16;
 
-/// How large a run is.
+/// How large a run is, and what its random words are seeded with.
 #[derive(Clone, Copy)]
 pub struct Asked {
     /// How many jobs there are, 1 to 2^24.

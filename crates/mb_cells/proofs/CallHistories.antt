@@ -19,7 +19,7 @@ use Rattle.mb_cells.proofs.LaneSteps.{finished_lane, offered_lane, pushed_lane, 
 use Rattle.mb_cells.proofs.Names.{own_process, same_twice}
 use Rattle.mb_cells.proofs.Parts.{part-other, part-own}
 
--- calls agree with a history: they say the same of counter, items, linked cells, ends and stages
+-- calls agree with a history: both say the same of the counter, the cells' items, linked cells, ends and stages
 pub record Tells (cells : ℕ) (calls : List Call) (h : History) : Type 0 where
   pub adds : value_in Counter h ≡ fetch_adds_by calls
   pub items : (k : ℕ) → k < cells → item_of k h ≡ item_by k calls

@@ -1,4 +1,4 @@
--- Loop invariants of `read_all`, which reads to the end, but stops after the first byte past the limit, `MAX_SCRIPT_LEN`.
+-- Loop invariants of `read_all`, which reads to the end, but stops after the first byte past `MAX_SCRIPT_LEN`.
 use Rattle.std.proofs.Common.{◌≡◌, ◌≤◌, ◌+◌, ◌-◌, length}
 use Rattle.std.specs.Io.KnownBytes.{Consumes}
 use Rattle.mb_script.specs.declared.transfer.TheConstants.{MAX_SCRIPT_LEN}
