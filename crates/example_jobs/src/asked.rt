@@ -49,7 +49,7 @@ impl Asked {
         (before(producer), before(producer.wrapping_add(1)))
     }
 
-    /// The lane that this worker polls first. The workers are dealt to the lanes in turn.
+    /// The lane that this worker polls first. The workers are dealt to the lanes one after the other.
     pub fn first_lane(&self, worker: u64) -> usize {
         worker.checked_rem(self.producers).unwrap_or(0) as usize
     }

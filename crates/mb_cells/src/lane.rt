@@ -14,7 +14,7 @@ pub enum LaneStage {
     Open,
     /// Its fetch-add gave this cell for this item.
     Offered {
-        /// The cell given.
+        /// The cell that the fetch-add gave.
         cell: u32,
         /// The item offered for it.
         item: u64,

@@ -42,7 +42,7 @@ same_head k a us (b ∷ bs) e = (bs, cc, cc)
 abbrev from_line : Bool → Result Event Fault → Result (List Event) Fault → Result (List Event) Fault
 from_line many r rest = cond many (Err TooManyEvents) (r >>= (λ event. rest >>= (λ events. Ok (event ∷ events))))
 
--- a fault of the lines from line n on is not about a line before n, if this holds from line n + 1 on
+-- a fault of the lines from n on, n up to MAX_EVENTS + 2, is about no line before n, if this holds from n + 1 on
 least_step : (n m : ℕ) (many : Bool) (r : Result Event Fault) (rest : Result (List Event) Fault)
     (e : Fault) → n ≤ MAX_EVENTS + 2
     → At n r → line_of e ≡ Some m → from_line many r rest ≡ Err e → (many ≡ false → rest ≡ Err e → suc n ≤ m) → n ≤ m
@@ -58,7 +58,7 @@ least_step n m false (Ok x) (Err d) e low at about is on = let more = on refl is
 below_by : (n : ℕ) → nat_lt (MAX_EVENTS + 1) n ≡ false → suc n ≤ MAX_EVENTS + 2
 below_by n test = let low : n ≤ MAX_EVENTS + 1 = grind (arith, nat_tests, test) in omega (arith, low)
 
--- a fault of the lines from line n on is not about a line before n
+-- a fault of the lines from line n on, for n up to MAX_EVENTS + 2, is about no line before n
 pub events_least : (plan : Plan) (n m : ℕ) (us : List (List ℕ)) (e : Fault) → n ≤ MAX_EVENTS + 2
     → events_of plan n us ≡ Err e
     → line_of e ≡ Some m → n ≤ m
@@ -77,7 +77,7 @@ same_step false (Err d) rest rest2 e is on = is
 same_step false (Ok x) (Ok ys) rest2 e is on = absurd (cc)
 same_step false (Ok x) (Err d) rest2 e is on = rw (on refl is) refl
 
--- lists of lines that begin alike have the same fault, if it is about a line of that beginning
+-- if the fault of the lines from n on, n up to MAX_EVENTS + 2, is about the k-th, others with the same first k have it
 events_same : (plan : Plan) (n k m : ℕ) (us bs : List (List ℕ)) (e : Fault) → n ≤ MAX_EVENTS + 2
     → events_of plan n us ≡ Err e
     → line_of e ≡ Some m → n + k ≡ suc m → take k us ≡ take k bs → events_of plan n bs ≡ Err e

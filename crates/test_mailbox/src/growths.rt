@@ -1,4 +1,4 @@
-//! Calls of a mailbox, of its hub and of `work`, with each of their allocations refused in turn, and then served.
+//! Calls of a mailbox, of its hub and of `work`, with their allocations refused one after the other, and then served.
 
 use crate::compare::same_at;
 use crate::mailboxes::Scene;
