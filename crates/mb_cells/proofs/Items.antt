@@ -237,7 +237,7 @@ pub record IsItemOf (h : History) (k v : ℕ) : Type 0 where
   pub fetched : Has h (fetch lane entry)
   pub is_put : Has (linked_cells lane h) k
 
--- if a reader loaded v from the item word of cell k, then k is linked, and v is the item of its fetch-add
+-- if a reader loaded v from the item word of cell k, then k is linked, and v is the item of the fetch-add that gave k
 pub item_load : (size : PoolSize) (h : History) (r k v : ℕ) → IsPoolLawful size h → HasLoaded r (Item k) v h
     → IsItemOf h k v
 item_load size [] r k v l has = absurd has
