@@ -61,7 +61,7 @@ none_cell k e = cc
 end_cell : (k : ℕ) → Ended ≡ Cell k → ⊥
 end_cell k e = cc
 
--- on a lane whose part the reader knows, the load finds what that lane's producer left. The look returns what that says
+-- on a lane whose part the reader knows, the load finds what the lane's producer left. The look returns what this says
 pub returns-clause-known : goal.returns-clause-known
 returns-clause-known g c = λ p theirs at own.
     let me = c.seat.inside.seat.me in
