@@ -105,7 +105,7 @@ line_takes z n line e read =
     subst (λ (f : Event). (line ≡ join_with_byte 32 (event_words f)) × IsEventOf z f) d.0 (spelled, d.1)
 
 -- ---- all lines of a script
--- equal lines in front of equal lists of lines are equal lists
+-- equal lines in front of equal lists of lines make equal lists
 line_before : (line line2 : List ℕ) (lines lines2 : List (List ℕ)) → line ≡ line2 → lines ≡ lines2
     → line ∷ lines ≡ line2 ∷ lines2
 line_before line line2 lines lines2 e f = ap (λ (l : List ℕ). l ∷ lines) e ∙ ap (λ (t : List (List ℕ)). line2 ∷ t) f
