@@ -53,7 +53,7 @@ longer_has [] k b e = absurd (cc)
 longer_has (x ∷ xs) zero b e = e
 longer_has (x ∷ xs) (suc k) b e = longer_has xs k b e
 
--- each part in a list after such a number is added was in the list before
+-- after a number without a part is added to a list of parts, each part in the list was there before
 pub longer_had : (xs : PartList) (k : ℕ) (done : History) → slice_get (xs ++ None ∷ []) k ≡ Some (Some done)
     → slice_get xs k ≡ Some (Some done)
 longer_had [] zero done e = absurd (cc)

@@ -17,7 +17,7 @@ abbrev pub roster_of : PoolSize → ℕ
 roster_of size = pool_words size
 
 -- how the parts of one history are seated: the history, how many lanes and readers were issued, and which seat is the
--- hub's. For each process it has the one seat with its part
+-- hub's. For each process it says which one seat has its part
 pub record Seating : Type 0 where
   pub history : History
   pub lanes : ℕ

@@ -1,4 +1,4 @@
--- Proof of `LaneSeat::has_ended`: whether the producer has stored the end mark of the lane.
+-- Proof of `LaneSeat::has_ended`, which returns whether the producer has stored the end mark of the lane.
 use Rattle.std.proofs.Common.{◌≡◌, Bool, true, false, refl, sym, ap, ◌∙◌, subst}
 use Rattle.std.specs.Option.{option_eq}
 use Rattle.std.specs.Prelude.{Option, Some, None}

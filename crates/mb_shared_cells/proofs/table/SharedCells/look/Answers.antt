@@ -1,4 +1,4 @@
--- Proof of `SharedCells::look`, which returns what comes after the cursor, by one load: a cell, the end mark or nothing.
+-- Proof of `SharedCells::look`, which returns by one load what comes after the cursor: nothing, a cell or the end mark.
 use Rattle.std.proofs.Common.{ap, arith, inl, ne_eqb, refl, subst, sym, ℕ, ◌+◌, ◌-◌, ◌<◌, ◌∙◌, ◌≡◌, ◌≢◌}
 use Rattle.std.specs.Prelude.{Some, slice_get}
 use Rattle.mb_cells.specs.Vocabulary.{Gave, look_of, word_of}
