@@ -22,7 +22,7 @@ pub fn readers_follow_lanes()
     ensures met { (size : PoolSize) (h : History) (r p : ℕ) (ks : List ℕ) → IsPoolLawful size h
         → HasMet r p ks h → IsStart ks (linked_cells p h) }
 
-    // What a reader met follows from its own part alone.
+    // The same holds of the cells that a reader has met by its own part.
     ensures part { (size : PoolSize) (h : History) (r p : ℕ) (ks : List ℕ) → IsPoolLawful size h
         → HasMet r p ks (part (Reader r) h) → IsStart ks (linked_cells p h) }
 

@@ -123,8 +123,8 @@ setup_least (Err d) f m e at about is on =
     let same = one_line d e 1 m at (err_is d e is) about in omega (arith, same)
 setup_least (Ok x) f m e at about is on = least_behind x (f x) m e is (on x)
 
--- if the first m lines of two scripts are the same, and one has a fault about line m, the other has it, too. Lines count
--- from 1, so no fault is about line 0
+-- if the first m lines of two scripts are the same, and one has a fault about line m, the other has it, too. Lines
+-- count from 1, so no fault is about line 0
 lines_same : (m : ℕ) (us bs : List (List ℕ)) (e : Fault) → lines_script us ≡ Err e → line_of e ≡ Some m
     → take m us ≡ take m bs → lines_script bs ≡ Err e
 unfolding lines_script
