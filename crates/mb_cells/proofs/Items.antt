@@ -326,7 +326,7 @@ cell_within size h p k l has =
       lower size.cells k place.entries place.at.below (subst (λ z. Has z k) is has),
     )
 
--- in the producer's own part, too, the item of a cell that it got is the item of its fetch-add
+-- in a producer's own part, too, the item of a cell that it got is the item of the fetch-add that gave the cell
 item_of-part : (h : History) (p : ℕ) (e : Entry) → IsCounted h → Has h (fetch p e)
     → item_of e.cell (part (Producer p) h) ≡ e.value
 item_of-part [] p e m has = absurd has

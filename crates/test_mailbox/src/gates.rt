@@ -69,7 +69,7 @@ fn all_workers_come_to_the_gate_at_one_time(rt: HostRuntime) {
 }
 
 /// A gate that lets each call in. It checks that a worker's calls come as 1, 2 and so on, and that each leaves before
-/// the next.
+/// the next one enters.
 #[derive(Drop)]
 struct Record {
     /// How often each of two producers and two consumers entered or left.
