@@ -132,7 +132,7 @@ add_in p (x ∷ es) e (inr (inl is)) = absurd (no_store p x.value (Item x.cell) 
 add_in p (x ∷ es) e (inr (inr (inl is))) = inl (same_cell p x e is)
 add_in p (x ∷ es) e (inr (inr (inr has))) = inr (add_in p es e has)
 
--- n may be the number of a fetch-add since the last link: a cell's if an item is pending, past the cells if one found none
+-- n may be a fetch-add's number since the last link: a cell's while an item is pending, past the cells if Full or Ended
 abbrev IsLast : ℕ → Phase → ℕ → Type 0
 IsLast cells Open n = ⊥
 IsLast cells (Offered x) n = n < cells
