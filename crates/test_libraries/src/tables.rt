@@ -74,7 +74,7 @@ fn middle_tables(rt: HostRuntime) {
         // lexicographic order set 2 would have 0, 1, 2 and 5.
         (64, 0, (8, 64, Some((15, 240)))),
         (64, 2, (8, 64, Some((27, 228)))),
-        // The sets of two of four registers, by rising mask: a value's write quorum is one, its read quorum the other two.
+        // The sets of two of four registers, by rising mask: a write quorum is one of them, its read quorum the rest.
         (6, 0, (4, 6, Some((3, 12)))),
         (6, 1, (4, 6, Some((5, 10)))),
         (6, 2, (4, 6, Some((6, 9)))),
