@@ -1,4 +1,4 @@
--- A source of words 0.
+-- A source of words that are all 0.
 use Rattle.std.specs.Prelude.{replicate}
 use Rattle.rand_core.specs.Stream.{Stream}
 

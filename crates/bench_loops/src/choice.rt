@@ -3,7 +3,7 @@ use mb_claim::{MAX_CELLS, Shape};
 use mb_quorum::TableName;
 use mb_world::Setup;
 
-/// How many pairs of deciding objects each cell has.
+/// How many pairs of deciding objects each cell has, except with the shape `exchange`, which has none.
 const PAIRS: u64 = 4;
 
 /// What is done again and again.

@@ -13,9 +13,9 @@ use std::fmt;
 /// The counts of all mailboxes together.
 #[derive(Clone, Copy, Debug, Default)]
 pub struct Post {
-    /// The items that producers put.
+    /// How many items producers put.
     pub items: u64,
-    /// The calls of consumers that ended with a note.
+    /// How many calls of consumers ended with a note.
     pub notes: u64,
     /// The sum of the items that consumers took.
     pub taken: u64,

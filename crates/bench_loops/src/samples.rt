@@ -2,7 +2,7 @@
 ghost use Rattle.std.specs.Prelude.{◌≡◌};
 ghost use Rattle.bench_loops.specs.Shifts.{word_after};
 
-/// The words that follow 1 and 0 by shifts, and what one shift alone would give.
+/// The words that follow 1 and 0 by shifts. The one after 1 is not what one shift alone would give.
 pub fn words_are_shifted()
     ensures first { word_after 1 ≡ (1082269761, 1082269761) }
     ensures none { word_after 0 ≡ (0, 0) }

@@ -1,4 +1,4 @@
-//! Random words.
+//! Two sources of words: random words by shifts, and words that are all 0.
 ghost use Rattle.std.specs.Prelude.{ℕ};
 ghost use Rattle.rand_core.specs.Steps.{stream_of};
 ghost use Rattle.bench_loops.specs.Shifts.{shift_steps, word_after};
@@ -60,7 +60,7 @@ impl Rng for Source {
     }
 }
 
-/// A source of words that are all 0. A claim that is one exchange draws a word, and does the same whatever it is.
+/// A source of words that are all 0. A claim that is one exchange draws a word, and does the same whatever the word is.
 #[derive(Drop)]
 pub struct Zeros;
 

@@ -6,7 +6,7 @@ use mb_claim::{Layout, play};
 use mb_quorum::TableName;
 
 fn main(rt: HostRuntime) -> Result<()> {
-    // Two consumers, one pair of deciding objects, the table of bits. A step is a consumer and its random word.
+    // Two consumers, one pair of deciding objects, the table of bits. A step is named by its consumer and random word.
     let layout = Layout::new(2, 1, TableName::Bits)?;
     let (a, b) = ((0, 0), (1, 0));
     let apart = [a, a, a, a, a, a, a, b, b, b, b];

@@ -9,7 +9,7 @@ use std::alloc::Global;
 /// The most lanes that a mailbox has.
 pub const MAX_LANES: usize = 16;
 
-/// How large a run is.
+/// How large a run is, and what its random words are seeded with.
 #[derive(Clone, Copy)]
 pub struct Asked {
     /// How many jobs there are, 1 to 2^24.
@@ -49,7 +49,7 @@ impl Asked {
         (before(producer), before(producer.wrapping_add(1)))
     }
 
-    /// The lane that this worker polls first. The workers are dealt to the lanes in turn.
+    /// The lane that this worker polls first. The workers are dealt to the lanes one after the other.
     pub fn first_lane(&self, worker: u64) -> usize {
         worker.checked_rem(self.producers).unwrap_or(0) as usize
     }

@@ -1,4 +1,4 @@
-//! Which jobs were run, and the sum of their results.
+//! How often each job was run, and the sum of the results.
 
 use std::alloc::{AllocError, Global};
 use std::fmt;

@@ -91,7 +91,7 @@ fn run_jobs(
     let mut open = lanes;
     let mut lane = if first < lanes { first } else { 0 };
     let mut taken = 0;
-    // Rattle wants every loop to end. This one would, after more turns than anybody lives to see.
+    // Rattle wants every loop to end. This one would, after more passes than anybody lives to see.
     for turn in 0..u64::MAX {
         if taken == shift || open == 0 {
             break;

@@ -1,4 +1,4 @@
--- What a call does to what its handles lead to, and the numbers with which C names tables and results.
+-- What a call does to what its handles lead to, a consumer's random words, and what numbers mean to C.
 use Rattle.std.specs.Prelude.{◌≡◌, ℕ, if◌then◌else◌, nat_eq, List, Option, None, Some, slice_get}
 use Rattle.rand_core.specs.Steps.{steps_u32, stream_of}
 use Rattle.rand_core.specs.Stream.{Stream}

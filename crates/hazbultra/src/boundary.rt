@@ -22,7 +22,7 @@ pub struct SetupIn {
     pub last: bool,
 }
 
-/// The numbers of one lane of a report.
+/// What C reads of one lane of a report, beside the items themselves.
 #[repr(C)]
 #[derive(Clone, Copy)]
 pub struct LaneOut {
@@ -34,7 +34,7 @@ pub struct LaneOut {
     pub ended: bool,
 }
 
-/// The numbers of one diary of a report.
+/// What C reads of one diary of a report, beside the notes themselves.
 #[repr(C)]
 #[derive(Clone, Copy)]
 pub struct DiaryOut {
@@ -50,7 +50,7 @@ pub struct DiaryOut {
 pub struct NoteOut {
     /// The item that was taken, or the consumer to which it is lost, or 0.
     pub value: u64,
-    /// The number of the kind.
+    /// The number of the kind: took 1, lost 2, undecided 3.
     pub kind: u32,
 }
 

@@ -80,7 +80,7 @@ fn take_back(hub: &mut BoundHub<Global>, part: &mut Handle) -> u32
 }
 
 /// Ends the mailbox. The report takes over the box of its hub. The call returns `BAD_HANDLE` if `hub` leads to no hub
-/// or `report` to something already. It returns `MISSING`, and writes the counts, if something is still out, and
+/// or `report` to something already. It returns `MISSING`, and writes how many, if some were not returned, and
 /// `NO_MEMORY` if memory ran out. After each of these the hub is as it was.
 #[unsafe(no_mangle)]
 pub extern "C" fn hz_gather(
@@ -141,7 +141,7 @@ pub extern "C" fn hz_gather(
     }
 }
 
-/// Writes the counts of a refusal, and returns its code.
+/// Returns the code of a refusal. If some were not returned, it writes how many.
 fn tell(why: GatherFault, missing: &mut MissingOut) -> u32
     ensures missing { result ≡ MISSING
         → why ≡ Missing missing.new.producers missing.new.consumers }

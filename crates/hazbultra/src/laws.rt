@@ -1,5 +1,5 @@
-//! Laws of mailboxes as plain Rust makes them by default, and samples of what this crate defines. The functions compute
-//! nothing: their contracts are the laws.
+//! Laws of mailboxes as plain Rust makes them by default and by `FastLast`, and samples of what this crate defines.
+//! The functions compute nothing: their contracts are the laws and the samples.
 ghost use Rattle.std.specs.Prelude.{ℕ, ◌≡◌, ◌+◌, [], List, None, Some, false, length, true};
 ghost use Rattle.rand_chacha.specs.ChaCha.{of_seed};
 ghost use Rattle.mb_quorum.specs.declared.table.TableName.TheVariants.{Bits, Middle};

@@ -50,7 +50,7 @@ pub extern "C" fn hz_report_size(report: &mut Handle, lanes: &mut u64, consumers
     }
 }
 
-/// Writes the numbers of one lane.
+/// Writes how many items were put into a lane, how many of them are left, and whether the lane has ended.
 #[unsafe(no_mangle)]
 pub extern "C" fn hz_report_lane(report: &mut Handle, lane: u64, out: &mut LaneOut) -> u32
     ensures told { result ≡ DONE → ReportHas (λ r. (l : LaneView)
@@ -82,7 +82,7 @@ pub extern "C" fn hz_report_lane(report: &mut Handle, lane: u64, out: &mut LaneO
     }
 }
 
-/// Writes the numbers of one diary.
+/// Writes how many notes a diary has, and whether a claim after them is begun.
 #[unsafe(no_mangle)]
 pub extern "C" fn hz_report_diary(
     report: &mut Handle,

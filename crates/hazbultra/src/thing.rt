@@ -5,7 +5,7 @@ use rand_chacha::ChaCha8Rng;
 use rand_core::Rng;
 use std::alloc::Global;
 
-/// A source of words that are all 0. A claim that is one exchange draws a word, and does the same whatever it is.
+/// A source of words that are all 0. A claim that is one exchange draws a word, and does the same whatever the word is.
 #[derive(Drop)]
 pub struct Zeros;
 

@@ -29,7 +29,7 @@ fn main(rt: HostRuntime) -> ExitCode {
         }
         Err(_) => ProgramExit::ArgsUnavailable,
     };
-    // A person at a terminal gets a second line, in words.
+    // A person at a terminal gets a second line, which explains the failure.
     if let ProgramExit::Failed(failed) = ending {
         if rt.stderr().is_terminal() {
             if let Ok(text) = explanation(rt.alloc(), &failed) {

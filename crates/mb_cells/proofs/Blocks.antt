@@ -1,4 +1,4 @@
--- How each access changes the words of a pool, which lie in one block.
+-- The words of a pool in one block: their addresses, and how each access changes them.
 use Rattle.std.proofs.Common.{List, [], ap, arith, get_or-set_other, get_or-set_same, inl, inr, length, length-set, refl, slice_index, slice_set, subst, sym, ℕ, ◌<◌, ◌∙◌, ◌∷◌, ◌≡◌, ◌≤◌}
 use Rattle.std.specs.Prelude.{unwrap_or}
 use Rattle.mb_cells.specs.{Counter, END, Head, History, IsMemoryOf, IsPoolLawful, IsPoolWord, IsStateOf, Item, Link, PoolAccess, PoolSize, Process, Word}
@@ -39,7 +39,7 @@ pub value_in-here : (a : PoolAccess) (h : History)
     → value_in a.word (a ∷ h) ≡ unwrap_or (stored_by a.act) (value_in a.word h)
 value_in-here a h = rw (is_same_word-refl a.word) refl
 
--- if the history stays lawful with one access more, the block after that access holds what the longer history leaves
+-- if a history leaves a block and stays lawful with one access more, the longer history leaves the block after that one
 pub memory_after : (size : PoolSize) (words : List ℕ) (h : History) (a : PoolAccess) → IsMemoryOf size words h
     → IsPoolLawful size (a ∷ h) → IsMemoryOf size (block_after size a words) (a ∷ h)
 memory_after size words h a m l =
@@ -62,7 +62,7 @@ memory_after size words h a m l =
       ];
     }
 
--- if the history stays lawful with one access more, words and parts after that access are those of the longer history
+-- if a history with these words and parts stays lawful with one access more, it has the words and parts after that one
 pub state_after : (size : PoolSize) (words : List ℕ) (parts : Process → History) (h : History) (a : PoolAccess)
     → IsStateOf size words parts h → IsPoolLawful size (a ∷ h)
     → IsStateOf size (block_after size a words) (parts_after a parts) (a ∷ h)

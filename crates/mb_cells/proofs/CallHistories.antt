@@ -19,7 +19,7 @@ use Rattle.mb_cells.proofs.LaneSteps.{finished_lane, offered_lane, pushed_lane, 
 use Rattle.mb_cells.proofs.Names.{own_process, same_twice}
 use Rattle.mb_cells.proofs.Parts.{part-other, part-own}
 
--- calls agree with a history: they say the same of counter, items, linked cells, ends and stages
+-- calls agree with a history: both say the same of the counter, the cells' items, linked cells, ends and stages
 pub record Tells (cells : ℕ) (calls : List Call) (h : History) : Type 0 where
   pub adds : value_in Counter h ≡ fetch_adds_by calls
   pub items : (k : ℕ) → k < cells → item_of k h ≡ item_by k calls
@@ -46,7 +46,7 @@ stage_other cells calls h a p q lane t who ne at =
     subst (λ x. is_same_process (Producer q) x ≡ false) (sym who) (ne_eqb q p ne) in
     t.stages q lane (subst (IsLaneAfter cells q lane) (part-other (Producer q) a h not_own) at)
 
--- the stage of p's lane after an access is that of `now`, the place that p's part with the access leads to
+-- after an access of producer p, the stage of p's lane is that of `now`, the place after p's part with that access
 stage_own : (cells : ℕ) (h : History) (a : PoolAccess) (p : ℕ) (lane now : Lane) → a.process ≡ Producer p
     → IsLaneAfter cells p now (a ∷ part (Producer p) h)
     → IsLaneAfter cells p lane (part (Producer p) (a ∷ h)) → lane.stage ≡ now.stage
@@ -56,7 +56,7 @@ stage_own cells h a p lane now who next at =
     (same_lane cells p lane now (a ∷ part (Producer p) h)
     (subst (IsLaneAfter cells p lane) (part-own (Producer p) a h own) at) next)
 
--- after an access of producer p each other stage is as the calls say, and p's is `z p`, the stage of its place `now`
+-- if calls agree with a history, after an access of p each other stage is as they say, and p's is `z p`, that of `now`
 stages_after : (cells : ℕ) (calls : List Call) (h : History) (a : PoolAccess) (p : ℕ) (now : Lane) (z : ℕ → LaneStage)
     → Tells cells calls h → a.process ≡ Producer p
     → IsLaneAfter cells p now (a ∷ part (Producer p) h) → now.stage ≡ z p
@@ -74,7 +74,7 @@ stages_after cells calls h a p now z t who next is q lane at =
           rw not_own (stage_other cells calls h a p q lane t who other at)
     ]
 
--- if f keeps the stage of lane p, the calls still say each lane's stage with f applied to that of lane p
+-- if calls agree with a history and f keeps the stage of lane p, they say each lane's stage, with f applied to p's
 stages_kept : (cells : ℕ) (calls : List Call) (h : History) (p : ℕ) (f : LaneStage → LaneStage)
     → f (stage_by p calls) ≡ stage_by p calls → Tells cells calls h
     → (q : ℕ) (lane : Lane) → IsLaneAfter cells q lane (part (Producer q) h)
@@ -89,7 +89,7 @@ stages_kept cells calls h p f keeps t q lane at =
           rw not_own (t.stages q lane at)
     ]
 
--- calls still agree after an offer whose answer gives no cell, counts no fetch-add and keeps the stage
+-- calls still agree with a history after an offer that gives no cell, counts no fetch-add and keeps the stage
 told_no_offer : (cells : ℕ) (calls : List Call) (h : History) (p x : ℕ) (r : Offer)
     → ((k y : ℕ) → item_by_offer k x r y ≡ y) → fetch_adds_by_offer r (stage_by p calls) ≡ 0
     → stage_by_offer x r (stage_by p calls) ≡ stage_by p calls → Tells cells calls h
@@ -310,7 +310,7 @@ told_push cells calls h p lane sized t here =
     by stage.Full is = rw is (told_idle cells calls h p t)
     by stage.Open is = rw is (told_idle cells calls h p t)
 
--- calls still agree after a finish that makes no access, if its answer is not Ended and keeps the stage
+-- calls still agree with a history after a finish without an access, if its answer is not Ended and keeps the stage
 told_no_finish : (cells : ℕ) (calls : List Call) (h : History) (p : ℕ) (r : Finish) → is_end r ≡ false
     → stage_by_finish r (stage_by p calls) ≡ stage_by p calls
     → Tells cells calls h → Tells cells (Finished p r ∷ calls) h

@@ -14,7 +14,7 @@ use Rattle.mb_cells.proofs.EndMarks.{end_word}
 use Rattle.mb_cells.proofs.Items.{LeadThrough, cell_within, item_held, lead_through, once_each, one_lane, same_map}
 use Rattle.mb_cells.proofs.LaneReading.{cursor_past, end_look, reads_back}
 
--- if the words that a history leaves lead through these cells, so do the words of each state that it leaves
+-- if the words that a history leaves lead through these cells of the pool, so do the words of each state that it leaves
 lead_words : (h : History) (s : PoolState) (p : ℕ) (ks : List ℕ) → IsAfter h s → p < lane_count s
     → ((k : ℕ) → Has ks k → k < cell_count s)
     → LeadThrough (λ w. value_in w h) p ks → LeadThrough (λ w. word_in w s.words) p ks
@@ -26,7 +26,7 @@ lead_words h s p (k ∷ j ∷ ks) after lt low lead = (
   lead_words h s p (j ∷ ks) after lt (λ i has. low i (inr has)) lead.1,
 )
 
--- the word past these cells holds in the state what the history leaves in it
+-- if a history leaves this state, the word past these cells of the pool holds there what the history leaves in it
 last_word : (h : History) (s : PoolState) (p : ℕ) (ks : List ℕ) → IsAfter h s → p < lane_count s
     → ((k : ℕ) → Has ks k → k < cell_count s)
     → word_in (word_of (cursor_past p ks)) s.words ≡ value_in (place_past p ks) h

@@ -1,4 +1,4 @@
--- Which cells the offers in a list of calls returned, and when an offer returns Full.
+-- Which cells the offers in a list of calls returned, when an offer returns Full, and what the counter holds.
 use Rattle.std.proofs.Common.{List, None, Some, [], ap, arith, inl, inr, refl, subst, sym, ℕ, ◌<◌, ◌∙◌, ◌∷◌, ◌≡◌, ◌≤◌}
 use Rattle.std.specs.Prelude.{nat_lt, slice_index_or, unwrap_or}
 use Rattle.std.proofs.lemmas.Bool.{cases_Bool, ltb-false, ltb-true}
@@ -53,7 +53,7 @@ full_at cells p lane h counted x is =
     by (phase.Ended None) at e = absurd (cc)
     by (phase.Ended (Some f)) at e = absurd (cc)
 
--- if an offer returns Full while the counter holds n, all cells have numbers below n
+-- if the counter n is above the number of cells at the stage Full, then at each offer that returns Full it is not below
 given_full : (cells n : ℕ) (z : LaneStage) → (z ≡ stage.Full → cells < n)
     → offer.Full ≡ unwrap_or (stage_offer_refusal z) (offer_by_found cells n) → cells ≤ n
 given_full cells n (stage.Ended full) past is = absurd (cc)

@@ -147,7 +147,7 @@ rising (a ∷ h) c = (
   rising h (counted-tail a h c),
 )
 
--- if the numbers given rise in a history, they rise in each process's part of it
+-- if the numbers that fetch-adds gave rise in a history, they rise in each process's part of it
 pub rising-part : (who : Process) (h : History) → AreRising h → AreRising (part who h)
 rising-part who [] r = tt
 rising-part who (a ∷ h) r =

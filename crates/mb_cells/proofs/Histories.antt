@@ -177,7 +177,7 @@ linked_cells-part p (a ∷ h) =
       | inr other ↦ rw (other) (linked_cells-part p h)
     ]
 
--- a store of k + 1 to the word past the entries links cell k
+-- a store of k + 1 to the word past the entries links cell k, if that is one of the pool's cells
 link_of-cell : (p : ℕ) (es : List Entry) (k cells : ℕ) → cells < END → k < cells
     → link_of (place_after p es) (Store (k + 1)) ≡ Some k
 link_of-cell p [] k cells c b =

@@ -237,7 +237,7 @@ pub record IsItemOf (h : History) (k v : ℕ) : Type 0 where
   pub fetched : Has h (fetch lane entry)
   pub is_put : Has (linked_cells lane h) k
 
--- if a reader loaded v from the item word of cell k, then k is linked, and v is the item of its fetch-add
+-- if a reader loaded v from the item word of cell k, then k is linked, and v is the item of the fetch-add that gave k
 pub item_load : (size : PoolSize) (h : History) (r k v : ℕ) → IsPoolLawful size h → HasLoaded r (Item k) v h
     → IsItemOf h k v
 item_load size [] r k v l has = absurd has
@@ -326,7 +326,7 @@ cell_within size h p k l has =
       lower size.cells k place.entries place.at.below (subst (λ z. Has z k) is has),
     )
 
--- in the producer's own part, too, the item of a cell that it got is the item of its fetch-add
+-- in a producer's own part, too, the item of a cell that it got is the item of the fetch-add that gave the cell
 item_of-part : (h : History) (p : ℕ) (e : Entry) → IsCounted h → Has h (fetch p e)
     → item_of e.cell (part (Producer p) h) ≡ e.value
 item_of-part [] p e m has = absurd has

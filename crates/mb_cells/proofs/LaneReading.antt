@@ -29,7 +29,7 @@ look-cell k ne =
     let back : (k + 1) - 1 ≡ k = omega arith in
     rw (zero_no, end_no, back)
 
--- if looks past these cells read `rest` and then `end`, looks from the head read these cells first and then the same
+-- if words lead through these cells, and looks past them read `rest` and `end`, looks from the head read them before
 pub reads_back : (m : Word → ℕ) (f : ℕ → ℕ) (p : ℕ) (ks : List ℕ) (rest : List Entry) (end : Look)
     → ((k : ℕ) → Has ks k → (k + 1 ≢ END) × (m (Item k) ≡ f k)) → LeadThrough m p ks
     → Reads (λ c. look_of (m (word_of c))) (λ k. m (Item k)) (cursor_past p ks) rest end
@@ -88,7 +88,7 @@ next_load size h r p k v later ks l is has =
       | inr e ↦ inr (e ∙ next_cell size h p k later ks l is)
     ]
 
--- a load of the word past a lane's last cell gives 0, or the end mark, and then the lane has ended
+-- a load of the word past a lane's last cell gives 0, or it gives the end mark and the lane has ended
 pub end_load : (size : PoolSize) (h : History) (r p v : ℕ) → IsPoolLawful size h
     → HasLoaded r (place_past p (linked_cells p h)) v h → (v ≡ 0) ⊎ ((v ≡ END) × (has_ended p h ≡ true))
 end_load size h r p v l has =

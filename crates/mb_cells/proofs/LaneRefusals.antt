@@ -49,7 +49,7 @@ busy_at (Full x) = (λ e. cc, λ e. cc)
 busy_at (Ended None) = (λ e. cc, λ e. cc)
 busy_at (Ended (Some x)) = (λ e. cc, λ e. cc)
 
--- an offer is refused as Full exactly after a fetch-add that found no cell
+-- an offer is refused as Full exactly after a fetch-add that found no cell, until the end mark
 full_at : (phase : Phase) → (stage_offer_refusal (stage_of phase) ≡ Some offer.Full) ↔ (found_none phase ≡ true)
 full_at Open = (λ e. cc, λ e. cc)
 full_at (Offered x) = (λ e. cc, λ e. cc)
@@ -132,7 +132,7 @@ add_in p (x ∷ es) e (inr (inl is)) = absurd (no_store p x.value (Item x.cell) 
 add_in p (x ∷ es) e (inr (inr (inl is))) = inl (same_cell p x e is)
 add_in p (x ∷ es) e (inr (inr (inr has))) = inr (add_in p es e has)
 
--- n may be the number of a fetch-add after the last link: a cell's if an item is pending, past the cells if none is
+-- n may be a fetch-add's number since the last link: a cell's while an item is pending, past the cells if Full or Ended
 abbrev IsLast : ℕ → Phase → ℕ → Type 0
 IsLast cells Open n = ⊥
 IsLast cells (Offered x) n = n < cells

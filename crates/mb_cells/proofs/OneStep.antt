@@ -1,4 +1,4 @@
--- One more access of one process keeps a history lawful.
+-- The empty history is lawful, and a lawful one stays so with one access more, or without its newest accesses.
 use Rattle.std.proofs.Common.{[], ap, arith, false, inl, inr, refl, subst, sym, ℕ, ◌++◌, ◌<◌, ◌^◌, ◌∙◌, ◌∷◌, ◌≡◌}
 use Rattle.std.proofs.lemmas.Bool.{cases_Bool, cond_both}
 use Rattle.mb_cells.specs.{ActFits, Counter, END, History, LaneIsAt, IsLanePrefix, IsPoolLawful, IsReaderPath, MayRead, PoolAccess, PoolSize, ProcessFits}

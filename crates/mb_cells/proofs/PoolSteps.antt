@@ -26,7 +26,7 @@ pub lane_here : (h : History) (s : PoolState) (p : ℕ) (lane : Lane) → p < la
 lane_here h s p lane lt after is =
     subst (λ l. IsLaneAfter (cell_count s) p l (part (Producer p) h)) (sym is) (after.lanes p lane lt)
 
--- after an access of producer p, if the list of lanes has p's new place, each lane in it is its producer's place
+-- if each lane in the list is its producer's place, it is so after an access of producer p too, with p's new place
 lanes_after : (h : History) (a : PoolAccess) (cells p : ℕ) (lanes : List Lane) (lane : Lane) → a.process ≡ Producer p
     → p < length lanes
     → ((q : ℕ) (d : Lane) → q < length lanes → IsLaneAfter cells q (slice_index_or lanes q d) (part (Producer q) h))

@@ -118,7 +118,7 @@ groups-chained p (e ∷ es) f = (
       (groups-chained p es f.1),
 )
 
--- groups leave 0 in the link word of a cell above all of theirs
+-- groups leave 0 in the link word of cell n, if n is above the cells of all their entries
 groups-fresh : (p n : ℕ) (es : List Entry) → AllCellsBelow n es → value_in (Link n) (groups p es) ≡ 0
 groups-fresh p n [] b = refl
 groups-fresh p n (e ∷ []) b = refl

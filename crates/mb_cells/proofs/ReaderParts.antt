@@ -35,7 +35,7 @@ path-older lanes test a d path =
     (λ l. IsReaderPath lanes l → IsReaderPath lanes (filter test d))
     (λ _ x. x.2) (λ _ x. x) path
 
--- if each access passes some test, and those that pass each test are a reader path, so are all of them
+-- if each access passes one of the tests, and for each test those that pass it are a reader path, so are all together
 pub path_of_parts : (lanes : ℕ) (test : ℕ → PoolAccess → Bool) (d : History)
     → ((a : PoolAccess) → Has d a → (p : ℕ) × (test p a ≡ true))
     → ((p : ℕ) → IsReaderPath lanes (filter (test p) d)) → IsReaderPath lanes d

@@ -29,7 +29,7 @@ pub record IsStateOf (size : PoolSize) (words : List ℕ) (parts : Process → H
   pub memory : IsMemoryOf size words h
   pub same : (who : Process) → parts who ≡ part who h
 
--- the block after an access: what the access stores is at its address
+-- the block after an access: what the access stores, if it stores, is at the address of its word
 abbrev pub block_after : PoolSize → PoolAccess → List ℕ → List ℕ
 block_after size a words =
     slice_set words (address_of size a.word)

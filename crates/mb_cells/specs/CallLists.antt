@@ -20,7 +20,7 @@ pub data Call : Type 0 where
   Pushed : ℕ → Push → Call
   Finished : ℕ → Finish → Call
 
--- the call leads from the old state to the new one: what the clauses `meets` and `size` of its contract say
+-- the call, on a lane of the pool, leads from the old state to the new: what the clauses `meets` and `size` say of it
 abbrev pub Leads : PoolState → Call → PoolState → Type 0
 Leads old (Offered p x r) new = (p < lane_count old) × OfferMeets old p x r new × SameSize old new
 Leads old (Pushed p r) new = (p < lane_count old) × PushMeets old p r new × SameSize old new
@@ -101,7 +101,7 @@ stage_by_finish finish.Ended was = stage.Ended (is_full was)
 stage_by_finish finish.Busy was = was
 stage_by_finish finish.Closed was = was
 
--- the stage of lane p after these calls: the last call that was not refused says it
+-- the stage of lane p after these calls: only a call on p that does not return Busy, Closed or Idle sets it
 abbrev pub stage_by : ℕ → List Call → LaneStage
 stage_by p [] = stage.Open
 stage_by p (Offered q x r ∷ older) =

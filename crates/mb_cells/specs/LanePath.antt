@@ -49,7 +49,7 @@ abbrev pub FindsNoCell : ℕ → Option Entry → Type 0
 FindsNoCell cells None = Unit {0}
 FindsNoCell cells (Some e) = cells ≤ e.cell
 
--- a path of producer p with no item half put, in a pool of `cells` cells. It may have no refusal and no end mark
+-- a path of producer p in a pool of `cells` cells: it links each cell that it got. A refusal and an end mark may follow
 pub record IsLanePath (cells p : ℕ) (path : History) : Type 0 where
   pub entries : List Entry
   pub refused : Option Entry

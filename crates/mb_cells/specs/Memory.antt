@@ -21,7 +21,7 @@ is_same_process (Producer p) (Producer q) = nat_eq p q
 is_same_process (Reader p) (Reader q) = nat_eq p q
 is_same_process _ _ = false
 
--- the list has this element, which is an access of a history, or a cell of a lane
+-- the list has this element. It is used of accesses in a history and of cells in a lane
 abbrev pub Has : {X : Type 0} → List X → X → Type 0
 Has [] x = ⊥
 Has (y ∷ ys) x = (y ≡ x) ⊎ Has ys x

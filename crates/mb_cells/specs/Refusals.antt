@@ -1,4 +1,4 @@
--- Why a lane refuses a call: what its producer has done in the history.
+-- Two of the reasons why a lane refuses a call: what its producer has done in the history. A third is the end mark.
 use Rattle.std.specs.Prelude.{ℕ, ◌<◌, ◌≤◌}
 use Rattle.mb_cells.specs.Memory.{Has, History}
 use Rattle.mb_cells.specs.LanePath.{Entry, fetch}

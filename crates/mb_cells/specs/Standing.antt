@@ -138,7 +138,7 @@ finish_refusal lane = stage_finish_refusal lane.stage
 abbrev pub finish_answer : Lane → Finish
 finish_answer lane = unwrap_or (finish_refusal lane) finish.Ended
 
--- whether the last access was a fetch-add that found no cell
+-- whether at this stage the producer's last access was a fetch-add that found no cell
 abbrev pub is_full : LaneStage → Bool
 is_full (stage.Offered cell item) = false
 is_full (stage.Stored cell) = false
@@ -151,7 +151,7 @@ abbrev pub lane_after_finish : Lane → Lane
 lane_after_finish lane = record { last = lane.last; stage = stage.Ended (is_full lane.stage) }
 
 -- ---- the history after each call
--- the history, or the part, after an offer of x whose fetch-add finds n. A refused offer leaves it as it was
+-- the history, or the part, after an offer of x while the counter holds n. A refused offer leaves it as it was
 abbrev pub history_after_offer : ℕ → ℕ → ℕ → Lane → History → History
 history_after_offer p x n lane h =
     if is_some (offer_refusal lane) then h else (fetch p (record { cell = n; value = x }) ∷ h)

@@ -12,7 +12,7 @@ pub enum Process {
     Reader(u32),
 }
 
-/// A shared word of a pool. All are 0 at first.
+/// A shared word of a pool. All words are 0 at first.
 #[derive(Clone, Copy, PartialEq, Eq, Debug)]
 pub enum Word {
     /// The counter: how many fetch-adds were made for cells.

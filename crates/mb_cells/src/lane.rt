@@ -14,7 +14,7 @@ pub enum LaneStage {
     Open,
     /// Its fetch-add gave this cell for this item.
     Offered {
-        /// The cell given.
+        /// The cell that the fetch-add gave.
         cell: u32,
         /// The item offered for it.
         item: u64,
@@ -121,7 +121,7 @@ impl Lane {
         }
     }
 
-    /// Where the next link or the end mark of lane `p` goes: its last link, or its head.
+    /// Where the next link or the end mark of lane `p` goes: the link of its last cell, or its head if it has none.
     pub fn next_link(self, p: u32) -> Word
         ensures { result ≡ next_link p self }
     {

@@ -22,7 +22,7 @@ pub fn readers_follow_lanes()
     ensures met { (size : PoolSize) (h : History) (r p : ℕ) (ks : List ℕ) → IsPoolLawful size h
         → HasMet r p ks h → IsStart ks (linked_cells p h) }
 
-    // What a reader met follows from its own part alone.
+    // The same holds of the cells that a reader has met by its own part.
     ensures part { (size : PoolSize) (h : History) (r p : ℕ) (ks : List ℕ) → IsPoolLawful size h
         → HasMet r p ks (part (Reader r) h) → IsStart ks (linked_cells p h) }
 
@@ -32,7 +32,7 @@ pub fn readers_follow_lanes()
     ensures whole { (h : History) (r p : ℕ) (ks : List ℕ) → HasMet r p ks (part (Reader r) h)
         → HasMet r p ks h }
 
-    // The cells that a reader has met on a lane before a given cell are always the same.
+    // The cells that a reader has met on a lane before cell k are always the same.
     ensures one_way { (size : PoolSize) (h : History) (r p k : ℕ) (ks js : List ℕ)
         → IsPoolLawful size h → HasMet r p (k ∷ ks) h → HasMet r p (k ∷ js) h → ks ≡ js }
 
@@ -60,7 +60,8 @@ pub fn calls_put_items()
     ensures answers { (size : PoolSize) (c : Call) (older : List Call) (s : PoolState)
         → HasMade size (c ∷ older) s → IsAnswerBy size.cells c older }
 
-    // The number of a cell is the number of earlier fetch-adds. Full comes only if all cells were handed out.
+    // A cell's number is the number of earlier fetch-adds. Full comes only if all cells were handed out. The counter
+    // holds the number of fetch-adds.
     ensures cell { (size : PoolSize) (p x k : ℕ) (older : List Call) (s : PoolState)
         → HasMade size (Offered p x (offer.Cell k) ∷ older) s
         → (k ≡ fetch_adds_by older) × (k < size.cells) }
@@ -97,8 +98,7 @@ pub fn end_marks_are_last()
         → IsLinkWord w → is_of_lane p (linked_cells p h) w ≡ true → HasLoaded r w END h
         → HasMet r p (linked_cells p h) h }
 
-    // If a reader has loaded the end mark after cells that it met, these are all cells of the lane, and the lane has
-    // ended.
+    // If a reader has loaded the end mark past cells that it met, they are all cells of the lane, and it has ended.
     ensures reader { (size : PoolSize) (h : History) (r p : ℕ) (ks : List ℕ) → IsPoolLawful size h
         → HasMet r p ks h → HasLoaded r (place_past p ks) END h → ks ≡ linked_cells p h }
     ensures told { (size : PoolSize) (h : History) (r p : ℕ) (ks : List ℕ) → IsPoolLawful size h
@@ -163,7 +163,7 @@ pub fn pools_show_lanes()
         (cursor.Head p) (put_list p h) (lane_end p h) }
 {}
 
-/// A load of a link gives 0, or what that link holds from then on. A load of an item gives the item put.
+/// A load of a head or link gives 0, or what that word holds from then on. A load of an item gives the item put.
 pub fn loads_tell_what_stays()
     ensures link { (size : PoolSize) (h : History) (r v : ℕ) (w : Word) → IsPoolLawful size h
         → IsLinkWord w → HasLoaded r w v h → (v ≡ 0) ⊎ (v ≡ value_in w h) }
@@ -176,7 +176,7 @@ pub fn loads_tell_what_stays()
         → HasLoaded r (place_past p (linked_cells p h)) v h
         → (v ≡ 0) ⊎ ((v ≡ END) × (has_ended p h ≡ true)) }
 
-    // A load of an item gives the item put, and its cell is linked. So is each cell that the reader loaded a link to.
+    // A load of an item gives the item put. Its cell is linked, and so is each cell that a reader loaded a link to.
     ensures item { (size : PoolSize) (h : History) (r k v : ℕ) → IsPoolLawful size h
         → HasLoaded r (Item k) v h → v ≡ item_of k h }
     ensures item_put { (size : PoolSize) (h : History) (r k v : ℕ) → IsPoolLawful size h
@@ -222,7 +222,7 @@ pub fn readers_keep_to_lanes()
     ensures all { (size : PoolSize) (h : History) (r : ℕ) (a : PoolAccess) → IsPoolLawful size h
         → Has (part (Reader r) h) a → (p : ℕ) × (is_of_lane p (linked_cells p h) a.word ≡ true) }
 
-    // Accesses are a reader path if each of them passes some test, and those that pass each test are a reader path.
+    // Accesses are a reader path if each passes one of the tests, and for each test those that pass it are one.
     ensures whole { (lanes : ℕ) (test : ℕ → PoolAccess → Bool) (done : History)
         → ((a : PoolAccess) → Has done a → (p : ℕ) × (test p a ≡ true))
         → ((p : ℕ) → IsReaderPath lanes (filter (test p) done)) → IsReaderPath lanes done }

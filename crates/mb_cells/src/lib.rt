@@ -5,8 +5,8 @@
 //! Each producer has a **lane**, a list of cells that only grows. A lane has a *head* word, a cell has an *item* word
 //! and a *link* word, and all lanes share one *counter*. All are 0 at first. To put an item, a producer makes three
 //! accesses. A fetch-add of the counter gives it a cell of its own, or a number past the cells if all were handed out.
-//! Then it stores the item in that cell. At last it stores the cell's number, plus one, in the link of its last cell,
-//! or in the head. At the end it stores an *end mark* where the next link would go, and makes no access after it.
+//! Then it stores the item in that cell. At last it stores the cell's number, plus one, in the link of the lane's last
+//! cell, or in the head. It may end with an *end mark*, stored where the next link would go, and no access after it.
 //!
 //! A reader loads a head or a link. If it holds 0, nothing is linked there yet, and the reader may look again. Else it
 //! leads to a cell, or it is the end mark. The item of that cell was stored before the link to it, and no other
@@ -21,7 +21,7 @@
 //! - [`Pool`] has all words and lanes under one caller, and makes each access itself.
 //! - [`laws`] has what holds of every lawful history of a pool, for all orders of accesses, and of every list of calls.
 //!   [`steps`] has what builders of worlds and tables need. [`samples`] shows what each definition admits and refuses.
-//!   All are contracts of functions that compute nothing.
+//!   These three have contracts of functions that compute nothing.
 #![tactic(auto)]
 
 mod access;

@@ -96,7 +96,7 @@ impl<A: Allocator + Drop> Pool<A> {
     }
 
     /// Stores the item that was offered on lane `p`, and at the next call the link to its cell: one store. It needs a
-    /// lane of the pool. It is refused by `Idle` if nothing is offered, and then makes no access.
+    /// lane of the pool. It is refused by `Idle` if no item has a cell not linked yet, and then makes no access.
     /// [`calls_put_items`](crate::laws::calls_put_items) says which items are put.
     pub fn push(&mut self, p: u32) -> Push
         requires { p < lane_count self.old }

@@ -25,7 +25,7 @@ pub fn memory_makes_nothing_up()
     ensures next_number { IsMemoryTrue (fetch 1 nine ∷ one_taken) }
 {}
 
-/// If a producer makes an access out of its order, its part is no prefix of a lane path.
+/// If a producer makes an access out of its order, or stores another item, its part is no prefix of a lane path.
 pub fn producers_keep_their_order()
     ensures link_before_item { IsLanePrefix 1 0 (store 0 (Head 0) 1 ∷ one_taken) → ⊥ }
     ensures other_item { IsLanePrefix 1 0 (store 0 (Item 0) 9 ∷ one_taken) → ⊥ }

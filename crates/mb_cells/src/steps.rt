@@ -100,7 +100,7 @@ pub fn lanes_lead_on()
         → IsLaneAfter cells p lane done → finish_refusal lane ≡ None
         → IsLaneAfter cells p (lane_after_finish lane) (store p (next_link p lane) END ∷ done) }
 
-    // No other access goes on with the lane's path. If a call is refused, none of its accesses does.
+    // No other access goes on with the lane's path. If a call is refused, its access does not go on with it.
     ensures fetches { (cells p : ℕ) (lane : Lane) (done : History) (e : Entry)
         → IsLaneAfter cells p lane done → IsLanePrefix cells p (fetch p e ∷ done)
         → offer_refusal lane ≡ None }

@@ -1,4 +1,4 @@
--- Tests of bytes and of words.
+-- Two facts on tests of the elements of a list: one of a list after `map`, and one of bytes that are ASCII.
 use Rattle.std.proofs.Common.{◌≡◌, ℕ, suc, ◌<◌, Bool, true, ◌||◌, List, [], ◌∷◌, map, refl, ap}
 use Rattle.std.specs.Prelude.{slice_index}
 use Rattle.std.specs.List.{list_any, list_all}

@@ -1,4 +1,4 @@
--- If several steps of reading had no fault, none of them had one.
+-- If steps of reading in a row gave no fault, none of these steps and of the tests between them gave one.
 use Rattle.std.proofs.Common.{◌≡◌, Bool, true, false, cond, Option, Some, None, Result, Ok, Err, refl, ap}
 use Rattle.std.specs.Option.{ok_or}
 use Rattle.mb_script.specs.declared.fault.Fault.{Fault}

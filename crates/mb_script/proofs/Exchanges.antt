@@ -16,7 +16,7 @@ too_long_read command too_long (Some left) (Some rest) taken =
     subst (λ (l : List ℕ). length l ≡ length taken.0 + length rest) (sym taken.2) (length-append taken.0 rest) in
     (left, refl, too_long left (omega (arith, more, taken.1)))
 
--- a script that is within the limit has another fault than `too_long`
+-- a fault of a script within the limit, or of memory, is not `too_long`
 pub not_too_long : {F : Type 0} (command : Command F) → AreApart command
     → ((bytes : List ℕ) → command.fault_of bytes ≡ Some command.too_long → MAX_SCRIPT_LEN < length bytes)
     → (e : F) (bytes : List ℕ) → length bytes ≤ MAX_SCRIPT_LEN

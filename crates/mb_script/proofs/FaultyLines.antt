@@ -42,7 +42,7 @@ same_head k a us (b ∷ bs) e = (bs, cc, cc)
 abbrev from_line : Bool → Result Event Fault → Result (List Event) Fault → Result (List Event) Fault
 from_line many r rest = cond many (Err TooManyEvents) (r >>= (λ event. rest >>= (λ events. Ok (event ∷ events))))
 
--- a fault of the lines from line n on is not about a line before n, if this holds from line n + 1 on
+-- a fault of the lines from n on, n up to MAX_EVENTS + 2, is about no line before n, if this holds from n + 1 on
 least_step : (n m : ℕ) (many : Bool) (r : Result Event Fault) (rest : Result (List Event) Fault)
     (e : Fault) → n ≤ MAX_EVENTS + 2
     → At n r → line_of e ≡ Some m → from_line many r rest ≡ Err e → (many ≡ false → rest ≡ Err e → suc n ≤ m) → n ≤ m
@@ -58,7 +58,7 @@ least_step n m false (Ok x) (Err d) e low at about is on = let more = on refl is
 below_by : (n : ℕ) → nat_lt (MAX_EVENTS + 1) n ≡ false → suc n ≤ MAX_EVENTS + 2
 below_by n test = let low : n ≤ MAX_EVENTS + 1 = grind (arith, nat_tests, test) in omega (arith, low)
 
--- a fault of the lines from line n on is not about a line before n
+-- a fault of the lines from line n on, for n up to MAX_EVENTS + 2, is about no line before n
 pub events_least : (plan : Plan) (n m : ℕ) (us : List (List ℕ)) (e : Fault) → n ≤ MAX_EVENTS + 2
     → events_of plan n us ≡ Err e
     → line_of e ≡ Some m → n ≤ m
@@ -77,7 +77,7 @@ same_step false (Err d) rest rest2 e is on = is
 same_step false (Ok x) (Ok ys) rest2 e is on = absurd (cc)
 same_step false (Ok x) (Err d) rest2 e is on = rw (on refl is) refl
 
--- lists of lines that begin alike have the same fault, if it is about a line of that beginning
+-- if the fault of the lines from n on, n up to MAX_EVENTS + 2, is about the k-th, others with the same first k have it
 events_same : (plan : Plan) (n k m : ℕ) (us bs : List (List ℕ)) (e : Fault) → n ≤ MAX_EVENTS + 2
     → events_of plan n us ≡ Err e
     → line_of e ≡ Some m → n + k ≡ suc m → take k us ≡ take k bs → events_of plan n bs ≡ Err e
@@ -123,8 +123,8 @@ setup_least (Err d) f m e at about is on =
     let same = one_line d e 1 m at (err_is d e is) about in omega (arith, same)
 setup_least (Ok x) f m e at about is on = least_behind x (f x) m e is (on x)
 
--- if the first m lines of two scripts are the same, a fault of one about line m is that of the other, too. Lines count
--- from 1, so no fault is about line 0
+-- if the first m lines of two scripts are the same, and one has a fault about line m, the other has it, too. Lines
+-- count from 1, so no fault is about line 0
 lines_same : (m : ℕ) (us bs : List (List ℕ)) (e : Fault) → lines_script us ≡ Err e → line_of e ≡ Some m
     → take m us ≡ take m bs → lines_script bs ≡ Err e
 unfolding lines_script
@@ -206,7 +206,7 @@ setup_well (Err d) f g e m at about more is on =
     let same = one_line d e 1 m at (err_is d e is) about in absurd (omega (arith, same, more))
 setup_well (Ok x) f g e m at about more is on = events_well x (f x) (g x) e is (on x)
 
--- a fault of the lines from line n on is about no line after the last that may be read, if this holds from n + 1 on
+-- a fault of the lines from n on is about no line after the first that is one too many, if this holds from n + 1 on
 last_step : (n m : ℕ) (many : Bool) (r : Result Event Fault) (rest : Result (List Event) Fault)
     (e : Fault) → n ≤ MAX_EVENTS + 2
     → At n r → line_of e ≡ Some m → from_line many r rest ≡ Err e → (many ≡ false → rest ≡ Err e → m ≤ MAX_EVENTS + 2)
@@ -218,7 +218,7 @@ last_step n m false (Err d) rest e low at about is on =
 last_step n m false (Ok x) (Ok ys) e low at about is on = absurd (cc)
 last_step n m false (Ok x) (Err d) e low at about is on = on refl is
 
--- a fault of events is about no line after the last that may be read
+-- a fault of events is about no line after the first that is one too many
 events_last : (plan : Plan) (n m : ℕ) (us : List (List ℕ)) (e : Fault) → n ≤ MAX_EVENTS + 2
     → events_of plan n us ≡ Err e
     → line_of e ≡ Some m → m ≤ MAX_EVENTS + 2
@@ -229,7 +229,7 @@ events_last plan n m (line ∷ lines) e low is about =
     e low (at_line plan n line) about is
     (λ few fails. events_last plan (suc n) m lines e (below_by n few) fails about)
 
--- if the fault of lines is about line n + 1, the first n lines are a script
+-- if the fault of lines is about line n + 1, and n is above 0, the first n lines are a script
 lines_before : (n : ℕ) (us : List (List ℕ)) (e : Fault) → lines_script us ≡ Err e → line_of e ≡ Some (suc n) → 0 < n
     → (t : Script) × (lines_script (take n us) ≡ Ok t)
 unfolding lines_script
@@ -243,7 +243,7 @@ lines_before (suc k) (line ∷ lines) e is about some =
     (λ made fails. events_before made.plan 2 k (suc (suc k)) lines e
     (events_last made.plan 2 (suc (suc k)) lines e (omega arith) fails about) fails about (omega arith))
 
--- if the fault of a text is about line n + 1, its first n lines spell a script
+-- if the fault of a text is about line n + 1, and n is above 0, its first n lines spell a script
 pub script_before : (bytes : List ℕ) (e : Fault) (n : ℕ) → script_of bytes ≡ Err e → line_of e ≡ Some (suc n) → 0 < n
     → (t : Script) × Spells (take n (lines_of bytes)) t
 unfolding script_of

@@ -137,7 +137,7 @@ pub lines_end : (plan : Plan) (done : List Event) (n : ℕ) (whole : Result (Lis
 unfolding events_of
 lines_end plan done n whole same = sym same ∙ ap (λ (l : List Event). Ok l) (append-nil done)
 
--- if a line's fault is the result of all lines, a call that returns this fault returns what was to be read of all
+-- if a call returns a line's fault or NoMemory, and a line's fault is that of all lines, the call is as `Gives` says
 pub fails_whole : {X : Type 0} (view : X → List Event) (r : Result X Fault) (e : Fault) (read : Result Event Fault)
     (whole : Result (List Event) Fault) → IsErrAnd r (λ f. f ≡ e)
     → (e ≢ NoMemory → read ≡ Err e) × (e ≢ ReadFault) × (e ≢ WriteFault) → (read ≡ Err e → whole ≡ Err e)

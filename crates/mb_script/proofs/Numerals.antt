@@ -30,7 +30,7 @@ bound_by_test : {E : Type 0} (r : Result ℕ E) (P Q : Type 0) (v : ℕ) → OkI
 bound_by_test (Ok x) P Q v ok = ((ok.0.0, ok.0.1, lt-ltb _ _ ok.0.2), ok.1)
 bound_by_test (Err e) P Q v ok = λ h. ok (h.0, h.1, ltb-true _ _ h.2)
 
--- if a word has neither a `+` nor a needless 0 in front, `parse` of std returns for it what `number_of` says
+-- if a word is not empty, and has no `+` and no needless 0 in front, `parse` of std returns what `number_of` says of it
 number_is : {E : Type 0} (bs : List ℕ) (r : Result ℕ E) → ParsesUnsigned 64 10 bs r → 0 < length bs
     → get_or bs 0 0 ≢ 43 → (nat_lt 48 (slice_index bs 0) || nat_eq (length bs) 1) ≡ true
     → result_ok r ≡ number_of bs

@@ -178,7 +178,7 @@ event_again z n (Step consumer lane word) sized is =
       lt-ltb consumer z.consumers is.1,
     ) refl
 
--- the lines of events, from line n on, are read as these events
+-- the lines of events, from line n on, are read as these events, if they are not too many
 pub events_again : (z : Sizes) (n : ℕ) (events : List Event)
     → setup_refusal z.producers z.consumers z.cells z.pairs ≡ None
     → AllByRecursion (IsEventOf z) events → n + length events ≤ MAX_EVENTS + 2
@@ -223,7 +223,7 @@ events_fit : (z : Sizes) (events : List Event) → setup_refusal z.producers z.c
 events_fit z [] sized are = tt
 events_fit z (e ∷ events) sized are = (event_fit z e sized are.0, events_fit z events sized are.1)
 
--- bytes that spell a script are read as that script
+-- bytes that spell a script, and are not too many, are read as that script
 pub script_again : (bytes : List ℕ) (z : Sizes) (events : List Event) → IsScript z events
     → length bytes ≤ MAX_SCRIPT_LEN
     → lines_of bytes ≡ script_lines z events → script_of bytes ≡ Ok (script_in z events)

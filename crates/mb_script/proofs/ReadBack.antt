@@ -58,18 +58,18 @@ shape_takes [] f e =
 shape_takes (word ∷ []) f e = word_takes word f _ _ _ refl refl refl e
 shape_takes (word ∷ other ∷ words) f e = absurd (cc)
 
--- a word that was read as a number is the decimal of that number
+-- a word that was read as a number is the decimal of that number, which is below 2^64
 at_takes : (n : ℕ) (w : List ℕ) (x : ℕ) → number_at n w ≡ Ok x → (w ≡ decimal x) × (x < 2 ^ 64)
 at_takes n w x e = number_takes w x (some_from _ _ _ e)
 
--- words that were read as one number are the decimal of that number
+-- words that were read as one number are the decimal of that number alone, which is below 2^64
 pub one_takes : (n : ℕ) (ws : List (List ℕ)) (x : ℕ) → one_number n ws ≡ Ok x → (ws ≡ decimal x ∷ []) × (x < 2 ^ 64)
 unfolding one_number
 one_takes n [] x e = absurd (cc)
 one_takes n (a ∷ b ∷ ws) x e = absurd (cc)
 one_takes n (a ∷ []) x e = let t = at_takes n a x e in (ap (λ (w : List ℕ). w ∷ []) t.0, t.1)
 
--- words that were read as two numbers are the decimals of these numbers
+-- words that were read as two numbers are the decimals of these numbers, which are below 2^64
 pub two_takes : (n : ℕ) (ws : List (List ℕ)) (x : ℕ × ℕ) → two_numbers n ws ≡ Ok x
     → (ws ≡ decimal x.0 ∷ decimal x.1 ∷ []) × (x.0 < 2 ^ 64) × (x.1 < 2 ^ 64)
 unfolding two_numbers
@@ -90,7 +90,7 @@ two_takes n (a ∷ b ∷ []) x e =
 abbrev Three : Type 0
 Three = ℕ × ℕ × ℕ
 
--- words that were read as three numbers are the decimals of these numbers
+-- words that were read as three numbers are the decimals of these numbers, which are below 2^64
 pub three_takes : (n : ℕ) (ws : List (List ℕ)) (x : Three) → three_numbers n ws ≡ Ok x
     → (ws ≡ decimal x.0 ∷ decimal x.1 ∷ decimal x.2 ∷ []) × (x.0 < 2 ^ 64) × (x.1 < 2 ^ 64) × (x.2 < 2 ^ 64)
 unfolding three_numbers

@@ -1,4 +1,4 @@
--- A replay with one event more.
+-- A replay and its transcript go on by one event. At the end the transcript and the report are the text of a replay.
 use Rattle.std.proofs.Common.{◌≡◌, ℕ, List, [], ◌∷◌, ◌++◌, Option, ap, sym, ◌∙◌, subst, append_assoc}
 use Rattle.std.proofs.lemmas.List.{append-nil}
 use Rattle.mb_world.specs.declared.event.Answer.{Answer}

@@ -81,7 +81,7 @@ place_takes z n (Step consumer lane word) low has small = (
   small.2,
 )
 
--- if an event passed the tests of its lane and its consumer, it is an event of that world
+-- if an event passed the tests of its lane and its consumer for the world of these sizes, it is an event of that world
 placed_takes : (z : Sizes) (n : ℕ) (d e : Event) → placed (plan_for z) n d ≡ Ok e → Small d → (d ≡ e) × IsEventOf z d
 unfolding placed
 placed_takes z n d e read small =
@@ -105,7 +105,7 @@ line_takes z n line e read =
     subst (λ (f : Event). (line ≡ join_with_byte 32 (event_words f)) × IsEventOf z f) d.0 (spelled, d.1)
 
 -- ---- all lines of a script
--- equal lines in front of equal lists of lines are equal lists
+-- equal lines in front of equal lists of lines make equal lists
 line_before : (line line2 : List ℕ) (lines lines2 : List (List ℕ)) → line ≡ line2 → lines ≡ lines2
     → line ∷ lines ≡ line2 ∷ lines2
 line_before line line2 lines lines2 e f = ap (λ (l : List ℕ). l ∷ lines) e ∙ ap (λ (t : List (List ℕ)). line2 ∷ t) f

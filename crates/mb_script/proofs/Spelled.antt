@@ -69,12 +69,12 @@ lead : (n : ℕ) → n < 2 ^ 64 → (nat_lt 48 (slice_index (decimal n) 0) || na
 lead zero h = rw (decimal_digit 0 (lit< tt)) refl
 lead (suc n) h = rw (lt-ltb 48 (get_or (decimal (suc n)) 0 0) (first_decimal (suc n) (omega arith) h)) refl
 
--- the decimal of a number is read as that number
+-- the decimal of a number below 2^64 is read as that number
 pub number_again : (n : ℕ) → n < 2 ^ 64 → number_of (decimal n) ≡ Some n
 unfolding number_of
 number_again n h = rw (digits_decimal own n h, lead n h, digits_value-decimal own n h, lt-ltb n (2 ^ 64) h) refl
 
--- the decimals of numbers are read as these numbers
+-- the decimals of numbers below 2^64 are read as these numbers
 pub numbers_again : (ns : List ℕ) → AllByRecursion (λ n. n < 2 ^ 64) ns → numbers_of (map decimal ns) ≡ Some ns
 unfolding numbers_of
 numbers_again [] h = refl
@@ -85,7 +85,7 @@ guard : (b : Bool) (v n : ℕ) → cond b (Some v) None ≡ Some n → (b ≡ tr
 guard true v n e = (refl, cc)
 guard false v n e = absurd (cc)
 
--- a word whose first byte is above that of 0, or which has one byte, is not empty, and begins with 0 only if it has one
+-- a word that has one byte, or a first byte above that of 0, is not empty, and begins with 0 only if it has one byte
 led : (w : List ℕ) → (nat_lt 48 (slice_index w 0) || nat_eq (length w) 1) ≡ true
     → (0 < length w) × (get_or w 0 0 ≡ 48 → length w ≡ 1)
 led [] h = absurd (false≢true h)
@@ -97,7 +97,7 @@ led (c ∷ cs) h = (
   ],
 )
 
--- a word that was read as a number is the decimal of that number
+-- a word that was read as a number is the decimal of that number, which is below 2^64
 pub number_takes : (w : List ℕ) (n : ℕ) → number_of w ≡ Some n → (w ≡ decimal n) × (n < 2 ^ 64)
 unfolding number_of
 number_takes w n e =
@@ -122,7 +122,7 @@ some x = Some x
 some_is : {A : Type 0} (x y : A) → some x ≡ some y → x ≡ y
 some_is x y e = cc
 
--- words that were read as numbers are the decimals of these numbers
+-- words that were read as numbers are the decimals of these numbers, which are below 2^64
 pub numbers_take : (ws : List (List ℕ)) (ns : List ℕ) → numbers_of ws ≡ Some ns
     → (ws ≡ map decimal ns) × AllByRecursion (λ n. n < 2 ^ 64) ns
 unfolding numbers_of

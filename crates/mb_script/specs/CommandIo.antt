@@ -4,7 +4,7 @@ use Rattle.std.specs.Io.KnownBytes.{Appends, IsAtEnd}
 use Rattle.mb_script.specs.declared.transfer.TheConstants.{MAX_SCRIPT_LEN}
 use Rattle.mb_script.specs.Devices.{AppendsFront, ConsumesCount, ConsumesUpTo, Had, one_more}
 
--- a command: its answers, and its names for the faults that all commands share
+-- a command: its answers, the faults of scripts, and its names for the faults that all commands share
 pub record Command (F : Type 0) : Type 1 where
   -- the command's names for the faults that all commands share
   pub too_long : F

@@ -19,7 +19,7 @@ pub record IsReplayText (plan : Plan) (events : List Event) (text : List ℕ) : 
   -- the report of that history
   pub report : ReportView
   pub reported : IsReportOf plan (histories_of history) report
-  -- one assignment agrees with the report, and no lane has anything after its end mark
+  -- the main theorem holds of the report
   pub main_theorem : MainTheorem (pool_accesses history) (λ c. c) report
   -- the text is the transcript, and then the text of the report
   pub written : text ≡ transcript_text events answers ++ report_text report

@@ -58,8 +58,7 @@ stage_text stage.Won = codes " won"
 stage_text (stage.Lost winner) = codes " lost " ++ decimal winner
 stage_text stage.Undecided = codes " undecided"
 
--- the text of the answer to an event. No event of a script has the answer `NoLane` or
--- `NoConsumer`
+-- the text of the answer to an event. No event of a script has the answer `NoLane` or `NoConsumer`
 abbrev pub answer_text : Answer → List ℕ
 answer_text NoLane = codes "no lane"
 answer_text NoConsumer = codes "no consumer"

@@ -30,7 +30,7 @@ pub fn words_are_cut_as_spelled()
     ensures spelled { (line : List ℕ) → join_with_byte 32 (words_in_line line) ≡ line }
 {}
 
-/// The decimal of a number is read as that number. A word that is read as a number is its decimal, with no needless 0.
+/// The decimal of a number below 2^64 is read as that number. A word that is read as a number is the number's decimal.
 pub fn numbers_are_read_as_spelled()
     ensures word { (n : ℕ) → n < 2 ^ 64 → IsWord (decimal n) }
     ensures read { (n : ℕ) → n < 2 ^ 64 → number_of (decimal n) ≡ Some n }

@@ -27,8 +27,8 @@ pub record AccessLaws : Type 0 where
       → IsStateOf size (block_after size a words) (parts_after a parts) (a ∷ h)
   pub within : (size : PoolSize) (w : Word) → IsPoolWord size w → address_of size w < pool_words size
 
--- the access `act n` may follow each lawful history that has this part of the process, and that leaves n in the word.
--- The word then holds `f n`
+-- the access `act n` may follow each lawful history that has this part of the process and leaves n in the word, if n is
+-- below 2^64. The word then holds `f n`
 abbrev pub GoesOn : PoolSize → Process → History → Word → (ℕ → PoolAct) → (ℕ → ℕ) → Type 0
 GoesOn size who done word act f =
     (h : History) (n : ℕ) → IsPoolLawful size h → part who h ≡ done → ProcessFits size.lanes who

@@ -1,4 +1,4 @@
--- The invariants of the hub and of each seat hold after their steps.
+-- Why the invariants of the hub and of each seat hold, also after an access, and what callers see of a reader's access.
 use Rattle.std.proofs.Common.{[], ap, length, refl, subst, sym, ℕ, ◌∙◌, ◌∷◌, ◌≡◌}
 use Rattle.std.specs.Prelude.{Some}
 use Rattle.atomic_table.specs.Seated.{TableId}
@@ -34,7 +34,7 @@ history_then law size who known done word act after =
     let a = access_by who word act in
     (a ∷ after.older, after.lawful, law after.older a ∙ ap (λ l. a ∷ l) after.own)
 
--- after an access the invariant of a lane's seat (`IsLaneSeat`) holds, with its new place `now`
+-- if the invariant of a lane's seat (`IsLaneSeat`) holds, it holds after an access too, with `now`, the place after it
 pub lane_then : OwnLaw → (me new : SeatState) (number : ℕ) (was now : Lane) (word : Word) (act : PoolAct)
     → IsLaneSeat me number was → MakesAccess word act me new
     → IsLaneAfter (size_in me.0).cells number now (access_by (Producer number) word act ∷ done_in me.0)

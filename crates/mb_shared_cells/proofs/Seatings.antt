@@ -54,7 +54,8 @@ moved-to who to seats x is = there (cases_process who x)
     there (inr other) = is
 
 -- ---- what a step leaves for the seats that did not make it
--- a step from seating t to u spares this seat: each process that stands there or at the hub keeps its seat and its part
+-- a step from seating t to u spares this seat: the hub stays where it is, and who was issued stays so. Who stands here
+-- or at the hub keeps seat and part. If this seat is the hub's, nobody is issued, and the roster stays as it is
 pub record Spares (t u : Seating) (roster more seat : ℕ) : Type 0 where
   pub hubs : u.hub ≡ t.hub
   pub enrolled : (who : Process) → IsEnrolled t who → IsEnrolled u who
@@ -236,7 +237,7 @@ told_part size t roster seat (Member own other known theirs) who done f e =
     subst (λ (z : Process × History). HasPart t seat z.0 z.1) (λ i. (e.0 i, e.1 i)) f.2
 told_part size t roster seat Empty who done f e = absurd e
 
--- a process whose part the view of a seat has stands at that seat by the seating
+-- if the view of a seat has a part of a process, the seating has the process at that seat
 pub stands_there : (size : PoolSize) (words : List ℕ) (views : List View) (t : Seating) (seat : ℕ) (who : Process)
     → IsTableState size words views t → StandsAt views seat who → t.seat_of who ≡ seat
 stands_there size words views t seat who r h =

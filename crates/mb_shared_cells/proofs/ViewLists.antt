@@ -19,7 +19,7 @@ all_set P views at new others mine j v e =
     (λ (x : (j ≢ at) × (get_elem? views j ≡ some v)). others j v x.0 x.1)
     (at_set views at j new v e)
 
--- a view of the longer list was there, or is the new one
+-- each view in a list with a new one added was in the list before, or is the new one
 at_snoc : (views : List View) (new v : View) (j : ℕ) → get_elem? (views ++ new ∷ []) j ≡ some v
     → ((get_elem? views j ≡ some v) × (j < length views)) ⊎ ((j ≡ length views) × (new ≡ v))
 at_snoc [] new v zero e = inr (refl, some-injective new v e)
@@ -53,7 +53,7 @@ longer_has [] k b e = absurd (cc)
 longer_has (x ∷ xs) zero b e = e
 longer_has (x ∷ xs) (suc k) b e = longer_has xs k b e
 
--- each part in the longer list was in the shorter one
+-- after a number without a part is added to a list of parts, each part in the list was there before
 pub longer_had : (xs : PartList) (k : ℕ) (done : History) → slice_get (xs ++ None ∷ []) k ≡ Some (Some done)
     → slice_get xs k ≡ Some (Some done)
 longer_had [] zero done e = absurd (cc)

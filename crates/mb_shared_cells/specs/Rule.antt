@@ -17,7 +17,7 @@ abbrev pub roster_of : PoolSize → ℕ
 roster_of size = pool_words size
 
 -- how the parts of one history are seated: the history, how many lanes and readers were issued, and which seat is the
--- hub's. For each process it has the one seat with its part
+-- hub's. For each process it says which one seat has its part
 pub record Seating : Type 0 where
   pub history : History
   pub lanes : ℕ
@@ -30,7 +30,7 @@ abbrev pub IsEnrolled : Seating → Process → Type 0
 IsEnrolled t (Producer p) = p < t.lanes
 IsEnrolled t (Reader r) = r < t.readers
 
--- the view is the hub's: its roll has a place for each process issued, and the parts in it are those of the history
+-- the view is the hub's: its roll has a place for each process issued, and each part in it is that of one at the hub
 pub record IsHub (size : PoolSize) (t : Seating) (seat : ℕ) (own : PoolSize) (roll : Roll) : Type 0 where
   pub sized : own ≡ size
   pub here : seat ≡ t.hub

@@ -66,7 +66,7 @@ pub record IsAccessAfter (size : PoolSize) (known : PartList) (a : PoolAccess) (
   pub lanes : KnowsLanes known older
 
 -- the access may come next on these words, if its process has done this part: each history that leaves the words,
--- with just this part of the process, stays lawful with it. A producer has one of the pool's lanes
+-- with just this part of the process, stays lawful with it. If a producer makes it, it needs a lane of the pool
 abbrev pub MayComeNext : PoolSize → List ℕ → PoolAccess → History → Type 0
 MayComeNext size words a done =
     (h : History) → IsMemoryOf size words h → part a.process h ≡ done

@@ -36,7 +36,7 @@ impl<A: Allocator + Drop> Model for SharedCells<A> {
 
     ghost view = { λ t. record { id = t.table.shared.table_id; size = t.size } };
 
-    // The rule is that of this size. The table has the words of the pool and the roster, and no slots.
+    // The rule is that of this size, whose numbers are below 2^32. The table has the pool's words and the roster alone.
     ghost invariant = { λ t. (t.table.shared.key ≡ t.size)
         × (t.table.shared.table_id.words ≡ roster_of t.size + 1)
         × (t.table.shared.table_id.slots ≡ 0) × (t.size.lanes < 2 ^ 32) × (t.size.cells < 2 ^ 32) };

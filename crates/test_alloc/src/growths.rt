@@ -1,4 +1,4 @@
-//! Tries a call with each of its allocations refused in turn.
+//! Tries a call with its allocations refused one after the other.
 
 ghost use Rattle.std.specs.Prelude.{ℕ, ◌<◌, IfOk, false, true};
 ghost use Rattle.test_alloc.specs.Trials.{MaySay};
@@ -11,7 +11,7 @@ use std::test::Fail;
 /// No call that is tried makes this many allocations.
 const MANY: u64 = 100;
 
-/// Tries the call with each of its allocations refused in turn, both alone and together with all later ones. Then the
+/// Tries the call with each of its allocations refused once alone, and once together with all later ones. Then the
 /// call is served. Returns how many allocations it makes.
 ///
 /// The call returns whether it was served. It has to be refused exactly if an allocation was, and may keep no memory.

@@ -1,5 +1,5 @@
 //! An allocator that refuses chosen requests, and counts the blocks that are out. Threads may share it. With it a test
-//! tries a call with each of its allocations refused in turn.
+//! tries a call with its allocations refused one after the other.
 #![tactic(auto)]
 
 mod counters;

@@ -20,7 +20,7 @@ pub record IsLaneCount (lane : LaneView) (t : Tally) : Type 0 where
   pub left : t.left ≡ length lane.left
   pub took : t.took + t.left ≡ t.put
 
--- no lane has more items left than put, and a tally counts these over all lanes of a report, modulo 2^64
+-- no lane has more items left than put. A tally counts both over all lanes, and the other items as taken, modulo 2^64
 pub record IsReportCount (report : ReportView) (t : Tally) : Type 0 where
   pub put : t.put ≡ sum_by (λ (l : LaneView). length l.put) report.lanes % 2 ^ 64
   pub left : t.left ≡ sum_by (λ (l : LaneView). length l.left) report.lanes % 2 ^ 64

@@ -13,7 +13,7 @@ pub enum Flaw {
     TwoTakers,
     /// A consumer took a value other than the item that was put there.
     OtherItem,
-    /// A loser names itself, a consumer that did not compete, or another winner than the taker or than another loser.
+    /// A loser names itself, a consumer that did not compete, not the taker, or another winner than another loser does.
     OtherWinner,
     /// A consumer is undecided, though nobody else competed for the item.
     UndecidedAlone,

@@ -108,8 +108,8 @@ fn may_have_won<A: Allocator + Drop>(
 
 /// What all diaries of a lane say of the item at position `j`, or the first flaw. There is no flaw if these rules are
 /// kept. At most one consumer took the item, and it took what was put. All losers name one winner, which competed and
-/// is the taker, if there is one. A consumer that is undecided is not alone. So if nobody took the item though somebody
-/// competed, one of those has not finished: they cannot all have lost to one of them.
+/// is the taker, if one took it. A consumer that is undecided is not alone. So if nobody took the item though somebody
+/// competed, one of these is undecided or has a claim under way: they cannot all have lost to one of them.
 pub(crate) fn all_said_of<A: Allocator + Drop>(
     report: &Report<A>,
     consumers: u64,

@@ -71,16 +71,16 @@ static WINNERS: [(bool, [&[Note]; 3], Option<Flaw>); 11] = [
     (true, [&[Lost(2)], &[Lost(2)], &[Undecided]], None),
     (false, [&[Took(5)], &[Took(5)], &[]], Some(Flaw::TwoTakers)),
     (false, [&[], &[Took(6)], &[]], Some(Flaw::OtherItem)),
-    // (breaks the rule that a consumer does not lose to itself)
+    // The next case breaks the rule that a consumer does not lose to itself.
     (true, [&[], &[Lost(1)], &[]], OTHER_WINNER),
-    // (breaks the rule that all losers name one winner)
+    // The next case breaks the rule that all losers name one winner.
     (true, [&[Lost(1)], &[Lost(2)], &[Undecided]], OTHER_WINNER),
-    // (both break the rule that the winner named has competed: consumer 1 has not, and there is no consumer 3)
+    // The next two break the rule that the winner named has competed: consumer 1 has not, and there is no consumer 3.
     (true, [&[Lost(1)], &[], &[]], OTHER_WINNER),
     (true, [&[Lost(3)], &[], &[]], OTHER_WINNER),
-    // (breaks the rule that losers name the consumer that took the item)
+    // The next case breaks the rule that losers name the consumer that took the item.
     (false, [&[Took(5)], &[Lost(2)], &[Undecided]], OTHER_WINNER),
-    // (the first breaks the rule that a consumer is not undecided if nobody else competed, and the second keeps it)
+    // The next breaks the rule that a consumer is not undecided if nobody else competed, and the one after it keeps it.
     (true, [&[], &[], &[Undecided]], Some(Flaw::UndecidedAlone)),
     (true, [&[], &[Undecided], &[Undecided]], None),
 ];
@@ -98,10 +98,10 @@ const OTHER_LEFT: Option<Flaw> = Some(Flaw::OtherLeft);
 /// What the report names as left of the items 5, 6 and 7 if 5 was taken, and the flaw.
 static LEFT: [(&[u64], Option<Flaw>); 8] = [
     (&[6, 7], None),
-    // (both break the rule that the items left are items of the lane, in its order)
+    // The next two break the rule that the items left are items of the lane, in its order.
     (&[7, 6], OTHER_LEFT),
     (&[6, 8], OTHER_LEFT),
-    // (these break the rule that the items left are all those that nobody took, and no others)
+    // The other cases break the rule that the items left are all those that nobody took, and no others.
     (&[], OTHER_LEFT),
     (&[6], OTHER_LEFT),
     (&[7], OTHER_LEFT),
@@ -173,7 +173,7 @@ static SIZES: [(
     (1, &[LANE; 2], &[], DIARIES),
     (2, &[LANE; 2], &[FIRST, SECOND], DIARIES),
     (1, &[LANE; 2], &[FIRST, SECOND, THIRD, FOURTH], DIARIES),
-    // (these break the rule that each diary has the consumer and the lane of its position)
+    // The other cases break the rule that each diary has the consumer and the lane of its position.
     (1, &[LANE; 2], &[THIRD, FOURTH], DIARIES),
     (1, &[LANE; 2], &[SECOND, FIRST], DIARIES),
     (2, &[LANE; 2], &[FIRST, THIRD, SECOND, FOURTH], DIARIES),

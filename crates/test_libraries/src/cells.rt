@@ -1,4 +1,4 @@
-//! A pool of linked cells.
+//! Calls of a pool of linked cells: worked examples.
 ghost use Rattle.std.specs.Prelude.{◌<◌, List, ◌∷◌};
 ghost use Rattle.mb_cells.specs.Vocabulary.{Call, Finished, HasMade, Offered, Pushed};
 ghost use Rattle.mb_cells.specs.declared.size.PoolSize.{PoolSize};
@@ -26,7 +26,7 @@ static ONE_ITEM: [PoolCall; 9] = [
     Looks(Cursor::Past(0), Look::Ended),
 ];
 
-/// Whether the allocator serves a pool of one lane and one cell, which then takes that item.
+/// Whether the allocator serves a pool of one lane and one cell, of which the calls `ONE_ITEM` are then made.
 pub(crate) fn is_served<A: Allocator + Clone + Drop>(rt: &impl Abort, alloc: A) -> bool {
     match Calls::new(alloc, 1, 1) {
         Ok(mut pool) => {
@@ -87,7 +87,7 @@ fn calls_join_a_list(rt: HostRuntime) {
     );
 }
 
-// Two lanes get the cells of one pool in turns. Looks find each lane's own cells.
+// Two lanes get the cells of one pool alternately. Looks find each lane's own cells.
 #[test]
 fn two_lanes_draw_from_one_pool(rt: HostRuntime) {
     let mut pool = new_pool(&rt, 2, 4);
@@ -181,7 +181,7 @@ fn two_cells_on(p: u32, last: u32) -> [PoolCall; 3] {
     ]
 }
 
-// Sixteen lanes get forty cells in turns, so the first eight have three cells and the others two.
+// Sixteen lanes get forty cells, one lane after the other, so the first eight have three cells and the others two.
 #[test]
 fn sixteen_lanes_until_full(rt: HostRuntime) {
     let mut pool = new_pool(&rt, 16, 40);

@@ -25,7 +25,7 @@ pub(crate) fn stored(consumer: u32, object: u32, reg: Reg, value: u64) -> ClaimE
     }
 }
 
-/// The steps in which consumer 0 wins before consumer 1 comes. The last turn is one of consumer 0, without an access.
+/// The steps in which consumer 0 wins before consumer 1 comes. The last is of consumer 0 again, and makes no access.
 pub(crate) const WON_AND_LOST: [(u64, u64); 12] = [
     (0, 0),
     (0, 0),
@@ -41,7 +41,7 @@ pub(crate) const WON_AND_LOST: [(u64, u64); 12] = [
     (0, 0),
 ];
 
-/// Checks that claims on one cell have these stages after these steps, and these entries from the given position on.
+/// Checks that claims on one cell have these stages after these steps, and these entries from this position on.
 /// Returns whether the allocator serves the run.
 pub(crate) fn is_played<A: Allocator + Copy + Drop>(
     rt: &impl Abort,
@@ -67,7 +67,7 @@ pub(crate) fn is_played<A: Allocator + Copy + Drop>(
     }
 }
 
-/// Checks that claims on one cell have these stages after these steps, and these entries from the given position on.
+/// Checks that claims on one cell have these stages after these steps, and these entries from this position on.
 pub(crate) fn plays<R: Abort + AllocGlobal>(
     rt: &R,
     layout: &Layout,

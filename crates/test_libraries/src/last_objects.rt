@@ -27,8 +27,8 @@ impl Memory for Word {
     }
 }
 
-/// The access of a process with this input and its output, by `next` and `after`. It is none if the table has no such
-/// value, or if the process goes on.
+/// The access of a process with this input, and its output, by `next` and `after`. There is none if the input is no
+/// value of the table, or if the process goes on.
 fn by_parts(q: &Bits, word: &mut Word, input: u32) -> Option<(Op, Out)> {
     if input >= q.values() {
         return None;
@@ -42,7 +42,7 @@ fn by_parts(q: &Bits, word: &mut Word, input: u32) -> Option<(Op, Out)> {
     }
 }
 
-/// The output of a process with this input, by `step`. It is none if the table has no such value.
+/// The output of a process with this input, by `step`. There is none if the input is no value of the table.
 fn at_once(q: &Bits, word: &mut Word, input: u32) -> Option<Out> {
     if input >= q.values() {
         return None;

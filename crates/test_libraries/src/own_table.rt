@@ -26,7 +26,7 @@ impl Model for Process {
 }
 
 impl Process {
-    /// A process that begins with this input. It has no place if the table has no such value.
+    /// A process that begins with this input. It has no place if the input is no value of the table.
     fn new(q: Mirrored, input: u32) -> Process {
         if input < q.values() {
             return Process {

@@ -64,8 +64,8 @@ impl<A: Allocator + Drop> Calls<A> {
         }
     }
 
-    // Each of these calls returns whether its result is the one given. It returns `false`, and makes no call, if its
-    // lane, cell or cursor is not one of the pool.
+    // Each of these functions makes its call, and returns whether the result is the last argument. It returns `false`,
+    // and makes no call, if its lane, cell or cursor is not one of the pool.
     fn offer(&mut self, p: u32, x: u64, answer: Offer) -> bool {
         p < self.lanes && self.pool.offer(p, x) == answer
     }

@@ -1,4 +1,4 @@
-//! Calls that run out of memory: each allocation of a call is refused in turn, and in the end none is.
+//! Calls that run out of memory: the allocations of a call are refused one after the other, and in the end none is.
 
 use crate::answers::make;
 use crate::claims::{WON_AND_LOST, is_played, one_pair, won_and_lost};

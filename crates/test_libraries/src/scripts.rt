@@ -36,7 +36,7 @@ fn a_script_is_read(rt: HostRuntime) {
     let script = script(&rt, text);
     let setup = &script.setup;
     let sizes = (setup.producers(), setup.consumers(), setup.cells());
-    // Three consumers: a conciliator has at most 6 accesses, a ratifier 1 + 2 + 2.
+    // Three consumers and five pairs: a conciliator has at most 6 accesses, a ratifier 1 + 2 + 2.
     same(&rt, &(sizes, setup.layout().max_steps()), &((2, 3, 4), 55));
     let events = [
         Event::Offer {

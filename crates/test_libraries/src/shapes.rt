@@ -116,7 +116,7 @@ fn one_after_the_other_on_a_fast_path(rt: HostRuntime) {
 #[test]
 fn a_conciliator_comes_after_the_fast_path(rt: HostRuntime) {
     let layout = one_pair(&rt, 2).shaped(FAST);
-    // They step in turns sixteen times, and then each makes a few steps in a row.
+    // They step alternately, in sixteen steps, and then each makes a few steps in a row.
     let steps = steps_of([
         0, 1, 0, 1, 0, 1, 0, 1, 0, 1, 0, 1, 0, 1, 0, 1, 0, 0, 0, 1, 0, 0, 0, 0, 1, 1, 1,
     ]);

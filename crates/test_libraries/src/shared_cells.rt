@@ -181,7 +181,7 @@ fn read_two<A: Allocator + Drop>(
     same(rt, &told, &(items.0, items.1, Look::Nothing));
 }
 
-// Two lanes get the cells of one table in turns. A reader finds each lane's own items.
+// Two lanes get the cells of one table alternately. A reader finds each lane's own items.
 #[test]
 fn two_lanes_draw_from_one_table(rt: HostRuntime) {
     let (table, mut hub) = new_table(&rt, rt.alloc(), 2, 4);

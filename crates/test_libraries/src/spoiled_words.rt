@@ -32,7 +32,7 @@ impl Memory for Spoiled {
     }
 }
 
-/// How many accesses a claim makes on corrupted words to its end, or a thousand.
+/// How many accesses a claim makes on corrupted words to its end, but at most a thousand.
 fn accesses(layout: &Layout, consumer: u32, seed: u64) -> u64
     requires { consumer < consumer_count layout.now }
 {

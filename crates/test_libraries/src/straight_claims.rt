@@ -115,7 +115,7 @@ impl Drawing for Recorder {
 }
 
 /// Where objects begin in a cell, if ratifiers have this many registers. With a fast path the first two are ratifiers.
-/// Then come conciliators and ratifiers in turn. A last object has one word, as a conciliator has.
+/// Then come conciliators and ratifiers alternately. A last object has one word, as a conciliator has.
 fn begins_of(registers: usize, fast: bool) -> [usize; OBJECTS] {
     let mut begins = [0; OBJECTS];
     let mut begin = 0usize;

@@ -70,11 +70,11 @@ fn middle_tables(rt: HostRuntime) {
         (5, 4, (4, 5, Some((10, 5)))),
         (1, 0, (0, 1, Some((0, 0)))),
         (64, 63, (8, 64, Some((212, 43)))),
-        // Sets 0 and 2 of four of eight registers are 0 to 3, and 0, 1, 3 and 4. In lexicographic order set 2 would be
-        // 0, 1, 2 and 5.
+        // The sets of four of eight registers rise by mask: set 0 has registers 0 to 3, and set 2 has 0, 1, 3 and 4. In
+        // lexicographic order set 2 would have 0, 1, 2 and 5.
         (64, 0, (8, 64, Some((15, 240)))),
         (64, 2, (8, 64, Some((27, 228)))),
-        // The sets of two of four registers, by rising mask, and the other two.
+        // The sets of two of four registers, by rising mask: a write quorum is one of them, its read quorum the rest.
         (6, 0, (4, 6, Some((3, 12)))),
         (6, 1, (4, 6, Some((5, 10)))),
         (6, 2, (4, 6, Some((6, 9)))),

@@ -157,7 +157,7 @@ fn put_all(
     producer
 }
 
-/// Polls both lanes in turn until the consumer has loaded both end marks, or `POLLS` times.
+/// Polls both lanes alternately until the consumer has loaded both end marks, or `POLLS` times.
 fn poll_all(
     mailbox: &Mailbox<Global>,
     mut consumer: Consumer<Global>,

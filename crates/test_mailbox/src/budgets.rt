@@ -21,7 +21,7 @@ const MAILBOXES: u64 = 1000;
 /// How many calls are made of a mailbox.
 const CALLS: u64 = 100;
 
-/// How many polls are made after them.
+/// How many polls are made after these calls.
 const POLLS: u64 = 100;
 
 /// The most polls of budget 1 in place of one poll.

@@ -69,12 +69,12 @@ fn all_workers_come_to_the_gate_at_one_time(rt: HostRuntime) {
 }
 
 /// A gate that lets each call in. It checks that a worker's calls come as 1, 2 and so on, and that each leaves before
-/// the next.
+/// the next one enters.
 #[derive(Drop)]
 struct Record {
     /// How often each of two producers and two consumers entered or left.
     times: [AtomicU64; 4],
-    /// How often one of these workers entered or left out of turn.
+    /// How often one of these workers entered or left out of order.
     flaws: AtomicU64,
 }
 
@@ -114,7 +114,7 @@ impl Gate for Record {
     }
 }
 
-/// Checks that nobody entered or left out of turn, and how often each did. The producers put two and three items.
+/// Checks that nobody entered or left out of order, and how often each did. The producers put two and three items.
 fn alternates(rt: &impl Abort, gate: &Record) {
     let flaws = gate.flaws.load(Ordering::SeqCst);
     // A producer makes one call for each item, and each call enters and leaves.

@@ -1,4 +1,4 @@
-//! Calls of a mailbox, of its hub and of `work`, with each of their allocations refused in turn, and then served.
+//! Calls of a mailbox, of its hub and of `work`, with their allocations refused one after the other, and then served.
 
 use crate::compare::same_at;
 use crate::mailboxes::Scene;
@@ -127,7 +127,7 @@ diary 1 1 begun
 
 /// Each call with its name, and the least number of its allocations. The line before it names them.
 const CALLS: &[(&str, Call, u64)] = &[
-    // Two lists of what is returned, the words of the cells, zeros for those of the claims, and these.
+    // Two lists of what is returned, the words of the cells, zeros for those of the claims, and the claims' words.
     ("new", Call::New, 5),
     // At least the list of the producer's items.
     ("producer", OPEN_LANE, 1),

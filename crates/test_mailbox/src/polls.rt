@@ -9,7 +9,7 @@ use mb_world::Setup;
 /// The report after the only consumer took the only item.
 const SEVEN_TAKEN: &str = "lane 0 open put 7\nleft 0\ndiary 0 0 took 7\n";
 
-/// The report after that, if there is another consumer, which has not polled.
+/// The same report, but with another consumer, which has not polled.
 const OTHER_IDLE: &str = "lane 0 open put 7\nleft 0\ndiary 0 0 took 7\ndiary 1 0\n";
 
 /// In each case all polls have one budget. The first ones are spent, if any, and the last one takes the item. The claim

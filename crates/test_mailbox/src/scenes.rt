@@ -1,4 +1,4 @@
-//! Scenes: calls of a mailbox in one thread, a line for each, with its result. No call gets what it could wait with.
+//! Scenes: calls of a mailbox in one thread, a line for each, with its result. No call gets a runtime to wait with.
 
 use crate::compare::same_at;
 use crate::trial::Trial;

@@ -1,4 +1,4 @@
-//! Each allocation of a call is refused in turn. The call then runs out of memory, keeps none and writes nothing. If
+//! Each allocation of a call is refused. The call then runs out of memory, keeps none and writes nothing. If
 //! none is refused, the call is served.
 
 use crate::compare::same;

@@ -114,7 +114,7 @@ fn pushes<R: Abort + AllocGlobal>(rt: &R, first: &str, count: usize, last: &str)
     repeated(rt.alloc(), first, "push 0\n", count, last).expect(rt, "no script")
 }
 
-// What is written for such a script of `count` pushes: their results, and the report.
+// What is written for a script of `count` pushes on a lane where nothing was offered: their results, and the report.
 fn answers<R: Abort + AllocGlobal>(rt: &R, count: usize) -> String {
     let report = "lane 0 open put\nleft 0\ndiary 0 0\n";
     repeated(rt.alloc(), "", "push 0 idle\n", count, report).expect(rt, "no answer")

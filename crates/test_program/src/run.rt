@@ -31,7 +31,7 @@ pub(crate) fn reported<
     R: AllocGlobal + Threads + Wait + Sync,
     A: Allocator + Copy + Drop + Send + Sync,
 >(rt: &R, alloc: A, options: Options) -> (Result<(), RunFault>, Vec<u8>) {
-    // The call needs a budget of 1 or more. Each budget here is so large, but in a loop over options the prover does
+    // The call needs a budget of 1 or more. Each budget here is 1 or more, but in a loop over options the prover does
     // not know it.
     let options = Options {
         budget: options.budget.max(1),

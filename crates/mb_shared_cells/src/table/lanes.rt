@@ -42,7 +42,7 @@ impl<A: Allocator + Drop> SharedCells<A> {
             return Push::Idle;
         };
 
-        // (after an atomic step the compiler would read the place anew)
+        // The place moves on before the store: after an atomic step the compiler would read it anew.
         let answer = seat.place.pushed();
         self.store::<Brand>(&mut seat.seat, word, value);
         answer

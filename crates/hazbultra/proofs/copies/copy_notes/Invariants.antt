@@ -1,4 +1,4 @@
--- Loop invariants of `copy_notes`: copies the first notes, as many as there is room for in `to`.
+-- Loop invariants of `copy_notes`, which copies the first notes, as many as there is room for in `to`.
 use Rattle.std.specs.Prelude.{◌≡◌, drop, map, take}
 use Rattle.hazbultra.specs.Reports.{note_out}
 use Rattle.hazbultra.proofs.copies.copy_notes.Given as goal

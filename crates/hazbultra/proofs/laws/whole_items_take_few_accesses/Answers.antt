@@ -1,4 +1,4 @@
--- Proof of `laws::whole_items_take_few_accesses`: a claim's most accesses and two loads, by default and by `FastLast`.
+-- Proof of `laws::whole_items_take_few_accesses`: how many accesses a claim and its two loads are at most.
 use Rattle.std.proofs.Common.{◌≡◌, ◌+◌, ◌∙◌, ℕ, refl, sym, ap, arith, false, true}
 use Rattle.mb_quorum.specs.Tables.{table_of}
 use Rattle.mb_quorum.specs.declared.table.TableName.TheVariants.{Bits}

@@ -1,4 +1,4 @@
--- Proof of `laws::loads_tell_what_stays`: a load of a link gives 0, or what that link holds from then on.
+-- Proof of `laws::loads_tell_what_stays`: a load of a head or link gives 0, or what that word holds from then on.
 use Rattle.mb_cells.proofs.laws.loads_tell_what_stays.Goals as goal
 use Rattle.mb_cells.proofs.Histories.{link_load}
 use Rattle.mb_cells.proofs.Items.{given, item_put, item_value}

@@ -9,7 +9,7 @@ use Rattle.mb_script.specs.Scripts.{events_of}
 use Rattle.mb_script.proofs.Lined.{onto}
 use Rattle.mb_script.proofs.parser.events.Given as goal
 
--- the events read so far, and then those of the lines that are left, are the events of all lines
+-- the events read so far, at most `MAX_EVENTS`, and then those of the lines left, are the events of all lines
 abbrev pub invariant-loop-line : goal.invariant-loop-line
 invariant-loop-line g l = record {
   text : shadow (Utf8 l.rest);

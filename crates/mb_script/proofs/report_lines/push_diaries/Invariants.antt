@@ -1,4 +1,4 @@
--- Loop invariants of `push_diaries`: it appends a line for each diary.
+-- Loop invariants of `push_diaries`, which appends a line for each diary.
 use Rattle.std.proofs.Common.{◌≡◌, ◌++◌, take, string_bytes}
 use Rattle.std.specs.List.{flat_map}
 use Rattle.mb_script.specs.ReportText.{diary_text}

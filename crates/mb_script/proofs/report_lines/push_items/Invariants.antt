@@ -1,4 +1,4 @@
--- Loop invariants of `push_items`: it appends items, each after a space.
+-- Loop invariants of `push_items`, which appends items, each after a space.
 use Rattle.std.proofs.Common.{◌≡◌, ◌++◌, take, string_bytes}
 use Rattle.mb_script.specs.ReportText.{items_text}
 use Rattle.mb_script.proofs.report_lines.push_items.Given as goal

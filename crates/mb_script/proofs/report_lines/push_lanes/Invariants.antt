@@ -1,4 +1,4 @@
--- Loop invariants of `push_lanes`: it appends two lines for each lane, from lane 0 on.
+-- Loop invariants of `push_lanes`, which appends two lines for each lane, from lane 0 on.
 use Rattle.std.proofs.Common.{◌≡◌, ◌++◌, drop, string_bytes}
 use Rattle.mb_script.specs.ReportText.{lanes_text}
 use Rattle.mb_script.proofs.report_lines.push_lanes.Given as goal

@@ -1,4 +1,4 @@
--- Loop invariants of `push_notes`: it appends notes, each after a space.
+-- Loop invariants of `push_notes`, which appends notes, each after a space.
 use Rattle.std.proofs.Common.{◌≡◌, ◌++◌, take, string_bytes}
 use Rattle.std.specs.List.{flat_map}
 use Rattle.mb_script.specs.ReportText.{note_text}

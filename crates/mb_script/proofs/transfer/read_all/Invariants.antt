@@ -1,11 +1,11 @@
--- Loop invariants of `read_all`: it reads to the end, but stops after the first byte past the limit, `MAX_SCRIPT_LEN`.
+-- Loop invariants of `read_all`, which reads to the end, but stops after the first byte past `MAX_SCRIPT_LEN`.
 use Rattle.std.proofs.Common.{◌≡◌, ◌≤◌, ◌+◌, ◌-◌, length}
 use Rattle.std.specs.Io.KnownBytes.{Consumes}
 use Rattle.mb_script.specs.declared.transfer.TheConstants.{MAX_SCRIPT_LEN}
 use Rattle.mb_script.specs.Devices.{CountGrows}
 use Rattle.mb_script.proofs.transfer.read_all.Given as goal
 
--- the bytes so far are those that the reader gave, at most one past the limit, and no read failed
+-- the bytes so far are those that the reader gave and counted, at most one past the limit, and no read failed
 abbrev pub invariant-loop-piece : goal.invariant-loop-piece
 invariant-loop-piece g l = record {
   took : Consumes (g.R.CountedRead.left l.fn.reader) (g.R.CountedRead.left l.reader) l.text.items;

@@ -1,4 +1,4 @@
--- Loop invariants of `write_all`: it writes the whole text.
+-- Loop invariants of `write_all`, which writes the whole text.
 use Rattle.std.proofs.Common.{◌≡◌, ◌≤◌, ◌-◌, length, take}
 use Rattle.std.specs.Io.KnownBytes.{Appends}
 use Rattle.mb_script.proofs.transfer.write_all.Given as goal

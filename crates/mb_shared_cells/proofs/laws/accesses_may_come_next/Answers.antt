@@ -1,4 +1,4 @@
--- Proof of `laws::accesses_may_come_next`: which accesses may come next.
+-- Proof of `laws::accesses_may_come_next`: what a process has done says which access of it may come next.
 use Rattle.std.proofs.Common.{None, Some, arith, subst, sym, ⊎_elim, ℕ, ◌<◌, ◌^◌, ◌∷◌, ◌≡◌}
 use Rattle.mb_cells.specs.Vocabulary.{IsLanePrefix, MayRead, finish_refusal, next_link, part, push_store, store}
 use Rattle.mb_shared_cells.specs.Types.{Counter, END, Producer}

@@ -1,4 +1,4 @@
--- Proof of `laws::states_have_one_history`: what holds of each state of the cells.
+-- Proof of `laws::states_have_one_history`: one lawful history leaves the words, and has the parts that the views have.
 use Rattle.std.proofs.Common.{List, [], arith, subst, sym, ℕ, ◌≢◌, ◌∙◌}
 use Rattle.std.proofs.Math.Decide.{dec_lt}
 use Rattle.mb_cells.specs.Vocabulary.{History, part}

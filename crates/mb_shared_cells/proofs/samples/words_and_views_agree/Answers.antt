@@ -1,4 +1,4 @@
--- Proof of `samples::words_and_views_agree`: words and views of a table of one lane and one cell.
+-- Proof of `samples::words_and_views_agree`: words and views of a table of one lane and one cell agree with a history.
 -- The words are, in this order, the counter, the head, the link, the item and the roster.
 use Rattle.std.proofs.Common.{Some, None, [], arith, refl, sym, ◌∷◌, ◌≡◌, subst, suc, zero, ℕ, slice_index, nat_eq, false}
 use Rattle.std.proofs.Math.Dec.{eqb-suc-zero}

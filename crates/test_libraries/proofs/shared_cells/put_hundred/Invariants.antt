@@ -1,4 +1,4 @@
--- Loop invariants of `put_hundred`: puts a hundred items, from `first` on, and ends the lane.
+-- Loop invariants of `put_hundred`, which puts a hundred items, from `first` on, and ends the lane.
 use Rattle.std.proofs.Common.{◌≡◌, ◌≤◌}
 use Rattle.test_libraries.proofs.shared_cells.put_hundred.Given as goal
 

@@ -1,4 +1,4 @@
--- Loop invariants of `all_seats`: issues the seats of all numbers that were not issued yet.
+-- Loop invariants of `all_seats`, which issues the seats of all numbers that were not issued yet.
 use Rattle.std.specs.Prelude.{◌≡◌, [], All}
 use Rattle.mb_shared_claims.specs.Vocabulary.{name_of, SeatView}
 use Rattle.test_libraries.proofs.shared_claims.all_seats.Given as goal

@@ -1,4 +1,4 @@
--- Loop invariants of `claim_each`: makes claims of a seat that has made no access, on each of `CELLS` cells.
+-- Loop invariants of `claim_each`, which makes claims of a seat that has made no access, on each of `CELLS` cells.
 use Rattle.std.specs.Prelude.{◌≡◌, ◌≤◌, ℕ, []}
 use Rattle.mb_claim.specs.Vocabulary.{part_on}
 use Rattle.test_libraries.proofs.shared_claims.claim_each.Given as goal

@@ -1,10 +1,10 @@
--- Loop invariants of `step_on`: makes `most` steps of a claim with the random word 0, or fewer if it ends before.
+-- Loop invariants of `step_on`, which makes `most` steps of a claim with the random word 0, or fewer if it ends before.
 use Rattle.std.specs.Prelude.{◌≡◌, ◌≢◌, ℕ}
 use Rattle.mb_claim.specs.Vocabulary.{IsClaimIn, consumer_of, part_on}
 use Rattle.test_libraries.proofs.shared_claims.step_on.Given as goal
 
--- the seat and the claim are still of the consumer, and its part on the cell is that of the claim. Its parts on other
--- cells are as they were at first
+-- the seat is still at its table and of its consumer, and so is the claim. The consumer's part on the cell is that of
+-- the claim, and its parts on other cells are as they were at first
 abbrev pub invariant-loop-turn : goal.invariant-loop-turn
 invariant-loop-turn g l = record {
   table : l.seat.table ≡ l.initial.seat.table;

@@ -1,4 +1,4 @@
--- Loop invariants of `accesses`: how many accesses a claim makes on corrupted words to its end, or a thousand.
+-- Loop invariants of `accesses`, which counts at most a thousand accesses of a claim on corrupted words to its end.
 use Rattle.mb_claim.specs.Vocabulary.{FitsLayout}
 use Rattle.test_libraries.proofs.spoiled_words.accesses.Given as goal
 

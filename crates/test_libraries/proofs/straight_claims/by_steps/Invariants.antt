@@ -1,4 +1,4 @@
--- Loop invariants of `by_steps`: makes at most `most` accesses, one step at a time.
+-- Loop invariants of `by_steps`, which makes at most `most` accesses, one step at a time.
 use Rattle.mb_claim.specs.Vocabulary.{FitsLayout}
 use Rattle.test_libraries.proofs.straight_claims.by_steps.Given as goal
 

@@ -1,4 +1,4 @@
--- Loop invariants of `claim_twice`: plays a consumer's new claim twice.
+-- Loop invariants of `claim_twice`, which plays a consumer's new claim twice.
 use Rattle.mb_claim.specs.Vocabulary.{FitsLayout}
 use Rattle.test_libraries.proofs.straight_claims.claim_twice.Given as goal
 

@@ -30,7 +30,7 @@ steps_keep layout cell claim seat s (suc n) at now t (was, before, u, word, olde
     let p = steps_keep layout cell claim seat s n was before u older in
     (ap (λ (v : SeatView). v.table) step.adds ∙ p.0, ap (λ (v : SeatView). v.consumer) step.adds ∙ p.1)
 
--- if two layouts are equal, and two numbers are equal, what holds of the first of each holds of the second of each
+-- if two layouts are equal, and so are two numbers, what holds of the first layout and number holds of the second ones
 moved :
     (P : Layout → ℕ → Type 0) (d layout : Layout) (k own : ℕ) → d ≡ layout → k ≡ own → P d k → P layout own
 moved P d layout k own e f is = subst (λ x. P x own) e (subst (P d) f is)

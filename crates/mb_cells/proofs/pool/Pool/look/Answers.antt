@@ -1,4 +1,4 @@
--- Proof of `Pool::look`: what comes after the cursor.
+-- Proof of `Pool::look`, which returns what comes after the cursor.
 use Rattle.std.proofs.Common.{ap, arith, subst, sym, ℕ, ◌-◌, ◌<◌, ◌∙◌, ◌≡◌}
 use Rattle.mb_cells.proofs.pool.Pool.look.Goals as goal
 use Rattle.mb_cells.specs.{IsWithin, PoolState, cell_count, word_in}

@@ -1,4 +1,4 @@
--- Proof of `Pool::new`: a pool of empty lanes.
+-- Proof of `Pool::new`, which returns a pool of empty lanes.
 use Rattle.std.proofs.Common.{ap, ◌∙◌}
 use Rattle.std.proofs.Math.ListN.{replicate}
 use Rattle.mb_cells.proofs.pool.Pool.new.Goals as goal

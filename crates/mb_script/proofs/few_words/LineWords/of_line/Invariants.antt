@@ -6,7 +6,7 @@ use denote.Shadow.{shadow}
 use Rattle.mb_script.specs.Text.{words_in_line, has_empty}
 use Rattle.mb_script.proofs.few_words.LineWords.of_line.Given as goal
 
--- the words stored so far, and then those of what is left of the line, are the words of the line
+-- the words stored so far, fewer than 8 and none empty, and then those of the rest of the line, are the line's words
 abbrev pub invariant-loop-word : goal.invariant-loop-word
 invariant-loop-word l = record {
   text : shadow (Utf8 l.rest);

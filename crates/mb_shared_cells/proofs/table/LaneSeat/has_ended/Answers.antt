@@ -1,4 +1,4 @@
--- Proof of `LaneSeat::has_ended`: whether the producer has stored the end mark of the lane.
+-- Proof of `LaneSeat::has_ended`, which returns whether the producer has stored the end mark of the lane.
 use Rattle.std.proofs.Common.{◌≡◌, Bool, true, false, refl, sym, ap, ◌∙◌, subst}
 use Rattle.std.specs.Option.{option_eq}
 use Rattle.std.specs.Prelude.{Option, Some, None}
@@ -9,7 +9,7 @@ use Rattle.mb_shared_cells.specs.Seats.{done_in, size_in}
 use Rattle.mb_shared_cells.specs.Shown.{LaneSeatView}
 use Rattle.mb_shared_cells.proofs.table.LaneSeat.has_ended.Goals as goal
 
--- the comparison of a refusal with `Closed` is true exactly if the refusal is `Closed`
+-- if d is true exactly if a refusal is `Closed`, then d is what the comparison of the refusal with `Closed` returns
 compared : (test : Finish → Finish → Bool) (o : Option Finish) (b d : Bool) → b ≡ option_eq test o (Some Closed)
     → test Closed Closed ≡ true → test Busy Closed ≡ false → test Ended Closed ≡ false
     → (o ≡ Some Closed → d ≡ true) → (d ≡ true → o ≡ Some Closed) → b ≡ d

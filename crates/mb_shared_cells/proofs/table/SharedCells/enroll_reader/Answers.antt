@@ -1,4 +1,4 @@
--- Proof of `SharedCells::enroll_reader`: the seat of a new reader, with an empty part.
+-- Proof of `SharedCells::enroll_reader`, which issues the seat of a new reader, with an empty part.
 use Rattle.std.proofs.Common.{ap, arith, sym, ◌∙◌}
 use Rattle.mb_shared_cells.specs.Seats.{roll_in, size_in}
 use Rattle.mb_shared_cells.specs.Views.{SeatState}

@@ -1,4 +1,4 @@
--- Proof of `SharedCells::item`: the item of cell `k`, which this reader met, by one load.
+-- Proof of `SharedCells::item`, which returns the item of cell `k`, a cell that this reader met, by one load.
 use Rattle.std.proofs.Common.{ap, refl, subst, sym, ◌∙◌, ◌≡◌}
 use Rattle.std.specs.Prelude.{Some, slice_get}
 use Rattle.mb_cells.specs.Vocabulary.{Gave}

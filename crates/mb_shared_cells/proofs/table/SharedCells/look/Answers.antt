@@ -1,4 +1,4 @@
--- Proof of `SharedCells::look`: what comes after the cursor, by one load: nothing yet, a cell, or the end mark.
+-- Proof of `SharedCells::look`, which returns by one load what comes after the cursor: nothing, a cell or the end mark.
 use Rattle.std.proofs.Common.{ap, arith, inl, ne_eqb, refl, subst, sym, ℕ, ◌+◌, ◌-◌, ◌<◌, ◌∙◌, ◌≡◌, ◌≢◌}
 use Rattle.std.specs.Prelude.{Some, slice_get}
 use Rattle.mb_cells.specs.Vocabulary.{Gave, look_of, word_of}
@@ -61,7 +61,7 @@ none_cell k e = cc
 end_cell : (k : ℕ) → Ended ≡ Cell k → ⊥
 end_cell k e = cc
 
--- on a lane whose part the reader knows, the load finds what that lane's producer left. The look returns what that says
+-- on a lane whose part the reader knows, the load finds what the lane's producer left. The look returns what this says
 pub returns-clause-known : goal.returns-clause-known
 returns-clause-known g c = λ p theirs at own.
     let me = c.seat.inside.seat.me in

@@ -1,4 +1,4 @@
--- Proof of `SharedCells::new`: a table of empty lanes and unused cells, and its hub.
+-- Proof of `SharedCells::new`, which returns a table of empty lanes and unused cells, and its hub.
 use Rattle.std.proofs.Common.{List, [], arith, refl, rules, subst, sym, ℕ, ◌<◌, ◌∷◌}
 use Rattle.mb_cells.specs.declared.access.TheConstants.{END}
 use Rattle.mb_cells.specs.declared.size.PoolSize.{PoolSize}

@@ -50,7 +50,7 @@ module _ {M : Type 1} {𝓤 : Ura M} (𝓛 : Logic 𝓤) (heap : Memory → SPro
     (𝓣 : Tables 𝓤 𝓛.H) where
   open 𝓛 use {H}
 
-  -- the same ghost values, with the machine values of the reference in place of those given
+  -- the ghost values z, but with the machine values of the reference in them
   abbrev at : (walk_of 𝓛 f.ended stayed (f.clauses 𝓛 heap run)).Ghost
       → (walk_of 𝓛 f.ended stayed (f.clauses 𝓛 heap run)).Ghost
   at z = ((z.0.0, z.0.1, z.0.2, z.0.3, (mut_vals z.0.3.0, tt)), z.1)

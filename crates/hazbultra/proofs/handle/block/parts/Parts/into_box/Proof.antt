@@ -88,7 +88,7 @@ module _ (E : Bx) where
         (sym is_word)
         (qed 𝓛 held ∵ enter ! 𝓣.C 𝓣.Λ body_at (w ∷ []) _ $
         alloc_all ! (λ ls. pass_all ! refl (box_typed E hv b o fits, tt) $
-        -- let Parts { ptr, alloc } = self
+        -- the statement `let Parts { ptr, alloc } = self`
         sets ! (of_opd ! (get_in ! (fld ! refl (stop !)) (sub ! 0 refl (whole !)))) refl (tt, tt) $
         sets ! (of_opd ! (get_in ! (fld ! refl (stop !)) (sub ! 1 refl (whole !)))) refl fits $
         -- the argument of the call of `from_raw`, and what that call asks for

@@ -109,7 +109,7 @@ module _ (E : Bx) (drop_x : Dict) where
         lands_as ! (ap only (is_pair ∙
         (λ j. vstruct (of_list ((is_ptr ∙ ap (λ (p : Ptr). ptr_val p ∷ []) is_block') j ++
         (is_handle j ++ []))) ∷ []))) refl (box_typed E hv' b' o' fits') $
-        -- let (ptr, alloc) = ..; Parts { ptr, alloc }
+        -- the statement `let (ptr, alloc) = ..`, and the result `Parts { ptr, alloc }`
         sets ! (of_opd ! (get_in ! (fld ! refl (stop !)) (sub ! 0 refl (whole !)))) refl (tt, tt) $
         sets ! (of_opd ! (get_in ! (fld ! refl (stop !)) (sub ! 1 refl (whole !)))) refl fits' $
         sets ! (of_opd ! (get ! refl)) refl fits' $
