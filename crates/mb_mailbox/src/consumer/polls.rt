@@ -76,8 +76,8 @@ impl<A: Allocator + Drop> Consumer<A> {
     }
 
     /// A poll of a lane that there is, with the clauses of [`Consumer::poll`]. Its budget is `left`, which is then what
-    /// it leaves. It is a call of its own: with a copy in `poll` and one in `take` neither has a whole poll inlined.
-    #[inline(never)]
+    /// it leaves.
+    #[inline(always)]
     pub(super) fn poll_rest<B: Allocator + Drop, R: Rng>(
         &mut self,
         mailbox: &Mailbox<B>,

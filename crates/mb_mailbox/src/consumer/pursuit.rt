@@ -23,7 +23,8 @@ use std::alloc::Allocator;
 /// Goes on with the claim that the consumer holds on this lane. It goes to the claim's end, to the item if the claim is
 /// won, or until it has made the accesses that are left. It takes the consumer's fields, not the consumer. The claim is
 /// stepped in its place.
-#[inline(always)]
+// It stands alone, so that the rest of a poll is short enough to be inlined.
+#[inline(never)]
 pub(super) fn run_held<A: Allocator + Drop, B: Allocator + Drop, R: Rng>(
     fields: &mut ConsumerFields<A>,
     mailbox: &Mailbox<B>,

@@ -60,11 +60,33 @@ impl<A: Allocator + Drop> Consumer<A> {
             if let Some(answer) = self.pass_lost(mailbox, lane, &mut left, rng) {
                 return answer;
             }
-            match self.poll_rest(mailbox, lane, &mut left, rng) {
+            match self.poll_apart(mailbox, lane, &mut left, rng) {
                 Poll::Lost(_) => {}
                 answer => return answer,
             }
         }
+    }
+
+    /// A poll with the clauses of [`Consumer::poll_rest`], as a call of its own, so that the rest of a take is short.
+    #[inline(never)]
+    fn poll_apart<B: Allocator + Drop, R: Rng>(
+        &mut self,
+        mailbox: &Mailbox<B>,
+        lane: u32,
+        left: &mut u64,
+        rng: &mut R,
+    ) -> Poll
+        requires belongs { IsConsumerOf mailbox.now self.old }
+        requires lane { lane < mailbox.now.cells.size.lanes }
+        ensures some { result ≢ NoLane }
+        ensures polled { IsPollOf lane left.old result (R.stream rng.old) (R.stream rng.new)
+            self.old self.new }
+        ensures left { accesses_made self.new + left.new ≡ accesses_made self.old + left.old }
+        ensures decided { (shape_of mailbox.now.claims.layout).last ≡ true → result ≢ Undecided }
+        ensures told { AnswerTells lane (outcome result) self.old self.new }
+        ensures belongs { IsConsumerOf mailbox.now self.new }
+    {
+        self.poll_rest(mailbox, lane, left, rng)
     }
 
     /// Goes on past items that it loses, if each cell has a last object alone and no claim is held on the lane. It stops

@@ -13,8 +13,8 @@ items-smaller g c =
     let more = passed_grows c.in-Some.lane c.items.left was.0 _ _ c.items.self c.pass_lost.new.self was.1 in
     let some = c.pass_lost.ensures.left passed in
     let grown = lost_grows c.in-Some.lane c.pass_lost.new.left c.in-Lost.field-0 _ _ c.pass_lost.new.self
-    c.poll_rest.new.self c.in-Lost.ensures.polled in
-    let left = c.poll_rest.ensures.left in
+    c.poll_apart.new.self c.in-Lost.ensures.polled in
+    let left = c.poll_apart.ensures.left in
     omega (arith, more, some, grown, left)
 
 pub items-preserved : goal.items-preserved
@@ -24,7 +24,7 @@ items-preserved g c =
     let was = c.pass_lost.ensures.passed c.in_default-pass_lost.is in
     let some = c.pass_lost.ensures.left c.in_default-pass_lost.is in
     let rest = some ∙ inv.rest in
-    let left = c.poll_rest.ensures.left in
+    let left = c.poll_apart.ensures.left in
     record {
       winners = c.in-Lost.field-0 ∷ (was.0 ++ inv.winners);
       passed = (
@@ -36,7 +36,7 @@ items-preserved g c =
         record { left = c.pass_lost.new.left; rest = rest; poll = c.in-Lost.ensures.polled },
       );
       rest = left ∙ rest;
-      all_of = c.poll_rest.ensures.belongs;
+      all_of = c.poll_apart.ensures.belongs;
       lane = inv.lane;
     }
 
@@ -70,31 +70,31 @@ returns-in-Some-pass_lost g c =
     }
 
 -- ---- an answer of a poll
-pub returns-in_default-poll_rest : goal.returns-in_default-poll_rest
-returns-in_default-poll_rest g c =
+pub returns-in_default-poll_apart : goal.returns-in_default-poll_apart
+returns-in_default-poll_apart g c =
     let p = c.in-Some.lane in
     let is = c.in-Some.ensures.some.0 in
     let inv = c.items.invariant in
     let low = inv.lane in
-    let answer = c.poll_rest.result in
+    let answer = c.poll_apart.result in
     let was = c.pass_lost.ensures.passed c.in_default-pass_lost.is in
     let rest = c.pass_lost.ensures.left c.in_default-pass_lost.is ∙ inv.rest in
     let take = take_by p c.args.most c.pass_lost.new.left (was.0 ++ inv.winners) answer
-    (g.R.Rng.stream c.args.rng.now) (g.R.Rng.stream c.pass_lost.new.rng) (g.R.Rng.stream c.poll_rest.new.rng)
-    c.args.self.now c.pass_lost.new.self c.poll_rest.new.self
+    (g.R.Rng.stream c.args.rng.now) (g.R.Rng.stream c.pass_lost.new.rng) (g.R.Rng.stream c.poll_apart.new.rng)
+    c.args.self.now c.pass_lost.new.self c.poll_apart.new.self
     (passed_on p c.args.most c.items.left c.args.self.now c.items.self inv.rest inv.winners was.0
     (g.R.Rng.stream c.args.rng.now) (g.R.Rng.stream c.items.rng) (g.R.Rng.stream c.pass_lost.new.rng)
-    c.pass_lost.new.self inv.passed was.1) rest c.poll_rest.ensures.polled c.in_default-poll_rest.not-Lost
-    c.poll_rest.ensures.told in
+    c.pass_lost.new.self inv.passed was.1) rest c.poll_apart.ensures.polled c.in_default-poll_apart.not-Lost
+    c.poll_apart.ensures.told in
     record {
-      no_lane = ((λ e. absurd (c.poll_rest.ensures.some e)), (λ wide. absurd (omega (arith, wide, low, is))));
-      refused = λ e. absurd (c.poll_rest.ensures.some e);
+      no_lane = ((λ e. absurd (c.poll_apart.ensures.some e)), (λ wide. absurd (omega (arith, wide, low, is))));
+      refused = λ e. absurd (c.poll_apart.ensures.some e);
       taken = λ there. subst (λ q. IsTakeOf q c.args.most answer (g.R.Rng.stream c.args.rng.now)
-          (g.R.Rng.stream c.poll_rest.new.rng) c.args.self.now c.poll_rest.new.self) is take.0;
-      not_lost = c.in_default-poll_rest.not-Lost;
-      within = within_by p c.args.most answer _ _ c.args.self.now take.0.mid c.poll_rest.new.self take.0.last;
-      spent = spent_by p c.args.most answer _ _ c.args.self.now take.0.mid c.poll_rest.new.self take.0.last;
-      decided = c.poll_rest.ensures.decided;
-      told = λ there. subst (λ q. AnswerTells q (outcome answer) c.args.self.now c.poll_rest.new.self) is take.1;
-      belongs = c.poll_rest.ensures.belongs;
+          (g.R.Rng.stream c.poll_apart.new.rng) c.args.self.now c.poll_apart.new.self) is take.0;
+      not_lost = c.in_default-poll_apart.not-Lost;
+      within = within_by p c.args.most answer _ _ c.args.self.now take.0.mid c.poll_apart.new.self take.0.last;
+      spent = spent_by p c.args.most answer _ _ c.args.self.now take.0.mid c.poll_apart.new.self take.0.last;
+      decided = c.poll_apart.ensures.decided;
+      told = λ there. subst (λ q. AnswerTells q (outcome answer) c.args.self.now c.poll_apart.new.self) is take.1;
+      belongs = c.poll_apart.ensures.belongs;
     }
