@@ -200,5 +200,8 @@ fn run_rest<A: Allocator + Drop, B: Allocator + Drop, R: Rng>(
     let layout = mailbox.claims.layout();
     let claim = Claim::standing(layout, consumer, end.object, end.value);
     stay(&mut fields.places, lane as usize, cell, claim);
-    run_held(fields, mailbox, lane, &mut end.left, rng)
+    let mut left = end.left;
+    let answer = run_held(fields, mailbox, lane, &mut left, rng);
+    end.left = left;
+    answer
 }
