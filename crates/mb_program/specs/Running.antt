@@ -13,10 +13,11 @@ use Rattle.mb_world.specs.Sound.{AreSound}
 use Rattle.mb_script.specs.Vocabulary.{AppendsFront, IoModel, one_more, report_text}
 use Rattle.mb_mailbox.specs.Imports.{Reader, Stream, consumer_part, part}
 use Rattle.mb_mailbox.specs.ReportedRuns.{IsReportedRun, Terms}
-use Rattle.mb_mailbox.specs.declared.crew.Worked.{Worked}
+use Rattle.mb_mailbox.specs.declared.crew.{WorkFault.WorkFault, Worked.Worked}
+use Rattle.mb_mailbox.specs.declared.crew.WorkFault.TheVariants as work
 use Rattle.mb_program.specs.Source.{source_from, words_from}
 use Rattle.mb_program.specs.declared.fault.RunFault.{RunFault}
-use Rattle.mb_program.specs.declared.fault.RunFault.TheVariants.{BadSetup, WriteFault}
+use Rattle.mb_program.specs.declared.fault.RunFault.TheVariants.{BadSetup, NoMemory, NoThread, WriteFault}
 use Rattle.mb_program.specs.declared.options.Options.{Options}
 
 -- ---- the mailbox that the options ask for
@@ -48,7 +49,12 @@ item_lists producers count = map (λ p. items_of p count) (range_with_len 0 prod
 abbrev pub words_asked : Options → List Stream
 words_asked o = map (λ c. words_from (source_from o.seed c)) (range_with_len 0 o.consumers)
 
--- ---- the report of a run
+-- ---- the fault of a run, and its report
+-- the fault of a run whose workers came to this, if it has no report: a refused thread, or else out of memory
+abbrev pub fault_after : Result Worked WorkFault → RunFault
+fault_after (Err work.NoThread) = NoThread
+fault_after worked = NoMemory
+
 -- lane p has ended, and the items put on it are all those of producer p
 pub record IsLaneOf (p count : ℕ) (l : LaneView) : Type 0 where
   -- the lane has ended

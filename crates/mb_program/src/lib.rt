@@ -22,6 +22,6 @@ pub use meaning::explanation;
 pub use options::{DEFAULTS, MAX_BUDGET, Options};
 pub use outcome::{DONE, FAILED, ProgramExit, REFUSED, fault_text, status_of, status_of_ending};
 pub use ratify::ratify_text;
-pub use run::{Workload, fault_of_work, run_threads, workload_of};
+pub use run::{Workload, report_after, run_threads, workload_of};
 pub use script::RatifyScript;
 pub use source::source_of;

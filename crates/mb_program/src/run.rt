@@ -1,18 +1,18 @@
 //! The command `run`: producers and consumers in threads, and the report of what they did.
-ghost use Rattle.std.specs.Prelude.{◌≡◌, ◌≢◌, ◌≤◌, ◌↔◌, Err, IfOk, IsOk, MatchOption, OnOk, Some, map, vec_len};
+ghost use Rattle.std.specs.Prelude.{◌≡◌, ◌≢◌, ◌≤◌, ◌↔◌, Err, IfErr, IfOk, IsOk, MatchOption, Ok, OnOk, Some, map, vec_len};
 ghost use Rattle.std.specs.List.{range_with_len};
 ghost use Rattle.mb_script.specs.Vocabulary.{meter};
 ghost use Rattle.mb_world.specs.Setups.{plan_in};
-ghost use Rattle.mb_mailbox.specs.Worked.{lists_in};
+ghost use Rattle.mb_mailbox.specs.Gathering.{FullTakesAll, IsGathered, IsReportIn};
+ghost use Rattle.mb_mailbox.specs.Vocabulary.{IsHubOf, consumer_count, lists_in};
 ghost use Rattle.mb_mailbox.specs.declared.crew.WorkFault.TheVariants as work;
-ghost use Rattle.mb_program.specs.declared.fault.RunFault.TheVariants as run;
 ghost use Rattle.mb_program.specs.declared.fault.RunFault.TheVariants.{BadSetup, WriteFault};
-ghost use Rattle.mb_program.specs.Vocabulary.{AreFew, IsRun, IsRunReport, item_lists, items_of, plan_asked, setup_refused, source_from};
+ghost use Rattle.mb_program.specs.Vocabulary.{AreFew, IsRun, IsRunReport, fault_after, item_lists, items_of, plan_asked, setup_refused, source_from};
 
 use crate::fault::{NoMemory, RunFault};
 use crate::options::Options;
 use crate::source::source_of;
-use mb_mailbox::{GatherFault, Mailbox, OpenGate, WorkFault, work};
+use mb_mailbox::{Hub, Mailbox, OpenGate, WorkFault, Worked, work};
 use mb_quorum::TableName;
 use mb_script::{CountedWrite, report_text, write_all};
 use mb_world::{Report, Setup, SetupFault};
@@ -122,20 +122,34 @@ pub fn workload_of<A: Allocator + Copy + Drop>(
     })
 }
 
-/// The fault of `run` for a fault of `work`. The hub has numbers for all workers and the budget is not 0, so two of the
-/// faults do not come.
-pub fn fault_of_work(fault: WorkFault) -> RunFault
-    requires numbers { fault ≢ work.AllGiven }
-    requires budget { fault ≢ work.BadBudget }
-    ensures no_memory { fault ≡ work.NoMemory → result ≡ run.NoMemory }
-    ensures no_thread { fault ≡ work.NoThread → result ≡ run.NoThread }
-    ensures refusal { (why : SetupFault) → result ≢ BadSetup why }
-    ensures no_device { result ≢ WriteFault }
+/// What the workers of a run came to and the report of its mailbox, or the fault of the run. A refused thread keeps its
+/// name. The hub has numbers for all workers and the budget is not 0, so two faults of the workers do not come.
+pub fn report_after<A: Allocator + Copy + Drop>(
+    alloc: A,
+    worked: Result<Worked, WorkFault>,
+    mailbox: Mailbox<A>,
+    hub: Hub<A>,
+) -> Result<(Worked, Report<A>), RunFault>
+    requires belongs { IsHubOf mailbox hub }
+    requires numbers { worked ≢ Err work.AllGiven }
+    requires budget { worked ≢ Err work.BadBudget }
+    ensures worked { IfOk result (λ o. worked ≡ Ok o.0) }
+    ensures fault { IfErr result (λ e. e ≡ fault_after worked) }
+    ensures refusal { (why : SetupFault) → result ≢ Err (BadSetup why) }
+    ensures no_device { result ≢ Err WriteFault }
+    ensures lists { IfOk result (λ o. IsReportIn mailbox.cells.size.lanes
+        (consumer_count mailbox.claims.layout) hub o.1) }
+    ensures main_theorem { IfOk result (λ o. IsGathered mailbox hub o.1) }
+    ensures full { IfOk result (λ o. FullTakesAll mailbox hub o.1) }
 {
-    match fault {
-        WorkFault::NoMemory => RunFault::NoMemory,
-        WorkFault::NoThread => RunFault::NoThread,
-        WorkFault::AllGiven | WorkFault::BadBudget => unreachable!(),
+    match worked {
+        Ok(worked) => match mailbox.gather(alloc, hub) {
+            Ok(report) => Ok((worked, report)),
+            Err(_) => Err(RunFault::NoMemory),
+        },
+        Err(WorkFault::NoMemory) => Err(RunFault::NoMemory),
+        Err(WorkFault::NoThread) => Err(RunFault::NoThread),
+        Err(WorkFault::AllGiven | WorkFault::BadBudget) => unreachable!(),
     }
 }
 
@@ -161,14 +175,8 @@ fn report_of<A: Allocator + Copy + Drop + Send + Sync, T: Threads + Wait + Sync>
     let worked = work(
         alloc, rt, &mailbox, &mut hub, lists, budget, rngs, &OpenGate,
     );
-    if let Err(fault) = worked {
-        return Err(fault_of_work(fault));
-    }
-    match mailbox.gather(alloc, hub) {
-        Ok(report) => Ok(report),
-        Err((GatherFault::NoMemory, _, _)) => Err(RunFault::NoMemory),
-        Err((GatherFault::Missing(_, _), _, _)) => unreachable!(),
-    }
+    let (_, report) = report_after(alloc, worked, mailbox, hub)?;
+    Ok(report)
 }
 
 /// Lets producers and consumers work in threads, one for each, and writes the report of what they did and nothing else.

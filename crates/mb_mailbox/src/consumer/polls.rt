@@ -110,7 +110,10 @@ impl<A: Allocator + Drop> Consumer<A> {
             Place::Before(at) => at,
             Place::At { cell, claim } => {
                 let _ = (cell, claim);
-                return run_held(fields, mailbox, lane, left, rng);
+                let mut held = *left;
+                let answer = run_held(fields, mailbox, lane, &mut held, rng);
+                *left = held;
+                return answer;
             }
         };
         *left -= 1;

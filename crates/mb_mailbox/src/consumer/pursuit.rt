@@ -23,7 +23,8 @@ use std::alloc::Allocator;
 /// Goes on by steps with the claim that the consumer holds on this lane: to the claim's end and, if it is won, the load
 /// of the item, or until it has made the accesses that are left. It takes the consumer's fields, not the consumer. The
 /// claim is changed where `places` has it.
-#[inline(always)]
+// It stands alone, so that the rest of a poll is short enough to be inlined.
+#[inline(never)]
 pub(super) fn run_held<A: Allocator + Drop, B: Allocator + Drop, R: Rng>(
     fields: &mut ConsumerFields<A>,
     mailbox: &Mailbox<B>,
@@ -199,5 +200,8 @@ fn run_rest<A: Allocator + Drop, B: Allocator + Drop, R: Rng>(
     let layout = mailbox.claims.layout();
     let claim = Claim::standing(layout, consumer, end.object, end.value);
     stay(&mut fields.places, lane as usize, cell, claim);
-    run_held(fields, mailbox, lane, &mut end.left, rng)
+    let mut left = end.left;
+    let answer = run_held(fields, mailbox, lane, &mut left, rng);
+    end.left = left;
+    answer
 }
