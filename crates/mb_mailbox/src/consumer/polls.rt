@@ -110,6 +110,7 @@ impl<A: Allocator + Drop> Consumer<A> {
             Place::Before(at) => at,
             Place::At { cell, claim } => {
                 let _ = (cell, claim);
+                // A copy goes in, so that `left` itself can stay in a register.
                 let mut held = *left;
                 let answer = run_held(fields, mailbox, lane, &mut held, rng);
                 *left = held;

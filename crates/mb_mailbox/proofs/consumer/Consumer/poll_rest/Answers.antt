@@ -128,13 +128,15 @@ returns-in-At-clause-polled g c =
 
 pub returns-in-At-clause-told : goal.returns-in-At-clause-told
 returns-in-At-clause-told g c =
-    pursuit_tells c.args.lane 0 c.args.left.now c.run_held-answer.new.left c.run_held-answer.result (g.R.Rng.stream c.args.rng.now)
+    pursuit_tells c.args.lane 0 c.args.left.now c.run_held-answer.new.left c.run_held-answer.result
+    (g.R.Rng.stream c.args.rng.now)
     (g.R.Rng.stream c.run_held-answer.new.rng) (at_claim g c) c.args.self.now (past_claim g c) (goes_on g c)
 
 pub returns-in-At-clause-belongs : goal.returns-in-At-clause-belongs
 returns-in-At-clause-belongs g c =
     still_of c.args.mailbox.now c.args.lane 0 c.args.left.now c.run_held-answer.new.left c.run_held-answer.result
-    (g.R.Rng.stream c.args.rng.now) (g.R.Rng.stream c.run_held-answer.new.rng) (at_claim g c) (past_claim g c) (goes_on g c)
+    (g.R.Rng.stream c.args.rng.now) (g.R.Rng.stream c.run_held-answer.new.rng)
+    (at_claim g c) (past_claim g c) (goes_on g c)
     (subst (λ o. IsConsumerOf c.args.mailbox.now o) (sym c.self.view_is) c.requires.belongs)
 
 pub look-requires-clause-may : goal.look-requires-clause-may
@@ -272,7 +274,8 @@ returns-in-At-clause-left g c =
 
 pub returns-in-At-clause-some : goal.returns-in-At-clause-some
 returns-in-At-clause-some g c =
-    not_no_lane c.args.lane 0 c.args.left.now c.run_held-answer.new.left c.run_held-answer.result (g.R.Rng.stream c.args.rng.now)
+    not_no_lane c.args.lane 0 c.args.left.now c.run_held-answer.new.left c.run_held-answer.result
+    (g.R.Rng.stream c.args.rng.now)
     (g.R.Rng.stream c.run_held-answer.new.rng) (at_claim g c) (past_claim g c) (goes_on g c)
 
 pub returns-in-Nothing-clause-left : goal.returns-in-Nothing-clause-left
