@@ -3,15 +3,16 @@
 use super::segment::{Look, Place, Segment, Writer};
 use super::shared::Plan;
 use super::system::{lock, Line};
+use crate::ffi::{Held, Lock};
 use std::sync::atomic::AtomicU64;
 use std::sync::atomic::Ordering::{Relaxed, SeqCst};
-use std::sync::{Arc, Mutex, MutexGuard};
+use std::sync::{Arc, Mutex};
 
 pub(super) struct Chain<T> {
     /// How many values were sent on it. It is stored after a value can be taken, and before its send returns. (It stands
     /// apart from the lane, since receivers read it again and again.)
     sent: Line<AtomicU64>,
-    lane: Mutex<Lane<T>>,
+    lane: Lock<Lane<T>>,
     /// A segment before which all values are taken, if one was begun. A seat that stands in none comes in here.
     head: Mutex<Option<Arc<Segment<T>>>>,
 }
@@ -51,7 +52,7 @@ impl<T> Chain<T> {
     pub(super) fn new() -> Chain<T> {
         Chain {
             sent: Line(AtomicU64::new(0)),
-            lane: Mutex::new(Lane {
+            lane: Lock::new(Lane {
                 writer: None,
                 full: None,
                 is_closed: false,
@@ -67,7 +68,7 @@ impl<T> Chain<T> {
     /// Puts a value at the end, under the lane's lock.
     #[inline]
     pub(super) fn put(&self, value: T, who: u64, plan: &Plan<T>) -> Result<(), Refused<T>> {
-        let mut lane = lock(&self.lane);
+        let mut lane = self.lane.hold();
         let Some(writer) = &mut lane.writer else {
             return self.begin_and_put(lane, value, who, plan);
         };
@@ -82,7 +83,7 @@ impl<T> Chain<T> {
     #[cold]
     fn begin_and_put(
         &self,
-        mut lane: MutexGuard<'_, Lane<T>>,
+        mut lane: Held<'_, Lane<T>>,
         value: T,
         who: u64,
         plan: &Plan<T>,
@@ -104,13 +105,19 @@ impl<T> Chain<T> {
         self.put(value, who, plan)
     }
 
-    /// Takes the number of the first value that nobody else takes, of so many at least that were sent. If it finds a segment
+    /// Takes the first value that nobody else takes, of so many at least that were sent. If it finds a segment
     /// over, as the first of all, it sets `is_end`.
-    pub(super) fn take(&self, sent: u64, place: &mut Place<T>, is_end: &mut bool) -> Look {
+    pub(super) fn take(
+        &self,
+        sent: u64,
+        place: &mut Place<T>,
+        is_end: &mut bool,
+        who: u64,
+    ) -> Look<T> {
         loop {
             let next = match place.segment() {
                 Some(segment) if segment.has_only_taken(sent) => return Look::Nothing,
-                Some(_) => match place.begin_and_take(is_end) {
+                Some(_) => match place.begin_and_take(is_end, who) {
                     Look::Over => place.segment().and_then(|it| it.next()).cloned(),
                     look => return look,
                 },
@@ -137,7 +144,7 @@ impl<T> Chain<T> {
     /// Ends it: no value is put after this. Whoever calls it drops what it returns, under no lock.
     pub(super) fn close(&self) -> impl Sized {
         let (full, written) = {
-            let mut lane = lock(&self.lane);
+            let mut lane = self.lane.hold();
             lane.is_closed = true;
             (lane.full.take(), lane.writer.take().map(Writer::end))
         };

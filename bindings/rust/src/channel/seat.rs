@@ -1,16 +1,16 @@
 //! A seat, from which a receiver takes: for each chain it has a place in one segment, with a consumer of its own.
 use super::chain::Chain;
 use super::segment::{Look, Place};
-use super::system::{lock, Line};
+use super::system::Line;
 use super::CHAINS;
+use crate::ffi::{Held, Lock};
 use std::mem;
 use std::sync::atomic::{AtomicU64, Ordering::Relaxed};
-use std::sync::{Mutex, MutexGuard, TryLockError};
 
 /// (on lines of memory of its own, as a [`Line`])
 #[repr(align(128))]
 pub(super) struct Seat<T> {
-    desk: Mutex<Desk<T>>,
+    desk: Lock<Desk<T>>,
     /// How many values were taken here. (Who has the lock stores it, and anybody loads it.)
     taken: AtomicU64,
 }
@@ -32,12 +32,12 @@ pub(super) struct Desk<T> {
 type Left<T> = [Option<Place<T>>; CHAINS];
 
 /// A desk, under its seat's lock.
-pub(super) type Open<'a, T> = MutexGuard<'a, Desk<T>>;
+pub(super) type Open<'a, T> = Held<'a, Desk<T>>;
 
 impl<T> Seat<T> {
     pub(super) fn new(number: usize) -> Seat<T> {
         Seat {
-            desk: Mutex::new(Desk {
+            desk: Lock::new(Desk {
                 places: [const { Place::NOWHERE }; CHAINS],
                 seen: [0; CHAINS],
                 at: 0,
@@ -55,7 +55,7 @@ impl<T> Seat<T> {
     /// Opens the desk, under the seat's lock.
     #[inline]
     pub(super) fn open(&self) -> Open<'_, T> {
-        lock(&self.desk)
+        self.desk.hold()
     }
 
     /// Counts a value that was taken. The desk is open.
@@ -67,11 +67,7 @@ impl<T> Seat<T> {
     /// Leaves the segments that are over, so that this seat pins none. It is for whoever finds one over, and only tries the
     /// lock: a seat that is in use moves on by itself. Whoever calls it drops what it returns, under no lock.
     pub(super) fn tidy(&self) -> Option<Left<T>> {
-        let mut desk = match self.desk.try_lock() {
-            Ok(desk) => desk,
-            Err(TryLockError::Poisoned(desk)) => desk.into_inner(),
-            Err(TryLockError::WouldBlock) => return None,
-        };
+        let mut desk = self.desk.try_hold()?;
         Some(desk.leave(Place::is_over))
     }
 
@@ -106,10 +102,11 @@ impl<T> Desk<T> {
     /// each value was taken whose send had returned.
     pub(super) fn look_round<'a>(
         &mut self,
-        first: Look,
+        first: Look<T>,
         chains: impl Fn() -> &'a [Line<Chain<T>>],
         is_end: &mut bool,
-    ) -> Look
+        who: u64,
+    ) -> Look<T>
     where
         T: 'a,
     {
@@ -130,7 +127,7 @@ impl<T> Desk<T> {
                 if self.seen[at] == sent {
                     continue;
                 }
-                match round[at].0.take(sent, &mut self.places[at], is_end) {
+                match round[at].0.take(sent, &mut self.places[at], is_end, who) {
                     Look::Nothing | Look::Over => self.seen[at] = sent,
                     look => {
                         self.at = at;

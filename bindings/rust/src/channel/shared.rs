@@ -216,12 +216,10 @@ impl<T> Shared<T> {
     #[inline]
     pub(super) fn take(&self, seat: &Seat<T>, who: u64) -> Got<T> {
         let mut desk = seat.open();
-        let here = desk.here();
-        let look = here.take();
-        let Look::Took(number) = look else {
+        let look = desk.here().take(who);
+        let Look::Took(value) = look else {
             return self.take_further(seat, desk, look, who);
         };
-        let value = here.empty(number, who);
         seat.count();
         drop(desk);
         self.free();
@@ -230,7 +228,7 @@ impl<T> Shared<T> {
 
     /// The same after this look, which found nothing. It may be that nothing comes.
     #[cold]
-    fn take_further(&self, seat: &Seat<T>, desk: Open<'_, T>, look: Look, who: u64) -> Got<T> {
+    fn take_further(&self, seat: &Seat<T>, desk: Open<'_, T>, look: Look<T>, who: u64) -> Got<T> {
         let got = self.look_further(seat, desk, look, who);
         let jobs = self.jobs.0.load();
         let is_last = self.senders.load(SeqCst) == 0 && jobs % BEGUN == 0;
@@ -272,17 +270,23 @@ impl<T> Shared<T> {
     /// Takes a value, or finds nothing. It does not look whether something comes.
     fn look(&self, seat: &Seat<T>, who: u64) -> Got<T> {
         let mut desk = seat.open();
-        let look = desk.here().take();
+        let look = desk.here().take(who);
         self.look_further(seat, desk, look, who)
     }
 
     /// The same after the first look.
-    fn look_further(&self, seat: &Seat<T>, mut desk: Open<'_, T>, first: Look, who: u64) -> Got<T> {
+    fn look_further(
+        &self,
+        seat: &Seat<T>,
+        mut desk: Open<'_, T>,
+        first: Look<T>,
+        who: u64,
+    ) -> Got<T> {
         let (is_after_end, mut is_end) = (matches!(first, Look::Over), false);
-        let got = match desk.look_round(first, || self.chains(), &mut is_end) {
-            Look::Took(number) => {
+        let got = match desk.look_round(first, || self.chains(), &mut is_end, who) {
+            Look::Took(value) => {
                 seat.count();
-                Got::Took(desk.here().empty(number, who))
+                Got::Took(value)
             }
             Look::NoMemory => Got::NoMemory,
             Look::Nothing | Look::Over => Got::Nothing,

@@ -38,10 +38,14 @@ mod carrier;
 mod handle;
 mod heap;
 mod hub;
+mod lock;
 mod parts;
 mod report;
+mod slots;
 
 pub(crate) use calls::{number, Setup, BITS, MIDDLE, UNARY};
 pub(crate) use carrier::Carrier;
 pub(crate) use hub::{Hub, NotIssued, Refusal};
+pub(crate) use lock::{Held, Lock};
 pub(crate) use parts::{Consumer, Producer};
+pub(crate) use slots::{Emptier, Filler, Slots};
