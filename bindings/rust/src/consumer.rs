@@ -101,7 +101,7 @@ pub struct Consumer<T> {
     lanes: usize,
     /// Bit `lane` is set if the end of that lane was met. There are at most 16.
     ended: u64,
-    part: ffi::Consumer<T>,
+    pub(crate) part: ffi::Consumer<T>,
     home: Arc<Home<T>>,
 }
 

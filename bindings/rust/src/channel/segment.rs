@@ -6,7 +6,6 @@ use super::audit::{Ledger, Logs};
 use super::system::{lock, Line};
 use super::SEATS;
 use crate::ffi::{Emptier, Filler, Slots};
-use crate::Poll;
 use std::panic::{catch_unwind, resume_unwind, AssertUnwindSafe};
 use std::sync::atomic::Ordering::{Acquire, Release, SeqCst};
 use std::sync::atomic::{AtomicBool, AtomicU64};
@@ -169,8 +168,8 @@ impl<T> Place<T> {
                 }
                 Look::Took(value)
             }
-            Err(Poll::Ended) => Look::Over,
-            Err(_) => Look::Nothing,
+            Err(true) => Look::Over,
+            Err(false) => Look::Nothing,
         }
     }
 

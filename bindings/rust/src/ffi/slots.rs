@@ -2,8 +2,8 @@
 //!
 //! A slot has one owner at a time. Until its number is put, that is the one filler, which puts each number once. After that
 //! it is the emptier that takes the number: *ownership* says that there is one at most. Last it is whoever owns all slots.
-use super::calls::number;
-use crate::{Consumer, Mailbox, Poll, Producer, Shape};
+use super::calls::{self, hz_put, hz_take, number};
+use crate::{Consumer, Mailbox, Producer, Shape};
 use std::cell::UnsafeCell;
 use std::sync::Arc;
 
@@ -73,8 +73,9 @@ impl<T> Filler<T> {
         let slot = self.slots.slots[self.filled].0.get();
         // SAFETY: the slot is still this filler's, as its number was not put.
         unsafe { slot.write(Some(value)) };
-        let is_put = self.producer.put(self.filled as u64).is_ok();
-        debug_assert!(is_put, "there is a cell for each slot");
+        // SAFETY: the rules of calls. A number is its own word.
+        let code = unsafe { hz_put(&mut self.producer.part.handle, self.filled as u64) };
+        debug_assert!(code == calls::LINKED, "there is a cell for each slot");
         self.filled += 1;
         self.filled
     }
@@ -86,20 +87,19 @@ impl<T> Emptier<T> {
         self.consumer.number()
     }
 
-    /// The value of the next slot that nobody else empties, and the slot's number. If there is none, it is what the poll
-    /// says.
+    /// The value of the next slot that nobody else empties, and the slot's number. If there is none, it is whether none
+    /// comes.
     #[inline]
-    pub(crate) fn take(&mut self) -> Result<(u64, T), Poll<u64>> {
-        let taken = match self.consumer.take(0) {
-            Poll::Took(taken) => taken,
-            other => return Err(other),
-        };
+    pub(crate) fn take(&mut self) -> Result<(u64, T), bool> {
+        let (consumer, mut taken) = (&mut self.consumer.part.handle, 0);
+        // SAFETY: the rules of calls. A number is its own word.
+        let code = unsafe { hz_take(consumer, 0, u64::MAX, &mut taken) };
+        if code != calls::TOOK {
+            return Err(code == calls::ENDED);
+        }
         let slot = self.slots.slots[number(taken)].0.get();
         // SAFETY: ownership. The filler put this number, and this emptier alone takes it, now.
         let value = unsafe { slot.replace(None) };
-        Ok((
-            taken,
-            value.expect("it was filled before its number was put"),
-        ))
+        Ok((taken, value.expect("it was filled before that")))
     }
 }
