@@ -92,7 +92,7 @@ impl<T> Chain<T> {
             return Err(Refused::Closed(value));
         }
         let sent = self.sent();
-        let Ok(writer) = Writer::new(sent, plan.cells_after(sent), plan.audit.clone()) else {
+        let Some(writer) = Writer::new(sent, plan.cells_after(sent), plan.audit.clone()) else {
             return Err(Refused::NoMemory(value));
         };
         let segment = Arc::clone(writer.segment());

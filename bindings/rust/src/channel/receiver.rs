@@ -2,6 +2,7 @@
 use super::errors::{written, RecvError, RecvTimeoutError, TryRecvError};
 use super::job::Job;
 use super::seat::Seat;
+use super::segment::Look;
 use super::shared::{told, Got, Shared};
 use std::future::Future;
 use std::iter::FusedIterator;
@@ -123,13 +124,21 @@ impl<T> Receiver<T> {
 
     #[inline]
     fn recv_until(&self, until: Option<Instant>) -> Result<T, RecvTimeoutError> {
-        match self.take() {
+        match self.shared.take_here(&self.seat, self.number) {
+            Look::Took(value) => Ok(value),
+            look => self.recv_further(until, look),
+        }
+    }
+
+    /// The same after this look where the seat took last.
+    #[cold]
+    fn recv_further(&self, until: Option<Instant>, look: Look<T>) -> Result<T, RecvTimeoutError> {
+        match self.shared.take_further(&self.seat, look, self.number) {
             Got::Took(value) => Ok(value),
             _ => self.wait(until, || self.take()),
         }
     }
 
-    #[cold]
     fn wait<G>(
         &self,
         until: Option<Instant>,

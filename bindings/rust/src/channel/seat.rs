@@ -31,9 +31,6 @@ pub(super) struct Desk<T> {
 /// The places that it leaves.
 type Left<T> = [Option<Place<T>>; CHAINS];
 
-/// A desk, under its seat's lock.
-pub(super) type Open<'a, T> = Held<'a, Desk<T>>;
-
 impl<T> Seat<T> {
     pub(super) fn new(number: usize) -> Seat<T> {
         Seat {
@@ -54,7 +51,7 @@ impl<T> Seat<T> {
 
     /// Opens the desk, under the seat's lock.
     #[inline]
-    pub(super) fn open(&self) -> Open<'_, T> {
+    pub(super) fn open(&self) -> Held<'_, Desk<T>> {
         self.desk.hold()
     }
 
@@ -94,15 +91,15 @@ impl<T> Desk<T> {
         self.places.each_mut().map(leave)
     }
 
-    /// Looks at all chains, if the first look took nothing, until it takes a number, or finds that it has seen all in all of
-    /// them. It begins with its home, or after the end of a segment with the chain whose turn it is. If it finds a segment
-    /// over, as the first of all, it sets `is_end`.
+    /// Looks at all chains until it takes a value, or finds that it has seen all in all of them. It begins with its home, or
+    /// after the end of a segment with the chain whose turn it is. If it finds a segment over, as the first of all, it sets
+    /// `is_end`.
     ///
     /// It looks once more after it saw something. So it finds nothing only if there was a moment, during this call, at which
     /// each value was taken whose send had returned.
     pub(super) fn look_round<'a>(
         &mut self,
-        first: Look<T>,
+        is_after_end: bool,
         chains: impl Fn() -> &'a [Line<Chain<T>>],
         is_end: &mut bool,
         who: u64,
@@ -110,14 +107,8 @@ impl<T> Desk<T> {
     where
         T: 'a,
     {
-        let first = match first {
-            Look::Took(_) => return first,
-            Look::Over => {
-                self.turn += 1;
-                self.turn
-            }
-            _ => self.home,
-        };
+        self.turn += usize::from(is_after_end);
+        let first = if is_after_end { self.turn } else { self.home };
         loop {
             let round = chains();
             let mut is_quiet = true;

@@ -12,9 +12,6 @@ use std::sync::atomic::{AtomicBool, AtomicU64};
 use std::sync::{Arc, Mutex, OnceLock};
 use std::thread;
 
-/// There is not enough memory.
-pub(super) struct NoMemory;
-
 /// The result of a look at a segment, or at a chain of them.
 pub(super) enum Look<T> {
     Took(T),
@@ -81,13 +78,13 @@ impl<T> Segment<T> {
 }
 
 impl<T> Writer<T> {
-    /// A new segment, and its writer.
+    /// A new segment, and its writer. It is `None` if there is not enough memory.
     pub(super) fn new(
         first: u64,
         cells: usize,
         audit: Option<Arc<Ledger<T>>>,
-    ) -> Result<Writer<T>, NoMemory> {
-        let filler = Slots::filler(cells, SEATS).ok_or(NoMemory)?;
+    ) -> Option<Writer<T>> {
+        let filler = Slots::filler(cells, SEATS)?;
         let segment = Arc::new(Segment {
             first,
             slots: Some(Arc::clone(filler.slots())),
@@ -96,7 +93,7 @@ impl<T> Writer<T> {
             taken: Line(AtomicU64::new(0)),
             audit: audit.map(|ledger| (ledger, Mutex::default())),
         });
-        Ok(Writer {
+        Some(Writer {
             filler,
             cells,
             usual: if segment.audit.is_some() { 0 } else { cells },
@@ -153,24 +150,23 @@ impl<T> Place<T> {
         self.segment.as_ref().is_some_and(|it| it.is_over())
     }
 
-    /// Takes the next value, if it has a consumer.
+    /// Takes the next value, if it has an emptier.
     #[inline]
     pub(super) fn take(&mut self, who: u64) -> Look<T> {
         let (Some(emptier), Some(segment)) = (&mut self.emptier, &self.segment) else {
             return Look::Nothing;
         };
-        match emptier.take() {
-            Ok((number, value)) => {
-                // Those before it were decided before it.
-                segment.taken.0.store(number + 1, Release);
-                if segment.audit.is_some() {
-                    self.log.push(who);
-                }
-                Look::Took(value)
-            }
-            Err(true) => Look::Over,
-            Err(false) => Look::Nothing,
+        let (value, taken) = match emptier.take() {
+            Ok(found) => found,
+            Err(is_over) if is_over => return Look::Over,
+            Err(_) => return Look::Nothing,
+        };
+        // Those before it were decided before it.
+        segment.taken.0.store(taken as u64, Release);
+        if segment.audit.is_some() {
+            self.log.push(who);
         }
+        Look::Took(value)
     }
 
     /// The same also for one that has no consumer yet. If it finds the segment over, as the first of all, it sets `is_end`.
@@ -188,8 +184,9 @@ impl<T> Place<T> {
                 return Look::NoMemory;
             }
         }
+        let segment = Arc::clone(segment);
         let look = self.take(who);
-        if let (Look::Over, Some(segment)) = (&look, &self.segment) {
+        if let Look::Over = look {
             *is_end |= !segment.is_over.swap(true, SeqCst);
             self.go_home();
         }

@@ -1,7 +1,7 @@
 //! What all ends of a channel share.
 use super::audit::{Ledger, GIVEN_BACK};
 use super::chain::{Chain, Refused};
-use super::seat::{Open, Seat};
+use super::seat::Seat;
 use super::segment::Look;
 use super::system::{lock, Line, Waiters};
 use super::{CHAINS, SEATS};
@@ -212,30 +212,37 @@ impl<T> Shared<T> {
         drop(self.put(0, value, GIVEN_BACK));
     }
 
-    /// Takes a value at this seat, under its lock, or finds that there is none.
-    #[inline]
-    pub(super) fn take(&self, seat: &Seat<T>, who: u64) -> Got<T> {
+    /// Takes a value where this seat took last, under its lock.
+    #[allow(clippy::inline_always, reason = "a call of it costs a tenth")]
+    #[inline(always)]
+    pub(super) fn take_here(&self, seat: &Seat<T>, who: u64) -> Look<T> {
         let mut desk = seat.open();
         let look = desk.here().take(who);
-        let Look::Took(value) = look else {
-            return self.take_further(seat, desk, look, who);
-        };
-        seat.count();
-        drop(desk);
-        self.free();
-        Got::Took(value)
+        if let Look::Took(_) = look {
+            seat.count();
+            drop(desk);
+            self.free();
+        }
+        look
     }
 
-    /// The same after this look, which found nothing. It may be that nothing comes.
-    #[cold]
-    fn take_further(&self, seat: &Seat<T>, desk: Open<'_, T>, look: Look<T>, who: u64) -> Got<T> {
-        let got = self.look_further(seat, desk, look, who);
-        let jobs = self.jobs.0.load();
-        let is_last = self.senders.load(SeqCst) == 0 && jobs % BEGUN == 0;
-        if !is_last || !matches!(got, Got::Nothing) {
+    /// Takes a value at this seat, or finds that there is none.
+    pub(super) fn take(&self, seat: &Seat<T>, who: u64) -> Got<T> {
+        let look = self.take_here(seat, who);
+        self.take_further(seat, look, who)
+    }
+
+    /// The same after this look where it took last. It may be that nothing comes.
+    pub(super) fn take_further(&self, seat: &Seat<T>, look: Look<T>, who: u64) -> Got<T> {
+        let got = self.look_further(seat, look, who);
+        if !matches!(got, Got::Nothing) {
             return got;
         }
-        match self.look(seat, who) {
+        let jobs = self.jobs.0.load();
+        if self.senders.load(SeqCst) != 0 || jobs % BEGUN != 0 {
+            return got;
+        }
+        match self.look_further(seat, Look::Nothing, who) {
             Got::Nothing if self.jobs.0.load() == jobs => Got::Closed,
             got => got,
         }
@@ -246,7 +253,8 @@ impl<T> Shared<T> {
     pub(super) fn take_job(&self, seat: &Seat<T>, who: u64) -> Got<T> {
         let has_senders = self.senders.load(SeqCst) != 0;
         let before = self.jobs.0.begin();
-        let got = self.look(seat, who);
+        let look = self.take_here(seat, who);
+        let got = self.look_further(seat, look, who);
         if let Got::Took(_) = got {
             return got;
         }
@@ -267,23 +275,14 @@ impl<T> Shared<T> {
         jobs
     }
 
-    /// Takes a value, or finds nothing. It does not look whether something comes.
-    fn look(&self, seat: &Seat<T>, who: u64) -> Got<T> {
-        let mut desk = seat.open();
-        let look = desk.here().take(who);
-        self.look_further(seat, desk, look, who)
-    }
-
-    /// The same after the first look.
-    fn look_further(
-        &self,
-        seat: &Seat<T>,
-        mut desk: Open<'_, T>,
-        first: Look<T>,
-        who: u64,
-    ) -> Got<T> {
-        let (is_after_end, mut is_end) = (matches!(first, Look::Over), false);
-        let got = match desk.look_round(first, || self.chains(), &mut is_end, who) {
+    /// Takes a value, or finds nothing, after this look where the seat took last.
+    fn look_further(&self, seat: &Seat<T>, look: Look<T>, who: u64) -> Got<T> {
+        if let Look::Took(value) = look {
+            return Got::Took(value);
+        }
+        let is_after_end = matches!(look, Look::Over);
+        let (mut desk, mut is_end) = (seat.open(), false);
+        let got = match desk.look_round(is_after_end, || self.chains(), &mut is_end, who) {
             Look::Took(value) => {
                 seat.count();
                 Got::Took(value)
