@@ -46,9 +46,13 @@ impl<T> Receiver<T> {
         }
     }
 
-    #[inline]
     fn take(&self) -> Got<T> {
-        self.shared.take(&self.seat, self.number)
+        self.take_after(self.seat.take(self.number))
+    }
+
+    /// Takes a value after this look where the seat took last.
+    fn take_after(&self, look: Look<T>) -> Got<T> {
+        self.shared.take(&self.seat, look, self.number)
     }
 
     fn take_job(&self) -> Got<Job<T>> {
@@ -124,8 +128,11 @@ impl<T> Receiver<T> {
 
     #[inline]
     fn recv_until(&self, until: Option<Instant>) -> Result<T, RecvTimeoutError> {
-        match self.shared.take_here(&self.seat, self.number) {
-            Look::Took(value) => Ok(value),
+        match self.seat.take(self.number) {
+            Look::Took(value) => {
+                self.shared.free();
+                Ok(value)
+            }
             look => self.recv_further(until, look),
         }
     }
@@ -133,7 +140,7 @@ impl<T> Receiver<T> {
     /// The same after this look where the seat took last.
     #[cold]
     fn recv_further(&self, until: Option<Instant>, look: Look<T>) -> Result<T, RecvTimeoutError> {
-        match self.shared.take_further(&self.seat, look, self.number) {
+        match self.take_after(look) {
             Got::Took(value) => Ok(value),
             _ => self.wait(until, || self.take()),
         }

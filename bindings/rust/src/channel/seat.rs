@@ -20,7 +20,7 @@ pub(super) struct Desk<T> {
     places: [Place<T>; CHAINS],
     /// By chains: a number of values sent, all of which it has found taken.
     seen: [u64; CHAINS],
-    /// The chain that it looks at first.
+    /// The chain from which it took last.
     at: usize,
     /// The chain that it looks at next, by the seat's number.
     home: usize,
@@ -49,14 +49,26 @@ impl<T> Seat<T> {
         self.taken.load(Relaxed)
     }
 
+    /// Takes a value where it took last, under its lock.
+    #[allow(clippy::inline_always, reason = "a call costs a tenth of a receive")]
+    #[inline(always)]
+    pub(super) fn take(&self, who: u64) -> Look<T> {
+        let mut desk = self.desk.hold();
+        let at = desk.at % CHAINS;
+        let look = desk.places[at].take(who);
+        if let Look::Took(_) = look {
+            self.count();
+            drop(desk);
+        }
+        look
+    }
+
     /// Opens the desk, under the seat's lock.
-    #[inline]
     pub(super) fn open(&self) -> Held<'_, Desk<T>> {
         self.desk.hold()
     }
 
     /// Counts a value that was taken. The desk is open.
-    #[inline]
     pub(super) fn count(&self) {
         self.taken.store(self.taken.load(Relaxed) + 1, Relaxed);
     }
@@ -75,12 +87,6 @@ impl<T> Seat<T> {
 }
 
 impl<T> Desk<T> {
-    /// The place from which it took last.
-    #[inline]
-    pub(super) fn here(&mut self) -> &mut Place<T> {
-        &mut self.places[self.at % CHAINS]
-    }
-
     /// Goes to its chain, of so many. Else receivers that go on after an end would crowd in one chain.
     pub(super) fn go_home(&mut self, chains: usize) {
         self.at = self.home % chains;

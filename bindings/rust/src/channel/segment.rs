@@ -48,7 +48,7 @@ pub(super) struct Writer<T> {
 /// Where a seat stands on a chain.
 pub(super) struct Place<T> {
     /// It is made as late as at the first look, and returns when the segment is over.
-    emptier: Option<Emptier<T>>,
+    emptier: Option<(Emptier<T>, Arc<Segment<T>>)>,
     /// It is `None` before the first value of the chain.
     segment: Option<Arc<Segment<T>>>,
     /// Who took what, if that is asked for.
@@ -153,7 +153,7 @@ impl<T> Place<T> {
     /// Takes the next value, if it has an emptier.
     #[inline]
     pub(super) fn take(&mut self, who: u64) -> Look<T> {
-        let (Some(emptier), Some(segment)) = (&mut self.emptier, &self.segment) else {
+        let Some((emptier, segment)) = &mut self.emptier else {
             return Look::Nothing;
         };
         let (value, taken) = match emptier.take() {
@@ -179,14 +179,14 @@ impl<T> Place<T> {
             return Look::Over;
         }
         if self.emptier.is_none() {
-            self.emptier = segment.slots.as_ref().and_then(Slots::emptier);
+            let emptier = segment.slots.as_ref().and_then(Slots::emptier);
+            self.emptier = emptier.map(|it| (it, Arc::clone(segment)));
             if self.emptier.is_none() {
                 return Look::NoMemory;
             }
         }
-        let segment = Arc::clone(segment);
         let look = self.take(who);
-        if let Look::Over = look {
+        if let (Look::Over, Some(segment)) = (&look, &self.segment) {
             *is_end |= !segment.is_over.swap(true, SeqCst);
             self.go_home();
         }
@@ -194,7 +194,7 @@ impl<T> Place<T> {
     }
 
     fn go_home(&mut self) {
-        if let (Some(emptier), Some(segment)) = (self.emptier.take(), &self.segment) {
+        if let Some((emptier, segment)) = self.emptier.take() {
             if let Some((_, logs)) = &segment.audit {
                 let log = std::mem::take(&mut self.log);
                 lock(logs).takers.push((emptier.number(), log));

@@ -186,7 +186,7 @@ impl<T> Shared<T> {
 
     /// Gives room back.
     #[inline]
-    fn free(&self) {
+    pub(super) fn free(&self) {
         if self.plan.bound.is_some() {
             self.waiting.0.fetch_sub(1, SeqCst);
             self.full.wake_one();
@@ -212,28 +212,9 @@ impl<T> Shared<T> {
         drop(self.put(0, value, GIVEN_BACK));
     }
 
-    /// Takes a value where this seat took last, under its lock.
-    #[allow(clippy::inline_always, reason = "a call of it costs a tenth")]
-    #[inline(always)]
-    pub(super) fn take_here(&self, seat: &Seat<T>, who: u64) -> Look<T> {
-        let mut desk = seat.open();
-        let look = desk.here().take(who);
-        if let Look::Took(_) = look {
-            seat.count();
-            drop(desk);
-            self.free();
-        }
-        look
-    }
-
-    /// Takes a value at this seat, or finds that there is none.
-    pub(super) fn take(&self, seat: &Seat<T>, who: u64) -> Got<T> {
-        let look = self.take_here(seat, who);
-        self.take_further(seat, look, who)
-    }
-
-    /// The same after this look where it took last. It may be that nothing comes.
-    pub(super) fn take_further(&self, seat: &Seat<T>, look: Look<T>, who: u64) -> Got<T> {
+    /// Takes a value at this seat, after this look where it took last, or finds that there is none. It may be that nothing
+    /// comes.
+    pub(super) fn take(&self, seat: &Seat<T>, look: Look<T>, who: u64) -> Got<T> {
         let got = self.look_further(seat, look, who);
         if !matches!(got, Got::Nothing) {
             return got;
@@ -253,8 +234,7 @@ impl<T> Shared<T> {
     pub(super) fn take_job(&self, seat: &Seat<T>, who: u64) -> Got<T> {
         let has_senders = self.senders.load(SeqCst) != 0;
         let before = self.jobs.0.begin();
-        let look = self.take_here(seat, who);
-        let got = self.look_further(seat, look, who);
+        let got = self.look_further(seat, seat.take(who), who);
         if let Got::Took(_) = got {
             return got;
         }
@@ -278,6 +258,7 @@ impl<T> Shared<T> {
     /// Takes a value, or finds nothing, after this look where the seat took last.
     fn look_further(&self, seat: &Seat<T>, look: Look<T>, who: u64) -> Got<T> {
         if let Look::Took(value) = look {
+            self.free();
             return Got::Took(value);
         }
         let is_after_end = matches!(look, Look::Over);
