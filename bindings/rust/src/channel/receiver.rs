@@ -50,6 +50,18 @@ impl<T> Receiver<T> {
         self.take_after(self.seat.take(self.number))
     }
 
+    /// Takes a value where the seat took last, or goes on after that look.
+    #[inline]
+    fn take_or<E>(&self, go_on: impl FnOnce(Look<T>) -> Result<T, E>) -> Result<T, E> {
+        match self.seat.take(self.number) {
+            Look::Took(value) => {
+                self.shared.free();
+                Ok(value)
+            }
+            look => go_on(look),
+        }
+    }
+
     /// Takes a value after this look where the seat took last.
     fn take_after(&self, look: Look<T>) -> Got<T> {
         self.shared.take(&self.seat, look, self.number)
@@ -70,7 +82,7 @@ impl<T> Receiver<T> {
     /// Nothing is there, or nothing comes any more.
     #[inline]
     pub fn try_recv(&self) -> Result<T, TryRecvError> {
-        now(self.take())
+        self.take_or(|look| now(self.take_after(look)))
     }
 
     /// Receives a value. It sleeps until one comes. If there is no memory for its place in a segment, it tries again each
@@ -128,18 +140,12 @@ impl<T> Receiver<T> {
 
     #[inline]
     fn recv_until(&self, until: Option<Instant>) -> Result<T, RecvTimeoutError> {
-        match self.seat.take(self.number) {
-            Look::Took(value) => {
-                self.shared.free();
-                Ok(value)
-            }
-            look => self.recv_further(until, look),
-        }
+        self.take_or(|look| self.recv_after(until, look))
     }
 
     /// The same after this look where the seat took last.
     #[cold]
-    fn recv_further(&self, until: Option<Instant>, look: Look<T>) -> Result<T, RecvTimeoutError> {
+    fn recv_after(&self, until: Option<Instant>, look: Look<T>) -> Result<T, RecvTimeoutError> {
         match self.take_after(look) {
             Got::Took(value) => Ok(value),
             _ => self.wait(until, || self.take()),
