@@ -20,8 +20,7 @@ use std::time::{Duration, Instant};
 /// for the few steps in which somebody moves its seat on. Nobody waits for the seat of another: whoever finds a segment over
 /// only tries the locks of other seats. A receive that comes to a new segment takes the lock under which its chain keeps the
 /// first segment, that under which the mailbox issues consumers, and with an audit those of the segment's log and of the
-/// accounts. A receive that sleeps, or makes room for a sender that does, takes the lock of the list of sleepers. The slot
-/// of a value has a lock that nobody waits for.
+/// accounts. A receive that sleeps, or makes room for a sender that does, takes the lock of the list of sleepers.
 ///
 /// A clone and a drop take the lock of the list of ends. The drop of the last receiver takes those of all lanes and seats
 /// too, one after the other.

@@ -27,7 +27,7 @@ pub(super) struct Segment<T> {
     first: u64,
     /// (there until the drop)
     slots: Option<Arc<Slots<T>>>,
-    /// Whether all slots are known to be taken. A seat that has no consumer here makes none after that.
+    /// Whether all slots are known to be taken. A seat that has no emptier here makes none after that.
     is_over: AtomicBool,
     next: OnceLock<Arc<Segment<T>>>,
     /// So many slots, counted from the first, are known to be taken. It may lag behind. Who reads it need not go past them,
@@ -169,7 +169,7 @@ impl<T> Place<T> {
         Look::Took(value)
     }
 
-    /// The same also for one that has no consumer yet. If it finds the segment over, as the first of all, it sets `is_end`.
+    /// The same also for one that has no emptier yet. If it finds the segment over, as the first of all, it sets `is_end`.
     pub(super) fn begin_and_take(&mut self, is_end: &mut bool, who: u64) -> Look<T> {
         let Some(segment) = &self.segment else {
             return Look::Nothing;
