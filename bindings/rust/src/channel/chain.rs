@@ -105,8 +105,8 @@ impl<T> Chain<T> {
         self.put(value, who, plan)
     }
 
-    /// Takes the first value that nobody else takes, of so many at least that were sent. If it finds a segment
-    /// over, as the first of all, it sets `is_end`.
+    /// Takes the first value that nobody else takes, of so many at least that were sent. If it finds a segment over, as the
+    /// first of all, it sets `is_end`.
     pub(super) fn take(
         &self,
         sent: u64,

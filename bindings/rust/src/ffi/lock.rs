@@ -1,4 +1,5 @@
-//! A lock. It costs half of a `std::sync::Mutex`, since it does not ask for panics.
+//! A lock. It costs half of a `std::sync::Mutex`, since it does not ask for panics. Whoever waits for it is in a wait list, as
+//! the receivers of a channel are of which each gives the one value back (`Holder` of `tests/wait_orders.rs`).
 use crate::channel::Waiters;
 use std::cell::UnsafeCell;
 use std::marker::PhantomData;
