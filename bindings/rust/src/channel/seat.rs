@@ -1,13 +1,13 @@
 //! A seat, from which a receiver takes: for each chain it has a place in one segment, with a consumer of its own.
 use super::chain::Chain;
 use super::segment::{Look, Place};
+use super::system::Line;
 use super::CHAINS;
 use crate::ffi::{Held, Lock};
 use std::mem;
 use std::sync::atomic::{AtomicU64, Ordering::Relaxed};
-use std::sync::Arc;
 
-/// (on lines of memory of its own)
+/// (on lines of memory of its own, as a [`Line`])
 #[repr(align(128))]
 pub(super) struct Seat<T> {
     desk: Lock<Desk<T>>,
@@ -106,7 +106,7 @@ impl<T> Desk<T> {
     pub(super) fn look_round<'a>(
         &mut self,
         is_after_end: bool,
-        chains: impl Fn() -> &'a [Arc<Chain<T>>],
+        chains: impl Fn() -> &'a [Line<Chain<T>>],
         is_end: &mut bool,
         who: u64,
     ) -> Look<T>
@@ -120,11 +120,11 @@ impl<T> Desk<T> {
             let mut is_quiet = true;
             for step in 0..round.len() {
                 let at = (first + step) % round.len();
-                let sent = round[at].sent();
+                let sent = round[at].0.sent();
                 if self.seen[at] == sent {
                     continue;
                 }
-                match round[at].take(sent, &mut self.places[at], is_end, who) {
+                match round[at].0.take(sent, &mut self.places[at], is_end, who) {
                     Look::Nothing | Look::Over => self.seen[at] = sent,
                     look => {
                         self.at = at;

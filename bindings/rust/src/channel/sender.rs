@@ -1,5 +1,5 @@
 //! A sender.
-use super::chain::{Chain, Refused};
+use super::chain::Refused;
 use super::errors::{written, SendError, SendTimeoutError, TrySendError};
 use super::shared::{told, Room, Shared};
 use std::future::Future;
@@ -25,18 +25,16 @@ use std::time::{Duration, Instant};
 pub struct Sender<T> {
     shared: Arc<Shared<T>>,
     number: u64,
-    chain: Arc<Chain<T>>,
-    place: usize,
+    chain: usize,
 }
 
 impl<T> Sender<T> {
     pub(super) fn new(shared: Arc<Shared<T>>) -> Sender<T> {
-        let (number, chain, place) = shared.add_sender();
+        let (number, chain) = shared.add_sender();
         Sender {
             shared,
             number,
             chain,
-            place,
         }
     }
 
@@ -124,7 +122,7 @@ impl<T> Sender<T> {
 
     #[inline]
     fn put(&self, value: T) -> Result<(), Refused<T>> {
-        self.shared.put(&self.chain, value, self.number)
+        self.shared.put(self.chain, value, self.number)
     }
 }
 
@@ -132,7 +130,7 @@ told!(Sender);
 
 impl<T> Drop for Sender<T> {
     fn drop(&mut self) {
-        self.shared.drop_sender(self.place);
+        self.shared.drop_sender(self.chain);
     }
 }
 

@@ -30,7 +30,7 @@ impl<T> Plan<T> {
 
 pub(super) struct Shared<T> {
     pub(super) plan: Plan<T>,
-    chains: [Arc<Chain<T>>; CHAINS],
+    chains: [Line<Chain<T>>; CHAINS],
     /// How many chains were ever in use. A chain counts before its first value.
     used_chains: AtomicUsize,
     seats: [OnceLock<Arc<Seat<T>>>; SEATS],
@@ -102,7 +102,7 @@ impl<T> Shared<T> {
     pub(super) fn new(plan: Plan<T>) -> Shared<T> {
         Shared {
             plan,
-            chains: array::from_fn(|_| Arc::new(Chain::new())),
+            chains: array::from_fn(|_| Line(Chain::new())),
             used_chains: AtomicUsize::new(0),
             seats: [const { OnceLock::new() }; SEATS],
             ends: Mutex::new(Ends {
@@ -119,15 +119,15 @@ impl<T> Shared<T> {
         }
     }
 
-    /// A sender's number, its chain, and the chain's place.
-    pub(super) fn add_sender(&self) -> (u64, Arc<Chain<T>>, usize) {
+    /// A sender's number and chain.
+    pub(super) fn add_sender(&self) -> (u64, usize) {
         let mut ends = lock(&self.ends);
-        let place = least_shared(&mut ends.senders);
+        let chain = least_shared(&mut ends.senders);
         let number = ends.made.0;
         ends.made.0 += 1;
         self.senders.fetch_add(1, SeqCst);
-        self.used_chains.fetch_max(place + 1, SeqCst);
-        (number, Arc::clone(&self.chains[place]), place)
+        self.used_chains.fetch_max(chain + 1, SeqCst);
+        (number, chain)
     }
 
     /// A receiver's number and seat.
@@ -142,8 +142,8 @@ impl<T> Shared<T> {
     }
 
     /// The last one lets all receivers look whether anything is left.
-    pub(super) fn drop_sender(&self, place: usize) {
-        lock(&self.ends).senders[place] -= 1;
+    pub(super) fn drop_sender(&self, chain: usize) {
+        lock(&self.ends).senders[chain] -= 1;
         if self.senders.fetch_sub(1, SeqCst) == 1 {
             self.empty.wake_all();
         }
@@ -155,12 +155,12 @@ impl<T> Shared<T> {
         if self.receivers.fetch_sub(1, SeqCst) == 1 {
             self.full.wake_all();
             // Nobody holds a lock while a value is dropped, which may have an end of this channel.
-            self.chains.iter().for_each(|it| drop(it.close()));
+            self.chains.iter().for_each(|it| drop(it.0.close()));
             self.seats().map(Seat::clear).for_each(drop);
         }
     }
 
-    fn chains(&self) -> &[Arc<Chain<T>>] {
+    fn chains(&self) -> &[Line<Chain<T>>] {
         &self.chains[..self.used_chains.load(SeqCst)]
     }
 
@@ -195,8 +195,8 @@ impl<T> Shared<T> {
 
     /// Puts a value, for which there is room, at the end of a chain.
     #[inline]
-    pub(super) fn put(&self, chain: &Chain<T>, value: T, who: u64) -> Result<(), Refused<T>> {
-        if let Err(why) = chain.put(value, who, &self.plan) {
+    pub(super) fn put(&self, chain: usize, value: T, who: u64) -> Result<(), Refused<T>> {
+        if let Err(why) = self.chains[chain % CHAINS].0.put(value, who, &self.plan) {
             self.free();
             return Err(why);
         }
@@ -209,7 +209,7 @@ impl<T> Shared<T> {
         if self.plan.bound.is_some() {
             self.waiting.0.fetch_add(1, SeqCst);
         }
-        drop(self.put(&self.chains[0], value, GIVEN_BACK));
+        drop(self.put(0, value, GIVEN_BACK));
     }
 
     /// Takes a value at this seat, after this look where it took last, or finds that there is none. It may be that nothing
@@ -297,7 +297,7 @@ impl<T> Shared<T> {
         if self.plan.bound.is_some() {
             return self.waiting.0.load(SeqCst);
         }
-        let sent: u64 = self.chains().iter().map(|it| it.sent()).sum();
+        let sent: u64 = self.chains().iter().map(|it| it.0.sent()).sum();
         let taken: u64 = self.seats().map(Seat::taken).sum();
         usize::try_from(sent.saturating_sub(taken)).unwrap_or(usize::MAX)
     }
