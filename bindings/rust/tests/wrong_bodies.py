@@ -38,7 +38,7 @@ BODIES = [
     ("the head of a chain is not moved on", "chain", "            self.pass(over, next);\n", "            drop((over, next));\n", JOBS + "an_idle_end"),
     ("a slot counts as taken before it is", "segment", "self.first + self.taken.0.load(Acquire)", "self.first + 1 + self.taken.0.load(Acquire)", TEST + "values_of_a_sender"),
     ("one round is enough", "seat", "if is_quiet || chains().len() == 1 {", "if is_quiet || chains().len() > 0 {", TEST + "a_receiver_finds"),
-    ("what is left stays", "shared", "            self.chains.iter().for_each(|it| drop(it.close()));\n", "", TEST + "what_is_left"),
+    ("what is left stays", "shared", "            self.chains.iter().for_each(|it| drop(it.0.close()));\n", "", TEST + "what_is_left"),
     ("a job that is open is no reason to wait", "shared", " != 0 || jobs % BEGUN != 0 {", " != 0 {", JOBS + "receivers_wait"),
     ("the end of the last job wakes nobody", "shared", "        if jobs % BEGUN == 1 && self.senders.load(SeqCst) == 0 {", "        if jobs % BEGUN == 1 && self.senders.load(SeqCst) == 7 {", JOBS + "the_last_job"),
     ("a job that comes back stays out", "job", "            self.shared.put_again(value);", "            drop(value);", JOBS + "a_job_comes_back"),
