@@ -134,8 +134,6 @@ impl Channel {
 enum Kind {
     /// A thread, for ever.
     Thread,
-    /// One that gives the value back, as whoever holds a lock of the crate's.
-    Holder,
     /// A thread, for some time.
     Timed,
     /// A task, for ever.
@@ -164,10 +162,6 @@ impl Wake for Bell {
 fn receive(channel: &Channel, kind: Kind) {
     match kind {
         Kind::Thread => channel.list.wait(None, || channel.look()).unwrap(),
-        Kind::Holder => {
-            channel.list.wait(None, || channel.look()).unwrap();
-            channel.send();
-        }
         Kind::Timed => drop(channel.list.wait(Some(Instant::now()), || channel.look())),
         _ => receive_as_task(channel, kind),
     }
@@ -201,7 +195,7 @@ fn receive_as_task(channel: &Channel, kind: Kind) {
 
 #[test]
 fn no_wake_up_is_lost() {
-    use Kind::{Dropped, Holder, Panicking, Task, Thread, Timed};
+    use Kind::{Dropped, Panicking, Task, Thread, Timed};
     search_case(3, 0, &[Thread, Task]);
     search_case(100, 1, &[Thread]);
     search_case(100, 1, &[Timed]);
@@ -211,8 +205,6 @@ fn no_wake_up_is_lost() {
     search_case(2, 2, &[Thread, Dropped]);
     search_case(2, 2, &[Task, Task]);
     search_case(2, 1, &[Panicking, Thread]);
-    search_case(3, 1, &[Holder, Holder]);
-    search_case(2, 1, &[Holder, Holder, Holder]);
     search_case(1, 2, &[Thread, Thread, Timed]);
     search_case(1, 2, &[Thread, Task, Dropped]);
 }

@@ -47,7 +47,6 @@ BODIES = [
     ("the last sender wakes nobody", "shared", "        if self.senders.fetch_sub(1, SeqCst) == 1 {", "        if self.senders.fetch_sub(1, SeqCst) == 0 {", TEST + "the_end_wakes"),
     ("a chain is dropped by a call in a call", "segment", "        while let Some(mut segment) = next.and_then(Arc::into_inner) {\n            next = segment.next.take();\n        }\n", "        drop(next.take());\n", DROPS),
     ("chains are closed that are in use alone", "shared", "            self.chains.iter().for_each(", "            self.chains().iter().for_each(", TEST + "an_end_ends"),
-    ("who lets a lock go wakes nobody", "../ffi/lock", "        self.0.waiters.wake_one();\n", "", TEST + "one_sender_is_shared"),
     ("what was emptied counts as left", "../ffi/slots", "        self.slots.emptied.fetch_max(self.emptied, Relaxed);\n", "", TEST + "what_is_left"),
     ("what is left counts as emptied", "../ffi/slots", "        self.slots.filled.store(self.filled, Relaxed);\n", "", TEST + "what_is_left"),
     ("a sender is not written down", "segment", "            lock(logs).senders.push(who);\n", "            let _ = (logs, who);\n", JOBS + "an_account"),

@@ -3,16 +3,15 @@
 use super::segment::{Look, Place, Segment, Writer};
 use super::shared::Plan;
 use super::system::{lock, Line};
-use crate::ffi::{Held, Lock};
 use std::sync::atomic::AtomicU64;
 use std::sync::atomic::Ordering::{Relaxed, SeqCst};
-use std::sync::{Arc, Mutex};
+use std::sync::{Arc, Mutex, MutexGuard};
 
 pub(super) struct Chain<T> {
     /// How many values were sent on it. It is stored after a value can be taken, and before its send returns. (It stands
     /// apart from the lane, since receivers read it again and again.)
     sent: Line<AtomicU64>,
-    lane: Lock<Lane<T>>,
+    lane: Mutex<Lane<T>>,
     /// A segment before which all values are taken, if one was begun. A seat that stands in none comes in here.
     head: Mutex<Option<Arc<Segment<T>>>>,
 }
@@ -52,7 +51,7 @@ impl<T> Chain<T> {
     pub(super) fn new() -> Chain<T> {
         Chain {
             sent: Line(AtomicU64::new(0)),
-            lane: Lock::new(Lane {
+            lane: Mutex::new(Lane {
                 writer: None,
                 full: None,
                 is_closed: false,
@@ -68,7 +67,7 @@ impl<T> Chain<T> {
     /// Puts a value at the end, under the lane's lock.
     #[inline]
     pub(super) fn put(&self, value: T, who: u64, plan: &Plan<T>) -> Result<(), Refused<T>> {
-        let mut lane = self.lane.hold();
+        let mut lane = lock(&self.lane);
         let Some(writer) = &mut lane.writer else {
             return self.begin_and_put(lane, value, who, plan);
         };
@@ -83,7 +82,7 @@ impl<T> Chain<T> {
     #[cold]
     fn begin_and_put(
         &self,
-        mut lane: Held<'_, Lane<T>>,
+        mut lane: MutexGuard<'_, Lane<T>>,
         value: T,
         who: u64,
         plan: &Plan<T>,
@@ -144,7 +143,7 @@ impl<T> Chain<T> {
     /// Ends it: no value is put after this. Whoever calls it drops what it returns, under no lock.
     pub(super) fn close(&self) -> impl Sized {
         let (full, written) = {
-            let mut lane = self.lane.hold();
+            let mut lane = lock(&self.lane);
             lane.is_closed = true;
             (lane.full.take(), lane.writer.take().map(Writer::end))
         };

@@ -62,7 +62,6 @@ pub use sender::{SendFuture, Sender};
 
 use shared::{Plan, Shared};
 use std::sync::Arc;
-pub(crate) use system::Waiters;
 
 /// So many chains, each for one sender. It is the most producers that a mailbox may have.
 const CHAINS: usize = 16;

@@ -1,16 +1,16 @@
 //! A seat, from which a receiver takes: for each chain it has a place in one segment, with a consumer of its own.
 use super::chain::Chain;
 use super::segment::{Look, Place};
-use super::system::Line;
+use super::system::{lock, Line};
 use super::CHAINS;
-use crate::ffi::{Held, Lock};
 use std::mem;
 use std::sync::atomic::{AtomicU64, Ordering::Relaxed};
+use std::sync::{Mutex, MutexGuard, TryLockError};
 
 /// (on lines of memory of its own, as a [`Line`])
 #[repr(align(128))]
 pub(super) struct Seat<T> {
-    desk: Lock<Desk<T>>,
+    desk: Mutex<Desk<T>>,
     /// How many values were taken here. (Who has the lock stores it, and anybody loads it.)
     taken: AtomicU64,
 }
@@ -34,7 +34,7 @@ type Left<T> = [Option<Place<T>>; CHAINS];
 impl<T> Seat<T> {
     pub(super) fn new(number: usize) -> Seat<T> {
         Seat {
-            desk: Lock::new(Desk {
+            desk: Mutex::new(Desk {
                 places: [const { Place::NOWHERE }; CHAINS],
                 seen: [0; CHAINS],
                 at: 0,
@@ -53,7 +53,7 @@ impl<T> Seat<T> {
     #[allow(clippy::inline_always, reason = "a call costs a tenth of a receive")]
     #[inline(always)]
     pub(super) fn take(&self, who: u64) -> Look<T> {
-        let mut desk = self.desk.hold();
+        let mut desk = lock(&self.desk);
         let at = desk.at % CHAINS;
         let look = desk.places[at].take(who);
         if let Look::Took(_) = look {
@@ -64,8 +64,8 @@ impl<T> Seat<T> {
     }
 
     /// Opens the desk, under the seat's lock.
-    pub(super) fn open(&self) -> Held<'_, Desk<T>> {
-        self.desk.hold()
+    pub(super) fn open(&self) -> MutexGuard<'_, Desk<T>> {
+        lock(&self.desk)
     }
 
     /// Counts a value that was taken. The desk is open.
@@ -76,7 +76,11 @@ impl<T> Seat<T> {
     /// Leaves the segments that are over, so that this seat pins none. It is for whoever finds one over, and only tries the
     /// lock: a seat that is in use moves on by itself. Whoever calls it drops what it returns, under no lock.
     pub(super) fn tidy(&self) -> Option<Left<T>> {
-        let mut desk = self.desk.try_hold()?;
+        let mut desk = match self.desk.try_lock() {
+            Ok(desk) => desk,
+            Err(TryLockError::Poisoned(desk)) => desk.into_inner(),
+            Err(TryLockError::WouldBlock) => return None,
+        };
         Some(desk.leave(Place::is_over))
     }
 

@@ -6,9 +6,9 @@ use std::sync::{Mutex, MutexGuard, PoisonError};
 use std::thread::{self, Thread};
 use std::time::Instant;
 
-pub(crate) type Waiters = WaitList<Std>;
+pub(super) type Waiters = WaitList<Std>;
 
-pub(crate) struct Std;
+pub(super) struct Std;
 
 impl System for Std {
     type Word = AtomicUsize;
