@@ -101,7 +101,7 @@ pub struct Consumer<T> {
     lanes: usize,
     /// Bit `lane` is set if this consumer has met the end of that lane. There are at most 16 lanes.
     ended: u64,
-    part: ffi::Consumer<T>,
+    pub(crate) part: ffi::Consumer<T>,
     home: Arc<Home<T>>,
 }
 

@@ -12,7 +12,7 @@ use std::sync::Arc;
 #[must_use = "its drop ends its lane"]
 pub struct Producer<T> {
     lane: usize,
-    part: ffi::Producer<T>,
+    pub(crate) part: ffi::Producer<T>,
     home: Arc<Home<T>>,
 }
 

@@ -33,13 +33,13 @@ BODIES = [
     ("a future that is dropped stays in the list", "receiver", "            self.receiver.shared.empty.leave(place);", "            let _ = place;", TEST + "a_future_that_is_dropped"),
     ("a send wakes nobody", "shared", "        self.empty.wake_one();\n        Ok(())", "        Ok(())", TEST + "no_round_sleeps_for_ever"),
     ("a value is counted before it is put", "chain", "        if !writer.put(value, who) {", "        self.sent.0.fetch_add(1, SeqCst);\n        std::thread::yield_now();\n        self.sent.0.fetch_sub(1, SeqCst);\n        if !writer.put(value, who) {", TEST + "no_round_sleeps_for_ever"),
-    ("a lane does not end before the next segment", "segment", "        self.producer.finish();\n", "        std::mem::forget(self.producer);\n", TEST + "a_receiver_finds"),
+    ("a lane does not end before the next segment", "segment", "        drop(self.filler);\n", "        std::mem::forget(self.filler);\n", TEST + "a_receiver_finds"),
     ("idle seats are not moved on", "shared", "            self.tidy();\n", "", JOBS + "an_idle_end"),
     ("the head of a chain is not moved on", "chain", "            self.pass(over, next);\n", "            drop((over, next));\n", JOBS + "an_idle_end"),
     ("a slot counts as taken before it is", "segment", "self.first + self.taken.0.load(Acquire)", "self.first + 1 + self.taken.0.load(Acquire)", TEST + "values_of_a_sender"),
     ("one round is enough", "seat", "if is_quiet || chains().len() == 1 {", "if is_quiet || chains().len() > 0 {", TEST + "a_receiver_finds"),
     ("what is left stays", "shared", "            self.chains.iter().for_each(|it| drop(it.0.close()));\n", "", TEST + "what_is_left"),
-    ("a job that is open is no reason to wait", "shared", " == 0 && jobs % BEGUN == 0;", " == 0;", JOBS + "receivers_wait"),
+    ("a job that is open is no reason to wait", "shared", " != 0 || jobs % BEGUN != 0 {", " != 0 {", JOBS + "receivers_wait"),
     ("the end of the last job wakes nobody", "shared", "        if jobs % BEGUN == 1 && self.senders.load(SeqCst) == 0 {", "        if jobs % BEGUN == 1 && self.senders.load(SeqCst) == 7 {", JOBS + "the_last_job"),
     ("a job that comes back stays out", "job", "            self.shared.put_again(value);", "            drop(value);", JOBS + "a_job_comes_back"),
     ("room is not given back", "shared", "            self.waiting.0.fetch_sub(1, SeqCst);\n", "", TEST + "a_bound_holds"),
@@ -47,8 +47,10 @@ BODIES = [
     ("the last sender wakes nobody", "shared", "        if self.senders.fetch_sub(1, SeqCst) == 1 {", "        if self.senders.fetch_sub(1, SeqCst) == 0 {", TEST + "the_end_wakes"),
     ("a chain is dropped by a call in a call", "segment", "        while let Some(mut segment) = next.and_then(Arc::into_inner) {\n            next = segment.next.take();\n        }\n", "        drop(next.take());\n", DROPS),
     ("chains are closed that are in use alone", "shared", "            self.chains.iter().for_each(", "            self.chains().iter().for_each(", TEST + "an_end_ends"),
+    ("what was emptied counts as left", "../ffi/slots", "        self.slots.emptied.fetch_max(self.emptied, Relaxed);\n", "", TEST + "what_is_left"),
+    ("what is left counts as emptied", "../ffi/slots", "        self.slots.filled.store(self.filled, Relaxed);\n", "", TEST + "what_is_left"),
     ("a sender is not written down", "segment", "            lock(logs).senders.push(who);\n", "            let _ = (logs, who);\n", JOBS + "an_account"),
-    ("a taker is not written down", "segment", "                self.log.push(who);\n", "", JOBS + "an_account"),
+    ("a taker is not written down", "segment", "            self.log.push(who);\n", "", JOBS + "an_account"),
 ]
 
 

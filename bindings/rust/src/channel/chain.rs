@@ -91,7 +91,7 @@ impl<T> Chain<T> {
             return Err(Refused::Closed(value));
         }
         let sent = self.sent();
-        let Ok(writer) = Writer::new(sent, plan.cells_after(sent), plan.audit.clone()) else {
+        let Some(writer) = Writer::new(sent, plan.cells_after(sent), plan.audit.clone()) else {
             return Err(Refused::NoMemory(value));
         };
         let segment = Arc::clone(writer.segment());
@@ -104,13 +104,19 @@ impl<T> Chain<T> {
         self.put(value, who, plan)
     }
 
-    /// Takes the number of the first value that nobody else takes, of so many at least that were sent. If it finds a segment
-    /// over, as the first of all, it sets `is_end`.
-    pub(super) fn take(&self, sent: u64, place: &mut Place<T>, is_end: &mut bool) -> Look {
+    /// Takes the first value that nobody else takes, of so many at least that were sent. If it finds a segment over, as the
+    /// first of all, it sets `is_end`.
+    pub(super) fn take(
+        &self,
+        sent: u64,
+        place: &mut Place<T>,
+        is_end: &mut bool,
+        who: u64,
+    ) -> Look<T> {
         loop {
             let next = match place.segment() {
                 Some(segment) if segment.has_only_taken(sent) => return Look::Nothing,
-                Some(_) => match place.begin_and_take(is_end) {
+                Some(_) => match place.begin_and_take(is_end, who) {
                     Look::Over => place.segment().and_then(|it| it.next()).cloned(),
                     look => return look,
                 },

@@ -2,6 +2,7 @@
 use super::errors::{written, RecvError, RecvTimeoutError, TryRecvError};
 use super::job::Job;
 use super::seat::Seat;
+use super::segment::Look;
 use super::shared::{told, Got, Shared};
 use std::future::Future;
 use std::iter::FusedIterator;
@@ -19,8 +20,7 @@ use std::time::{Duration, Instant};
 /// for the few steps in which somebody moves its seat on. Nobody waits for the seat of another: whoever finds a segment over
 /// only tries the locks of other seats. A receive that comes to a new segment takes the lock under which its chain keeps the
 /// first segment, that under which the mailbox issues consumers, and with an audit those of the segment's log and of the
-/// accounts. A receive that sleeps, or makes room for a sender that does, takes the lock of the list of sleepers. The slot
-/// of a value has a lock that nobody waits for.
+/// accounts. A receive that sleeps, or makes room for a sender that does, takes the lock of the list of sleepers.
 ///
 /// A clone and a drop take the lock of the list of ends. The drop of the last receiver takes those of all lanes and seats
 /// too, one after the other.
@@ -45,9 +45,25 @@ impl<T> Receiver<T> {
         }
     }
 
-    #[inline]
     fn take(&self) -> Got<T> {
-        self.shared.take(&self.seat, self.number)
+        self.take_after(self.seat.take(self.number))
+    }
+
+    /// Takes a value where the seat took last, or goes on after that look.
+    #[inline]
+    fn take_or<E>(&self, go_on: impl FnOnce(Look<T>) -> Result<T, E>) -> Result<T, E> {
+        match self.seat.take(self.number) {
+            Look::Took(value) => {
+                self.shared.free();
+                Ok(value)
+            }
+            look => go_on(look),
+        }
+    }
+
+    /// Takes a value after this look where the seat took last.
+    fn take_after(&self, look: Look<T>) -> Got<T> {
+        self.shared.take(&self.seat, look, self.number)
     }
 
     fn take_job(&self) -> Got<Job<T>> {
@@ -65,7 +81,7 @@ impl<T> Receiver<T> {
     /// Nothing is there, or nothing comes any more.
     #[inline]
     pub fn try_recv(&self) -> Result<T, TryRecvError> {
-        now(self.take())
+        self.take_or(|look| now(self.take_after(look)))
     }
 
     /// Receives a value. It sleeps until one comes. If there is no memory for its place in a segment, it tries again each
@@ -123,13 +139,18 @@ impl<T> Receiver<T> {
 
     #[inline]
     fn recv_until(&self, until: Option<Instant>) -> Result<T, RecvTimeoutError> {
-        match self.take() {
+        self.take_or(|look| self.recv_after(until, look))
+    }
+
+    /// The same after this look where the seat took last.
+    #[cold]
+    fn recv_after(&self, until: Option<Instant>, look: Look<T>) -> Result<T, RecvTimeoutError> {
+        match self.take_after(look) {
             Got::Took(value) => Ok(value),
             _ => self.wait(until, || self.take()),
         }
     }
 
-    #[cold]
     fn wait<G>(
         &self,
         until: Option<Instant>,

@@ -20,7 +20,7 @@ pub(super) struct Desk<T> {
     places: [Place<T>; CHAINS],
     /// By chains: a number of values sent, all of which it has found taken.
     seen: [u64; CHAINS],
-    /// The chain that it looks at first.
+    /// The chain from which it took last.
     at: usize,
     /// The chain that it looks at next, by the seat's number.
     home: usize,
@@ -30,9 +30,6 @@ pub(super) struct Desk<T> {
 
 /// The places that it leaves.
 type Left<T> = [Option<Place<T>>; CHAINS];
-
-/// A desk, under its seat's lock.
-pub(super) type Open<'a, T> = MutexGuard<'a, Desk<T>>;
 
 impl<T> Seat<T> {
     pub(super) fn new(number: usize) -> Seat<T> {
@@ -52,14 +49,26 @@ impl<T> Seat<T> {
         self.taken.load(Relaxed)
     }
 
+    /// Takes a value where it took last, under its lock.
+    #[allow(clippy::inline_always, reason = "a call costs a tenth of a receive")]
+    #[inline(always)]
+    pub(super) fn take(&self, who: u64) -> Look<T> {
+        let mut desk = lock(&self.desk);
+        let at = desk.at % CHAINS;
+        let look = desk.places[at].take(who);
+        if let Look::Took(_) = look {
+            self.count();
+            drop(desk);
+        }
+        look
+    }
+
     /// Opens the desk, under the seat's lock.
-    #[inline]
-    pub(super) fn open(&self) -> Open<'_, T> {
+    pub(super) fn open(&self) -> MutexGuard<'_, Desk<T>> {
         lock(&self.desk)
     }
 
     /// Counts a value that was taken. The desk is open.
-    #[inline]
     pub(super) fn count(&self) {
         self.taken.store(self.taken.load(Relaxed) + 1, Relaxed);
     }
@@ -82,12 +91,6 @@ impl<T> Seat<T> {
 }
 
 impl<T> Desk<T> {
-    /// The place from which it took last.
-    #[inline]
-    pub(super) fn here(&mut self) -> &mut Place<T> {
-        &mut self.places[self.at % CHAINS]
-    }
-
     /// Goes to its chain, of so many. Else receivers that go on after an end would crowd in one chain.
     pub(super) fn go_home(&mut self, chains: usize) {
         self.at = self.home % chains;
@@ -98,29 +101,24 @@ impl<T> Desk<T> {
         self.places.each_mut().map(leave)
     }
 
-    /// Looks at all chains, if the first look took nothing, until it takes a number, or finds that it has seen all in all of
-    /// them. It begins with its home, or after the end of a segment with the chain whose turn it is. If it finds a segment
-    /// over, as the first of all, it sets `is_end`.
+    /// Looks at all chains until it takes a value, or finds that it has seen all in all of them. It begins with its home, or
+    /// after the end of a segment with the chain whose turn it is. If it finds a segment over, as the first of all, it sets
+    /// `is_end`.
     ///
     /// It looks once more after it saw something. So it finds nothing only if there was a moment, during this call, at which
     /// each value was taken whose send had returned.
     pub(super) fn look_round<'a>(
         &mut self,
-        first: Look,
+        is_after_end: bool,
         chains: impl Fn() -> &'a [Line<Chain<T>>],
         is_end: &mut bool,
-    ) -> Look
+        who: u64,
+    ) -> Look<T>
     where
         T: 'a,
     {
-        let first = match first {
-            Look::Took(_) => return first,
-            Look::Over => {
-                self.turn += 1;
-                self.turn
-            }
-            _ => self.home,
-        };
+        self.turn += usize::from(is_after_end);
+        let first = if is_after_end { self.turn } else { self.home };
         loop {
             let round = chains();
             let mut is_quiet = true;
@@ -130,7 +128,7 @@ impl<T> Desk<T> {
                 if self.seen[at] == sent {
                     continue;
                 }
-                match round[at].0.take(sent, &mut self.places[at], is_end) {
+                match round[at].0.take(sent, &mut self.places[at], is_end, who) {
                     Look::Nothing | Look::Over => self.seen[at] = sent,
                     look => {
                         self.at = at;

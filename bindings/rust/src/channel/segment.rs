@@ -1,27 +1,20 @@
-//! A segment of a chain: a mailbox with one lane, whose items are the numbers of slots, in which the values stand.
+//! A segment of a chain: slots in which the values stand, with a mailbox of one lane for their numbers.
 //!
-//! One sender at a time writes it, from the first slot to the last. Each seat reads it with one consumer of its own. The
-//! main theorem says that no two consumers take the same number. So one alone comes for the value of a slot. Should two
-//! come, the second would find no value: safe Rust keeps that each value has one owner.
-//!
-//! This file alone of the channel calls the mailbox.
+//! One sender at a time fills it, from the first slot to the last. Each seat empties slots of it by a consumer of its own.
+//! The main theorem says that no two consumers take the same number. So one alone comes for the value of a slot.
 use super::audit::{Ledger, Logs};
 use super::system::{lock, Line};
 use super::SEATS;
-use crate::{Builder, Consumer, Mailbox, Poll, Producer, Shape};
+use crate::ffi::{Emptier, Filler, Slots};
 use std::panic::{catch_unwind, resume_unwind, AssertUnwindSafe};
 use std::sync::atomic::Ordering::{Acquire, Release, SeqCst};
 use std::sync::atomic::{AtomicBool, AtomicU64};
 use std::sync::{Arc, Mutex, OnceLock};
 use std::thread;
 
-/// There is not enough memory.
-pub(super) struct NoMemory;
-
 /// The result of a look at a segment, or at a chain of them.
-pub(super) enum Look {
-    /// It took the value of this number in the segment.
-    Took(u64),
+pub(super) enum Look<T> {
+    Took(T),
     /// Nothing further is there, so far.
     Nothing,
     /// All slots are taken, so the next segment is to be looked at.
@@ -29,20 +22,12 @@ pub(super) enum Look {
     NoMemory,
 }
 
-/// How a mailbox of so many cells is built.
-fn mailbox(cells: usize) -> Builder<u64> {
-    let builder = Mailbox::numbers().cells(cells).consumers(SEATS);
-    // (it draws no random words, so one seed does)
-    builder.shape(Shape::Exchange).seed([0; 32])
-}
-
 pub(super) struct Segment<T> {
     /// How many values were sent on its chain before.
     first: u64,
-    slots: Box<[Mutex<Option<T>>]>,
     /// (there until the drop)
-    mailbox: Option<Mailbox<u64>>,
-    /// Whether all slots are known to be taken. A seat that has no consumer here makes none after that.
+    slots: Option<Arc<Slots<T>>>,
+    /// Whether all slots are known to be taken. A seat that has no emptier here makes none after that.
     is_over: AtomicBool,
     next: OnceLock<Arc<Segment<T>>>,
     /// So many slots, counted from the first, are known to be taken. It may lag behind. Who reads it need not go past them,
@@ -53,8 +38,8 @@ pub(super) struct Segment<T> {
 
 /// Where a sender stands in a segment. It has one free slot at least.
 pub(super) struct Writer<T> {
-    producer: Producer<u64>,
-    used: usize,
+    filler: Filler<T>,
+    cells: usize,
     /// Before this slot nothing is to be noted, and there is a further one.
     usual: usize,
     segment: Arc<Segment<T>>,
@@ -63,7 +48,7 @@ pub(super) struct Writer<T> {
 /// Where a seat stands on a chain.
 pub(super) struct Place<T> {
     /// It is made as late as at the first look, and returns when the segment is over.
-    consumer: Option<Consumer<u64>>,
+    emptier: Option<(Emptier<T>, Arc<Segment<T>>)>,
     /// It is `None` before the first value of the chain.
     segment: Option<Arc<Segment<T>>>,
     /// Who took what, if that is asked for.
@@ -93,29 +78,24 @@ impl<T> Segment<T> {
 }
 
 impl<T> Writer<T> {
-    /// A new segment, and its writer.
+    /// A new segment, and its writer. It is `None` if there is not enough memory.
     pub(super) fn new(
         first: u64,
         cells: usize,
         audit: Option<Arc<Ledger<T>>>,
-    ) -> Result<Writer<T>, NoMemory> {
-        let mut slots = Vec::new();
-        slots.try_reserve_exact(cells).map_err(|_| NoMemory)?;
-        slots.extend((0..cells).map(|_| Mutex::new(None)));
-        let mailbox = mailbox(cells).build().map_err(|_| NoMemory)?;
-        let producer = mailbox.producer().map_err(|_| NoMemory)?;
+    ) -> Option<Writer<T>> {
+        let filler = Slots::filler(cells, SEATS)?;
         let segment = Arc::new(Segment {
             first,
-            slots: slots.into_boxed_slice(),
-            mailbox: Some(mailbox),
+            slots: Some(Arc::clone(filler.slots())),
             is_over: AtomicBool::new(false),
             next: OnceLock::new(),
             taken: Line(AtomicU64::new(0)),
             audit: audit.map(|ledger| (ledger, Mutex::default())),
         });
-        Ok(Writer {
-            producer,
-            used: 0,
+        Some(Writer {
+            filler,
+            cells,
             usual: if segment.audit.is_some() { 0 } else { cells },
             segment,
         })
@@ -128,32 +108,29 @@ impl<T> Writer<T> {
     /// Puts a value, and returns whether there is a further slot.
     #[inline]
     pub(super) fn put(&mut self, value: T, who: u64) -> bool {
-        *lock(&self.segment.slots[self.used]) = Some(value);
-        let is_put = self.producer.put(self.used as u64).is_ok();
-        debug_assert!(is_put, "there is a cell for each slot");
-        self.used += 1;
-        self.used < self.usual || self.note(who)
+        let filled = self.filler.fill(value);
+        filled < self.usual || self.note(filled, who)
     }
 
     /// Notes who sent the last value, if that is asked for. Returns whether there is a further slot.
     #[cold]
-    fn note(&self, who: u64) -> bool {
+    fn note(&self, filled: usize, who: u64) -> bool {
         if let Some((_, logs)) = &self.segment.audit {
             lock(logs).senders.push(who);
         }
-        self.used < self.segment.slots.len()
+        filled < self.cells
     }
 
     /// Ends the segment's lane, and leaves it.
     pub(super) fn end(self) -> Arc<Segment<T>> {
-        self.producer.finish();
+        drop(self.filler);
         self.segment
     }
 }
 
 impl<T> Place<T> {
     pub(super) const NOWHERE: Place<T> = Place {
-        consumer: None,
+        emptier: None,
         segment: None,
         log: Vec::new(),
     };
@@ -173,18 +150,27 @@ impl<T> Place<T> {
         self.segment.as_ref().is_some_and(|it| it.is_over())
     }
 
-    /// Takes the number of the next value, if it has a consumer.
+    /// Takes the next value, if it has an emptier.
     #[inline]
-    pub(super) fn take(&mut self) -> Look {
-        match self.consumer.as_mut().map(|it| it.take(0)) {
-            Some(Poll::Took(number)) => Look::Took(number),
-            Some(Poll::Ended) => Look::Over,
-            _ => Look::Nothing,
+    pub(super) fn take(&mut self, who: u64) -> Look<T> {
+        let Some((emptier, segment)) = &mut self.emptier else {
+            return Look::Nothing;
+        };
+        let (value, taken) = match emptier.take() {
+            Ok(found) => found,
+            Err(is_over) if is_over => return Look::Over,
+            Err(_) => return Look::Nothing,
+        };
+        // Those before it were decided before it.
+        segment.taken.0.store(taken as u64, Release);
+        if segment.audit.is_some() {
+            self.log.push(who);
         }
+        Look::Took(value)
     }
 
-    /// The same also for one that has no consumer yet. If it finds the segment over, as the first of all, it sets `is_end`.
-    pub(super) fn begin_and_take(&mut self, is_end: &mut bool) -> Look {
+    /// The same also for one that has no emptier yet. If it finds the segment over, as the first of all, it sets `is_end`.
+    pub(super) fn begin_and_take(&mut self, is_end: &mut bool, who: u64) -> Look<T> {
         let Some(segment) = &self.segment else {
             return Look::Nothing;
         };
@@ -192,13 +178,14 @@ impl<T> Place<T> {
             self.go_home();
             return Look::Over;
         }
-        if self.consumer.is_none() {
-            match segment.mailbox.as_ref().map(Mailbox::consumer) {
-                Some(Ok(consumer)) => self.consumer = Some(consumer),
-                _ => return Look::NoMemory,
+        if self.emptier.is_none() {
+            let emptier = segment.slots.as_ref().and_then(Slots::emptier);
+            self.emptier = emptier.map(|it| (it, Arc::clone(segment)));
+            if self.emptier.is_none() {
+                return Look::NoMemory;
             }
         }
-        let look = self.take();
+        let look = self.take(who);
         if let (Look::Over, Some(segment)) = (&look, &self.segment) {
             *is_end |= !segment.is_over.swap(true, SeqCst);
             self.go_home();
@@ -206,26 +193,11 @@ impl<T> Place<T> {
         look
     }
 
-    /// The value of a number that was taken here.
-    #[inline]
-    pub(super) fn empty(&mut self, number: u64, who: u64) -> T {
-        let value = self.segment.as_ref().and_then(|segment| {
-            // Those before it were decided before it.
-            segment.taken.0.store(number + 1, Release);
-            if segment.audit.is_some() {
-                self.log.push(who);
-            }
-            let slot = usize::try_from(number).ok()?;
-            lock(segment.slots.get(slot)?).take()
-        });
-        value.expect("one consumer alone takes each number")
-    }
-
     fn go_home(&mut self) {
-        if let (Some(consumer), Some(segment)) = (self.consumer.take(), &self.segment) {
+        if let Some((emptier, segment)) = self.emptier.take() {
             if let Some((_, logs)) = &segment.audit {
                 let log = std::mem::take(&mut self.log);
-                lock(logs).takers.push((consumer.number(), log));
+                lock(logs).takers.push((emptier.number(), log));
             }
         }
     }
@@ -242,21 +214,19 @@ impl<T> Drop for Place<T> {
 impl<T> Drop for Segment<T> {
     fn drop(&mut self) {
         let mut panic = None;
-        let slots = if self.is_over() {
-            &mut []
-        } else {
-            &mut self.slots[..]
-        };
-        let left = slots.iter_mut().filter_map(|it| it.get_mut().ok()?.take());
-        match (self.audit.take(), self.mailbox.take()) {
-            (Some((ledger, logs)), Some(mailbox)) => {
-                let logs = logs.into_inner().unwrap_or_default();
-                ledger.close(mailbox, &logs, left.collect());
+        // (nobody stands in it any more)
+        if let Some(slots) = self.slots.take().and_then(Arc::into_inner) {
+            let (left, mailbox) = slots.into_parts();
+            match self.audit.take() {
+                Some((ledger, logs)) => {
+                    let logs = logs.into_inner().unwrap_or_default();
+                    ledger.close(mailbox, &logs, left.collect());
+                }
+                None => left.for_each(|value| {
+                    let dropped = catch_unwind(AssertUnwindSafe(|| drop(value)));
+                    panic = panic.take().or(dropped.err());
+                }),
             }
-            _ => left.for_each(|value| {
-                let dropped = catch_unwind(AssertUnwindSafe(|| drop(value)));
-                panic = panic.take().or(dropped.err());
-            }),
         }
         let mut next = self.next.take();
         while let Some(mut segment) = next.and_then(Arc::into_inner) {

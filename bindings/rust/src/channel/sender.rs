@@ -18,8 +18,8 @@ use std::time::{Duration, Instant};
 /// So it waits only for another thread that shares this sender by `&`, for one of the senders beyond 16, which share lanes,
 /// or for a job that comes back. A send that begins a segment takes memory under that lock, and the first of a lane takes
 /// the lock under which the receivers find the first segment. If a receiver sleeps, or this sender has to, the send takes
-/// the lock of the list of sleepers too. The slot of a value has a lock that nobody waits for. With an audit a send also
-/// takes that of the segment's log, which a receiver takes once a segment.
+/// the lock of the list of sleepers too. With an audit it also takes that of the segment's log, which a receiver takes
+/// once a segment.
 ///
 /// A clone and a drop take the lock of the list of ends.
 pub struct Sender<T> {

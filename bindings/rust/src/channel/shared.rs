@@ -1,7 +1,7 @@
 //! What all ends of a channel share.
 use super::audit::{Ledger, GIVEN_BACK};
 use super::chain::{Chain, Refused};
-use super::seat::{Open, Seat};
+use super::seat::Seat;
 use super::segment::Look;
 use super::system::{lock, Line, Waiters};
 use super::{CHAINS, SEATS};
@@ -186,7 +186,7 @@ impl<T> Shared<T> {
 
     /// Gives room back.
     #[inline]
-    fn free(&self) {
+    pub(super) fn free(&self) {
         if self.plan.bound.is_some() {
             self.waiting.0.fetch_sub(1, SeqCst);
             self.full.wake_one();
@@ -212,32 +212,18 @@ impl<T> Shared<T> {
         drop(self.put(0, value, GIVEN_BACK));
     }
 
-    /// Takes a value at this seat, under its lock, or finds that there is none.
-    #[inline]
-    pub(super) fn take(&self, seat: &Seat<T>, who: u64) -> Got<T> {
-        let mut desk = seat.open();
-        let here = desk.here();
-        let look = here.take();
-        let Look::Took(number) = look else {
-            return self.take_further(seat, desk, look, who);
-        };
-        let value = here.empty(number, who);
-        seat.count();
-        drop(desk);
-        self.free();
-        Got::Took(value)
-    }
-
-    /// The same after this look, which found nothing. It may be that nothing comes.
-    #[cold]
-    fn take_further(&self, seat: &Seat<T>, desk: Open<'_, T>, look: Look, who: u64) -> Got<T> {
-        let got = self.look_further(seat, desk, look, who);
-        let jobs = self.jobs.0.load();
-        let is_last = self.senders.load(SeqCst) == 0 && jobs % BEGUN == 0;
-        if !is_last || !matches!(got, Got::Nothing) {
+    /// Takes a value at this seat, after this look where it took last, or finds that there is none. It may be that nothing
+    /// comes.
+    pub(super) fn take(&self, seat: &Seat<T>, look: Look<T>, who: u64) -> Got<T> {
+        let got = self.look_further(seat, look, who);
+        if !matches!(got, Got::Nothing) {
             return got;
         }
-        match self.look(seat, who) {
+        let jobs = self.jobs.0.load();
+        if self.senders.load(SeqCst) != 0 || jobs % BEGUN != 0 {
+            return got;
+        }
+        match self.look_further(seat, Look::Nothing, who) {
             Got::Nothing if self.jobs.0.load() == jobs => Got::Closed,
             got => got,
         }
@@ -248,7 +234,7 @@ impl<T> Shared<T> {
     pub(super) fn take_job(&self, seat: &Seat<T>, who: u64) -> Got<T> {
         let has_senders = self.senders.load(SeqCst) != 0;
         let before = self.jobs.0.begin();
-        let got = self.look(seat, who);
+        let got = self.look_further(seat, seat.take(who), who);
         if let Got::Took(_) = got {
             return got;
         }
@@ -269,20 +255,18 @@ impl<T> Shared<T> {
         jobs
     }
 
-    /// Takes a value, or finds nothing. It does not look whether something comes.
-    fn look(&self, seat: &Seat<T>, who: u64) -> Got<T> {
-        let mut desk = seat.open();
-        let look = desk.here().take();
-        self.look_further(seat, desk, look, who)
-    }
-
-    /// The same after the first look.
-    fn look_further(&self, seat: &Seat<T>, mut desk: Open<'_, T>, first: Look, who: u64) -> Got<T> {
-        let (is_after_end, mut is_end) = (matches!(first, Look::Over), false);
-        let got = match desk.look_round(first, || self.chains(), &mut is_end) {
-            Look::Took(number) => {
+    /// Takes a value, or finds nothing, after this look where the seat took last.
+    fn look_further(&self, seat: &Seat<T>, look: Look<T>, who: u64) -> Got<T> {
+        if let Look::Took(value) = look {
+            self.free();
+            return Got::Took(value);
+        }
+        let is_after_end = matches!(look, Look::Over);
+        let (mut desk, mut is_end) = (seat.open(), false);
+        let got = match desk.look_round(is_after_end, || self.chains(), &mut is_end, who) {
+            Look::Took(value) => {
                 seat.count();
-                Got::Took(desk.here().empty(number, who))
+                Got::Took(value)
             }
             Look::NoMemory => Got::NoMemory,
             Look::Nothing | Look::Over => Got::Nothing,

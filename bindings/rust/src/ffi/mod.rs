@@ -15,12 +15,12 @@
 //!
 //! # Why a value has one owner
 //!
-//! An item of the archive is a word. Here the word stands for a value, and mostly is the address of its box. Whoever turns
-//! the word back into the value has to be the only one. These proved clauses of the archive's calls say so. The comments
-//! name them `ownership`:
+//! An item of the archive is a word. Here the word stands for a value: it is the value itself, the address of its box, or
+//! the number of its slot. Whoever turns the word back into the value has to be the only one. These proved clauses of the
+//! archive's calls say so. The comments name them `ownership`:
 //!
 //! - `hz_gather`: `main_theorem`, which is that of `Mailbox::gather`. One assignment explains the whole report: each item put
-//!   goes to at most one consumer, and each that was not taken is left, once.
+//!   goes to at most one consumer, which takes its items in the order put, and each that was not taken is left, once.
 //! - `hz_poll`: `polled`, and `hz_take`: `taken`. The answer is that of the poll, or of the last of the take's polls. So a
 //!   consumer is told `HZ_TOOK` of an item exactly if it gets the note of it, which the report has.
 //! - `hz_put`: `linked` and `full`. An item is put by `HZ_LINKED` alone. After `HZ_FULL` it is in no lane.
@@ -40,8 +40,10 @@ mod heap;
 mod hub;
 mod parts;
 mod report;
+mod slots;
 
 pub(crate) use calls::{number, Setup, BITS, MIDDLE, UNARY};
 pub(crate) use carrier::Carrier;
 pub(crate) use hub::{Hub, NotIssued, Refusal};
 pub(crate) use parts::{Consumer, Producer};
+pub(crate) use slots::{Emptier, Filler, Slots};
