@@ -81,7 +81,7 @@ module _ (s : WorldState) (h : WorldHistory) (is : IsWorldAfter h s) (c p : ℕ)
       → IsClaimPrefix (plan s h is).claims c (claim_part c k (claim_accesses (a ∷ h))) r
   is_now r e = subst (λ xs. IsClaimPrefix (plan s h is).claims c xs r) (sym part_now) (prefix_now r e)
 
-  -- the consumer's part on the cell has one stage
+  -- the consumer's part on the cell has at most one stage
   one_stage : (g : WorldHistory) (z r : Stage)
       → IsClaimPrefix (plan s h is).claims c (claim_part c k (claim_accesses g)) z
       → IsClaimPrefix (plan s h is).claims c (claim_part c k (claim_accesses g)) r → z ≡ r

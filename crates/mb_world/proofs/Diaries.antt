@@ -41,7 +41,7 @@ module _ (plan : Plan) (hs : Histories) (known : Known plan hs) where
   abbrev Comes : ℕ → ℕ → Stage → Type 0
   Comes c k s = HasStageIn plan.claims c k s (parts_of c hs)
 
-  -- a claim has one stage
+  -- a claim has at most one stage
   one_stage : (c k : ℕ) (s r : Stage) → Comes c k s → Comes c k r → s ≡ r
   one_stage c k s r = known.stage c (claim_part c k hs.claims) s r
 

@@ -93,7 +93,7 @@ end_is true false e = absurd (cc)
 end_is false true e = absurd (cc)
 end_is false false e = refl
 
--- a look that finds cell k does not find nothing or the end
+-- a look that finds cell k finds neither nothing nor the end
 is_cell : (b : Bool) (k : ℕ) → look.Cell k ≡ (if b then look.Ended else look.Nothing) → ⊥
 is_cell true k e = cc
 is_cell false k e = cc

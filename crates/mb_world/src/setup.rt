@@ -112,7 +112,7 @@ impl Setup {
         ensures pairs { IfOk result (λ setup. pairs_in setup ≡ 0) }
         ensures shape { IfOk result (λ setup. shape_in setup ≡ with_last) }
 
-        // So a poll never needs more than a budget of 3, and none ends undecided.
+        // So a poll never needs a budget above 3. No claim ends undecided.
         ensures bound { IfOk result (λ setup. most_accesses (layout_of setup) ≡ 1) }
     {
         if !(1..=MAX_PRODUCERS).contains(&producers) {

@@ -39,8 +39,8 @@ impl<A: Allocator + Clone + Drop> World<A> {
         ensures main_theorem { IfOk result (λ r. (h : WorldHistory) → IsWorldAfter h self.now
             → MainTheorem (pool_accesses h) (λ c. c) r) }
 
-        // If each cell has a last object, an item that was competed for is left only beside a begun claim. On a lane
-        // without a begun claim each such item is taken.
+        // If each cell has a last object, an item that was competed for is left only if a claim on it is begun. On a
+        // lane without a begun claim each item that was competed for is taken.
         ensures settled { IfOk result (λ r. (shape_in self.now.setup).last ≡ true
             → IsLeftBesideBegun r × AreAllTaken r) }
     {
