@@ -16,7 +16,7 @@ pool_word size (Head p) x = x
 pool_word size (Link k) x = x
 pool_word size (Item k) x = x
 
--- a law of `mb_cells`: a history stays lawful with an access of a lane's producer, in range, true to memory, on its path
+-- a law of `mb_cells`: a history stays lawful with a lane producer's access, in range, true to memory and on its path
 abbrev pub ProducerLaw : Type 0
 ProducerLaw =
     (size : PoolSize) (h : History) (a : PoolAccess) (p : ℕ) → IsPoolLawful size h → a.process ≡ Producer p

@@ -23,8 +23,8 @@ pub record EventKnown (plan : Plan) (h : WorldHistory) : Type 0 where
   -- a cell is linked in at most one lane
   pub one_lane : (p q k : ℕ) → Has (linked_cells p (pool_accesses h)) k → Has (linked_cells q (pool_accesses h)) k
       → p ≡ q
-  -- a claim has at most one stage, and goes on before each step. A lawful access of the world keeps the claims lawful. A
-  -- claim has at most one lawful next access for each random word
+  -- a claim has at most one stage, and goes on before each step. A lawful access of the world keeps the claims lawful.
+  -- A claim has at most one lawful next access for each random word
   pub one_stage : (c : ℕ) (xs : List ObjectTurn) (s r : Stage) → IsClaimPrefix plan.claims c xs s
       → IsClaimPrefix plan.claims c xs r
       → s ≡ r

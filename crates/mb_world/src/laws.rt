@@ -26,7 +26,7 @@ use mb_claim::laws::{last_objects_decide_claims, prefixes_have_one_stage};
 use mb_claim::steps::claims_have_one_next_op;
 use mb_deciding::laws::objects_keep_their_promises;
 
-/// One assignment of items to competitors agrees with the report, nothing follows an end mark, and the report is settled.
+/// A report is settled, one assignment of items to competitors agrees with it, and nothing follows an end mark.
 /// This holds for every order of the accesses to the claims, every order of those to the cells, and all random words.
 pub fn reports_have_one_assignment()
     ensures { (plan : Plan) (hs : Histories) (r : ReportView) → AreSound plan hs
