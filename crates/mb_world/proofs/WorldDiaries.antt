@@ -71,11 +71,11 @@ module _ (plan : Plan) (h : WorldHistory) (lawful : IsWorldLawful plan h) (known
         → claim_part c k (claim_accesses (lane_part c p h)) ≡ claim_part c k (claim_accesses h)
     same_steps k has = steps_there plan h lawful known c p k (cell_here k has)
 
-    -- if by the part on the lane a claim on a cell met has ended as the note says, so it has by all that the consumer did
+    -- if by the part on the lane a claim on a cell met has ended as the note says, so it has by all the consumer did
     ends_globally : (k : ℕ) (n : Note) → Has ks k → EndsHere k n → Ends k n
     ends_globally k n has e = end_here plan h lawful known c p k n (cell_here k has) e
 
-    -- if by all that the consumer did a claim on a cell met has ended as the note says, so it has by the part on the lane
+    -- if by all the consumer did a claim on a cell met has ended as the note says, so it has by the part on the lane
     ends_locally : (k : ℕ) (n : Note) → Has ks k → Ends k n → EndsHere k n
     ends_locally k (Took v) has e = (
       subst (λ xs. IsClaimPrefix plan.claims c xs stage.Won) (sym (same_steps k has)) e.0,

@@ -35,7 +35,7 @@ impl<A: Allocator + Clone + Drop> World<A> {
         ensures exact { IfOk result (λ r. (h : WorldHistory) → IsWorldAfter h self.now
             → IsReportOf (plan_in self.now.setup) (histories_of h) r) }
 
-        // One assignment agrees with the report, and nothing follows an end mark.
+        // One assignment agrees with the report, nothing follows an end mark, and the report is settled.
         ensures main_theorem { IfOk result (λ r. (h : WorldHistory) → IsWorldAfter h self.now
             → MainTheorem (pool_accesses h) (λ c. c) r) }
 
