@@ -29,7 +29,7 @@ empty_roll = record { lanes = []; readers = [] }
 abbrev pub first_view : PoolSize → View
 first_view size = Hub size empty_roll
 
--- what the roll has of a process: None if it was not issued, Some None if its seat is out, else Some of Some part
+-- what the roll has of a process: None if it was not issued, Some None if its seat was not returned, else its part
 abbrev pub roll_at : Process → Roll → Option (Option History)
 roll_at (Producer p) roll = slice_get roll.lanes p
 roll_at (Reader r) roll = slice_get roll.readers r

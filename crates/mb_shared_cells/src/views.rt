@@ -17,7 +17,7 @@ pub enum View {
     Hub(PoolSize, Roll),
     /// The hub, which has drawn a lane's number from the roster, and has not split the seat off yet.
     HubDraws(PoolSize, Roll),
-    /// The hub, which has joined the seat of a process to its own: that process, and its part.
+    /// The hub, which has joined the seat of a process to its own: that process, and its part, not in the roll yet.
     HubJoins(PoolSize, Roll, Process, LinkedList<PoolAccess>),
     /// The seat of a lane or reader: the process, the parts of lanes that it knows, and its own part.
     Member(PoolSize, Process, LinkedList<Option<LinkedList<PoolAccess>>>, LinkedList<PoolAccess>),

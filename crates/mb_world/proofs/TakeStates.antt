@@ -53,7 +53,7 @@ module _ (s : WorldState) (h : WorldHistory) (is : IsWorldAfter h s) (c p : ℕ)
       (sym (part_is s h is c p cs ps known k claim here))
       (prefix s h is c p cs ps known k claim here stage.Won won)
 
-  -- the consumer loaded no other value from the item
+  -- with the load, the consumer has loaded no value but v from the item's word
   only : (u : ℕ) → HasItem (plan s h is).claims (a ∷ h) c k u → v ≡ u
   only u read = elim (item_loads (plan s h is).claims c h (Item k) v c k u read) [
     | inl older ↦ absurd (unread s h is c p cs ps known k claim here u older)
