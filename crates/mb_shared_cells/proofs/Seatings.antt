@@ -135,7 +135,7 @@ fits_still size t u roster more seat s (Member own who known done) h = (
 )
 fits_still size t u roster more seat s Empty h = tt
 
--- a process still stands at its seat after a view is replaced, if the new view has a part of it in case the old one had
+-- a process still stands at its seat after a view is replaced, if the new view has a part of it whenever the old had one
 pub stands_then : (views : List View) (at : ℕ) (was new : View) (seat : ℕ) (who : Process)
     → get_elem? views at ≡ some was → (HasProcess was who → HasProcess new who)
     → StandsAt views seat who → StandsAt (slice_set views at new) seat who

@@ -9,7 +9,7 @@ use Rattle.mb_shared_cells.specs.Views.{PartList}
 use Rattle.mb_shared_cells.specs.declared.views.View.{View}
 
 -- ---- lists of views
--- if P holds of each other view and of the new one, it holds of each view after one is replaced
+-- if P holds of a new view and of each view that it does not replace, P holds of each view after the replacement
 pub all_set : (P : ℕ → View → Type 0) (views : List View) (at : ℕ) (new : View)
     → ((j : ℕ) (v : View) → j ≢ at → get_elem? views j ≡ some v → P j v) → P at new
     → (j : ℕ) (v : View) → get_elem? (slice_set views at new) j ≡ some v → P j v

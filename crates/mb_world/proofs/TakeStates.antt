@@ -60,7 +60,7 @@ module _ (s : WorldState) (h : WorldHistory) (is : IsWorldAfter h s) (c p : ℕ)
     | inr new ↦ new.2
   ]
 
-  -- if the note that the item was taken is written, all notes are right after the load
+  -- if the note that the item was taken is written, all notes are correct after the load
   noted : AreNotes s h is (a ∷ h) (slice_set s.notes (c * (plan s h is).claims.cells + k) (Some (Took v)))
   noted =
       notes_set s h is c p cs ps a more k (below s h is c p cs ps known k claim here) (Took v)

@@ -16,7 +16,7 @@ use Rattle.mb_world.proofs.Tracks.{EndsIn, Tracks, closed}
 use Rattle.mb_world.proofs.WorldClaims.{end_here, met_all, met_once, on_lane, steps_there, tracks}
 use Rattle.mb_world.proofs.WorldPool.{load_lane, loads, loads_on, of_lane, on_word, read_there}
 
--- a cell in `closed`, those of the cells met whose claims have notes, has the same position among the cells met
+-- a cell at position j of `closed`, the cells met whose claims have notes, is at position j of the cells met
 closed_in : (qs : List ℕ) (z : Option (List ObjectTurn)) (j k : ℕ) → HasPosition (closed qs z) j k → HasPosition qs j k
 closed_in qs None j k at = at
 closed_in [] (Some xs) j k at = at
