@@ -29,7 +29,7 @@ pub enum SetupFault {
     BadProducers,
     /// The number of consumers is 0 or above 64.
     BadConsumers,
-    /// There are more cells than the call takes: 256 for [`Setup::new`], 2^24 for [`Setup::large`] and [`Setup::exchange`].
+    /// There are more cells than the call takes: 256 for [`Setup::new`], 2^24 for `Setup::large` and `Setup::exchange`.
     BadCells,
     /// The number of pairs of deciding objects is 0 or above 8.
     BadRounds,
