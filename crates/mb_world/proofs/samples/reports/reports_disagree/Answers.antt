@@ -96,7 +96,7 @@ returns-clause-itself c t agrees = (agrees.given.losses 0 0 0 0 refl).another re
 pub returns-clause-away : goal.returns-clause-away
 returns-clause-away c t agrees = away (agrees.given.losses 0 1 0 0 refl).competed
 
--- two losses of one item name two consumers
+-- two losses of one item name two consumers. But all losses of an item must name one consumer
 pub returns-clause-each : goal.returns-clause-each
 returns-clause-each c t agrees = let e = (agrees.given.losses 0 1 0 0 refl).only 1 0 refl in cc
 
