@@ -1,4 +1,4 @@
--- What the state of a world says of its report, read off its pool, its places and its notes.
+-- What the state of a world *tells* of its report: what can be read off its pool, its places and its notes.
 use Rattle.std.specs.Prelude.{ℕ, ◌≡◌, ◌+◌, ◌*◌, ◌<◌, Bool, false, not, Option, Some, None, List, length, map, filter, slice_get}
 use Rattle.std.specs.Option.{option_map_or}
 use Rattle.std.specs.List.{filter_map}
