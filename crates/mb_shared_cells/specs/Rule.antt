@@ -46,7 +46,7 @@ KnowsTaken t known =
     (p : ℕ) (theirs : History) → slice_get known p ≡ Some (Some theirs)
     → (p < t.lanes) × (t.seat_of (Producer p) ≡ t.hub) × (theirs ≡ part (Producer p) t.history)
 
--- the process was issued, this is its seat, and the part is its part of the history
+-- the process was issued, this is its seat, and the part is the process's part of the history
 pub record HasPart (t : Seating) (seat : ℕ) (who : Process) (done : History) : Type 0 where
   pub here : t.seat_of who ≡ seat
   pub enrolled : IsEnrolled t who

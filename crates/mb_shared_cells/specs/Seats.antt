@@ -103,7 +103,7 @@ reader_shown id me = record {
 }
 
 -- ---- which accesses a seat can make
--- the seat is a reader's, which may load the word, and the word is a head, link or item of a pool of this size
+-- the seat is a reader's, the reader may load the word, and the word is a head, link or item of the pool
 pub record CanLoad (size : PoolSize) (word : Word) (me : SeatState) : Type 0 where
   pub reader : ℕ
   pub known : PartList

@@ -151,7 +151,7 @@ hub_after_load (HubJoins size roll who done) = Hub size (roll_with_part who done
 hub_after_load (Member size who known done) = Member size who known done
 hub_after_load Empty = Empty
 
--- if a seat was joined to the hub, it was not returned before, and with its part the roll is of one lawful history
+-- if a seat was joined to the hub, it was not returned before, and one lawful history has its part and the roll's parts
 abbrev pub WasOut : View → Type 0
 WasOut (Hub size roll) = Unit {0}
 WasOut (HubDraws size roll) = Unit {0}

@@ -68,8 +68,8 @@ pub fn steps_keep_states()
         → IsCellsState size (block_after size a words)
         (slice_set views id (Member own a.process known (a ∷ done))) }
 
-    // If a lane is not issued yet, the hub draws its number by a fetch-add on the roster. Then it splits its view.
-    // It issues a reader's seat by a split alone. That seat knows the parts of the lanes that were returned.
+    // If not all lanes are issued, the hub draws the next one's number by a fetch-add on the roster. Then it issues the
+    // number, by a split of its view. It issues a reader's seat by a split alone, with the parts of lanes returned.
     ensures draw { (size own : PoolSize) (words : List ℕ) (views : List View) (id : ℕ) (roll : Roll)
         → IsCellsState size words views → IsViewAt views id (Hub own roll)
         → length roll.lanes < size.lanes

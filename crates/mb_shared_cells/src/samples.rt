@@ -34,7 +34,7 @@ pub fn words_and_views_disagree()
     ensures twice { IsStateOfOne (1 ∷ 1 ∷ 0 ∷ 8 ∷ 1 ∷ [])
         (hub_of_one ∷ lane_with one_put ∷ lane_with one_put ∷ []) → ⊥ }
 
-    // The roster counts a lane that was neither issued nor drawn by the hub, or does not count a lane that was issued.
+    // The roster counts a lane that the hub neither drew nor issued, or does not count a lane that was issued.
     ensures not_given { IsStateOfOne (0 ∷ 0 ∷ 0 ∷ 0 ∷ 1 ∷ []) (new_hub ∷ []) → ⊥ }
     ensures not_drawn { IsStateOfOne (0 ∷ 0 ∷ 0 ∷ 0 ∷ 0 ∷ [])
         (hub_of_one ∷ lane_with [] ∷ []) → ⊥ }

@@ -17,7 +17,7 @@ module _ (hs : Histories) (r : ReportView) (main_theorem : MainTheorem hs.pool h
   no_note d p j none neither (Lost w) e = neither (inr (w, e))
   no_note d p j none neither Undecided e = decided d p j e
 
-  -- if nobody took an item, a competitor that did not lose it has notes on just the items before it, and a begun claim
+  -- if nobody took an item, a competitor that did not lose it has a begun claim on it, and notes on just those before
   begun_next : (d p j : ℕ) → ((e : ℕ) → HasTaken e p j r → ⊥) → (HasTakenOrLost d p j r → ⊥) → HasCompeted d p j r
       → (length (notes d p r) ≡ j) × (is_begun d p r ≡ true)
   begun_next d p j none neither (inl before) =
