@@ -144,7 +144,7 @@ access_asked laws key size slots id i me who known done word act f picked picks 
     (λ i. (sym same i, sym is i, sym there i, sym of i, sym acts i))
     (access_allows laws size slots id who known done word act f within goes)
 
--- `access_asked` for a store: the number that the step announces is the value stored
+-- `access_asked` for a store: its act depends on the value stored, not on the value found
 pub store_asked : AccessLaws → (key size : PoolSize) (slots id i value : ℕ) (me : SeatState) (who : Process)
     (known : PartList) (done : History) (word : Word) (act : ℕ → PoolAct) (picked : Word)
     (picks : ℕ → PoolAct) → key ≡ size → me ≡ (Member size who known done, []) → i ≡ address_of size word

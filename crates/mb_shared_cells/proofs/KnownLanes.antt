@@ -34,7 +34,7 @@ last_of : (x : ℕ) (xs : List ℕ) → (l : List ℕ) × ((k : ℕ) × (l ++ k 
 last_of x [] = ([], (x, refl))
 last_of x (y ∷ ys) = let t = last_of y ys in (x ∷ t.0, (t.1.0, ap (λ l. x ∷ l) t.1.1))
 
--- a cell in the middle of a list is in it
+-- a list of the cells `later`, then cell k, then the cells `ks` has cell k
 has_behind : (later ks : List ℕ) (k : ℕ) → Has (later ++ k ∷ ks) k
 has_behind [] ks k = inl refl
 has_behind (j ∷ later) ks k = inr (has_behind later ks k)

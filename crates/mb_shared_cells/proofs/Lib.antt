@@ -1,4 +1,4 @@
--- In the order of reading: a file stands on files above it.
+-- In the order of reading: a file uses only files above it.
 
 -- Lists of views and parts, and who stands at which seat
 pub mod ViewLists

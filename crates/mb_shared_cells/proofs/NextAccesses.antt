@@ -16,7 +16,7 @@ pool_word size (Head p) x = x
 pool_word size (Link k) x = x
 pool_word size (Item k) x = x
 
--- a law of `mb_cells`: a history stays lawful with an access in range, true to memory, that its producer's path allows
+-- a law of `mb_cells`: a history stays lawful with a lane producer's access, in range, true to memory and on its path
 abbrev pub ProducerLaw : Type 0
 ProducerLaw =
     (size : PoolSize) (h : History) (a : PoolAccess) (p : ℕ) → IsPoolLawful size h → a.process ≡ Producer p
@@ -48,7 +48,7 @@ pub load_goes : ReaderLaw → (size : PoolSize) (r : ℕ) (done : History) (w : 
 load_goes law size r done w may h n lawful mine lane is low =
     (load_follows law size r done w may h n lawful mine is, refl)
 
--- a store may follow a lawful history if it goes on with its producer's path
+-- a store of a value below 2^64 may follow a lawful history if its producer has a lane and its path goes on with it
 pub store_follows : ProducerLaw → (size : PoolSize) (p : ℕ) (done : History) (w : Word) (value : ℕ)
     → value < 2 ^ 64 → IsLanePrefix size.cells p (store p w value ∷ done)
     → (h : History) → IsPoolLawful size h → part (Producer p) h ≡ done → p < size.lanes
@@ -57,14 +57,14 @@ store_follows law size p done w value small path h lawful mine lane =
     law size h (store p w value) p lawful refl lane small tt
     (subst (λ l. IsLanePrefix size.cells p (store p w value ∷ l)) (sym mine) path)
 
--- a store that goes on with its producer's path may follow, whatever its word holds
+-- a store of a value below 2^64 with which its producer's path goes on may follow, whatever its word holds
 pub store_goes : ProducerLaw → (size : PoolSize) (p : ℕ) (done : History) (w : Word) (value : ℕ) → value < 2 ^ 64
     → IsLanePrefix size.cells p (store p w value ∷ done)
     → GoesOn size (Producer p) done w (λ _. Store value) (λ _. value)
 store_goes law size p done w value small path h n lawful mine lane is low =
     (store_follows law size p done w value small path h lawful mine lane, refl)
 
--- a fetch-add may follow a lawful history if it goes on with its producer's path, and finds what the counter holds
+-- a fetch-add with which its producer's path goes on may follow a lawful history, if it finds what the counter holds
 pub fetch_follows : ProducerLaw → (size : PoolSize) (p : ℕ) (done : History) (item n : ℕ)
     → item < 2 ^ 64 → n < 2 ^ 64
     → IsLanePrefix size.cells p (fetch p (record { cell = n; value = item }) ∷ done)
@@ -76,7 +76,7 @@ fetch_follows law size p done item n small low path h lawful mine lane is =
     law size h (fetch p e) p lawful refl lane (small, low) is
     (subst (λ l. IsLanePrefix size.cells p (fetch p e ∷ l)) (sym mine) path)
 
--- a fetch-add that goes on with its producer's path may follow, whatever it finds. The counter is too small to wrap
+-- a fetch-add with which its producer's path goes on may follow, whatever it finds. The counter stays below 2^64
 pub fetch_goes : ProducerLaw → CounterLaw → (size : PoolSize) (p : ℕ) (done : History) (item : ℕ)
     → size.lanes < 2 ^ 32 → size.cells < 2 ^ 32 → item < 2 ^ 64
     → ((n : ℕ) → IsLanePrefix size.cells p (fetch p (record { cell = n; value = item }) ∷ done))

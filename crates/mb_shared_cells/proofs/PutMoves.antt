@@ -55,7 +55,7 @@ pub record GotCell (old : LaneSeatView) (x k : ℕ) (new : LaneSeatView) : Type 
     part = fetch old.lane (record { cell = k; value = x }) ∷ old.part;
   }
 
--- two equal answers of an offer have equal cells
+-- if two results of an offer are equal and are cells, the cells are equal
 same_cell : (n k : ℕ) → offer.Cell k ≡ offer.Cell n → n ≡ k
 same_cell n k e = cc
 

@@ -135,7 +135,7 @@ fits_still size t u roster more seat s (Member own who known done) h = (
 )
 fits_still size t u roster more seat s Empty h = tt
 
--- a process still stands at its seat after a view is replaced, if the new view has a part of it in case the old one had
+-- a process still stands at its seat after a view is replaced, if the new view has a part of it in case the old had one
 pub stands_then : (views : List View) (at : ℕ) (was new : View) (seat : ℕ) (who : Process)
     → get_elem? views at ≡ some was → (HasProcess was who → HasProcess new who)
     → StandsAt views seat who → StandsAt (slice_set views at new) seat who
@@ -184,7 +184,7 @@ with_part-had (Reader p) done roll (Producer q) d e = inr e
 with_part-had (Reader p) done roll (Reader q) d e =
     ⊎_elim (λ t. inl (ap Reader t.0, cc)) (λ t. inr t) (set_had roll.readers p q (Some done) (Some d) e)
 
--- the part that was put into a roll is there
+-- if the roll has the number of a process, it has there the part that is put in for this process
 pub with_part-here : (who : Process) (done : History) (roll : Roll) (b : Option History)
     → roll_at who roll ≡ Some b → roll_at who (roll_with_part who done roll) ≡ Some (Some done)
 with_part-here (Producer p) done roll b e = set_here roll.lanes p (Some done) b e

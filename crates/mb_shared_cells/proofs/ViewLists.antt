@@ -9,7 +9,7 @@ use Rattle.mb_shared_cells.specs.Views.{PartList}
 use Rattle.mb_shared_cells.specs.declared.views.View.{View}
 
 -- ---- lists of views
--- if P holds of each other view and of the new one, it holds of each view after one is replaced
+-- if P holds of a new view and of each view that it does not replace, P holds of each view after the replacement
 pub all_set : (P : ℕ → View → Type 0) (views : List View) (at : ℕ) (new : View)
     → ((j : ℕ) (v : View) → j ≢ at → get_elem? views j ≡ some v → P j v) → P at new
     → (j : ℕ) (v : View) → get_elem? (slice_set views at new) j ≡ some v → P j v
@@ -19,7 +19,7 @@ all_set P views at new others mine j v e =
     (λ (x : (j ≢ at) × (get_elem? views j ≡ some v)). others j v x.0 x.1)
     (at_set views at j new v e)
 
--- each view in a list with a new one added was in the list before, or is the new one
+-- each view in a list with a new one added at the end was at its position before, or is the new one at the end
 at_snoc : (views : List View) (new v : View) (j : ℕ) → get_elem? (views ++ new ∷ []) j ≡ some v
     → ((get_elem? views j ≡ some v) × (j < length views)) ⊎ ((j ≡ length views) × (new ≡ v))
 at_snoc [] new v zero e = inr (refl, some-injective new v e)
@@ -61,7 +61,7 @@ longer_had [] (suc k) done e = absurd (cc)
 longer_had (x ∷ xs) zero done e = e
 longer_had (x ∷ xs) (suc k) done e = longer_had xs k done e
 
--- after one place of a list is replaced, what the list has at a number is the new one, or was there before
+-- after the element at one number of a list is replaced, each element is the new one, or was at its number before
 pub set_had : (xs : PartList) (i k : ℕ) (a b : Option History) → slice_get (slice_set xs i a) k ≡ Some b
     → ((i ≡ k) × (a ≡ b)) ⊎ (slice_get xs k ≡ Some b)
 set_had [] i k a b e = absurd (cc)
@@ -71,7 +71,7 @@ set_had (x ∷ xs) (suc i) zero a b e = inr e
 set_had (x ∷ xs) (suc i) (suc k) a b e =
     ⊎_elim (λ t. inl (ap suc t.0, t.1)) (λ t. inr t) (set_had xs i k a b e)
 
--- after a part is stored at a number that the list has, it is there
+-- after an element is stored at a number that the list has, the list has it at that number
 pub set_here : (xs : PartList) (k : ℕ) (a b : Option History) → slice_get xs k ≡ Some b
     → slice_get (slice_set xs k a) k ≡ Some a
 set_here [] k a b e = absurd (cc)

@@ -31,7 +31,7 @@ ReaderMakes a old new =
     × (new ≡ record old { part = a ∷ old.part })
 
 -- an offer of x. If the producer's place refuses it, it returns that refusal and makes no access. Else it makes a
--- fetch-add, which finds some number
+-- fetch-add, and returns what the number found says (`offer_by_found`)
 abbrev pub OfferBy : Option Offer → LaneSeatView → ℕ → Offer → LaneSeatView → Type 0
 OfferBy (Some refusal) old x answer new = (answer ≡ refusal) × (new ≡ old)
 OfferBy None old x answer new =
@@ -70,6 +70,6 @@ abbrev pub LookMakes : ReaderSeatView → Cursor → Look → ReaderSeatView →
 LookMakes old at answer new =
     (n : ℕ) × (answer ≡ look_of n) × ReaderMakes (load old.reader (word_of at) n) old new
 
--- the load of an item returns what the word holds
+-- a load of the item of cell k returns the value found
 abbrev pub ItemMakes : ReaderSeatView → ℕ → ℕ → ReaderSeatView → Type 0
 ItemMakes old k answer new = ReaderMakes (load old.reader (Item k) answer) old new

@@ -1,4 +1,4 @@
--- In the order of reading: a file stands on files above it.
+-- In the order of reading: a file uses only files above it.
 pub mod Types
 pub mod Views
 pub mod Rule

@@ -30,7 +30,8 @@ abbrev pub IsEnrolled : Seating → Process → Type 0
 IsEnrolled t (Producer p) = p < t.lanes
 IsEnrolled t (Reader r) = r < t.readers
 
--- the view is the hub's: its roll has a place for each process issued, and each part in it is that of one at the hub
+-- the seat is the hub's, and its view has this size. Its roll has an entry for each process issued. Each part in the
+-- roll is the history's part of a process that the seating puts at the hub
 pub record IsHub (size : PoolSize) (t : Seating) (seat : ℕ) (own : PoolSize) (roll : Roll) : Type 0 where
   pub sized : own ≡ size
   pub here : seat ≡ t.hub
@@ -39,13 +40,13 @@ pub record IsHub (size : PoolSize) (t : Seating) (seat : ℕ) (own : PoolSize) (
   pub parts : (who : Process) (done : History) → roll_at who roll ≡ Some (Some done)
       → (t.seat_of who ≡ seat) × (done ≡ part who t.history)
 
--- each lane of which the list has a part was returned to the hub, and that part is the one of the history
+-- each lane of which the list has a part was issued and is back at the hub, and the part is the lane's in the history
 abbrev pub KnowsTaken : Seating → PartList → Type 0
 KnowsTaken t known =
     (p : ℕ) (theirs : History) → slice_get known p ≡ Some (Some theirs)
     → (p < t.lanes) × (t.seat_of (Producer p) ≡ t.hub) × (theirs ≡ part (Producer p) t.history)
 
--- the process was issued, this is its seat, and the part is that of the history
+-- the process was issued, this is its seat, and the part is the process's part of the history
 pub record HasPart (t : Seating) (seat : ℕ) (who : Process) (done : History) : Type 0 where
   pub here : t.seat_of who ≡ seat
   pub enrolled : IsEnrolled t who
@@ -61,7 +62,6 @@ FitsView size t roster seat (Member own who known done) =
     (own ≡ size) × (seat ≢ t.hub) × HasPart t seat who done × KnowsTaken t known
 FitsView size t roster seat Empty = Unit {0}
 
--- this seat has this view
 abbrev pub IsViewAt : List View → ℕ → View → Type 0
 IsViewAt views seat v = get_elem? views seat ≡ some v
 
@@ -91,7 +91,7 @@ pub record IsTableState (size : PoolSize) (words : List ℕ) (views : List View)
   -- the history is lawful, and leaves in each word of the pool what the word holds
   pub memory : IsMemoryOf size words t.history
   pub wide : length words ≡ roster_of size + 1
-  -- no more numbers were drawn than there are lanes
+  -- at most as many numbers were drawn as there are lanes, and at most as many lanes issued as numbers drawn
   pub few : slice_index words (roster_of size) ≤ size.lanes
   pub drawn : t.lanes ≤ slice_index words (roster_of size)
   -- a process that was not issued did nothing

@@ -14,7 +14,7 @@ use Rattle.mb_shared_cells.specs.declared.views.View.{View}
 use Rattle.mb_shared_cells.specs.declared.views.View.TheVariants.{Empty, Hub, HubDraws, HubJoins, Member}
 
 -- ---- the fields of a view
--- the size in a view, or 0 if it has none
+-- the size in a view, or a size of 0 lanes and 0 cells if it has none
 abbrev pub size_in : View → PoolSize
 size_in (Hub size roll) = size
 size_in (HubDraws size roll) = size
@@ -35,7 +35,7 @@ abbrev pub number_of : Process → ℕ
 number_of (Producer p) = p
 number_of (Reader r) = r
 
--- the number of the process in a view, or 0 if it has none
+-- the number of the lane or reader whose seat has this view, or 0 if the view is a hub's or empty
 abbrev pub number_in : View → ℕ
 number_in (Hub size roll) = 0
 number_in (HubDraws size roll) = 0
@@ -43,7 +43,7 @@ number_in (HubJoins size roll who done) = 0
 number_in (Member size who known done) = number_of who
 number_in Empty = 0
 
--- the list of lanes' parts in a view, or an empty one if it has none
+-- the list of lanes' parts in the view of a lane's or reader's seat. In any other view it is empty
 abbrev pub known_in : View → PartList
 known_in (Hub size roll) = []
 known_in (HubDraws size roll) = []
@@ -51,7 +51,7 @@ known_in (HubJoins size roll who done) = []
 known_in (Member size who known done) = known
 known_in Empty = []
 
--- the part in a view, or an empty one if it has none
+-- the part of the view's own process, or of the seat that a hub has just joined. In any other view it is empty
 abbrev pub done_in : View → History
 done_in (Hub size roll) = []
 done_in (HubDraws size roll) = []
@@ -64,8 +64,8 @@ abbrev pub name_in : TableId → SeatState → CellsName
 name_in id me = record { id = id; size = size_in me.0 }
 
 -- ---- the invariants, and what callers see
--- the invariant of the hub: it counts the lanes' numbers that it issued, and the parts that it took back are those of
--- some lawful history
+-- the invariant of the hub: it neither draws nor joins. It counts the lanes that it issued, and some lawful history has
+-- the parts that it took back
 pub record IsHubSeat (me : SeatState) (given : ℕ) : Type 0 where
   pub is : me ≡ (Hub (size_in me.0) (roll_in me.0), [])
   pub count : given ≡ length (roll_in me.0).lanes
@@ -103,7 +103,7 @@ reader_shown id me = record {
 }
 
 -- ---- which accesses a seat can make
--- the seat is a reader's, and that reader may load the word
+-- the seat is a reader's, the reader may load the word, and the word is a head, link or item of the pool
 pub record CanLoad (size : PoolSize) (word : Word) (me : SeatState) : Type 0 where
   pub reader : ℕ
   pub known : PartList
@@ -112,7 +112,7 @@ pub record CanLoad (size : PoolSize) (word : Word) (me : SeatState) : Type 0 whe
   pub may : MayRead size.lanes word done
   pub within : IsLaneWord size word
 
--- the seat is a lane's, and its producer's path goes on with this store
+-- the seat is a lane's, its producer's path goes on with this store, and the word is a head, link or item of the pool
 pub record CanStore (size : PoolSize) (word : Word) (value : ℕ) (me : SeatState) : Type 0 where
   pub lane : ℕ
   pub done : History

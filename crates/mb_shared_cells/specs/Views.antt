@@ -29,7 +29,7 @@ empty_roll = record { lanes = []; readers = [] }
 abbrev pub first_view : PoolSize → View
 first_view size = Hub size empty_roll
 
--- what the roll has at the number of a process: nothing, None (not returned), or its part
+-- what the roll has of a process: None if it was not issued, Some None if its seat was not returned, else its part
 abbrev pub roll_at : Process → Roll → Option (Option History)
 roll_at (Producer p) roll = slice_get roll.lanes p
 roll_at (Reader r) roll = slice_get roll.readers r
@@ -57,8 +57,8 @@ abbrev pub KnowsLanes : PartList → History → Type 0
 KnowsLanes known h =
     (p : ℕ) (theirs : History) → slice_get known p ≡ Some (Some theirs) → part (Producer p) h ≡ theirs
 
--- the access came next after a lawful history, which stays lawful with it. There its process had done this part, and
--- each lane of which `known` has a part had done just that
+-- the access came next after a lawful history, which stays lawful with it. In that history its process had done this
+-- part, and each lane of which `known` has a part had done just that part
 pub record IsAccessAfter (size : PoolSize) (known : PartList) (a : PoolAccess) (done : History) : Type 0 where
   pub older : History
   pub lawful : IsPoolLawful size (a ∷ older)
@@ -86,7 +86,7 @@ view_after word act (HubJoins size roll who done) = HubJoins size roll who done
 view_after word act (Member size who known done) = Member size who known (access_by who word act ∷ done)
 view_after word act Empty = Empty
 
--- the access came after the part that this view has
+-- if the view is of a lane's or reader's seat, the access came after the part in it. Other views ask nothing
 abbrev pub CameAfter : Word → PoolAct → View → Type 0
 CameAfter word act (Hub size roll) = Unit {0}
 CameAfter word act (HubDraws size roll) = Unit {0}
@@ -127,7 +127,7 @@ newcomer (HubJoins size roll who done) = Empty
 newcomer (Member size who known done) = Empty
 newcomer Empty = Empty
 
--- the view of a hub of this size and roll after a seat was joined to it: that seat's part is beside the roll
+-- the view of a hub of this size and roll after a seat was joined to it. A lane's or reader's part is beside the roll
 abbrev pub hub_beside : PoolSize → Roll → View → View
 hub_beside size roll (Hub other rest) = Hub size roll
 hub_beside size roll (HubDraws other rest) = Hub size roll
@@ -151,7 +151,7 @@ hub_after_load (HubJoins size roll who done) = Hub size (roll_with_part who done
 hub_after_load (Member size who known done) = Member size who known done
 hub_after_load Empty = Empty
 
--- the seat that was joined was not returned before. With its part, all parts in the roll are of one lawful history
+-- if a seat was joined to the hub, it was not returned before, and one lawful history has its part and the roll's parts
 abbrev pub WasOut : View → Type 0
 WasOut (Hub size roll) = Unit {0}
 WasOut (HubDraws size roll) = Unit {0}

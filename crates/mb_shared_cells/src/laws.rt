@@ -55,12 +55,12 @@ pub fn states_have_one_history()
 /// Each kind of step leads from a state to a state. It changes only the view of the seat that makes it, with two
 /// exceptions: issuing a lane or a reader adds the view of its seat, and a seat returned has no part any more.
 pub fn steps_keep_states()
-    // A table begins with zeros and its hub. The end mark is the link of none of its cells.
+    // A table whose words are 0, with its hub alone, is a state, if the end mark is the link of none of its cells.
     ensures new { (size : PoolSize) → size.cells < END
         → IsCellsState size (replicate (roster_of size + 1) 0) (Hub size empty_roll ∷ []) }
 
-    // One law holds of each access, be it a load, a store or a fetch-add. It has no case for other seats. The next law
-    // says which accesses may come next.
+    // One law holds of each access, be it a load, a store or a fetch-add. It has no case for other seats. Which
+    // accesses may come next is said by `accesses_may_come_next`.
     ensures access { (size own : PoolSize) (words : List ℕ) (views : List View) (id : ℕ)
         (known : PartList) (done : History) (a : PoolAccess)
         → IsCellsState size words views → IsViewAt views id (Member own a.process known done)
@@ -68,8 +68,8 @@ pub fn steps_keep_states()
         → IsCellsState size (block_after size a words)
         (slice_set views id (Member own a.process known (a ∷ done))) }
 
-    // The hub draws a lane's number by a fetch-add on the roster. Then it issues the number, by a split of its view.
-    // It issues a reader's seat by a split alone. That seat knows the parts of the lanes that were returned.
+    // If not all lanes are issued, the hub draws the next one's number by a fetch-add on the roster. Then it issues the
+    // number, by a split of its view. It issues a reader's seat by a split alone, with the parts of lanes returned.
     ensures draw { (size own : PoolSize) (words : List ℕ) (views : List View) (id : ℕ) (roll : Roll)
         → IsCellsState size words views → IsViewAt views id (Hub own roll)
         → length roll.lanes < size.lanes
@@ -115,8 +115,8 @@ pub fn accesses_may_come_next()
         (done : History) → IsLanePrefix size.cells p (store p w value ∷ done)
         → MayComeNext size words (store p w value) done }
 
-    // It may make a fetch-add with which its path goes on, which finds what the counter holds, if that number and the
-    // item have 64 bits.
+    // A producer may make a fetch-add with which its path goes on, and which finds what the counter holds, if that
+    // number and the item are below 2^64.
     ensures fetch_add { (size : PoolSize) (words : List ℕ) (p item : ℕ) (done : History)
         → let n = slice_index words (address_of size Counter) in
         let e : Entry = record { cell = n; value = item } in

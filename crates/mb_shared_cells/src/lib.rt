@@ -4,8 +4,8 @@
 //!
 //! # Seats
 //!
-//! - [`SharedCells`] owns the words. All its calls but [`SharedCells::new`] take no memory, and none waits. Each needs
-//!   that hub and seat are of this table.
+//! - [`SharedCells`] owns the words. All its calls but [`SharedCells::new`] take no memory, and none waits. A hub or
+//!   seat that a call takes has to be of this table.
 //! - [`CellHub`] issues seats, and takes them back with what was done on them.
 //! - [`LaneSeat`] is what a producer offers, pushes and finishes with. It keeps the producer's place as a
 //!   [`mb_cells::Lane`], and makes the same accesses as a `mb_cells::Pool`.
@@ -13,8 +13,8 @@
 //!
 //! # What is kept
 //!
-//! Each access is one atomic step, whatever the other seats do. At every moment some lawful history of the pool leaves
-//! the words as they are. Its parts are those that the seats and the hub have (`specs/Rule.antt`). The holder of a seat
+//! Each access is one atomic step, whatever the other seats do. At every moment some lawful history leaves the pool's
+//! words as they are. Its parts are those that the seats and the hub have (`specs/Rule.antt`). The holder of a seat
 //! knows its part. Each call says which access it made, after some lawful history in which the seat had done its part.
 //! In the end [`SharedCells::close`] gives one history for all parts that were returned. So all laws of `mb_cells` hold
 //! of what threads did, whatever the order of their steps.

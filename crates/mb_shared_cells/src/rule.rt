@@ -17,8 +17,8 @@ impl TableRule<(), View, PoolSize> for CellsRule {
     ghost first = { first_view };
 }
 
-/// The access that a step makes: its word, and its act by the number that the step announces. A proof picks both where
-/// the step is called.
+/// The access that a step makes: its word, and its act for each number that the step may find or store. A proof picks
+/// both where the step is called.
 pub trait AccessSpec {
     ghost use Rattle.std.specs.Prelude.{ℕ};
     ghost use Rattle.mb_cells.specs.declared.access.PoolAct.{PoolAct};

@@ -23,9 +23,9 @@ pub fn words_and_views_agree()
     one_item_is_put_and_read();
 }
 
-/// Words and views that no history and no hub made.
+/// Words and views that are no state of such a table.
 pub fn words_and_views_disagree()
-    // A link that nobody stored, and one that was stored and is not there.
+    // The head has a link that nobody stored, or lacks one that was stored.
     ensures made_up { IsStateOfOne (0 ∷ 1 ∷ 0 ∷ 0 ∷ 0 ∷ []) (new_hub ∷ []) → ⊥ }
     ensures lost { IsStateOfOne (1 ∷ 0 ∷ 0 ∷ 8 ∷ 1 ∷ [])
         (hub_of_one ∷ lane_with one_put ∷ []) → ⊥ }
@@ -34,7 +34,7 @@ pub fn words_and_views_disagree()
     ensures twice { IsStateOfOne (1 ∷ 1 ∷ 0 ∷ 8 ∷ 1 ∷ [])
         (hub_of_one ∷ lane_with one_put ∷ lane_with one_put ∷ []) → ⊥ }
 
-    // A number on the roster that was not issued, and one issued that is not on the roster.
+    // The roster counts a lane that the hub neither drew nor issued, or does not count a lane that was issued.
     ensures not_given { IsStateOfOne (0 ∷ 0 ∷ 0 ∷ 0 ∷ 1 ∷ []) (new_hub ∷ []) → ⊥ }
     ensures not_drawn { IsStateOfOne (0 ∷ 0 ∷ 0 ∷ 0 ∷ 0 ∷ [])
         (hub_of_one ∷ lane_with [] ∷ []) → ⊥ }

@@ -1,5 +1,5 @@
 //! The table, its hub, and the seats of lanes and readers. Each `has_history` computes nothing: its contract is a law
-//! of all hubs or seats.
+//! of all hubs, of all lanes' seats, or of all readers' seats.
 mod accesses;
 mod enrollment;
 mod lanes;
@@ -20,7 +20,7 @@ use std::fmt;
 use std::marker::Model;
 
 /// The words of a pool of cells, on which threads make single atomic steps, each with a seat of its own. Between any
-/// two steps some lawful history leaves the words. Its parts are those that the seats and the hub have.
+/// two steps some lawful history leaves the pool's words as they are. Its parts are those of the seats and the hub.
 #[derive(Drop)]
 pub struct SharedCells<A: Allocator + Drop> {
     table: Table<(), View, PoolSize, CellsRule, A>,

@@ -75,7 +75,7 @@ module _ (n : ℕ) (r : ReportView) (right : AreNotesRight n r) where
           eq-eqb d c same
       at_taker (Some d) o false b = false_from_ne_true (nat_eq d c) (λ t. other (eqb-true d c t))
         where
-          -- another consumer took the item, so c is not the one to which it goes
+          -- the item goes to consumer d, and c has not taken it, so d is not c
           other : d ≡ c → ⊥
           other same =
               let q = has_taken c p j (o ∙ ap Some same) in

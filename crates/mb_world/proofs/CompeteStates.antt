@@ -81,7 +81,7 @@ module _ (s : WorldState) (h : WorldHistory) (is : IsWorldAfter h s) (c p : ℕ)
       → IsClaimPrefix (plan s h is).claims c (claim_part c k (claim_accesses (a ∷ h))) r
   is_now r e = subst (λ xs. IsClaimPrefix (plan s h is).claims c xs r) (sym part_now) (prefix_now r e)
 
-  -- the consumer's part on the cell has one stage
+  -- the consumer's part on the cell has at most one stage
   one_stage : (g : WorldHistory) (z r : Stage)
       → IsClaimPrefix (plan s h is).claims c (claim_part c k (claim_accesses g)) z
       → IsClaimPrefix (plan s h is).claims c (claim_part c k (claim_accesses g)) r → z ≡ r
@@ -115,7 +115,7 @@ module _ (s : WorldState) (h : WorldHistory) (is : IsWorldAfter h s) (c p : ℕ)
     pub adds : ConsumerAdds (plan s h is) c p a h
     adds = known.goes a ks ns held truth next
 
-    -- if the notes are right after the access, the event leaves the state with them, the new words and the new place
+    -- if the notes are correct after the access, the event leaves the state with them, the new words and the new place
     claim_adds : (notes : List (Option Note)) → length notes ≡ consumers_of (plan s h is) * (plan s h is).claims.cells
         → AreNotes s h is (a ∷ h) notes
         → EventAdds (event.Step c p word) (answer.Claimed k x.object x.turn.act r)

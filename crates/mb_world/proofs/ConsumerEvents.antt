@@ -1,4 +1,4 @@
--- A step of a consumer has at most one access and at most one refusal, and never both.
+-- A step of a consumer has at most one access that keeps the history lawful, at most one refusal, and never both.
 use Rattle.std.proofs.Common.{◌≡◌, ◌<◌, Bool, true, cond, ℕ, List, ◌∷◌, refl, sym, ◌∙◌, ap, subst, inl, inr, arith}
 use Rattle.std.specs.Prelude.{filter}
 use Rattle.mb_cells.specs.Memory.{value_in}
@@ -71,7 +71,7 @@ module _ (plan : Plan) (h : WorldHistory) (known : EventKnown plan h) (c p word 
     random : (x : WorldAccess) → HasRandom word x → (k : ℕ) (t : ObjectTurn) → x ≡ claim_step c k t → t.turn.word ≡ word
     random x with_word k t e = subst (λ z. HasRandom word z) e with_word
 
-    -- two accesses for which the step asks find one value if both load one word, and are one step if on one cell
+    -- two accesses for which the step asks find one value if both load one word, and are equal as steps of one claim
     alike : AreAlike plan.claims c p a b
     alike = record {
       loads = λ w v u e f. loaded a la w v e ∙ sym (loaded b lb w u f);

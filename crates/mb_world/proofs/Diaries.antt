@@ -41,7 +41,7 @@ module _ (plan : Plan) (hs : Histories) (known : Known plan hs) where
   abbrev Comes : ℕ → ℕ → Stage → Type 0
   Comes c k s = HasStageIn plan.claims c k s (parts_of c hs)
 
-  -- a claim has one stage
+  -- a claim has at most one stage
   one_stage : (c k : ℕ) (s r : Stage) → Comes c k s → Comes c k r → s ≡ r
   one_stage c k s r = known.stage c (claim_part c k hs.claims) s r
 
@@ -91,13 +91,13 @@ module _ (plan : Plan) (hs : Histories) (known : Known plan hs) where
       by_stage stage.Undecided q over = (Undecided, q)
 
   module _ (c p : ℕ) (cs : c < consumers_of plan) (d : DiaryView) (diary : IsDiaryOf plan c p hs d) where
-    -- a cell that the consumer met has the same position among the cells linked on the lane
+    -- a cell at position j of the cells that the consumer met is at position j of the cells linked on the lane
     pub placed : (j k : ℕ) → HasPosition diary.cells j k → HasPosition (linked_cells p hs.pool) j k
     placed j k at =
         let s = known.start (hs.reader_of c) p diary.cells diary.met.met in
         subst (λ (ls : List ℕ). HasPosition ls j k) s.1 (at_start s.0 diary.cells j k at)
 
-    -- a cell of the lane that the consumer was given has the same position among the cells that it met
+    -- a cell at position j of the lane, if it was given to the consumer, is at position j of the cells that it met
     pub met_at : (j k : ℕ) → HasPosition (linked_cells p hs.pool) j k → Gave k (part (Reader (hs.reader_of c)) hs.pool)
         → HasPosition diary.cells j k
     met_at j k at gave =

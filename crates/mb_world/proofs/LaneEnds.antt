@@ -75,7 +75,7 @@ module _ (plan : Plan) (hs : Histories) (known : Known plan hs) where
         here : (x : ℕ) × HasPosition (linked_cells p hs.pool) j x
         here = at_some (linked_cells p hs.pool) j (omega (arith, inside, values_length p hs.pool))
 
-        -- the consumer met that cell at the same position
+        -- that cell is at position j of the cells that the consumer met
         there : HasPosition diary.cells j here.0
         there =
             met_at plan hs known c p cs d diary j here.0 here.1

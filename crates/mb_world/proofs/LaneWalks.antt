@@ -93,12 +93,12 @@ end_is true false e = absurd (cc)
 end_is false true e = absurd (cc)
 end_is false false e = refl
 
--- a look that finds cell k does not find nothing or the end
+-- a look that finds cell k finds neither nothing nor the end
 is_cell : (b : Bool) (k : ℕ) → look.Cell k ≡ (if b then look.Ended else look.Nothing) → ⊥
 is_cell true k e = cc
 is_cell false k e = cc
 
--- if a look finds no cell, these are all cells of the put list, and the look says whether the lane has ended
+-- if a look finds no cell, `ks` are all cells of the put list, and the look says whether the lane has ended
 walk_end : (s : PoolState) (p : ℕ) (ks : List ℕ) (at : Cursor) (ended : Bool) (pool : History)
     → look_in at s ≡ (if ended then look.Ended else look.Nothing)
     → (es : List Entry) → cells_in (put_list p pool) ≡ ks ++ cells_in es

@@ -1,4 +1,4 @@
--- What a report shows of items left if no note is undecided. No note is, if each cell has a last object.
+-- What a report shows of items left if no note is undecided. No note is undecided if each cell has a last object.
 use Rattle.std.proofs.Common.{◌≡◌, ◌≢◌, ℕ, ◌<◌, true, Option, Some, None, length, refl, sym, ◌∙◌, inl, inr, get_or}
 use Rattle.std.proofs.lemmas.Option.{slice_get-get_or}
 use Rattle.mb_world.specs.declared.report.Note.{Note}
@@ -17,7 +17,7 @@ module _ (hs : Histories) (r : ReportView) (main_theorem : MainTheorem hs.pool h
   no_note d p j none neither (Lost w) e = neither (inr (w, e))
   no_note d p j none neither Undecided e = decided d p j e
 
-  -- if nobody took an item, and a competitor did not lose it, the competitor's claim there is begun, after its notes
+  -- if nobody took an item, a competitor that did not lose it has a begun claim on it, and notes on just those before
   begun_next : (d p j : ℕ) → ((e : ℕ) → HasTaken e p j r → ⊥) → (HasTakenOrLost d p j r → ⊥) → HasCompeted d p j r
       → (length (notes d p r) ≡ j) × (is_begun d p r ≡ true)
   begun_next d p j none neither (inl before) =
@@ -25,7 +25,7 @@ module _ (hs : Histories) (r : ReportView) (main_theorem : MainTheorem hs.pool h
       (slice_get-get_or (notes d p r) j Undecided before))
   begun_next d p j none neither (inr next) = next
 
-  -- an item that was competed for and that nobody took is left beside a begun claim
+  -- if an item was competed for and nobody took it, some claim on it is begun (`IsLeftBesideBegun`)
   pub beside : IsLeftBesideBegun r
   beside c p j inside competed none =
       let s = main_theorem.settled c p j inside competed none in

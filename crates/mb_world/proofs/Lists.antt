@@ -78,7 +78,7 @@ pub last_below-some : (n : ℕ) (f : ℕ → Bool) (c : ℕ) → c < n → f c �
 last_below-some zero f c h e = absurd (omega arith)
 last_below-some (suc n) f c h e = some_top n f c (λ below. last_below-some n f c below e) h e (f n) refl
 
--- if below n none is found exactly if none passes, so it is below n + 1
+-- if below n no number is found exactly if none passes, the same holds below n + 1
 none_top : (b : Bool) (o : Option ℕ) (n : ℕ) (a : Bool) → is_none o ≡ not a → is_none (cond b (Some n) o) ≡ not (b || a)
 none_top true o n a h = refl
 none_top false o n a h = h

@@ -55,7 +55,7 @@ module _ (s : WorldState) (h : WorldHistory) (is : IsWorldAfter h s) (c p : ℕ)
       pub adds : ConsumerAdds (plan s h is) c p loaded h
       adds = known.goes loaded ks ns held truth next
 
-      -- the event leaves the state with these places and notes, if they are right after the load. The pool and the
+      -- the event leaves the state with these places and notes, if they are correct after the load. The pool and the
       -- words are as before
       pub load_adds : (word : ℕ) (r : Answer) (places : List Place) (notes : List (Option Note))
           → answer_to (plan s h is).claims.cells w (Load found) ≡ Some r

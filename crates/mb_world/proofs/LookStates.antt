@@ -128,7 +128,7 @@ module _ (s : WorldState) (h : WorldHistory) (is : IsWorldAfter h s) (c p : ℕ)
       (subst (λ (w : Word). ConsumerPath (plan s h is).claims c p (ToCells (load c w i) ∷ lane_part c p h) ks
       at_link.notes held) (sym at_link.word) path)
 
-  -- all notes are still right after the load
+  -- all notes are still correct after the load
   notes_stay : (held : Option (List ObjectTurn)) (ks : List ℕ)
       (next : ConsumerPath (plan s h is).claims c p (a ∷ lane_part c p h) ks at_link.notes held)
       → AreNotes s h is (a ∷ h) s.notes

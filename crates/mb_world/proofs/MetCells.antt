@@ -1,4 +1,4 @@
--- The cells that a consumer's own loads met on a lane are all that it met there.
+-- The cells that `cells_met` reads off a consumer's own loads are all that the consumer met on the lane.
 use Rattle.std.proofs.Common.{◌≡◌, ◌≢◌, ◌⊎◌, ℕ, ◌+◌, ◌-◌, ◌<◌, true, false, List, [], ◌∷◌, ◌++◌, Option, Some, None, refl, sym, ◌∙◌, ap, subst, inl, inr, arith}
 use Rattle.std.proofs.lemmas.Bool.{cases_Bool, cases_eq, ne_eqb, eq-eqb}
 use Rattle.mb_cells.proofs.Names.{access_is, is_same_word-eq}
@@ -40,7 +40,7 @@ gift_link (Link j) (Store v) k g = absurd g
 gift_link (Link j) (FetchAdd x n) k g = absurd g
 gift_link (Item j) act k g = absurd g
 
--- the cells that these loads of a reader met are cells that the reader met in the history of the loads alone
+-- the cells that `cells_met` reads off a reader's loads were met in the history of these loads alone (`HasMet`)
 met_cells : (q p : ℕ) (d : History) → ((a : PoolAccess) → Has d a → a.process ≡ Reader q) → HasMet q p (cells_met p d) d
 met_cells q p [] own = tt
 met_cells q p (a ∷ older) own =
@@ -82,7 +82,7 @@ gave_met (a ∷ older) k f (inl g) =
 gave_met (a ∷ older) k f (inr g) = let q = gave_met older k f.1 g in (q.0, met_stay q.0 a older k q.1)
 
 -- ---- the cells met by the part of a reader in a lawful history
--- the cells that the loads of a reader's part met are cells that the reader met in the whole history
+-- the cells that `cells_met` reads off a reader's part were met in the whole history, too (`HasMet`)
 pub met_in : (q p : ℕ) (h : History) → HasMet q p (cells_met p (part (Reader q) h)) h
 met_in q p h =
     HasMet-more q p (part (Reader q) h) h (cells_met p (part (Reader q) h)) (λ a m. (of_part q h a m).0)
@@ -136,7 +136,7 @@ module _ (plan : Plan) (hs : Histories) (known : Known plan hs) (c p : ℕ) (cs 
       subst (λ (ls : List ℕ). Has ls k) s.1
       (at_has (s.0 ++ cells_met q reads) at.0 k (at_start s.0 (cells_met q reads) at.0 k at.1))
 
-  -- the cells that these loads met on lane p are all that the consumer met there
+  -- the cells that `cells_met` reads off these loads are all that the consumer met on lane p
   pub all_met : HasMetAll (hs.reader_of c) p (cells_met p reads) hs.pool
   all_met = record {
     met = met_on p;

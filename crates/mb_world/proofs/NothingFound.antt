@@ -46,7 +46,7 @@ module _ (plan : Plan) (h : WorldHistory) (lawful : IsWorldLawful plan h) (known
     (end : (p : ℕ) → value_in (place_past p (linked_cells p (pool_accesses h))) (pool_accesses h)
     ≡ cond (has_ended p (pool_accesses h)) END 0)
     (c p word : ℕ) where
-  -- an access of the consumer on the lane is the newest of its part there
+  -- an access of the consumer on the lane is the newest of the consumer's part there
   front : (x : WorldAccess) → IsBy c x → is_on c p (linked_cells p (pool_accesses h)) x ≡ true
       → lane_part c p (x ∷ h) ≡ x ∷ lane_part c p h
   front x own on =
@@ -157,7 +157,7 @@ module _ (plan : Plan) (h : WorldHistory) (lawful : IsWorldLawful plan h) (known
   module _ (one_place : (js : List ℕ) (ms : List Note) (held : Option (List ObjectTurn))
       → ConsumerPath plan.claims c p (lane_part c p h) js ms held → (ks : List ℕ) (ns : List Note)
       → ConsumerPath plan.claims c p (lane_part c p h) ks ns None → (js ≡ ks) × (ms ≡ ns) × (held ≡ None)) where
-    -- if there is nothing on the lane for the consumer, the answer to each access of the consumer there is `Nothing`
+    -- if there is nothing on the lane for the consumer, each access of the consumer there has the answer Nothing
     finds_none : {was now : PathEnd} (x : WorldAccess) (r : Answer) → IsWorldLawful plan (x ∷ h)
         → AnswerNames plan r x h
         → HasNothing plan c p h

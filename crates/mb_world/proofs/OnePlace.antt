@@ -30,7 +30,7 @@ module _ (cs : Claims) (c p : ℕ) where
       → s ≡ r)
       (going : (x : ObjectTurn) (xs : List ObjectTurn) (s : Stage) → IsClaimPrefix cs c (x ∷ xs) s
       → IsClaimPrefix cs c xs stage.Going) where
-    -- a value that leads to no cell is not that of a link to cell k
+    -- a value that leads to no cell, so 0 or the end mark, is not k + 1, the value of a link to cell k
     not_cell : (v k : ℕ) → (v ≡ 0) ⊎ (v ≡ END) → k + 1 ≢ END → v ≡ k + 1 → ⊥
     not_cell v k (inl e) ne f = absurd (omega (arith, e, f))
     not_cell v k (inr e) ne f = ne (sym f ∙ e)

@@ -59,7 +59,7 @@ module _ (plan : Plan) (hs : Histories) (known : Known plan hs) where
   Ends c k n = EndsAs plan.claims c k n (parts_of c hs)
 
   -- ---- a claim has at most one end
-  -- a claim has one stage
+  -- a claim has at most one stage
   one_stage : (c k : ℕ) (s r : Stage) → HasStageIn plan.claims c k s (parts_of c hs)
       → HasStageIn plan.claims c k r (parts_of c hs) → s ≡ r
   one_stage c k s r = known.stage c (claim_part c k hs.claims) s r

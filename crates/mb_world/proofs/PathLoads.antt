@@ -39,7 +39,7 @@ gift_is (Link p) j k g = omega (arith, g.0)
 gift_is (Item p) j k g = absurd g
 
 -- ---- which cells one more load meets
--- if an access is to the link past the cells met before, the cell to which it leads is met next, if there is one
+-- if an access is to the link past the cells met before, the cell to which it leads, if any, is met next
 pub met_there : (p : ℕ) (ks : List ℕ) (a : PoolAccess) (older : History) → cells_met p older ≡ ks
     → a.word ≡ place_past p ks
     → cells_met p (a ∷ older) ≡ push_if (cell_given a.act) ks

@@ -1,4 +1,4 @@
--- An event of a producer has at most one access and at most one refusal, and never both.
+-- An event of a producer has at most one access that keeps the history lawful, at most one refusal, and never both.
 use Rattle.std.proofs.Common.{◌≡◌, ◌+◌, cond, ℕ, ◌∷◌, Option, Some, None, refl, sym, ◌∙◌, ap, ap₂, subst, inl, inr, arith, eq-eqb}
 use Rattle.mb_cells.specs.declared.lane.Lane.{Lane}
 use Rattle.mb_cells.specs.LanePath.{fetch, store}
@@ -50,7 +50,7 @@ module _ (plan : Plan) (h : WorldHistory) (known : EventKnown plan h) (p : ℕ) 
       (eq-eqb p p refl))
       (lawful.producers p)
 
-  -- ---- offers have at most one access and at most one refusal, and never both
+  -- ---- offers have at most one access that keeps the history lawful, at most one refusal, and never both
   -- an offer has at most one access that keeps the history lawful
   pub one_offer : (x : ℕ) (a b : WorldAccess) → IsAccessOf (event.Offer p x) a h → IsWorldLawful plan (a ∷ h)
       → IsAccessOf (event.Offer p x) b h → IsWorldLawful plan (b ∷ h) → a ≡ b
@@ -95,7 +95,7 @@ module _ (plan : Plan) (h : WorldHistory) (known : EventKnown plan h) (p : ℕ) 
       let one : why ≡ because = cc in
       e ∙ (ap answer.Offered one ∙ sym f)
 
-  -- ---- pushes and finishes have at most one access and at most one refusal, and never both
+  -- ---- pushes and finishes have at most one access that keeps the history lawful, at most one refusal, and never both
   -- at each phase a push stores no end mark in a head or link
   no_mark_of : (link w : Word) (done : Phase) → PhaseFits plan.claims.cells done
       → stage_push_store link (stage_of done) ≡ stored w END

@@ -57,7 +57,7 @@ closed_at [] (Some xs) j k at less = absurd at
 closed_at (q ∷ qs) (Some xs) j k (inl at) less = absurd (omega (arith, at.0, less))
 closed_at (q ∷ qs) (Some xs) j k (inr at) less = at_has qs j k at
 
--- if the lane has the cells met and later ones, it has those in `closed` and later ones
+-- if later cells, and then the cells met, make up the lane's list, so do later cells, and then those in `closed`
 pub closed_cut : (ks : List ℕ) (z : Option (List ObjectTurn)) (later ls : List ℕ) → later ++ ks ≡ ls
     → (late : List ℕ) × (late ++ closed ks z ≡ ls)
 closed_cut ks None later ls e = (later, e)

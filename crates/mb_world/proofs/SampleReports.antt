@@ -123,7 +123,7 @@ not_empty x xs e = cc
 pub no_item_missing : IsNoReport item_missing
 no_item_missing r = not_empty 6 [] (ap left_of (r.lane 1 (omega arith)))
 
--- the diary that was found at a position, or else the other one
+-- the diary, if there is one, or else the diary `other`
 abbrev diary_or : DiaryView → Option DiaryView → DiaryView
 diary_or other None = other
 diary_or other (Some d) = d

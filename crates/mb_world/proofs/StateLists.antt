@@ -58,7 +58,7 @@ diaries_more s c p d ds ps told here = record {
   each = grid_more (IsDiaryTold s) (plan_in s.setup).lanes c p ds d ps told.count told.each here;
 }
 
--- if these places are before the heads of their lanes, so are they with one more, before the head of lane p
+-- if each of these places is before the head of its lane, and the next one before the head of lane p, all of them are
 pub heads_more : (lanes c p : ℕ) (places : List Place) → p < lanes → AreAtHeads lanes (c * lanes + p) places
     → AreAtHeads lanes (c * lanes + (p + 1)) (places ++ Before (Head p) ∷ [])
 heads_more lanes c p places ps heads = record {

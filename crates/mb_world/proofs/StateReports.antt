@@ -39,7 +39,7 @@ module _ (s : WorldState) (h : WorldHistory) (is : IsWorldAfter h s) (known : Wo
     walk_is : (p : ℕ) (ks : List ℕ) (over : Bool) → IsWalked s.pool p ks over → ks ≡ reverse (linked p)
     walk_is p ks over w = sym (w (pool_accesses h) is.pool).cells ∙ put_cells p (pool_accesses h)
 
-    -- ---- the note of a cell is the end of the claim there
+    -- ---- the state's note on a cell says how the claim there has ended
     -- if a claim has ended as a note says, the state has this note
     note_of_end : (c k : ℕ) (n : Note) → c < consumers_of plan → k < plan.claims.cells → Ends c k n
         → note_on s c k ≡ Some n

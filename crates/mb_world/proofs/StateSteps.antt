@@ -56,7 +56,7 @@ module _ (s : WorldState) (h : WorldHistory) (is : IsWorldAfter h s) where
   module _ (c p : ℕ) (cs : c < consumers_of plan) (ps : p < plan.lanes) (a : WorldAccess)
       (adds : ConsumerAdds plan c p a h) where
     -- ---- the places after the access
-    -- the place of another consumer or on another lane is still right after the access
+    -- the place of another consumer or on another lane is still correct after the access
     other_place : (e q : ℕ) (x : Place) → (e ≡ c → q ≡ p → ⊥) → IsPlaceAfter s.setup e q h x
         → IsPlaceAfter s.setup e q (a ∷ h) x
     other_place e q x other y = record {
@@ -80,7 +80,7 @@ module _ (s : WorldState) (h : WorldHistory) (is : IsWorldAfter h s) where
       is = at;
     }
 
-    -- if the old place of consumer c on lane p is right after the access, all old places are
+    -- if the old place of consumer c on lane p is correct after the access, all old places are
     pub places_kept : (d : Place) → slice_get s.places (place_position c p) ≡ Some d
         → IsPlaceAfter s.setup c p (a ∷ h) d
         → ArePlaces (a ∷ h) s.places
@@ -88,7 +88,7 @@ module _ (s : WorldState) (h : WorldHistory) (is : IsWorldAfter h s) where
         all_kept (consumers_of plan) plan.lanes (λ e q x. IsPlaceAfter s.setup e q h x)
         (λ e q x. IsPlaceAfter s.setup e q (a ∷ h) x) s.places is.place keeps
       where
-        -- each old place is right after the access: that of consumer c on lane p, and the others, which stay
+        -- each old place is correct after the access: that of consumer c on lane p, and the others, which stay
         keeps : (e q : ℕ) (x : Place) → e < consumers_of plan → q < plan.lanes
             → slice_get s.places (place_position e q) ≡ Some x → IsPlaceAfter s.setup e q h x
             → IsPlaceAfter s.setup e q (a ∷ h) x
@@ -107,7 +107,7 @@ module _ (s : WorldState) (h : WorldHistory) (is : IsWorldAfter h s) where
             by (inr n) g = other_place e q x (λ f _. n f) old
             by (inl f) (inr n) = other_place e q x (λ _ g. n g) old
 
-    -- if a place of consumer c on lane p is written that is right after the access, all places are right then
+    -- if a place of consumer c on lane p is written that is correct after the access, all places are then correct
     pub places_set : (d : Place) → IsPlaceAfter s.setup c p (a ∷ h) d
         → ArePlaces (a ∷ h) (slice_set s.places (place_position c p) d)
     places_set d now =
@@ -120,12 +120,12 @@ module _ (s : WorldState) (h : WorldHistory) (is : IsWorldAfter h s) where
     places_count d = length-set s.places (place_position c p) d ∙ is.places_count
 
     -- ---- the notes after the access
-    -- a note is still right after the access, if its claim has then ended as just the same notes say as before
+    -- a note is still correct after the access, if its claim has then ended as just the same notes say as before
     note_kept : (e j : ℕ) (o : Option Note) → ((n : Note) → Ends plan.claims h e j n ↔ Ends plan.claims (a ∷ h) e j n)
         → IsNoteAfter s.setup e j h o → IsNoteAfter s.setup e j (a ∷ h) o
     note_kept e j o same old n = ((λ f. (same n).0 ((old n).0 f)), (λ f. (old n).1 ((same n).1 f)))
 
-    -- if each claim has ended as just the same notes say as before, all notes are still right after the access
+    -- if each claim has ended as just the same notes say as before, all notes are still correct after the access
     pub notes_kept : ((e j : ℕ) (n : Note) → Ends plan.claims h e j n ↔ Ends plan.claims (a ∷ h) e j n)
         → AreNotes (a ∷ h) s.notes
     notes_kept same =
@@ -135,7 +135,7 @@ module _ (s : WorldState) (h : WorldHistory) (is : IsWorldAfter h s) where
 
     -- the note of consumer c on cell k is written
     module _ (k : ℕ) (ks : k < plan.claims.cells) (n : Note) where
-      -- if that note is the end of the claim, and all other ends stay, all notes are right after the access
+      -- if that note is the end of the claim, and all other ends stay, all notes are correct after the access
       pub notes_set : Ends plan.claims (a ∷ h) c k n → ((m : Note) → Ends plan.claims (a ∷ h) c k m → n ≡ m)
           → ((e j : ℕ) (m : Note) → (e ≡ c → j ≡ k → ⊥) → Ends plan.claims h e j m ↔ Ends plan.claims (a ∷ h) e j m)
           → AreNotes (a ∷ h) (slice_set s.notes (note_position c k) (Some n))
@@ -157,7 +157,7 @@ module _ (s : WorldState) (h : WorldHistory) (is : IsWorldAfter h s) where
       notes_count = length-set s.notes (note_position c k) (Some n) ∙ is.notes_count
 
     -- ---- the state after the access
-    -- if its pool, words, places and notes are right after the access, this state is what the longer history leaves
+    -- if its pool, words, places and notes are correct after the access, this state is what the longer history leaves
     pub state_after : (words : List ℕ) (places : List Place) (notes : List (Option Note))
         → IsAfter (pool_accesses (a ∷ h)) s.pool → IsMemoryOf plan.claims words (claim_accesses (a ∷ h))
         → length places ≡ consumers_of plan * plan.lanes → ArePlaces (a ∷ h) places

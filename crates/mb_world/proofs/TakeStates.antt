@@ -53,14 +53,14 @@ module _ (s : WorldState) (h : WorldHistory) (is : IsWorldAfter h s) (c p : ℕ)
       (sym (part_is s h is c p cs ps known k claim here))
       (prefix s h is c p cs ps known k claim here stage.Won won)
 
-  -- the consumer loaded no other value from the item
+  -- with the load, the consumer has loaded no value but v from the item's word
   only : (u : ℕ) → HasItem (plan s h is).claims (a ∷ h) c k u → v ≡ u
   only u read = elim (item_loads (plan s h is).claims c h (Item k) v c k u read) [
     | inl older ↦ absurd (unread s h is c p cs ps known k claim here u older)
     | inr new ↦ new.2
   ]
 
-  -- if the note that the item was taken is written, all notes are right after the load
+  -- if the note that the item was taken is written, all notes are correct after the load
   noted : AreNotes s h is (a ∷ h) (slice_set s.notes (c * (plan s h is).claims.cells + k) (Some (Took v)))
   noted =
       notes_set s h is c p cs ps a more k (below s h is c p cs ps known k claim here) (Took v)

@@ -85,7 +85,7 @@ module _ (plan : Plan) (h : WorldHistory) (lawful : IsWorldLawful plan h) (known
         );
   }
 
-  -- if a claim has ended as a note says by the consumer's part on the cell's lane, it has by all that the consumer did
+  -- if by the consumer's part on the cell's lane a claim has ended as a note says, so it has by all its consumer did
   pub end_here : (c p k : ℕ) (n : Note) → has_cell (linked_cells p (pool_accesses h)) k ≡ true
       → EndsIn plan.claims c (lane_part c p h) k n → EndsAs plan.claims c k n (parts_of c (histories_of h))
   end_here c p k (Took v) here e = (

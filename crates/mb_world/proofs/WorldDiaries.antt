@@ -16,7 +16,7 @@ use Rattle.mb_world.proofs.Tracks.{EndsIn, Tracks, closed}
 use Rattle.mb_world.proofs.WorldClaims.{end_here, met_all, met_once, on_lane, steps_there, tracks}
 use Rattle.mb_world.proofs.WorldPool.{load_lane, loads, loads_on, of_lane, on_word, read_there}
 
--- a cell in `closed`, those of the cells met whose claims have notes, has the same position among the cells met
+-- a cell at position j of `closed`, the cells met whose claims have notes, is at position j of the cells met
 closed_in : (qs : List ℕ) (z : Option (List ObjectTurn)) (j k : ℕ) → HasPosition (closed qs z) j k → HasPosition qs j k
 closed_in qs None j k at = at
 closed_in [] (Some xs) j k at = at
@@ -71,11 +71,11 @@ module _ (plan : Plan) (h : WorldHistory) (lawful : IsWorldLawful plan h) (known
         → claim_part c k (claim_accesses (lane_part c p h)) ≡ claim_part c k (claim_accesses h)
     same_steps k has = steps_there plan h lawful known c p k (cell_here k has)
 
-    -- if a claim on a cell met has ended as the note says by the part on the lane, it has by all that the consumer did
+    -- if by the part on the lane a claim on a cell met has ended as the note says, so it has by all the consumer did
     ends_globally : (k : ℕ) (n : Note) → Has ks k → EndsHere k n → Ends k n
     ends_globally k n has e = end_here plan h lawful known c p k n (cell_here k has) e
 
-    -- if a claim on a cell met has ended as the note says by all that the consumer did, it has by the part on the lane
+    -- if by all the consumer did a claim on a cell met has ended as the note says, so it has by the part on the lane
     ends_locally : (k : ℕ) (n : Note) → Has ks k → Ends k n → EndsHere k n
     ends_locally k (Took v) has e = (
       subst (λ xs. IsClaimPrefix plan.claims c xs stage.Won) (sym (same_steps k has)) e.0,

@@ -7,8 +7,8 @@ pub record AgreesWith (t : Assignment) (r : ReportView) : Type 0 where
   pub given : AreGiven t r
   pub left : AreLeft t r
 
--- an item that was competed for and that nobody took is left beside a diary whose notes end just before it and whose
--- claim there is begun
+-- if an item was competed for and nobody took it, some diary of its lane has notes on just the items before it, and
+-- says that a claim on it is begun
 abbrev pub IsLeftBesideBegun : ReportView → Type 0
 IsLeftBesideBegun r =
     (c p j : ℕ) → j < length (items_put p r) → HasCompeted c p j r

@@ -20,10 +20,11 @@ pub record EventKnown (plan : Plan) (h : WorldHistory) : Type 0 where
   pub stores : (p : ℕ) (lane : Lane) (w : Word) (v : ℕ) → IsLaneOf plan p lane h
       → IsLanePrefix plan.claims.cells p (store p w v ∷ part (Producer p) (pool_accesses h))
       → (push_store p lane ≡ Some (w, v)) ⊎ ((finish_refusal lane ≡ None) × ((w ≡ next_link p lane) × (v ≡ END)))
-  -- a cell is linked in one lane
+  -- a cell is linked in at most one lane
   pub one_lane : (p q k : ℕ) → Has (linked_cells p (pool_accesses h)) k → Has (linked_cells q (pool_accesses h)) k
       → p ≡ q
-  -- a claim has one stage, goes on before each step, and has one next access. With a lawful access the claims stay lawful
+  -- a claim has at most one stage, and goes on before each step. A lawful access of the world keeps the claims lawful.
+  -- A claim has at most one lawful next access for each random word
   pub one_stage : (c : ℕ) (xs : List ObjectTurn) (s r : Stage) → IsClaimPrefix plan.claims c xs s
       → IsClaimPrefix plan.claims c xs r
       → s ≡ r

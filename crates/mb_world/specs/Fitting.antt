@@ -1,5 +1,5 @@
--- The two parts of a consumer, and when they fit each other: what it loaded from the cells, and what it did on its
--- claims.
+-- The two parts of a consumer, namely what it loaded from the cells and what it did on its claims, and when the two
+-- parts fit each other.
 use Rattle.std.specs.Prelude.{ℕ, ◌≡◌, ◌≢◌, ◌-◌, ◌||◌, List, [], ◌∷◌, Option, Some, None, nat_eq, if◌then◌else◌}
 use Rattle.mb_world.specs.Imports.{Claims, END, FetchAdd, Gave, Has, History, IsClaimPrefix, IsLinkWord, Item, Link, Load, ObjectTurn, PoolAccess, PoolAct}
 use Rattle.mb_world.specs.Imports.{Reader, Stage, Store, Word, claim_part, is_same_word, part, place_past, push_if}

@@ -12,7 +12,7 @@ use Rattle.mb_world.specs.Fitting.{Parts}
 abbrev pub two_cells : Claims
 two_cells = claims_of two_consumers.table two_consumers.kinds 2
 
--- the first step of a claim: it finds the conciliator's word empty
+-- the first step of a claim: it finds 0 in the conciliator's word
 abbrev pub first_step : ObjectTurn
 first_step = record { object = 0; turn = record { act = act.Load Value 0; word = 0 } }
 

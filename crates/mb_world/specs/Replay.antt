@@ -1,4 +1,4 @@
--- The replay of events. Each event has one answer, with one access or with none.
+-- The replay of a list of events. It gives each event one answer, with one access or with none.
 use Rattle.std.specs.Prelude.{ℕ, ◌≡◌, ◌≢◌, ◌-◌, ◌<◌, ◌≤◌, ◌⊎◌, true, if◌then◌else◌, nat_eq, Option, Some, None, List, [], ◌∷◌}
 use Rattle.mb_cells.specs.declared.answer.Finish.{Finish}
 use Rattle.mb_cells.specs.declared.answer.Finish.TheVariants as finish

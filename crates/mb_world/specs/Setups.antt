@@ -27,7 +27,6 @@ shaped_plan shape producers consumers cells pairs name = record {
 abbrev pub plan_of : ℕ → ℕ → ℕ → ℕ → TableName → Plan
 plan_of = shaped_plan plain
 
--- the layout of a setup
 abbrev pub layout_of : Setup → Layout
 layout_of setup = setup.layout
 

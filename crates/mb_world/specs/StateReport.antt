@@ -1,4 +1,4 @@
--- What the state of a world says of its report, read off its pool, its places and its notes.
+-- What the state of a world *tells* of its report: what can be read off its pool, its places and its notes.
 use Rattle.std.specs.Prelude.{ℕ, ◌≡◌, ◌+◌, ◌*◌, ◌<◌, Bool, false, not, Option, Some, None, List, length, map, filter, slice_get}
 use Rattle.std.specs.Option.{option_map_or}
 use Rattle.std.specs.List.{filter_map}
@@ -23,7 +23,7 @@ pub record IsWalk (s : PoolState) (p : ℕ) (ks : List ℕ) (over : Bool) (pool 
 abbrev pub IsWalked : PoolState → ℕ → List ℕ → Bool → Type 0
 IsWalked s p ks ended = (pool : History) → IsAfter pool s → IsWalk s p ks ended pool
 
--- the note found at a position of a list, if the list has that position and there is a note
+-- the note at a position of a list of notes: None if the list has no such position, or no note at it
 abbrev pub note_there : Option (Option Note) → Option Note
 note_there None = None
 note_there (Some o) = o

@@ -85,7 +85,7 @@ all_done = link_load 1 0 (0 ∷ []) END ∷ stores 0 (Link 0) END ∷ second_beg
 abbrev pub all_histories : Histories
 all_histories = histories_of all_done
 
--- producer 0 makes a fetch-add after its end mark
+-- a fetch-add of producer 0, which would come after its end mark
 abbrev pub offered_late : WorldAccess
 offered_late = ToCells (fetch 0 (record { cell = 2; value = 7 }))
 

@@ -12,7 +12,7 @@ use mb_cells::laws::{
 };
 use mb_claim::laws::{claims_have_one_winner, prefixes_have_one_stage};
 
-/// What these laws say of two sound histories.
+/// What the laws of claims and of cells say of two sound histories.
 pub fn sound_histories_are_known()
     ensures { (plan : Plan) (hs : Histories) → AreSound plan hs → Known plan hs }
 {
@@ -24,7 +24,7 @@ pub fn sound_histories_are_known()
     cells_stand_once();
 }
 
-/// What these laws say of a world's history whose accesses to cells are lawful.
+/// What the laws of claims and of cells say of a world's history whose accesses to cells are lawful.
 pub fn worlds_are_known()
     ensures { (plan : Plan) (h : WorldHistory) → IsQuorumTable plan.claims.table
         → IsPoolLawful (size_of plan) (pool_accesses h) → WorldKnown plan h }

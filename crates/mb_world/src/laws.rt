@@ -26,8 +26,8 @@ use mb_claim::laws::{last_objects_decide_claims, prefixes_have_one_stage};
 use mb_claim::steps::claims_have_one_next_op;
 use mb_deciding::laws::objects_keep_their_promises;
 
-/// One assignment of items to competitors agrees with the whole report, and nothing follows an end mark. This holds for
-/// every order of the accesses to the claims, for every order of the accesses to the cells, and for all random words.
+/// A report is settled, one assignment of items to competitors agrees with it, and nothing follows an end mark.
+/// This holds for every order of the accesses to the claims, every order of those to the cells, and all random words.
 pub fn reports_have_one_assignment()
     ensures { (plan : Plan) (hs : Histories) (r : ReportView) → AreSound plan hs
         → IsReportOf plan hs r → MainTheorem hs.pool hs.reader_of r }
@@ -57,8 +57,8 @@ pub fn agreeing_reports_are_settled()
     ensures { (t : Assignment) (r : ReportView) → AgreesWith t r → IsSettled r }
 {}
 
-/// If each cell has a last object, no note is undecided. So an item that was competed for is left only beside a begun
-/// claim. On a lane without a begun claim, each item that was competed for is taken.
+/// If each cell has a last object, no note is undecided. So an item that was competed for is left only if a claim on it
+/// is begun. On a lane without a begun claim, each item that was competed for is taken.
 pub fn last_objects_settle_items()
     ensures notes { (plan : Plan) (hs : Histories) (r : ReportView) (c p j : ℕ) → HasLastObject plan
         → AreSound plan hs → IsReportOf plan hs r → note c p j r ≢ Some Undecided }
@@ -97,7 +97,7 @@ pub fn competitors_have_accesses()
     sound_histories_are_known();
 }
 
-/// The cells that a consumer's own loads met on a lane are all that it met there.
+/// The cells that `cells_met` reads off a consumer's own loads are all that the consumer met on the lane.
 pub fn parts_tell_cells_met()
     ensures { (plan : Plan) (hs : Histories) (c p : ℕ) → AreSound plan hs → c < consumers_of plan
         → HasMetAll (hs.reader_of c) p (cells_met p (parts_of c hs).reads) hs.pool }
@@ -253,7 +253,7 @@ pub fn events_are_refused_for_what_was_done()
 /// A producer's event that is not refused has an access that keeps the history lawful. So it is refused exactly if it
 /// has none. For steps, `World::apply` says so.
 pub fn events_of_producers_are_refused_or_made()
-    // The item is below 2^64, and so is the counter, as the number of cells and lanes together is.
+    // An offer's item has to be below 2^64, and so has the number of cells and lanes together. So the counter is, too.
     ensures offer { (plan : Plan) (h : WorldHistory) (p x : ℕ) → IsQuorumTable plan.claims.table
         → IsWorldLawful plan h → p < plan.lanes → x < 2 ^ 64
         → plan.claims.cells + plan.lanes < 2 ^ 64 → IsRefusedOrMade plan (event.Offer p x) h }

@@ -2,7 +2,7 @@
 use std::alloc::Allocator;
 use std::marker::Model;
 
-/// What a consumer notes of an item, once it is done with it.
+/// What a consumer notes of an item, once the consumer is done with the item.
 #[derive(Clone, Copy, PartialEq, Eq, Debug)]
 pub enum Note {
     /// The consumer took the item: it won it, and loaded this value.

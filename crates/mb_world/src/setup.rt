@@ -29,7 +29,7 @@ pub enum SetupFault {
     BadProducers,
     /// The number of consumers is 0 or above 64.
     BadConsumers,
-    /// There are more cells than the call takes: 256 for [`Setup::new`], 2^24 for the others.
+    /// There are more cells than the call takes: 256 for [`Setup::new`], 2^24 for `Setup::large` and `Setup::exchange`.
     BadCells,
     /// The number of pairs of deciding objects is 0 or above 8.
     BadRounds,
@@ -112,7 +112,7 @@ impl Setup {
         ensures pairs { IfOk result (λ setup. pairs_in setup ≡ 0) }
         ensures shape { IfOk result (λ setup. shape_in setup ≡ with_last) }
 
-        // So a poll never needs more than a budget of 3, and none ends undecided.
+        // So a poll never needs a budget above 3. No claim ends undecided.
         ensures bound { IfOk result (λ setup. most_accesses (layout_of setup) ≡ 1) }
     {
         if !(1..=MAX_PRODUCERS).contains(&producers) {

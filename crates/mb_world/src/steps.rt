@@ -51,7 +51,7 @@ pub fn parts_fit_on()
     // The parts of a consumer that has done nothing fit.
     ensures empty { (cs : Claims) (c : ℕ) → Fits cs c no_parts }
 
-    // A consumer may load the link past the cells that it met on a lane, if it is done with the last of them.
+    // A consumer may load the link past the cells that it met on a lane, if it is done with the last or met none.
     ensures looks { (cs : Claims) (c q p v : ℕ) (x : Parts) → Fits cs c x
         → MayLookPast cs c (cells_met p x.reads) x
         → Fits cs c (with_load (load q (place_past p (cells_met p x.reads)) v) x) }

@@ -90,8 +90,8 @@ impl<A: Allocator + Drop> World<A> {
     ghost use Rattle.mb_world.specs.World.{WorldHistory};
     ghost use Rattle.mb_world.specs.WorldState.{IsWorldAfter};
 
-    /// A law of all worlds: some lawful history leaves the world. So whatever the other calls say of each such history
-    /// holds of one. It computes nothing.
+    /// A law of all worlds: some lawful history leaves the world. So what other calls promise of each such history
+    /// holds of at least one. This call computes nothing.
     pub fn has_history(&self)
         ensures { (h : WorldHistory) × IsWorldAfter h self.now }
     {

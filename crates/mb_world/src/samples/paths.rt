@@ -7,7 +7,7 @@ use mb_claim::samples::samples_are_lawful;
 use mb_claim::steps::claims_have_one_next_op;
 use mb_quorum::laws::named_tables_are_lawful;
 
-/// Each of these has two parts of consumer 0 that do not fit each other.
+/// Each clause has two parts of consumer 0 that do not fit each other.
 pub fn parts_do_not_fit()
     // A claim is on a cell that no load gave.
     ensures unmet { Fits two_cells 0 claimed_unseen → ⊥ }

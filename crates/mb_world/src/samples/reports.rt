@@ -12,7 +12,7 @@ pub fn reports_agree()
     ensures not_loaded { AgreesWith to_nobody won_not_loaded }
 {}
 
-/// In a report of two lanes, the diary of consumer `c` on lane `p` is at `c * 2 + p`.
+/// Two diaries in a report of two lanes: that of consumer `c` on lane `p` is at `c * 2 + p`.
 pub fn diaries_stand_by_consumers()
     ensures first { notes 0 1 taken_on_both ≡ Took 6 ∷ [] }
     ensures second { notes 1 0 taken_on_both ≡ Lost 0 ∷ [] }

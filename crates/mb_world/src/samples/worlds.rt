@@ -44,7 +44,7 @@ pub fn worlds_go_on()
 pub fn worlds_are_reported()
     ensures report { IsReportOf two_by_two all_histories all_reported }
 
-    // Each consumer's parts fit, and nothing follows the end mark.
+    // What was done is sound (`AreSound`), and nothing follows the end mark.
     ensures sound { AreSound two_by_two all_histories }
     ensures ends { NothingFollowsEnds all_histories.pool all_histories.reader_of all_reported }
 {

@@ -21,9 +21,9 @@ impl<A: Allocator + Drop> World<A> {
 
     /// Makes the one access that the event asks for, or none if the event is refused. Returns what was done.
     ///
-    /// It is refused by `NoLane` if there is no such lane, and else by `NoConsumer` if there is no such consumer. Else
-    /// a producer's event is refused as the same call of [`mb_cells::Pool`] is. A refused event makes no access and
-    /// changes nothing. A lane's first offer that returns `Full` is not refused: it makes its fetch-add.
+    /// An event is refused by `NoLane` if there is no such lane, and else by `NoConsumer` if there is no such consumer.
+    /// Else a producer's event is refused as the same call of [`mb_cells::Pool`] is. A refused event makes no access,
+    /// and changes nothing. A lane's first offer that returns `Full` is not refused: it makes its fetch-add.
     ///
     /// The call takes no memory. Its time depends neither on the setup nor on what was done before.
     #[inline]

@@ -35,12 +35,12 @@ impl<A: Allocator + Clone + Drop> World<A> {
         ensures exact { IfOk result (λ r. (h : WorldHistory) → IsWorldAfter h self.now
             → IsReportOf (plan_in self.now.setup) (histories_of h) r) }
 
-        // One assignment agrees with the report, and nothing follows an end mark.
+        // One assignment agrees with the report, nothing follows an end mark, and the report is settled.
         ensures main_theorem { IfOk result (λ r. (h : WorldHistory) → IsWorldAfter h self.now
             → MainTheorem (pool_accesses h) (λ c. c) r) }
 
-        // If each cell has a last object, an item that was competed for is left only beside a begun claim. On a lane
-        // without a begun claim each such item is taken.
+        // If each cell has a last object, an item that was competed for is left only if a claim on it is begun. On a
+        // lane without a begun claim each item that was competed for is taken.
         ensures settled { IfOk result (λ r. (shape_in self.now.setup).last ≡ true
             → IsLeftBesideBegun r × AreAllTaken r) }
     {

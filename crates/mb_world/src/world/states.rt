@@ -79,8 +79,8 @@ pub(super) fn claims_leave_states()
         → IsClaimOn (layout_of s.setup) (plan_in s.setup).claims.cells k claim s.words
         (claim_accesses h) }
 
-    // If the step leaves these words and this claim, the event leaves the state with them, with the place that the
-    // claim's stage gives, and with the note of that stage if it has one.
+    // If the step leads to `words` and to the claim `now`, the event leaves the state with them, with the place that
+    // the stage of `now` gives, and with the note of that stage if it has one.
     ensures competed { (s : WorldState) (h : WorldHistory) (c p word k : ℕ) (claim now : Claim)
         (words : List ℕ) (x : ObjectTurn)
         → IsWorldAfter h s → HasPlace c p (At k claim) s → claim_stage claim ≡ stage.Going

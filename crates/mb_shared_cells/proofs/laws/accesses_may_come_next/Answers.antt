@@ -13,7 +13,7 @@ returns-clause-load c = λ size words r w done may h memory mine fits.
     load_follows c.history_extends.ensures.reader size r done w may h _ memory.lawful mine
     (memory.left w (pool_word size w stays))
 
--- a store with which a producer's path goes on is that of a push or of the end mark, so its value has 64 bits
+-- a store with which a producer's path goes on is that of a push or of the end mark, so its value is below 2^64
 pub returns-clause-store : goal.returns-clause-store
 returns-clause-store c = λ size words p w value done path h memory mine lane.
     let own = part (Producer p) h in

@@ -1,5 +1,5 @@
 -- Proof of `laws::known_lanes_are_read_whole`: on a lane that was returned before a reader was issued, the reader finds
--- nothing more, or the end mark, only past all cells.
+-- nothing, or the end mark, only past all cells, and no cell but the next.
 use Rattle.std.proofs.Common.{sym}
 use Rattle.mb_cells.specs.Vocabulary.{word_of}
 use Rattle.mb_shared_cells.proofs.KnownLanes.{ReadLaws, cell_found, end_found, found, nothing_found}

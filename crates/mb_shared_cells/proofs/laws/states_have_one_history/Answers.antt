@@ -7,7 +7,7 @@ use Rattle.mb_shared_cells.specs.Vocabulary.{HasPart, IsEnrolled, IsTableState, 
 use Rattle.mb_shared_cells.proofs.Seatings.{told_part}
 use Rattle.mb_shared_cells.proofs.laws.states_have_one_history.Goals as goal
 
--- a process was issued or not
+-- each process either was issued or was not
 enrolled_or_not : (t : Seating) (who : Process) → Dec (IsEnrolled t who)
 enrolled_or_not t (Producer p) = dec_lt p t.lanes
 enrolled_or_not t (Reader r) = dec_lt r t.readers

@@ -1,4 +1,4 @@
--- Proof of `samples::words_and_views_disagree`: words and views that no history and no hub made.
+-- Proof of `samples::words_and_views_disagree`: words and views that are no state of such a table.
 use Rattle.std.proofs.Common.{[], arith, ap, refl, sym, ◌≡◌, ◌∙◌, ◌<◌}
 use Rattle.mb_cells.specs.Vocabulary.{one_put, part, value_in}
 use Rattle.mb_cells.specs.declared.access.Process.TheVariants.{Producer}

@@ -1,4 +1,4 @@
--- Proof of `laws::last_objects_settle_items`: if each cell has a last object, no note is undecided.
+-- Proof of `laws::last_objects_settle_items`: what a report shows if each cell has a last object.
 use Rattle.std.proofs.Common.{subst}
 use Rattle.mb_claim.specs.AllClaims.{claims_of}
 use Rattle.mb_claim.specs.declared.access.Stage.TheVariants as stage

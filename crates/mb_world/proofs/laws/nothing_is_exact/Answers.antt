@@ -1,4 +1,4 @@
--- Proof of `laws::nothing_is_exact`: a step returns that it found nothing exactly if there is nothing.
+-- Proof of `laws::nothing_is_exact`: a step's answer is that it found nothing exactly if `HasNothing` holds.
 use Rattle.std.proofs.Common.{ℕ, List, Option, None}
 use Rattle.mb_world.specs.declared.report.Note.{Note}
 use Rattle.mb_world.specs.Imports.{ObjectTurn}

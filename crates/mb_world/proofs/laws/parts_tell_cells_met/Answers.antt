@@ -1,4 +1,4 @@
--- Proof of `laws::parts_tell_cells_met`: the cells that a consumer's own loads met on a lane are all that it met there.
+-- Proof of `laws::parts_tell_cells_met`: the cells that `cells_met` reads off a consumer's loads are all it met.
 use Rattle.mb_world.proofs.MetCells.{all_met}
 use Rattle.mb_world.proofs.laws.parts_tell_cells_met.Goals as goal
 

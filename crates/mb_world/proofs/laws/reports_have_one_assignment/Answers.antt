@@ -1,5 +1,5 @@
--- Proof of `laws::reports_have_one_assignment`: one assignment of items to competitors agrees with the whole report,
--- and nothing follows an end mark.
+-- Proof of `laws::reports_have_one_assignment`: one assignment of items to competitors agrees with the report,
+-- nothing follows an end mark, and the report is settled.
 use Rattle.std.proofs.Common.{sym, subst}
 use Rattle.mb_world.specs.Imports.{IsPoolLawful}
 use Rattle.mb_world.specs.Plan.{consumers_of, size_of}

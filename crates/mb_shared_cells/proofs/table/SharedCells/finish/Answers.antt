@@ -28,7 +28,7 @@ store-requires-clause-can g c =
     c.seat.inside.place c.next_link-word.result c.seat.invariant size (sym c.finish_refusal.ensures ∙ c.in_default.is)
     c.next_link-word.ensures
 
--- after the store the seat stands where `finished` says, and its part, longer by the store, leads there too
+-- after the store the seat has the place that `finished` gives, and its part, longer by the store, leads to that place
 pub invariant_of-seat : goal.invariant_of-seat
 invariant_of-seat g c =
     let me = c.seat.inside.seat.me in

@@ -2,6 +2,6 @@
 use Rattle.mb_cells.specs.declared.access.PoolAct.TheVariants.{Store}
 use Rattle.mb_shared_cells.proofs.table.SharedCells.finish.Given as goal
 
--- the access of the store: its word, and the value stored, which is the number that the step announces
+-- the access of the store: its word, and the act for each value that it may store
 abbrev pub ghosts-store : goal.ghosts-store
 ghosts-store g a = record { word = a.word; act = λ n. Store n }

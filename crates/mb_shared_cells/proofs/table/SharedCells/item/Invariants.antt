@@ -2,6 +2,6 @@
 use Rattle.mb_cells.specs.declared.access.PoolAct.TheVariants.{Load}
 use Rattle.mb_shared_cells.proofs.table.SharedCells.item.Given as goal
 
--- the access of the load: its word, and the value that it finds
+-- the access of the load: its word, and for each value that it may find the act with this value
 abbrev pub ghosts-load : goal.ghosts-load
 ghosts-load g a = record { word = a.word; act = λ n. Load n }

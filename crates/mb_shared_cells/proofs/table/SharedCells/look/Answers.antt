@@ -50,11 +50,11 @@ overflow_cast-result g c =
 tells_cell : (v : ℕ) → v ≢ 0 → v ≢ END → Cell (v - 1) ≡ look_of v
 tells_cell v some no_end = rw (ne_eqb v 0 some, ne_eqb v END no_end) refl
 
--- two equal answers of a look have equal cells
+-- if two results of a look are equal and are cells, the cells are equal
 same_cell : (n m : ℕ) → Cell n ≡ Cell m → n ≡ m
 same_cell n m e = cc
 
--- the answers Nothing and Ended are not equal to a cell
+-- neither of the results Nothing and Ended is a cell
 none_cell : (k : ℕ) → Nothing ≡ Cell k → ⊥
 none_cell k e = cc
 

@@ -27,7 +27,7 @@ fetch_add-found-requires-clause-can g c =
     can_fetch laws c.args.self.now.size c.seat.inside.seat.me c.seat.inside.number c.seat.inside.place c.args.x
     c.seat.invariant size (sym c.offer_refusal.ensures ∙ c.in_default.is)
 
--- after the fetch-add the seat stands where `offered` says, and its part, longer by the fetch-add, leads there too
+-- after the fetch-add the seat has the place that `offered` gives, and its part with the fetch-add leads to that place
 pub invariant_of-seat : goal.invariant_of-seat
 invariant_of-seat g c =
     let me = c.seat.inside.seat.me in

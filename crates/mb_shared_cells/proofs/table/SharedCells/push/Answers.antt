@@ -25,7 +25,7 @@ store-requires-clause-can g c =
     can_push laws c.accesses_stay_within.ensures.push c.args.self.now.size c.seat.inside.seat.me c.seat.inside.number
     c.seat.inside.place c.in-Some.word c.in-Some.value c.seat.invariant size (sym c.next_push.ensures ∙ c.in-Some.is)
 
--- after the store the seat stands where `pushed` says, and its part, longer by the store, leads there too
+-- after the store the seat has the place that `pushed` gives, and its part, longer by the store, leads to that place
 pub invariant_of-seat : goal.invariant_of-seat
 invariant_of-seat g c =
     let me = c.seat.inside.seat.me in

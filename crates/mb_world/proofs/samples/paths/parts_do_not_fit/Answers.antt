@@ -1,4 +1,4 @@
--- Proof of `samples::paths::parts_do_not_fit`: each of these has two parts of consumer 0 that do not fit each other.
+-- Proof of `samples::paths::parts_do_not_fit`: each clause has two parts of consumer 0 that do not fit each other.
 use Rattle.std.proofs.Common.{◌≡◌, ℕ, zero, suc, List, [], ◌∷◌, refl, ap, subst, inl, arith}
 use Rattle.std.proofs.lemmas.Bool.{ne_eqb}
 use Rattle.mb_claim.specs.Samples.{two_consumers}

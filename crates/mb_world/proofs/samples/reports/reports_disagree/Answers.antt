@@ -72,7 +72,7 @@ returns-clause-twice c t agrees =
     let f = (agrees.given.taken 1 0 0).0 (5, refl) in
     cc
 
--- the share of consumer 0: the item 5 if b says that it goes there, and else nothing
+-- the share of consumer 0: the item 5 if b says that the item goes to consumer 0, and else nothing
 abbrev five : Bool → List ℕ
 five b = if b then 5 ∷ [] else []
 
@@ -80,7 +80,7 @@ five b = if b then 5 ∷ [] else []
 abbrev six : List ℕ
 six = 6 ∷ []
 
--- whether the item goes to consumer 0 or not, its share does not have the value 6
+-- whether the item goes to consumer 0 or not, the share of consumer 0 is not the value 6 alone
 no_value : (b : Bool) → six ≡ five b → ⊥
 no_value true e = cc
 no_value false e = cc
@@ -88,15 +88,15 @@ no_value false e = cc
 pub returns-clause-value : goal.returns-clause-value
 returns-clause-value c t agrees = no_value (is_consumer 0 (t 0 0)) (agrees.given.ledgers 0 0)
 
--- consumer 0 has lost the item to itself
+-- consumer 0 has lost the item to itself. But a loss must name another consumer
 pub returns-clause-itself : goal.returns-clause-itself
 returns-clause-itself c t agrees = (agrees.given.losses 0 0 0 0 refl).another refl
 
--- consumer 1, to which the item was lost, did not compete for it
+-- consumer 1, to which the item was lost, did not compete for it. But the consumer that a loss names must have
 pub returns-clause-away : goal.returns-clause-away
 returns-clause-away c t agrees = away (agrees.given.losses 0 1 0 0 refl).competed
 
--- two losses of one item name two consumers
+-- two losses of one item name two consumers. But all losses of an item must name one consumer
 pub returns-clause-each : goal.returns-clause-each
 returns-clause-each c t agrees = let e = (agrees.given.losses 0 1 0 0 refl).only 1 0 refl in cc
 

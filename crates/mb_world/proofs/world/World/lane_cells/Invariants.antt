@@ -1,4 +1,4 @@
--- What the loop of `World::lane_cells` keeps and makes smaller.
+-- What the loop of `World::lane_cells` keeps of the cells met and the cursor, and what gets smaller in each pass.
 use Rattle.std.proofs.Common.{◌<◌, ◌-◌, All, length}
 use Rattle.mb_cells.specs.State.{IsWithin}
 use Rattle.mb_world.specs.Setups.{plan_in}

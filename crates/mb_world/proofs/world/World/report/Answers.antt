@@ -27,7 +27,7 @@ returns-clause-exact g c h is =
     (record { lanes = c.in_ok-lanes.field-0.items; diaries = c.in_ok-diaries.field-0.items })
     c.in_ok-lanes.ensures c.in_ok-diaries.ensures
 
--- one assignment agrees with the report, and nothing follows an end mark
+-- the main theorem holds of the report, since the quorum table and the history that leaves the world are lawful
 pub returns-clause-main_theorem : goal.returns-clause-main_theorem
 returns-clause-main_theorem g c h is =
     let s = c.args.self.now in
