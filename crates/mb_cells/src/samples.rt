@@ -14,7 +14,7 @@ pub fn one_item_is_put_and_read()
     ensures met { HasMet 5 0 (0 ∷ []) one_read }
 {}
 
-/// A load gives only what was stored, and the counter gives each number once.
+/// A load gives only what its word holds, and the counter gives each number once.
 pub fn memory_makes_nothing_up()
     // A load finds no value that nobody stored, and none that another has replaced. No number is given twice.
     ensures no_store { IsMemoryTrue (load 5 (Head 0) 1 ∷ one_taken) → ⊥ }

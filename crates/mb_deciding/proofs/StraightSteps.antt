@@ -136,14 +136,14 @@ checks_reached t v u bound left turns within few rest clear =
           ((within, some), (bound, few, rest, clear))
     ]
 
--- after the announcement, the load of a value from the proposal is a step to the check of that value
+-- after the announcement, the load of a value from the proposal is a step to the check of that value, or to its output
 pub prefer_step :
     (t : QuorumTable) (input u seen word : ℕ) (makes : Op → ℕ → Type 0) → makes (to.Load Proposal) seen → u < t.values
     → seen ≡ u + 1 → IsStep t (InRatifier (Announce input 0)) makes word (checks_of u (t.read u))
 prefer_step t input u seen word makes made within same =
     ratifier_step t (Announce input 0) makes (to.Load Proposal) seen word _ refl made reaches
   where
-    -- with this load the process is at the check of that value
+    -- with this load the process is at the check of that value, or has it as output
     reaches : RatifierReaches t (Announce input 0) seen (checks_of u (t.read u))
     reaches v turns op word at is can =
         let whole = announced_whole t v input 0 (acts turns) op seen at.1 is refl can in

@@ -25,7 +25,7 @@ pub fn small_histories()
     ensures patient { IsObjectLawful small_conciliator (history_of_one patient_turns) }
     ensures patient_output { HasOutput small_conciliator 0 false 0 (history_of_one patient_turns) }
 
-    // Process 0 stores on attempt 0, although the random word 3 does not store there.
+    // Process 0 stores on attempt 0, although with the random word 3 it may not.
     ensures impatient { IsObjectLawful small_conciliator (history_of_one impatient_turns) → ⊥ }
     ensures impatient_part { IsPrefix (unary_table 2) (Conciliator 2) 0 impatient_turns → ⊥ }
 {}

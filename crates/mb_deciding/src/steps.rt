@@ -1,7 +1,7 @@
 //! Laws for builders of worlds and of tables of shared words: one more step of a lawful history, and the places of
 //! processes. A table that keeps the words of an object needs `history_extends` for its rule, and `places_lead_on` for
-//! the step that a place makes there. The functions compute nothing: their contracts are the laws. The proofs begin in
-//! `proofs/steps`, in a folder of the law's name.
+//! the next turn of a process at its place. The functions compute nothing: their contracts are the laws. The proofs
+//! begin in `proofs/steps`, in a folder of the law's name.
 ghost use Rattle.std.specs.Prelude.{ℕ, ◌≡◌, ◌+◌, ◌*◌, ◌<◌, ◌≤◌, List, [], ◌∷◌};
 ghost use Rattle.mb_quorum.specs.Quorum.{QuorumTable, IsQuorumTable};
 ghost use Rattle.mb_deciding.specs.{Object, ObjectIsSound, Kind, Access, Turn, Act, Op, Pc, Out};
