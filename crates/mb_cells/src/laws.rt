@@ -267,7 +267,7 @@ pub fn parts_tell_lanes()
 /// A lane refuses a call exactly because of what its producer has done.
 pub fn lanes_refuse_by_what_was_done()
     // An offer returns `Closed` after the end mark, `Busy` while an item has a cell that is not linked, and `Full`
-    // after a fetch-add that found no cell. Otherwise it is not refused.
+    // after a fetch-add that found no cell, until the end mark. Otherwise it is not refused.
     ensures closed { (size : PoolSize) (h : History) (p : ℕ) (lane : Lane) → IsPoolLawful size h
         → IsLaneAfter size.cells p lane (part (Producer p) h)
         → (offer_refusal lane ≡ Some offer.Closed) ↔ (has_ended p h ≡ true) }

@@ -6,7 +6,7 @@
 //! and a *link* word, and all lanes share one *counter*. All are 0 at first. To put an item, a producer makes three
 //! accesses. A fetch-add of the counter gives it a cell of its own, or a number past the cells if all were handed out.
 //! Then it stores the item in that cell. At last it stores the cell's number, plus one, in the link of the lane's last
-//! cell, or in the head. At its end it may store an *end mark* where the next link would go.
+//! cell, or in the head. At its end it may store an *end mark* where the next link would go. No access follows it.
 //!
 //! A reader loads a head or a link. If it holds 0, nothing is linked there yet, and the reader may look again. Else it
 //! leads to a cell, or it is the end mark. The item of that cell was stored before the link to it, and no other

@@ -74,7 +74,7 @@ impl<A: Allocator + Drop> Pool<A> {
     /// Takes the next cell for item `x` of lane `p`, by one fetch-add of the counter. It needs a lane of the pool.
     /// [`calls_put_items`](crate::laws::calls_put_items) says which cell that is after the calls before.
     ///
-    /// It is refused by `Closed` after the end mark, by `Busy` while an item waits for its link, and by `Full` after a
+    /// It is refused by `Closed` after the end mark, else by `Busy` while an item waits for its link or `Full` after a
     /// fetch-add that found no cell. A refused call makes no access and changes nothing. But the first `Full` makes its
     /// fetch-add, which raises the counter and changes nothing that [`Pool::look`] and [`Pool::item`] show.
     pub fn offer(&mut self, p: u32, x: u64) -> Offer
