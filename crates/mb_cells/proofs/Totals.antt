@@ -193,7 +193,7 @@ got_by size h k l (a, (has, (word, (x, act)))) =
       | inr own ↦ absurd (let acts : FetchAdd x k ≡ Store (k + 1) = sym act ∙ own.0 in cc)
     ]
 
--- if a fetch-add found no cell, and each cell that a producer got is linked, all cells are put
+-- if a fetch-add found no cell, and each cell that a producer got is linked, there are as many items as cells
 pub all_items : (size : PoolSize) (h : History) (p : ℕ) (e : Entry) → IsPoolLawful size h → Has h (fetch p e)
     → size.cells ≤ e.cell → AllLinked size h → items_put size.lanes h ≡ size.cells
 all_items size h p e l has high linked =

@@ -63,7 +63,7 @@ impl<A: Allocator + Copy + Drop> Course<A> {
         })
     }
 
-    /// Adds one turn of a process, with the random word of this turn.
+    /// Adds one turn of a process, with the random word of this turn. The error says that memory ran out.
     pub fn turn<M: Machine>(
         &mut self,
         machine: &M,
@@ -104,7 +104,7 @@ impl<A: Allocator + Copy + Drop> Course<A> {
         Ok(())
     }
 
-    /// Ends the run. Returns the entries, and for each process its output or `None`. The error says that memory ran out.
+    /// Ends the run. Returns the entries, and for each process its output or none. The error says that memory ran out.
     pub fn finish(self, alloc: A) -> Result<Trace<A>, AllocError>
         ensures entries { IfOk result (λ trace. trace.entries.items ≡ self.entries) }
         ensures outputs { IfOk result (λ trace. trace.outputs.items ≡ map out_of self.places) }
