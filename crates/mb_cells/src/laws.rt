@@ -98,7 +98,7 @@ pub fn end_marks_are_last()
         → IsLinkWord w → is_of_lane p (linked_cells p h) w ≡ true → HasLoaded r w END h
         → HasMet r p (linked_cells p h) h }
 
-    // If a reader has loaded the end mark past cells that it met, they are all its cells, and the lane has ended.
+    // If a reader loaded the end mark past cells that it met, they are all cells of the lane, and the lane has ended.
     ensures reader { (size : PoolSize) (h : History) (r p : ℕ) (ks : List ℕ) → IsPoolLawful size h
         → HasMet r p ks h → HasLoaded r (place_past p ks) END h → ks ≡ linked_cells p h }
     ensures told { (size : PoolSize) (h : History) (r p : ℕ) (ks : List ℕ) → IsPoolLawful size h

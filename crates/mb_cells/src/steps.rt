@@ -3,7 +3,7 @@
 //! `proofs/steps/`, one folder for each. They use the lemmas of `proofs/`.
 //!
 //! A table of shared words needs [`words_follow_steps`]: its words and parts are those of one lawful history. An access
-//! of a producer may follow if its lane goes on with it ([`lanes_lead_on`]), and a reader's load if its own loads led to
+//! of a producer may follow if its lane goes on with it ([`lanes_lead_on`]), and a reader's load if its loads led to
 //! the word. [`history_extends`] then gives the longer history. By [`accesses_stay_within`] the word is in the pool.
 ghost use Rattle.std.specs.Prelude.{◌≡◌, ◌+◌, ◌<◌, ◌≤◌, ◌⊎◌, ◌∷◌, ◌++◌, ◌^◌, ◌≢◌, ℕ, List, Some, None, length};
 ghost use Rattle.std.specs.Prelude.{slice_index, unwrap_or, []};

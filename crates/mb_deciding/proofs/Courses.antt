@@ -92,7 +92,7 @@ module _ (u : ObjectSetup) (schedule : List (ℕ × ℕ)) (state : CourseState) 
   abbrev past : List Access
   past = history_of schedule state.entries
 
-  -- a turn of a process that has its output adds the entry `Done`. It is then a run of the longer schedule
+  -- a turn of a process that has its output adds the entry `Done`. The result is a run of the longer schedule
   pub course_done :
       (p word : ℕ) → HasEnded (object_in u) p past
       → IsCourse u (schedule ++ (p, word) ∷ [])
@@ -125,7 +125,7 @@ module _ (u : ObjectSetup) (schedule : List (ℕ × ℕ)) (state : CourseState) 
       (subst (λ n. IsReached u.table u.kind (get_or u.inputs p 0) n (part p past)) (sym is ∙ go)
       (run.reached p x below))
 
-  -- a turn of a process that has not ended adds its access. It is then a run of the longer schedule
+  -- a turn of a process that has not ended adds its access. The result is a run of the longer schedule
   pub course_accessed :
       IsTableFor u.kind u.table
       → (words : ObjectMemory) (p word : ℕ) (next : Next) (act : Act) → p < length state.places

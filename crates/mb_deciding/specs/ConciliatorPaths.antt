@@ -14,7 +14,7 @@ IsMissing s (suc k) [] = ⊥
 IsMissing s (suc k) (turn ∷ older) =
     (turn.act ≡ Load Value 0) × (StoresOn s k turn.word → ⊥) × IsMissing s k older
 
--- the turns are those of the attempts below k, of which none stores, and a load of 0 on attempt k, whose word stores
+-- the turns are those of the attempts below k, of which none stores, then a load of 0 whose random word stores on k
 abbrev pub IsDrawn : ℕ → ℕ → List Turn → Type 0
 IsDrawn s k [] = ⊥
 IsDrawn s k (turn ∷ older) =

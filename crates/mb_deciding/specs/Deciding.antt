@@ -44,7 +44,7 @@ ChecksKeepOut o h =
 abbrev pub stores_in : List Access → List ℕ
 stores_in h = filter_map (λ a. stored_by a.turn.act) h
 
--- first mover, of a conciliator: if only one store was made, of u + 1 for an input u, every output has the value u
+-- first mover, of a conciliator: if only one store was made, the number stored is u + 1 for the value u of every output
 abbrev pub IsFirstMover : Object → List Access → Type 0
 IsFirstMover o h =
     (w : ℕ) → stores_in h ≡ w ∷ [] → (p : ℕ) (d : Bool) (u : ℕ) → HasOutput o p d u h → w ≡ u + 1
