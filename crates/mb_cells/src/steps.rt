@@ -144,7 +144,7 @@ pub fn put_lists_grow()
     ensures load { (h : History) (r q v : ℕ) (w : Word)
         → put_list q (load r w v ∷ h) ≡ put_list q h }
 
-    // A link store of another lane changes nothing, either.
+    // A store to a head or link by another lane's producer changes nothing, either.
     ensures other { (h : History) (p q v : ℕ) (w : Word) → p ≢ q → IsLinkWord w
         → put_list q (store p w v ∷ h) ≡ put_list q h }
 {}
