@@ -222,7 +222,7 @@ pub fn readers_keep_to_lanes()
     ensures all { (size : PoolSize) (h : History) (r : ℕ) (a : PoolAccess) → IsPoolLawful size h
         → Has (part (Reader r) h) a → (p : ℕ) × (is_of_lane p (linked_cells p h) a.word ≡ true) }
 
-    // Accesses are a reader path if each passes one of the tests, and for each test those that pass it are one.
+    // Accesses are a reader path if each passes a test, and for each test those that pass it are a reader path.
     ensures whole { (lanes : ℕ) (test : ℕ → PoolAccess → Bool) (done : History)
         → ((a : PoolAccess) → Has done a → (p : ℕ) × (test p a ≡ true))
         → ((p : ℕ) → IsReaderPath lanes (filter (test p) done)) → IsReaderPath lanes done }

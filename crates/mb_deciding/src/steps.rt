@@ -9,8 +9,8 @@ ghost use Rattle.mb_deciding.specs.{ReadsLast, IsInWords, part, IsObjectLawful, 
 ghost use Rattle.mb_deciding.specs.{HasReg, PcIsAt, IsOpAt, CanFind, turn_after, seen_by, reg_of};
 ghost use Rattle.mb_deciding.specs.{IsSameOp, IsPlace, most_turns, turns_left, Conciliator, Ratifier};
 
-/// The empty history is lawful. A lawful history stays so with one turn more of a process with an input of the table, if
-/// the turn is true to memory, is in words, and gives the process a prefix of a path.
+/// The empty history is lawful. A lawful history stays so with one turn more of a process with an input of the table,
+/// if the turn is true to memory, is in words, and gives the process a prefix of a path.
 pub fn history_extends()
     ensures empty { (o : Object) → IsObjectLawful o [] }
     ensures longer { (o : Object) (h : List Access) (p : ℕ) (turn : Turn)
