@@ -280,7 +280,7 @@ suffix_cases (x ∷ xs) begin (y ∷ later) made e =
     suffix_cases xs begin later made (let same : xs ++ begin ≡ later ++ made = cc in same)
 
 -- a prefix of a path has at most two acts more than its write quorum has registers. Or by it the path's preference was
--- chosen, and it has at most these acts, and one for each register of the preference's read quorum
+-- chosen, and it has at most that many, and one more for each register of the preference's read quorum
 pub part_length :
     (t : QuorumTable) (v : ℕ) (later made : List Act) (d : Bool) (u : ℕ) → IsRatifierPath t v (later ++ made) d u
     → (length made ≤ count_ones (t.write v) + 2) ⊎ (IsChosen v u made ×
