@@ -54,7 +54,7 @@ pub fn small_last_objects()
     ensures twice { IsPrefix (unary_table 3) LastObject 0
         (turn 0 (Exchange Last 1 1) ∷ turn 0 (Exchange Last 1 0) ∷ []) → ⊥ }
 
-    // A process that found 0 has its own input as output, or a value that it found. Both outputs are decided.
+    // A process has its own input as output if it found 0, and else the value that it found. Both outputs are decided.
     ensures own { (d : Bool) (u : ℕ) → IsPath (unary_table 3) LastObject 1
         (turn 0 (Exchange Last 2 0) ∷ []) (answer d u) → (d ≡ true) × (u ≡ 1) }
     ensures met { (d : Bool) (u : ℕ) → IsPath (unary_table 3) LastObject 1
