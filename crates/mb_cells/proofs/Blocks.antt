@@ -39,7 +39,7 @@ pub value_in-here : (a : PoolAccess) (h : History)
     → value_in a.word (a ∷ h) ≡ unwrap_or (stored_by a.act) (value_in a.word h)
 value_in-here a h = rw (is_same_word-refl a.word) refl
 
--- if a history leaves a block and stays lawful with one access more, the longer history leaves the block after that one
+-- if a history that leaves a block stays lawful with one access more, the longer one leaves the block after that access
 pub memory_after : (size : PoolSize) (words : List ℕ) (h : History) (a : PoolAccess) → IsMemoryOf size words h
     → IsPoolLawful size (a ∷ h) → IsMemoryOf size (block_after size a words) (a ∷ h)
 memory_after size words h a m l =
@@ -62,7 +62,7 @@ memory_after size words h a m l =
       ];
     }
 
--- if a history with these words and parts stays lawful with one access more, it has the words and parts after that one
+-- if a history with these words and parts stays lawful with one access more, it then has those after that access
 pub state_after : (size : PoolSize) (words : List ℕ) (parts : Process → History) (h : History) (a : PoolAccess)
     → IsStateOf size words parts h → IsPoolLawful size (a ∷ h)
     → IsStateOf size (block_after size a words) (parts_after a parts) (a ∷ h)

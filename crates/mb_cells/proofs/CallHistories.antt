@@ -56,7 +56,7 @@ stage_own cells h a p lane now who next at =
     (same_lane cells p lane now (a ∷ part (Producer p) h)
     (subst (IsLaneAfter cells p lane) (part-own (Producer p) a h own) at) next)
 
--- if calls agree with a history, after an access of p each other stage is as they say, and p's is `z p`, that of `now`
+-- if calls agree with a history, after an access of p they still say each other lane's stage, and p's is now's, `z p`
 stages_after : (cells : ℕ) (calls : List Call) (h : History) (a : PoolAccess) (p : ℕ) (now : Lane) (z : ℕ → LaneStage)
     → Tells cells calls h → a.process ≡ Producer p
     → IsLaneAfter cells p now (a ∷ part (Producer p) h) → now.stage ≡ z p

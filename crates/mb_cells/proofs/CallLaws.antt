@@ -26,7 +26,7 @@ lead_words h s p (k ∷ j ∷ ks) after lt low lead = (
   lead_words h s p (j ∷ ks) after lt (λ i has. low i (inr has)) lead.1,
 )
 
--- if a history leaves this state, the word past these cells of the pool holds there what the history leaves in it
+-- in a state that a history leaves, the word past these cells of the pool holds what the history leaves in it
 last_word : (h : History) (s : PoolState) (p : ℕ) (ks : List ℕ) → IsAfter h s → p < lane_count s
     → ((k : ℕ) → Has ks k → k < cell_count s)
     → word_in (word_of (cursor_past p ks)) s.words ≡ value_in (place_past p ks) h

@@ -53,7 +53,7 @@ full_at cells p lane h counted x is =
     by (phase.Ended None) at e = absurd (cc)
     by (phase.Ended (Some f)) at e = absurd (cc)
 
--- if the counter n is above the number of cells at the stage Full, then at each offer that returns Full it is not below
+-- if n is above the number of cells at the stage Full, n is at least that number whenever an offer returns Full
 given_full : (cells n : ℕ) (z : LaneStage) → (z ≡ stage.Full → cells < n)
     → offer.Full ≡ unwrap_or (stage_offer_refusal z) (offer_by_found cells n) → cells ≤ n
 given_full cells n (stage.Ended full) past is = absurd (cc)

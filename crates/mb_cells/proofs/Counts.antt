@@ -28,7 +28,7 @@ abbrev pub refusals : ℕ → ℕ → History → ℕ
 refusals cells zero h = 0
 refusals cells (suc n) h = cond (has_refused n cells h) 1 0 + refusals cells n h
 
--- no more producers were refused than there are
+-- of the first n producers at most n were refused a cell
 refusals-bound : (cells n : ℕ) (h : History) → refusals cells n h ≤ n
 refusals-bound cells zero h = omega arith
 refusals-bound cells (suc n) h =

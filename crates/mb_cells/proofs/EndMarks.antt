@@ -1,4 +1,4 @@
--- In a lawful history an end mark is its producer's last access, past the last cell. Who loads it knows all the cells.
+-- An end mark is its producer's last access, past the lane's last cell. If a reader loaded it, the lane has ended.
 use Rattle.std.proofs.Common.{Bool, List, [], ap, arith, cond, eq-eqb, false, inl, inr, ne_eqb, refl, subst, sym, true, ℕ, ◌++◌, ◌+◌, ◌<◌, ◌||◌, ◌∙◌, ◌∷◌, ◌≡◌}
 use Rattle.std.specs.Prelude.{nat_eq}
 use Rattle.std.proofs.lemmas.Bool.{cases_Bool, false≢true}

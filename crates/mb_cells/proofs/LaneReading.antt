@@ -29,7 +29,7 @@ look-cell k ne =
     let back : (k + 1) - 1 ≡ k = omega arith in
     rw (zero_no, end_no, back)
 
--- if words lead through these cells, and looks past them read `rest` and `end`, looks from the head read them before
+-- if words lead through cells and looks past them read `rest` and `end`, looks from the head read the cells, then these
 pub reads_back : (m : Word → ℕ) (f : ℕ → ℕ) (p : ℕ) (ks : List ℕ) (rest : List Entry) (end : Look)
     → ((k : ℕ) → Has ks k → (k + 1 ≢ END) × (m (Item k) ≡ f k)) → LeadThrough m p ks
     → Reads (λ c. look_of (m (word_of c))) (λ k. m (Item k)) (cursor_past p ks) rest end

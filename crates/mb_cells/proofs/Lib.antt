@@ -1,4 +1,4 @@
--- In the order of reading: a file stands on files above it.
+-- In the order of reading: a file uses files above it.
 
 -- Words and parts
 pub mod Names

@@ -37,7 +37,7 @@ shorter_without m (k ∷ ks) has =
     (λ f. ⊎_elim (λ (e : k ≡ m). absurd (false≢true (sym f ∙ eq-eqb k m e)))
     (λ (r : Has ks m). let s = shorter_without m ks r in omega arith) has)
 
--- if no element of a list is there twice, each element left without m is in the list and is not m
+-- if no element is in a list twice, each element left without m is in the list and is not m
 has_without : (m : ℕ) (ks : List ℕ) (j : ℕ) → IsOnceEach ks → Has (without m ks) j → Has ks j × (j ≢ m)
 unfolding without
 has_without m [] j once h = absurd h
@@ -56,7 +56,7 @@ still_without m (k ∷ ks) j has apart =
     (λ t. ⊎_elim (λ (e : k ≡ j). absurd (apart (sym e ∙ eqb-true k m t))) (λ (r : Has ks j). r) has)
     (λ f. ⊎_elim (λ (e : k ≡ j). inl e) (λ (r : Has ks j). inr (still_without m ks j r apart)) has)
 
--- if no element of a list is there twice, none is there twice in the list without its first m
+-- if no element is in a list twice, none is twice in the list without its first m
 once_without : (m : ℕ) (ks : List ℕ) → IsOnceEach ks → IsOnceEach (without m ks)
 unfolding without
 once_without m [] once = tt
@@ -193,7 +193,7 @@ got_by size h k l (a, (has, (word, (x, act)))) =
       | inr own ↦ absurd (let acts : FetchAdd x k ≡ Store (k + 1) = sym act ∙ own.0 in cc)
     ]
 
--- if a fetch-add found no cell, and each cell that a producer got is linked, all cells are put
+-- if a fetch-add found no cell, and each cell that a producer got is linked, there are as many items as cells
 pub all_items : (size : PoolSize) (h : History) (p : ℕ) (e : Entry) → IsPoolLawful size h → Has h (fetch p e)
     → size.cells ≤ e.cell → AllLinked size h → items_put size.lanes h ≡ size.cells
 all_items size h p e l has high linked =

@@ -15,7 +15,7 @@ use Rattle.mb_cells.specs.Calls.{FinishMeets, OfferMeets, PushMeets}
 
 -- a call on a lane that may change the pool, with its answer
 pub data Call : Type 0 where
-  -- an offer on a lane, with its item and its answer. The others have a lane and an answer
+  -- an offer has its lane, its item and its answer, a push or a finish its lane and its answer
   Offered : ℕ → ℕ → Offer → Call
   Pushed : ℕ → Push → Call
   Finished : ℕ → Finish → Call
@@ -78,7 +78,7 @@ has_ended_by p (Pushed q r ∷ older) = has_ended_by p older
 has_ended_by p (Finished q r ∷ older) =
     if nat_eq p q then is_end r || has_ended_by p older else has_ended_by p older
 
--- what a look past the last cell of lane p returns
+-- what a look past the last cell of lane p returns, or at its head if it has no cell
 abbrev pub lane_end_by : ℕ → List Call → Look
 lane_end_by p calls = if has_ended_by p calls then look.Ended else look.Nothing
 

@@ -15,7 +15,7 @@ abbrev pub place_after : ℕ → List Entry → Word
 place_after p [] = Head p
 place_after p (e ∷ _) = Link e.cell
 
--- the fetch-add of producer p for the entry's item, which gave the entry's number
+-- the fetch-add of producer p for the entry's item. It found the entry's number
 abbrev pub fetch : ℕ → Entry → PoolAccess
 fetch p e = record { process = Producer p; word = Counter; act = FetchAdd e.value e.cell }
 

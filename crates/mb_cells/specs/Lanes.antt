@@ -47,7 +47,7 @@ entry_at k h = record { cell = k; value = item_of k h }
 abbrev pub put_list : ℕ → History → List Entry
 put_list p h = reverse (map (λ k. entry_at k h) (linked_cells p h))
 
--- whether a store to a head or link stores the end mark
+-- whether the act stores the end mark in a head or link
 abbrev pub marks_end : Word → PoolAct → Bool
 marks_end (Head _) (Store v) = nat_eq v END
 marks_end (Link _) (Store v) = nat_eq v END
@@ -60,7 +60,7 @@ has_ended p (a ∷ older) =
     if is_same_process (Producer p) a.process then marks_end a.word a.act || has_ended p older
     else has_ended p older
 
--- what a look past the last cell of lane p returns
+-- what a look past the last cell of lane p returns, or at its head if it has no cell
 abbrev pub lane_end : ℕ → History → Look
 lane_end p h = if has_ended p h then look.Ended else look.Nothing
 
@@ -69,7 +69,7 @@ abbrev pub IsOnceEach : List ℕ → Type 0
 IsOnceEach [] = Unit {0}
 IsOnceEach (k ∷ ks) = (Has ks k → ⊥) × IsOnceEach ks
 
--- some fetch-add found the number k, so gave the cell of that number
+-- some fetch-add found the number k. So it gave cell k, if the pool has that cell
 abbrev pub WasHandedOut : ℕ → History → Type 0
 WasHandedOut k h =
     (a : PoolAccess) × (Has h a × ((a.word ≡ Counter) × ((x : ℕ) × (a.act ≡ FetchAdd x k))))

@@ -24,7 +24,7 @@ load r w v = record { process = Reader r; word = w; act = Load v }
 abbrev pub HasLoaded : ℕ → Word → ℕ → History → Type 0
 HasLoaded r w v h = Has h (load r w v)
 
--- the reader has met these cells (the last first) on lane p: from the head on, the link to each of them was loaded.
+-- the reader has met these cells (the last first) on lane p: from the head on, it loaded the link to each of them.
 -- The end mark is no link
 abbrev pub HasMet : ℕ → ℕ → List ℕ → History → Type 0
 HasMet r p [] h = Unit {0}

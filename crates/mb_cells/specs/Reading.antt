@@ -21,8 +21,7 @@ look_of v = if nat_eq v 0 then look.Nothing else if nat_eq v END then look.Ended
 abbrev pub look_after : Cursor → History → Look
 look_after at h = look_of (value_in (word_of at) h)
 
--- looks from the cursor on give these cells (the first first) with these items, and then one look gives `last`:
--- nothing yet, or the end mark
+-- looks from the cursor on give these cells (the first first) with these items, and then one look gives `last`
 abbrev pub Reads : (Cursor → Look) → (ℕ → ℕ) → Cursor → List Entry → Look → Type 0
 Reads look_at item_at at [] last = look_at at ≡ last
 Reads look_at item_at at (e ∷ es) last =

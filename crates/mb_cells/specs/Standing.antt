@@ -13,7 +13,7 @@ use Rattle.mb_cells.specs.LanePath.{Entry, fetch, store}
 use Rattle.mb_cells.specs.Place.{LaneIsAt, Phase}
 
 -- ---- the place of a producer
--- the cell of the entry that was linked last
+-- the cell of the entry that was linked last, or None if there is none
 abbrev pub last_of : List Entry → Option ℕ
 last_of [] = None
 last_of (e ∷ _) = Some e.cell
@@ -48,8 +48,8 @@ stage_offer_refusal (stage.Stored cell) = Some offer.Busy
 stage_offer_refusal stage.Full = Some offer.Full
 stage_offer_refusal stage.Open = None
 
--- what an offer returns without an access: Closed after the end mark, Busy while an offered item is not linked,
--- Full after a fetch-add that found no cell
+-- what an offer returns without an access: Closed after the end mark, Busy while an offered item is not linked, Full
+-- after a fetch-add that found no cell, if no end mark came later. Else None
 abbrev pub offer_refusal : Lane → Option Offer
 offer_refusal lane = stage_offer_refusal lane.stage
 
@@ -130,7 +130,7 @@ stage_finish_refusal (stage.Stored cell) = Some finish.Busy
 stage_finish_refusal stage.Full = None
 stage_finish_refusal stage.Open = None
 
--- what a finish returns without an access: Closed after the end mark, Busy while an offered item is not linked
+-- what a finish returns without an access: Closed after the end mark, Busy while an offered item is not linked, or None
 abbrev pub finish_refusal : Lane → Option Finish
 finish_refusal lane = stage_finish_refusal lane.stage
 

@@ -65,7 +65,7 @@ pub record IsAfter (h : History) (s : PoolState) : Type 0 where
   pub lanes : (p : ℕ) (lane : Lane) → p < lane_count s →
       IsLaneAfter (cell_count s) p (slice_index_or s.lanes p lane) (part (Producer p) h)
 
--- the invariant of a pool: its lists are as long as its size says, that is below 2^32, and a lawful history leaves it
+-- the invariant of a pool: its lists have the lengths that its size says, all below 2^32. A lawful history leaves it
 pub record PoolIsSound (s : PoolState) : Type 0 where
   pub heads : length s.words.heads ≡ lane_count s
   pub links : length s.words.links ≡ cell_count s

@@ -42,10 +42,10 @@ pub enum Finish {
 /// The answer of a look: what comes after a cursor.
 #[derive(Clone, Copy, PartialEq, Eq, Debug)]
 pub enum Look {
-    /// Nothing comes there yet.
+    /// Nothing comes after it yet.
     Nothing,
     /// This cell comes next.
     Cell(u32),
-    /// The end mark of the lane comes there.
+    /// The end mark of the lane comes after it.
     Ended,
 }

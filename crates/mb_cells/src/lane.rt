@@ -33,7 +33,7 @@ pub enum LaneStage {
     },
 }
 
-/// A producer's place on its lane: the cell that it linked last, and what it has done since.
+/// A producer's place on its lane: the cell that it linked last, if any, and what it has done since.
 #[derive(Clone, Copy, PartialEq, Eq, Debug)]
 pub struct Lane {
     last: Option<u32>,

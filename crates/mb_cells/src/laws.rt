@@ -49,8 +49,8 @@ pub fn readers_follow_lanes()
 
 /// What any list of calls does, said by the calls and their answers alone.
 pub fn calls_put_items()
-    // From the head on, looks and items give the items put, in their order. Then comes Ended, exactly if a finish
-    // returned it.
+    // From the head on, looks and items give the items put, in their order. Then a look gives Ended if a finish of the
+    // lane returned it, and else Nothing.
     ensures reads { (size : PoolSize) (p : ℕ) (calls : List Call) (s : PoolState)
         → HasMade size calls s → p < size.lanes
         → Reads (λ at. look_in at s) (λ k. item_in k s)
@@ -73,7 +73,7 @@ pub fn calls_put_items()
     ensures counter { (size : PoolSize) (calls : List Call) (s : PoolState) → HasMade size calls s
         → s.words.counter ≡ fetch_adds_by calls }
 
-    // Each cell is linked into one lane at most, and there once.
+    // Each cell is linked into one lane at most, and at most once there.
     ensures lane { (size : PoolSize) (p q k : ℕ) (calls : List Call) (s : PoolState)
         → HasMade size calls s
         → Has (linked_cells_by p calls) k → Has (linked_cells_by q calls) k → p ≡ q }
@@ -98,7 +98,7 @@ pub fn end_marks_are_last()
         → IsLinkWord w → is_of_lane p (linked_cells p h) w ≡ true → HasLoaded r w END h
         → HasMet r p (linked_cells p h) h }
 
-    // If a reader has loaded the end mark past cells that it met, they are all cells of the lane, and it has ended.
+    // If a reader loaded the end mark past cells that it met, they are all cells of the lane, and the lane has ended.
     ensures reader { (size : PoolSize) (h : History) (r p : ℕ) (ks : List ℕ) → IsPoolLawful size h
         → HasMet r p ks h → HasLoaded r (place_past p ks) END h → ks ≡ linked_cells p h }
     ensures told { (size : PoolSize) (h : History) (r p : ℕ) (ks : List ℕ) → IsPoolLawful size h
@@ -110,7 +110,7 @@ pub fn end_marks_are_all_ones()
     ensures { END ≡ 2 ^ 64 - 1 }
 {}
 
-/// A cell of the pool is linked into one lane at most, and there once.
+/// A cell of the pool is linked into one lane at most, and at most once there.
 pub fn cells_stand_once()
     ensures lane { (size : PoolSize) (h : History) (p q k : ℕ) → IsPoolLawful size h
         → Has (linked_cells p h) k → Has (linked_cells q h) k → p ≡ q }
@@ -222,7 +222,7 @@ pub fn readers_keep_to_lanes()
     ensures all { (size : PoolSize) (h : History) (r : ℕ) (a : PoolAccess) → IsPoolLawful size h
         → Has (part (Reader r) h) a → (p : ℕ) × (is_of_lane p (linked_cells p h) a.word ≡ true) }
 
-    // Accesses are a reader path if each passes one of the tests, and for each test those that pass it are one.
+    // Accesses are a reader path if each passes a test, and for each test those that pass it are a reader path.
     ensures whole { (lanes : ℕ) (test : ℕ → PoolAccess → Bool) (done : History)
         → ((a : PoolAccess) → Has done a → (p : ℕ) × (test p a ≡ true))
         → ((p : ℕ) → IsReaderPath lanes (filter (test p) done)) → IsReaderPath lanes done }
@@ -267,7 +267,7 @@ pub fn parts_tell_lanes()
 /// A lane refuses a call exactly because of what its producer has done.
 pub fn lanes_refuse_by_what_was_done()
     // An offer returns `Closed` after the end mark, `Busy` while an item has a cell that is not linked, and `Full`
-    // after a fetch-add that found no cell. Otherwise it is not refused.
+    // after a fetch-add that found no cell, until the end mark. Otherwise it is not refused.
     ensures closed { (size : PoolSize) (h : History) (p : ℕ) (lane : Lane) → IsPoolLawful size h
         → IsLaneAfter size.cells p lane (part (Producer p) h)
         → (offer_refusal lane ≡ Some offer.Closed) ↔ (has_ended p h ≡ true) }

@@ -6,12 +6,12 @@
 //! and a *link* word, and all lanes share one *counter*. All are 0 at first. To put an item, a producer makes three
 //! accesses. A fetch-add of the counter gives it a cell of its own, or a number past the cells if all were handed out.
 //! Then it stores the item in that cell. At last it stores the cell's number, plus one, in the link of the lane's last
-//! cell, or in the head. It may end with an *end mark*, stored where the next link would go, and no access after it.
+//! cell, or in the head. At its end it may store an *end mark* where the next link would go. No access follows it.
 //!
-//! A reader loads a head or a link. If it holds 0, nothing is linked there yet, and the reader may look again. Else it
-//! leads to a cell, or it is the end mark. The item of that cell was stored before the link to it, and no other
+//! A reader loads a head or a link. If the value is 0, nothing is linked there yet, and the reader may look again. Else
+//! it leads to a cell, or it is the end mark. The item of that cell was stored before the link to it, and no other
 //! producer has the cell, so the item is there to stay. A link is stored once. So all readers meet the same cells in
-//! the same order. The end mark comes after the last cell, and the only way there leads through all of them. So a
+//! the same order. The end mark comes after the last cell, and the only way there leads through all cells. So a
 //! reader that loaded the end mark has met all cells of the lane.
 //!
 //! # What is here

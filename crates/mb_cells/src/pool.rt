@@ -30,8 +30,8 @@ impl<A: Allocator + Drop> Model for Pool<A> {
 impl<A: Allocator + Clone + Drop> Pool<A> {
     ghost use Rattle.mb_cells.specs.{IsAfter, cell_count, lane_count};
 
-    /// A pool of empty lanes. None of its cells was handed out. It takes here all memory that it will ever need. The
-    /// error is [`NoMemory`] if the allocator refuses a part of that.
+    /// A pool of empty lanes. None of its cells was handed out. The call takes all memory that the pool will ever
+    /// need. The error is [`NoMemory`] if the allocator refuses a part of that.
     pub fn new(alloc: A, lanes: u32, cells: u32) -> Result<Pool<A>, NoMemory>
         ensures lanes { IfOk result (λ s. lane_count s ≡ lanes) }
         ensures cells { IfOk result (λ s. cell_count s ≡ cells) }
@@ -74,7 +74,7 @@ impl<A: Allocator + Drop> Pool<A> {
     /// Takes the next cell for item `x` of lane `p`, by one fetch-add of the counter. It needs a lane of the pool.
     /// [`calls_put_items`](crate::laws::calls_put_items) says which cell that is after the calls before.
     ///
-    /// It is refused by `Closed` after the end mark, by `Busy` while an item waits for its link, and by `Full` after a
+    /// It is refused by `Closed` after the end mark, else by `Busy` while an item waits for its link or `Full` after a
     /// fetch-add that found no cell. A refused call makes no access and changes nothing. But the first `Full` makes its
     /// fetch-add, which raises the counter and changes nothing that [`Pool::look`] and [`Pool::item`] show.
     pub fn offer(&mut self, p: u32, x: u64) -> Offer
@@ -114,7 +114,7 @@ impl<A: Allocator + Drop> Pool<A> {
 
     /// Stores the end mark of lane `p`: one store. It needs a lane of the pool. It is refused by `Closed` after the end
     /// mark, and by `Busy` while an item waits for its link, and then makes no access. Readers then find the end mark
-    /// after the lane's last cell, as [`calls_put_items`](crate::laws::calls_put_items) says.
+    /// after all the lane's cells, as [`calls_put_items`](crate::laws::calls_put_items) says.
     pub fn finish(&mut self, p: u32) -> Finish
         requires { p < lane_count self.old }
         ensures meets { FinishMeets self.old p result self.new }

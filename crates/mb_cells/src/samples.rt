@@ -14,7 +14,7 @@ pub fn one_item_is_put_and_read()
     ensures met { HasMet 5 0 (0 ∷ []) one_read }
 {}
 
-/// A load gives only what was stored, and the counter gives each number once.
+/// A load gives only what its word holds, and the counter gives each number once.
 pub fn memory_makes_nothing_up()
     // A load finds no value that nobody stored, and none that another has replaced. No number is given twice.
     ensures no_store { IsMemoryTrue (load 5 (Head 0) 1 ∷ one_taken) → ⊥ }
@@ -38,7 +38,7 @@ pub fn producers_keep_their_order()
 
 /// A reader loads a cell's words only if its own loads led to the cell. The end mark leads to no cell.
 pub fn readers_go_where_they_are_led()
-    // A reader may not load an item of a cell that none of its loads led to, or the head of a lane that is not there.
+    // A reader may not load an item of a cell that none of its loads led to, or the head of a lane that the pool lacks.
     ensures not_given { IsReaderPath 1 (load 5 (Item 0) 8 ∷ load 5 (Head 0) 0 ∷ []) → ⊥ }
     ensures end_mark { IsReaderPath 1 (load 5 (Item (END - 1)) 8 ∷ load 5 (Head 0) END ∷ []) → ⊥ }
     ensures no_lane { IsReaderPath 1 (load 5 (Head 1) 0 ∷ []) → ⊥ }

@@ -3,8 +3,8 @@
 //! `proofs/steps/`, one folder for each. They use the lemmas of `proofs/`.
 //!
 //! A table of shared words needs [`words_follow_steps`]: its words and parts are those of one lawful history. An access
-//! of a producer may follow if its lane goes on with it ([`lanes_lead_on`]), and a load of a reader if its own part led
-//! there. [`history_extends`] then gives the longer history. By [`accesses_stay_within`] the word is one of the pool's.
+//! of a producer may follow if its lane goes on with it ([`lanes_lead_on`]), and a reader's load if its loads led to
+//! the word. [`history_extends`] then gives the longer history. By [`accesses_stay_within`] the word is in the pool.
 ghost use Rattle.std.specs.Prelude.{◌≡◌, ◌+◌, ◌<◌, ◌≤◌, ◌⊎◌, ◌∷◌, ◌++◌, ◌^◌, ◌≢◌, ℕ, List, Some, None, length};
 ghost use Rattle.std.specs.Prelude.{slice_index, unwrap_or, []};
 ghost use Rattle.mb_cells.specs.{ActFits, Counter, END, Entry, Has, History, IsAfter, LaneIsAt, IsLaneAfter};
@@ -100,7 +100,7 @@ pub fn lanes_lead_on()
         → IsLaneAfter cells p lane done → finish_refusal lane ≡ None
         → IsLaneAfter cells p (lane_after_finish lane) (store p (next_link p lane) END ∷ done) }
 
-    // No other access goes on with the lane's path. If a call is refused, its access does not go on with it.
+    // No other access goes on with the lane's path. If a call is refused, its access does not go on with the path.
     ensures fetches { (cells p : ℕ) (lane : Lane) (done : History) (e : Entry)
         → IsLaneAfter cells p lane done → IsLanePrefix cells p (fetch p e ∷ done)
         → offer_refusal lane ≡ None }
@@ -144,7 +144,7 @@ pub fn put_lists_grow()
     ensures load { (h : History) (r q v : ℕ) (w : Word)
         → put_list q (load r w v ∷ h) ≡ put_list q h }
 
-    // A link store of another lane changes nothing, either.
+    // A store to a head or link by another lane's producer changes nothing, either.
     ensures other { (h : History) (p q v : ℕ) (w : Word) → p ≢ q → IsLinkWord w
         → put_list q (store p w v ∷ h) ≡ put_list q h }
 {}

@@ -37,7 +37,7 @@ has_some (x ∷ xs) c k e = not_empty x xs e
 pub has_turns : (turns : List Turn) (c : Act) → Has (acts turns) c → turns ≢ []
 has_turns turns c k e = has_some (acts turns) c k (ap acts e)
 
--- an act of a list is still in the list with later acts before it
+-- an act of a list is still in it with later acts in front
 pub has_later : (xs ys : List Act) (c : Act) → Has ys c → Has (xs ++ ys) c
 has_later [] ys c h = h
 has_later (x ∷ xs) ys c h = inr (has_later xs ys c h)

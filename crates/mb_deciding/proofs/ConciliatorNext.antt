@@ -35,7 +35,7 @@ drawn_follow s v k [] h = absurd h
 drawn_follow s v k (x ∷ older) h =
     (subst (λ act. Follows s v act older) (sym h.0) (k, inl h.2), missing_follow s v k older h.2)
 
--- each turn of attempts and of the store follows the turns before it
+-- each turn of attempts, and of the store after them, follows the turns before it
 put_follow : (s v k : ℕ) (turns : List Turn) → IsPut s v k turns → AllFollow s v turns
 put_follow s v k [] h = absurd h
 put_follow s v k (x ∷ older) h =

@@ -5,7 +5,7 @@ use Rattle.mb_deciding.specs.{Value, Proposal, Quorum, Last, Act, Load, Store, E
 use Rattle.mb_deciding.specs.{IsConciliatorPath}
 
 -- ---- the turns before the end of a path
--- the act is one before the end of a path of input v: it loads 0 or stores v
+-- the act is one before the end of a path of input v: it loads 0 or stores v + 1
 abbrev IsBefore : ℕ → Act → Type 0
 IsBefore v (Load reg x) = x ≡ 0
 IsBefore v (Store Value w) = w ≡ v + 1
@@ -35,7 +35,7 @@ found_before s v k (x ∷ older) h =
     let deeper = missing_before s v k older h.2 in
     ((subst (λ act. IsBefore v act) (sym h.0) refl, deeper.0), ap suc deeper.1)
 
--- these attempts and the store after them are k + 2 turns, and each is one before the end of a path
+-- the attempts up to k and the store after them are k + 2 turns, and each is one before the end of a path
 put_before : (s v k : ℕ) (turns : List Turn) → IsPut s v k turns → AreBefore v turns × (length turns ≡ suc (suc k))
 put_before s v k [] h = absurd h
 put_before s v k (x ∷ older) h =
@@ -86,7 +86,7 @@ path_last s v [] u h = absurd h
 path_last s v (x ∷ older) u h = (x, older, h.0, refl)
 
 -- ---- what a path stores
--- if the act stores, it stores v in the word of a conciliator
+-- if the act stores, it stores v + 1 in the word of a conciliator
 abbrev pub StoresInput : ℕ → Act → Type 0
 StoresInput v (Load reg x) = Unit {0}
 StoresInput v (Store Value w) = w ≡ v + 1

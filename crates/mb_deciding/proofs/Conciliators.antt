@@ -146,7 +146,7 @@ module _ (t : QuorumTable) (s : ℕ) (inputs : ℕ → ℕ) where
       (λ a g k f. among_kept a.turn.act (u + 1) (stores_in g) f)
       h l p rest is
 
-  -- if only one store was made, every output is its value
+  -- if only one store was made, every output has the value stored
   first_movers : (h : List Access) → L h → IsFirstMover (conciliator_of t s inputs) h
   first_movers h l w only p d u o =
       let end = path_last s (inputs p) (part p h) u o.1 in
@@ -198,14 +198,14 @@ module _ (t : QuorumTable) (s : ℕ) (inputs : ℕ → ℕ) where
       last_kept (inputs a.process) a.turn.act (value_in Last h) (newest_stores a h l)
       (no_last h (lawful_older (conciliator_of t s inputs) a h l))
 
-  -- each word holds only a number that a word of this name can hold: 0, or one more than a value, in a register 0 or 1
+  -- each word holds a number that a word of this name can hold: 0, or one more than a value. A register holds 0 or 1
   pub fits : (h : List Access) (reg : Reg) → L h → CanHold t reg (value_in reg h)
   fits h Value l = value_small h l
   fits h Proposal l = omega (arith, no_proposal h l)
   fits h (Quorum r) l = omega (arith, no_register r h l)
   fits h Last l = omega (arith, no_last h l)
 
--- in a lawful history of an object that is a conciliator: if only one store was made, every output is its value
+-- in a lawful history of an object that is a conciliator: if only one store was made, every output has the value stored
 pub one_mover :
     (o : Object) (s : ℕ) (h : List Access) → o.kind ≡ Conciliator s → IsObjectLawful o h → IsFirstMover o h
 one_mover o s h is =

@@ -29,7 +29,7 @@ history_from-push o h (x ∷ schedule) [] turn e all = absurd all
 history_from-push o h (x ∷ schedule) (y ∷ entries) turn e all =
     history_from-push o (with_entry x.1 y h) schedule entries turn e all.2
 
--- if one more entry may come after the others' accesses, all are entries of the schedule with that entry's turn
+-- if one more entry may come after the accesses of the others, all are entries of the schedule with its turn added
 pub entries_push :
     (o : Object) (h : List Access) (schedule : List (ℕ × ℕ))
     (entries : List Entry) (turn : ℕ × ℕ) (e : Entry)
@@ -92,7 +92,7 @@ module _ (u : ObjectSetup) (schedule : List (ℕ × ℕ)) (state : CourseState) 
   abbrev past : List Access
   past = history_of schedule state.entries
 
-  -- a turn of a process that has its output adds the entry `Done`. The run is then one after the longer schedule
+  -- a turn of a process that has its output adds the entry `Done`. The result is a run of the longer schedule
   pub course_done :
       (p word : ℕ) → HasEnded (object_in u) p past
       → IsCourse u (schedule ++ (p, word) ∷ [])
@@ -125,7 +125,7 @@ module _ (u : ObjectSetup) (schedule : List (ℕ × ℕ)) (state : CourseState) 
       (subst (λ n. IsReached u.table u.kind (get_or u.inputs p 0) n (part p past)) (sym is ∙ go)
       (run.reached p x below))
 
-  -- a turn of a process that has not ended adds its access. The run is then one after the longer schedule
+  -- a turn of a process that has not ended adds its access. The result is a run of the longer schedule
   pub course_accessed :
       IsTableFor u.kind u.table
       → (words : ObjectMemory) (p word : ℕ) (next : Next) (act : Act) → p < length state.places

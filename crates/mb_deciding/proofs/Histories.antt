@@ -72,7 +72,8 @@ longer_by o h p q turn l within prefix true e some =
     (within, prefix)
 longer_by o h p q turn l within prefix false e some = l.parts q some
 
--- a history stays lawful with one more turn that is true to memory and gives its process a prefix of a path
+-- a history stays lawful with one more turn of a process with an input of the table, if the turn is in words, is true
+-- to memory, and gives the process a prefix of a path
 pub longer :
     (o : Object) (h : List Access) (p : ℕ) (turn : Turn)
     → IsObjectLawful o h → o.inputs p < o.table.values → IsInWords turn → ReadsLast turn.act h

@@ -105,7 +105,7 @@ last_prefix t v place turns op seen word at is =
     ([], answer true path.0, (refl, path.1)))
 
 -- ---- what one exchange leaves in the words
--- what a word holds after it held n: w if b says that w was stored there, and else n
+-- what a word that held n holds next: w if b says that w was stored there, and else n
 kept_by : (b : Bool) (w n : ℕ) → option_map_or (λ value. value) (cond b (Some w) None) n ≡ cond b w n
 kept_by true w n = refl
 kept_by false w n = refl
@@ -253,7 +253,7 @@ module _ (t : QuorumTable) (inputs : ℕ → ℕ) where
       ap (λ act. value_after (Quorum r) act (value_in (Quorum r) h)) (newest_exchange a h l)
       ∙ untouched _ (value_in (Quorum r) h) ∙ no_register r h (lawful_older (last_of t inputs) a h l)
 
-  -- each word holds only a number that a word of this name can hold: 0, or one more than a value, in a register 0 or 1
+  -- each word holds a number that a word of this name can hold: 0, or one more than a value. A register holds 0 or 1
   pub last_fits : (h : List Access) (reg : Reg) → L h → CanHold t reg (value_in reg h)
   last_fits h Value l = omega (arith, no_value h l)
   last_fits h Proposal l = omega (arith, no_proposal h l)

@@ -91,7 +91,7 @@ clear_measured t v u n made h =
       long = omega (arith, ap length h.2, length-append (zeros_below n (t.read u)) h.0, begin.long);
     }
 
--- n is how many registers a path with the value u loads: all of u's read quorum if it decides, else those up to one
+-- n is how many registers of u's read quorum a path loads: all if it decides u, and else those up to some register r
 abbrev EndsAt : QuorumTable → ℕ → Bool → ℕ → Type 0
 EndsAt t u true n = n ≡ length (zeros_below t.registers (t.read u))
 EndsAt t u false n = (r : ℕ) × (r < t.registers) × IsMember (t.read u) r × (n ≡ suc (length (zeros_below r (t.read u))))
@@ -280,7 +280,7 @@ suffix_cases (x ∷ xs) begin (y ∷ later) made e =
     suffix_cases xs begin later made (let same : xs ++ begin ≡ later ++ made = cc in same)
 
 -- a prefix of a path has at most two acts more than its write quorum has registers. Or by it the path's preference was
--- chosen, and it has at most these acts, and one for each register of the preference's read quorum
+-- chosen, and it has at most that many, and one more for each register of the preference's read quorum
 pub part_length :
     (t : QuorumTable) (v : ℕ) (later made : List Act) (d : Bool) (u : ℕ) → IsRatifierPath t v (later ++ made) d u
     → (length made ≤ count_ones (t.write v) + 2) ⊎ (IsChosen v u made ×

@@ -1,4 +1,4 @@
--- The accesses left at a place are at most `most_turns`. Also how many these are at most on a ratifier.
+-- The accesses left at a place are at most `most_turns`. Also how large `most_turns` is at most for a ratifier.
 use Rattle.std.proofs.Common.{◌≡◌, ℕ, zero, suc, ◌+◌, ◌*◌, ◌^◌, ◌<◌, ◌≤◌, ◌==◌, count_ones, cond, Bool, true, false, List}
 use Rattle.std.proofs.Common.{◌∷◌, length, sym, refl, ap, ◌∙◌, arith}
 use Rattle.std.specs.Int.{bit_at}

@@ -34,7 +34,7 @@ some_path t v made d u h =
 lone_path : QuorumTable → ℕ → List Act
 lone_path t v = zeros_below t.registers (t.read v) ++ (Store Proposal (v + 1) ∷ Load Proposal 0 ∷ announcement t v)
 
--- these acts are a whole path with the decided output v
+-- the acts of `lone_path` are a whole path with the decided output v
 lone_path_decides : (t : QuorumTable) (v : ℕ) → IsRatifierPath t v (lone_path t v) true v
 unfolding lone_path
 lone_path_decides t v = (Store Proposal (v + 1) ∷ Load Proposal 0 ∷ announcement t v, inl (refl, refl), refl)

@@ -335,7 +335,7 @@ value_empty t inputs (a ∷ h) l =
     no_value t (inputs a.process) a.turn.act (acts (part a.process h)) (value_in Value h) (newest_behind t inputs a h l)
     (value_empty t inputs h (lawful_older (ratifier_of t inputs) a h l))
 
--- each word holds only numbers that a word of this name can hold: 0, or one more than a value, in a register 0 or 1
+-- each word holds a number that a word of this name can hold: 0, or one more than a value. A register holds 0 or 1
 pub fits :
     (t : QuorumTable) (inputs : ℕ → ℕ) (h : List Access) (reg : Reg) → IsObjectLawful (ratifier_of t inputs) h
     → CanHold t reg (value_in reg h)

@@ -142,7 +142,7 @@ grow_cond :
 grow_cond true x xs ys h = (x ∷ h.0, ap (λ zs. x ∷ zs) h.1)
 grow_cond false x xs ys h = h
 
--- the list below a higher bound is the list below the lower one with acts before it
+-- the list below a higher bound is the list below the lower one with acts, or none, in front
 pub each_grow :
     (act : ℕ → Act) (n mask bound : ℕ) → bound ≤ n
     → (later : List Act) × (later ++ acts_below act bound mask ≡ acts_below act n mask)

@@ -142,7 +142,7 @@ missing_no_store s zero v (x ∷ xs) ys put e h = h
 missing_no_store s (suc k) v [] ys put e h = let same : Store Value (v + 1) ≡ Load Value 0 = sym e ∙ h.0 in cc
 missing_no_store s (suc k) v (x ∷ xs) ys put e h = missing_no_store s k v xs ys put e h.2
 
--- one load alone with the random word 3 does not store, whatever attempt it is
+-- one load alone, with the random word 3, is no list of attempts of which the last stores
 found_late : (k : ℕ) → IsDrawn 2 k (turn 3 (Load Value 0) ∷ []) → ⊥
 found_late zero h = let stores : 3 % 2 ^ 2 < 2 ^ 0 = h.1 in omega arith
 found_late (suc k) h = h.2

@@ -136,14 +136,14 @@ checks_reached t v u bound left turns within few rest clear =
           ((within, some), (bound, few, rest, clear))
     ]
 
--- after the announcement, the load of a value from the proposal is a step to the check of that value
+-- after the announcement, the load of a value from the proposal is a step to the check of that value, or to its output
 pub prefer_step :
     (t : QuorumTable) (input u seen word : ℕ) (makes : Op → ℕ → Type 0) → makes (to.Load Proposal) seen → u < t.values
     → seen ≡ u + 1 → IsStep t (InRatifier (Announce input 0)) makes word (checks_of u (t.read u))
 prefer_step t input u seen word makes made within same =
     ratifier_step t (Announce input 0) makes (to.Load Proposal) seen word _ refl made reaches
   where
-    -- with this load the process is at the check of that value
+    -- with this load the process is at the check of that value, or has it as output
     reaches : RatifierReaches t (Announce input 0) seen (checks_of u (t.read u))
     reaches v turns op word at is can =
         let whole = announced_whole t v input 0 (acts turns) op seen at.1 is refl can in
@@ -165,7 +165,7 @@ empty_step t input seen word makes made within none =
         let empty : seen ≡ 0 = none whole.1 in
         (within, (at.1.0, subst (λ n. act_of op seen ∷ acts turns ≡ Load Proposal n ∷ announcement t v) empty whole.0))
 
--- the store of the input in the proposal is a step to the check of the input
+-- the store of the input in the proposal is a step to the check of the input, or to the output if nothing is to check
 pub propose_step :
     (t : QuorumTable) (input value seen word : ℕ) (makes : Op → ℕ → Type 0) → value ≡ input + 1
     → makes (to.Store Proposal value) seen → input < t.values
@@ -173,7 +173,7 @@ pub propose_step :
 propose_step t input value seen word makes same made within =
     ratifier_step t (Propose input) makes (to.Store Proposal value) seen word _ same made reaches
   where
-    -- with this store the process is at the check of its input
+    -- with this store the process is at the check of its input, or has its output
     reaches : RatifierReaches t (Propose input) seen (checks_of input (t.read input))
     reaches v turns op word at is can =
         checks_reached t v input 0 (t.read input) (record { act = act_of op seen; word = word } ∷ turns) within
@@ -187,7 +187,7 @@ pub clear_step :
 clear_step t q u left r after seen word makes made within none least taken =
     ratifier_step t (Check u left) makes (to.Load (Quorum r)) seen word _ least made reaches
   where
-    -- with this load the process is at the check of the others
+    -- with this load the process is at the check of the others, or has its output
     reaches : RatifierReaches t (Check u left) seen (checks_of u after)
     reaches v turns op word at is can =
         let next = checked_zero t q v u left r after (acts turns) op seen within at.1 is none least taken in

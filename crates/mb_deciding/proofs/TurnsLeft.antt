@@ -33,7 +33,7 @@ other_test :
 other_test mask r kept k without other =
     same_test (bit_at mask k) (bit_at kept k) (λ m. (without k).1 (m, other)) (λ m. ((without k).0 m).0)
 
--- below a bound n that is at most r both masks give the same list of acts
+-- below a bound n that is at most r the mask and the mask without r give the same list of acts
 below_same :
     (act : ℕ → Act) (n mask r kept : ℕ) → IsWithout mask r kept → n ≤ r → acts_below act n mask ≡ acts_below act n kept
 below_same act zero mask r kept without le = refl
@@ -105,7 +105,7 @@ width_of_power k =
     let least = width_is_least (2 ^ k) in
     omega (arith, least.least k (omega arith), below_power k (width_of (2 ^ k)) least.enough)
 
--- on attempt k of a conciliator whose last attempt is s, the limits show that s - k attempts are left
+-- on attempt k of a conciliator whose last attempt is s, the limits show that s - k attempts come after it
 pub attempts_left : (s k limit modulus : ℕ) → HasLimits s k limit modulus → width_of modulus - width_of limit ≡ s - k
 attempts_left s k limit modulus (within, limit_is, modulus_is) =
     ap₂ (λ a b. a - b) (ap width_of modulus_is ∙ width_of_power s) (ap width_of limit_is ∙ width_of_power k)

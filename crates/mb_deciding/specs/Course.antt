@@ -23,7 +23,7 @@ IsTableFor (Conciliator s) t = Unit {0}
 IsTableFor Ratifier t = IsQuorumTable t
 IsTableFor LastObject t = IsQuorumTable t
 
--- an object of this kind does the same over both tables. A conciliator looks at their numbers of values alone
+-- the tables count as the same for an object of this kind. For a conciliator their numbers of values alone count
 abbrev pub IsSameFor : Kind → QuorumTable → QuorumTable → Type 0
 IsSameFor (Conciliator s) t u = t.values ≡ u.values
 IsSameFor Ratifier t u = t ≡ u
@@ -45,14 +45,14 @@ pub record CourseState : Type 0 where
   pub places : List Next
   pub entries : List Entry
 
--- the run is one after the turns of the schedule
+-- a run can be in this state after the turns of the schedule
 pub record IsCourse (u : ObjectSetup) (schedule : List (ℕ × ℕ)) (run : CourseState) : Type 0 where
   -- each entry is of its turn, and may come after those before it
   pub fits : AreEntriesOf (object_in u) schedule run.entries []
   -- the accesses of the entries are one lawful history, which leaves the words
   pub lawful : IsObjectLawful (object_in u) (history_of schedule run.entries)
   pub memory : IsMemory run.words (history_of schedule run.entries)
-  -- each process has an input of the table
+  -- there is one place for each input, and each input is a value of the table
   pub processes : length run.places ≡ length u.inputs
   pub within : (p : ℕ) → p < length u.inputs → slice_index u.inputs p < u.table.values
   -- each process has reached what its part leads to

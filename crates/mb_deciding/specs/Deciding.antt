@@ -31,7 +31,7 @@ IsContested o h =
     → IsAnnounced o u h × ((w : ℕ) × (w ≢ u) × IsAnnounced o w h)
 
 -- What a clear read of a ratifier rules out. A process p has loaded the registers of u's read quorum below the bound
--- and found 0 in each, whatever it did later. Then no process b with an input other than u, which loaded an empty
+-- and found 0 in each, whatever it did later. Then no process b that has an input other than u, and loaded 0 from the
 -- proposal, has one of these registers in its write quorum
 abbrev pub ChecksKeepOut : Object → List Access → Type 0
 ChecksKeepOut o h =
@@ -44,7 +44,7 @@ ChecksKeepOut o h =
 abbrev pub stores_in : List Access → List ℕ
 stores_in h = filter_map (λ a. stored_by a.turn.act) h
 
--- first mover, of a conciliator: if only one store was made, every output is its value
+-- first mover, of a conciliator: if only one store was made, the number stored is u + 1 for the value u of every output
 abbrev pub IsFirstMover : Object → List Access → Type 0
 IsFirstMover o h =
     (w : ℕ) → stores_in h ≡ w ∷ [] → (p : ℕ) (d : Bool) (u : ℕ) → HasOutput o p d u h → w ≡ u + 1
@@ -61,7 +61,7 @@ pub record IsDeciding (o : Object) : Type 0 where
   -- no process has more turns than `most_turns` of the object's kind
   pub bounded :
       (h : List Access) (p : ℕ) → IsObjectLawful o h → length (part p h) ≤ most_turns o.table o.kind
-  -- each word holds only a number that a word of this name can hold: 0, or one more than a value, in a register 0 or 1
+  -- each word holds a number that a word of this name can hold: 0, or one more than a value. A register holds 0 or 1
   pub fits :
       (h : List Access) (reg : Reg) → IsObjectLawful o h → CanHold o.table reg (value_in reg h)
   -- validity, in every lawful history

@@ -22,9 +22,9 @@ held_in words Last = words.last
 abbrev pub IsMemory : ObjectMemory → List Access → Type 0
 IsMemory words h = (reg : Reg) → IsReg reg → held_in words reg ≡ value_in reg h
 
--- The access was made to the words and found this value. If the words held what a history leaves, a load or an exchange
--- found what the history leaves in its word, and a store counts as 0. Afterwards the words hold what the history with
--- the access leaves. Values found and stored are below 2 ^ 64
+-- The access was made to the words and found this value. If the words held what a history leaves, the value is what the
+-- history leaves in the word of a load or an exchange, or 0 for a store. Afterwards the words hold what the history
+-- with the access leaves. Values found and stored are below 2 ^ 64
 pub record IsAccess (words : ObjectMemory) (op : Op) (seen : ℕ) (after : ObjectMemory) : Type 0 where
   pub memory :
       (h : List Access) → IsMemory words h → (p word : ℕ)

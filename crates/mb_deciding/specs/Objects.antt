@@ -36,7 +36,7 @@ IsOpen t kind input turns =
     × ((output : Out) × IsPath t kind input (later ++ turns) output)
 
 -- The history is a lawful one of the object. Each load is true to memory. Values and random words are below 2 ^ 64.
--- Each process's part is a prefix of a path of its input, which is one of the table's values
+-- The part of each process with a turn is a prefix of a path of its input, which is one of the table's values
 pub record IsObjectLawful (o : Object) (h : List Access) : Type 0 where
   pub memory : IsMemoryTrue h
   pub words : AreInWords h
@@ -54,7 +54,7 @@ IsAnnounced o u h =
     (p r : ℕ) × (o.inputs p ≡ u) × IsMember (o.table.write u) r
     × Has (acts (part p h)) (Store (Quorum r) 1)
 
--- a word of this name can hold the number n: 0, or one more than a value, and in a register 0 or 1
+-- a word of this name can hold the number n: 0, or one more than a value. A register can hold 0 or 1
 abbrev pub CanHold : QuorumTable → Reg → ℕ → Type 0
 CanHold t Value n = n ≤ t.values
 CanHold t Proposal n = n ≤ t.values
@@ -66,7 +66,7 @@ abbrev pub largest_quorum : (ℕ → ℕ) → ℕ → ℕ
 largest_quorum quorum zero = 0
 largest_quorum quorum (suc v) = max (count_ones (quorum v)) (largest_quorum quorum v)
 
--- the most turns that a process makes on an object of this kind over the table
+-- the most turns that a process can make on an object of this kind over the table
 abbrev pub most_turns : QuorumTable → Kind → ℕ
 most_turns t (Conciliator s) = s + 3
 most_turns t Ratifier = largest_quorum t.write t.values + 2 + largest_quorum t.read t.values

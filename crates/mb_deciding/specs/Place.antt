@@ -23,7 +23,7 @@ abbrev pub IsRest : ℕ → ℕ → ℕ → Type 0
 IsRest mask bound left = (k : ℕ) → IsMember left k ↔ ((bound ≤ k) × IsMember mask k)
 
 -- ---- places that fit a table
--- the place in a ratifier fits the table: its value is one of the table's, and a check has a register left
+-- the place in a ratifier fits the table: its input or preference is one of the values, and a check has a register left
 abbrev pub IsRatifierPlace : QuorumTable → RatifierPlace → Type 0
 IsRatifierPlace t (Begin input) = input < t.values
 IsRatifierPlace t (Announce input left) = input < t.values
@@ -34,7 +34,7 @@ IsRatifierPlace t (Check preference left) = (preference < t.values) × (left ≢
 abbrev pub HasLimits : ℕ → ℕ → ℕ → ℕ → Type 0
 HasLimits s k limit modulus = (k ≤ s) × (limit ≡ 2 ^ k) × (modulus ≡ 2 ^ s)
 
--- the place in a conciliator fits: its input is one of so many values. Limits are those of an attempt, where s ≤ 63
+-- the place in a conciliator fits: the input is below `values`, and a `Draw` has the limits of an attempt, with s ≤ 63
 abbrev pub IsConciliatorPlace : ℕ → ConciliatorPlace → Type 0
 IsConciliatorPlace values (Draw input limit modulus) =
     (input < values) × ((s k : ℕ) × (s ≤ 63) × HasLimits s k limit modulus)
@@ -137,7 +137,7 @@ CanMeet values (Draw input limit modulus) seen = seen ≤ values
 CanMeet values (Put input) seen = Unit {0}
 CanMeet values (Look input) seen = (0 < seen) × (seen ≤ values)
 
--- the op of a process at the place may find this. For a store any value will do, since it finds none. A load or an
+-- the next op of a process at the place may find this. For a store any value will do, since it finds none. A load or an
 -- exchange finds a value that the word can hold. In a conciliator that is not 0 if the process itself has stored
 abbrev pub CanFind : QuorumTable → Pc → Op → ℕ → Type 0
 CanFind t pc (to.Store reg value) seen = Unit {0}

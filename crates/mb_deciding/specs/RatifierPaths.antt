@@ -24,7 +24,7 @@ abbrev pub announcement : QuorumTable → ℕ → List Act
 announcement t v = stores_below t.registers (t.write v)
 
 -- by these acts a process with input v announced it and has the preference u: it loaded 0 from the proposal and stored
--- its own value, or it loaded the value u
+-- v + 1 there, and u is v, or it loaded u + 1
 abbrev pub Prefers : QuorumTable → ℕ → ℕ → List Act → Type 0
 Prefers t v u acts =
     ((u ≡ v) × (acts ≡ Store Proposal (v + 1) ∷ Load Proposal 0 ∷ announcement t v))

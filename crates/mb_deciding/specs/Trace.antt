@@ -11,7 +11,7 @@ abbrev pub process_of : Entry → ℕ
 process_of (entry.Access process act out) = process
 process_of (entry.Done process) = process
 
--- the history with the access of an entry, if it has one, and the turn's random word
+-- the history, with the entry's access in front, if it has one. That access has this random word
 abbrev pub with_entry : ℕ → Entry → List Access → List Access
 with_entry word (entry.Access process act out) h =
     record { process = process; turn = record { act = act; word = word } } ∷ h

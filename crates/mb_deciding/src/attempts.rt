@@ -1,4 +1,4 @@
-//! How many attempts a process has on a conciliator.
+//! Which attempt of a process on a conciliator is the last.
 ghost use Rattle.std.specs.Prelude.{◌≡◌, ◌+◌, ℕ};
 ghost use Rattle.mb_quorum.specs.Vocabulary.{IsLeastWidth};
 ghost use Rattle.mb_deciding.specs.{spread};

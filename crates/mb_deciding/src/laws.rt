@@ -17,7 +17,7 @@ pub fn ratifiers_decide_unless_contested()
     ensures { (o : Object) → ObjectIsSound o → o.kind ≡ Ratifier → IsRatifying o }
 {}
 
-/// If only one store was made to a conciliator, every output is its value.
+/// If only one store was made to a conciliator, every output has the value stored: the input of the storing process.
 pub fn first_movers_win()
     ensures { (o : Object) (s : ℕ) (h : List Access)
         → o.kind ≡ Conciliator s → IsObjectLawful o h → IsFirstMover o h }

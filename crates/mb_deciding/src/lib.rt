@@ -22,8 +22,8 @@
 //! random words.
 //!
 //! A **last object** has one word, which each process exchanges once: if it finds the word empty, it stores its input
-//! there in the same access. Every output has the value that is there then, and is decided. The other two kinds need
-//! only loads and stores.
+//! there in the same access. Every output has the value that the word then holds, and is decided. The other two kinds
+//! need only loads and stores.
 //!
 //! A conciliator and then a ratifier, again and again, make consensus. The objects and their names are those of James
 //! Aspnes, "A modular approach to shared-memory consensus, with applications to the probabilistic-write model" (PODC

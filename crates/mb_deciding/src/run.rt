@@ -38,7 +38,7 @@ impl<A: Allocator + Copy + Drop> Course<A> {
     ghost use Rattle.mb_quorum.specs.Quorum.{QuorumTable};
     ghost use Rattle.mb_deciding.specs.{setup_of, IsSameFor, IsCourse, out_of};
 
-    /// A run before its first turn, with room for `turns` entries.
+    /// A run before its first turn, with room for `turns` entries. The error says that memory ran out.
     pub fn begin<M: Machine>(
         alloc: A,
         machine: &M,
@@ -63,7 +63,7 @@ impl<A: Allocator + Copy + Drop> Course<A> {
         })
     }
 
-    /// Adds one turn of a process, with the random word of this turn.
+    /// Adds one turn of a process, with the random word of this turn. The error says that memory ran out.
     pub fn turn<M: Machine>(
         &mut self,
         machine: &M,
@@ -104,7 +104,7 @@ impl<A: Allocator + Copy + Drop> Course<A> {
         Ok(())
     }
 
-    /// Ends the run. Returns the entries, and the output of each process.
+    /// Ends the run. Returns the entries, and for each process its output or none. The error says that memory ran out.
     pub fn finish(self, alloc: A) -> Result<Trace<A>, AllocError>
         ensures entries { IfOk result (λ trace. trace.entries.items ≡ self.entries) }
         ensures outputs { IfOk result (λ trace. trace.outputs.items ≡ map out_of self.places) }

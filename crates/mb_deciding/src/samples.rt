@@ -25,7 +25,7 @@ pub fn small_histories()
     ensures patient { IsObjectLawful small_conciliator (history_of_one patient_turns) }
     ensures patient_output { HasOutput small_conciliator 0 false 0 (history_of_one patient_turns) }
 
-    // Process 0 stores on attempt 0, although the random word 3 does not store there.
+    // Process 0 stores on attempt 0, although with the random word 3 it may not.
     ensures impatient { IsObjectLawful small_conciliator (history_of_one impatient_turns) → ⊥ }
     ensures impatient_part { IsPrefix (unary_table 2) (Conciliator 2) 0 impatient_turns → ⊥ }
 {}
@@ -54,7 +54,7 @@ pub fn small_last_objects()
     ensures twice { IsPrefix (unary_table 3) LastObject 0
         (turn 0 (Exchange Last 1 1) ∷ turn 0 (Exchange Last 1 0) ∷ []) → ⊥ }
 
-    // A process that found 0 has its own input as output, and one that found a value has that value. Both are decided.
+    // A process has its own input as output if it found 0, and else the value that it found. Both outputs are decided.
     ensures own { (d : Bool) (u : ℕ) → IsPath (unary_table 3) LastObject 1
         (turn 0 (Exchange Last 2 0) ∷ []) (answer d u) → (d ≡ true) × (u ≡ 1) }
     ensures met { (d : Bool) (u : ℕ) → IsPath (unary_table 3) LastObject 1

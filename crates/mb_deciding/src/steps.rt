@@ -1,7 +1,7 @@
 //! Laws for builders of worlds and of tables of shared words: one more step of a lawful history, and the places of
 //! processes. A table that keeps the words of an object needs `history_extends` for its rule, and `places_lead_on` for
-//! the step that a place makes there. The functions compute nothing: their contracts are the laws. The proofs begin in
-//! `proofs/steps`, in a folder of the law's name.
+//! the next turn of a process at its place. The functions compute nothing: their contracts are the laws. The proofs
+//! begin in `proofs/steps`, in a folder of the law's name.
 ghost use Rattle.std.specs.Prelude.{ℕ, ◌≡◌, ◌+◌, ◌*◌, ◌<◌, ◌≤◌, List, [], ◌∷◌};
 ghost use Rattle.mb_quorum.specs.Quorum.{QuorumTable, IsQuorumTable};
 ghost use Rattle.mb_deciding.specs.{Object, ObjectIsSound, Kind, Access, Turn, Act, Op, Pc, Out};
@@ -9,8 +9,8 @@ ghost use Rattle.mb_deciding.specs.{ReadsLast, IsInWords, part, IsObjectLawful, 
 ghost use Rattle.mb_deciding.specs.{HasReg, PcIsAt, IsOpAt, CanFind, turn_after, seen_by, reg_of};
 ghost use Rattle.mb_deciding.specs.{IsSameOp, IsPlace, most_turns, turns_left, Conciliator, Ratifier};
 
-/// The empty history is lawful. A lawful history stays so with one turn more, if that is true to memory, is in words,
-/// and gives its process a prefix of a path.
+/// The empty history is lawful. A lawful history stays so with one turn more of a process with an input of the table,
+/// if the turn is true to memory, is in words, and gives the process a prefix of a path.
 pub fn history_extends()
     ensures empty { (o : Object) → IsObjectLawful o [] }
     ensures longer { (o : Object) (h : List Access) (p : ℕ) (turn : Turn)

@@ -101,14 +101,14 @@ fn refusal<T: ScheduledTurn>(inputs: &[u64], values: u64, schedule: &[T]) -> Opt
     input.or(process)
 }
 
-/// The least position of an input that is not below the bound. Positions count from 0.
+/// The least position of an input that is not below the bound, if there is one. Positions count from 0.
 fn first_input(inputs: &[u64], bound: u64) -> Option<usize>
     ensures { result ≡ first_from bound inputs.now }
 {
     inputs.iter().position(|input| *input >= bound)
 }
 
-/// The least position of a turn whose process is not below the bound. Positions count from 0.
+/// The least position of a turn whose process is not below the bound, if there is one. Positions count from 0.
 fn first_process<T: ScheduledTurn>(schedule: &[T], bound: u64) -> Option<usize>
     ensures { result ≡ first_from bound (map (λ x. (T.turn x).0) schedule.now) }
 {

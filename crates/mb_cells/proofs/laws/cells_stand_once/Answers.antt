@@ -1,4 +1,4 @@
--- Proof of `laws::cells_stand_once`: a cell of the pool is linked into one lane at most, and there once.
+-- Proof of `laws::cells_stand_once`: a cell of the pool is linked into one lane at most, and at most once there.
 use Rattle.mb_cells.proofs.laws.cells_stand_once.Goals as goal
 use Rattle.mb_cells.proofs.Items.{cell_within, once_each, one_lane}
 use Rattle.mb_cells.proofs.Totals.{few_cells, few_items}

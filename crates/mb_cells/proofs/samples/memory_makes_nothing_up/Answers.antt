@@ -1,5 +1,5 @@
--- Proof of `samples::memory_makes_nothing_up`: a load gives only what was stored, and the counter gives each number
--- once.
+-- Proof of `samples::memory_makes_nothing_up`: a load gives only what its word holds, and the counter gives each
+-- number once.
 use Rattle.std.proofs.Common.{arith, refl, ◌≡◌}
 use Rattle.mb_cells.proofs.samples.memory_makes_nothing_up.Goals as goal
 

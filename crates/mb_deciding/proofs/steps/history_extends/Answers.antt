@@ -1,5 +1,5 @@
--- Proof of `steps::history_extends`: the empty history is lawful. A history stays lawful with a turn that is true to
--- memory and gives its process a prefix of a path.
+-- Proof of `steps::history_extends`: the empty history is lawful. A history stays lawful with a turn that is in words,
+-- is true to memory, and gives a process with an input of the table a prefix of a path.
 use Rattle.mb_deciding.proofs.Histories.{longer, none_lawful}
 use Rattle.mb_deciding.proofs.steps.history_extends.Goals as goal
 

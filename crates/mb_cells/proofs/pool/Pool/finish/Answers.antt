@@ -15,7 +15,7 @@ returns-clause-meets g c =
     rw (← c.self.view_is, c.finished.ensures, c.store.ensures, c.next_link.ensures)
     (finish_made s c.args.p lane lt c.self.invariant c.index_mut-lane.ensures.value going)
 
--- the history with the store leaves the pool, so it is still sound
+-- the history with the store leaves the pool, so the pool is still sound
 pub invariant_of-self-2 : goal.invariant_of-self-2
 invariant_of-self-2 g c =
     let s : PoolState = record { words = c.self.inside.words; lanes = c.self.inside.lanes.items } in

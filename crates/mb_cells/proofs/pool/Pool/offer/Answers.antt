@@ -29,7 +29,7 @@ returns-clause-meets g c =
     )
     (offer_made s c.args.p c.args.x lane lt c.index_mut-lane.ensures.value going c.ranges.x.fits (omega (arith, small)))
 
--- the history with the fetch-add leaves the pool, so it is still sound
+-- the history with the fetch-add leaves the pool, so the pool is still sound
 pub invariant_of-self-2 : goal.invariant_of-self-2
 invariant_of-self-2 g c =
     let s : PoolState = record { words = c.self.inside.words; lanes = c.self.inside.lanes.items } in

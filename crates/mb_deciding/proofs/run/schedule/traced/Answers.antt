@@ -7,7 +7,7 @@ use Rattle.mb_deciding.proofs.Courses.{course_trace}
 use Rattle.mb_deciding.proofs.CourseTables.{same_self, same_table}
 use Rattle.mb_deciding.proofs.run.schedule.traced.Goals as goal
 
--- if P and Q together give R, and both hold of an `Ok` result's value, so does R
+-- if P and Q together give R, and P and Q hold of an `Ok` result's value, R holds of it
 if_ok : {X E : Type 0} (P Q R : X → Type 0) → ((x : X) → P x → Q x → R x) → (r : Result X E) → IfOk r P → IfOk r Q
     → IfOk r R
 if_ok P Q R joins (Ok x) p q = joins x p q

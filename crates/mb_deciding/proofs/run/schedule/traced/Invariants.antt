@@ -1,4 +1,4 @@
--- What the loop of `traced` keeps: the run is one after the turns of the schedule so far (`IsCourse`).
+-- What the loop of `traced` keeps: the run's state is that after the turns of the schedule so far (`IsCourse`).
 use Rattle.std.proofs.Common.{map, take}
 use Rattle.mb_quorum.specs.Quorum.{QuorumTable}
 use Rattle.mb_deciding.specs.{setup_of, IsSameFor, IsCourse}
