@@ -1,4 +1,4 @@
-/* The life of a mailbox with so many cells: each gets an item, which one consumer takes. by_cells.py counts each call. */
+/* The life of a mailbox with CELLS cells, its argument: each gets an item, and one consumer takes it. by_cells.py runs it. */
 #include "hazbultra.h"
 
 #include <stdio.h>

@@ -258,7 +258,7 @@ fn memory(seconds: u64) -> String {
     said.join("\n")
 }
 
-/// Sends until there is no memory. Then it receives all that was sent.
+/// Sends until there is no memory. Then receives all that was sent.
 fn full() -> String {
     let (sender, receiver) = channel();
     // (so the receiver has its memory before there is no more)

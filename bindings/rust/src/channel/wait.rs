@@ -2,7 +2,7 @@
 //!
 //! The rule is Dekker's. Whoever brings something makes it visible, and then loads `asleep`. Whoever wants it enters the
 //! list, which stores `asleep`, and then looks once more before it sleeps. These accesses are all `SeqCst`. So one of the
-//! two sees the other.
+//! two, or each, sees the other.
 //!
 //! To wake a sleeper is to take it out of the list. It has a *token* then, and owes a look. If it leaves without a look
 //! after that, it wakes the next one in its place. If a waker panics, that ends there, and the next one is woken: no sender or
@@ -16,7 +16,7 @@ use std::sync::Arc;
 use std::task::{Poll, Waker};
 use std::time::Instant;
 
-/// What a wait list stands on.
+/// What a wait list uses: words, locks, threads and time.
 pub trait System: Sized {
     type Word: Word;
     type Lock<T>: Lock<T>;
@@ -31,9 +31,9 @@ pub trait System: Sized {
     fn current() -> Self::Thread;
     /// Ends the `park` of a thread, or its next one.
     fn unpark(thread: &Self::Thread);
-    /// Sleeps until an `unpark`, or until then, or for no reason.
+    /// Sleeps until an `unpark` or until this time. It may also end for no reason.
     fn park(until: Option<Instant>);
-    /// Whether it is that time.
+    /// Whether this time is over. If it is `None`, it never is.
     fn is_past(until: Option<Instant>) -> bool;
 }
 
@@ -52,7 +52,7 @@ pub trait Lock<T> {
 
 /// The sleepers, the first of which is woken first.
 pub struct WaitList<S: System> {
-    /// How many there are.
+    /// How many sleepers there are.
     asleep: S::Word,
     list: S::Lock<List<S>>,
 }
@@ -74,7 +74,7 @@ struct Bed<S: System> {
 }
 
 impl<S: System> Sleeper<S> {
-    /// Wakes it. It is false if a task's waker panicked, so that perhaps nobody looks.
+    /// Wakes it. Returns false if a task's waker panicked, so that perhaps nobody looks.
     fn wake(self) -> bool {
         match self {
             Sleeper::Thread(bed) => {
@@ -115,14 +115,14 @@ impl<S: System> WaitList<S> {
         }
     }
 
-    /// Wakes all.
+    /// Wakes all sleepers.
     pub fn wake_all(&self) {
         for (_, sleeper) in self.change(std::mem::take) {
             sleeper.wake();
         }
     }
 
-    /// Changes the list under its lock. What is taken out is dropped after it.
+    /// Changes the list under its lock. A sleeper that is taken out is dropped after the lock is free.
     fn change<R>(&self, work: impl FnOnce(&mut VecDeque<(u64, Sleeper<S>)>) -> R) -> R {
         self.list.hold(|list| {
             let result = work(&mut list.sleepers);
@@ -131,7 +131,7 @@ impl<S: System> WaitList<S> {
         })
     }
 
-    /// Puts a sleeper at the end, and returns its number. It looks after that, and before it sleeps.
+    /// Puts a sleeper at the end, and returns its number. The sleeper looks once more before it sleeps.
     fn enter(&self, sleeper: Sleeper<S>) -> u64 {
         self.list.hold(|list| {
             let number = list.next;
@@ -142,7 +142,7 @@ impl<S: System> WaitList<S> {
         })
     }
 
-    /// Takes this sleeper out. It is false if it was woken: then it has a token.
+    /// Takes this sleeper out. Returns false if it was out already: it was woken, and has a token.
     fn withdraw(&self, number: u64) -> bool {
         let found = self.change(|sleepers| {
             let place = sleepers.iter().position(|it| it.0 == number);
@@ -151,14 +151,14 @@ impl<S: System> WaitList<S> {
         found.is_some()
     }
 
-    /// The same for one that does not look after it. So it passes its token on.
+    /// Takes out a sleeper that will not look any more. If it was woken, it passes its token on.
     pub fn leave(&self, number: u64) {
         if !self.withdraw(number) {
             self.wake_one();
         }
     }
 
-    /// Looks until it finds something, and sleeps between. It is `None` if it is past that time.
+    /// Looks until it finds something, and sleeps between looks. Returns `None` if this time is over.
     pub fn wait<R>(
         &self,
         until: Option<Instant>,
@@ -195,7 +195,7 @@ impl<S: System> WaitList<S> {
         }
     }
 
-    /// The same for a task, which keeps its number in `place` while it waits.
+    /// Looks once for a task, or twice if it enters the list. Its number is in `place` while it waits.
     pub fn poll<R>(
         &self,
         place: &mut Option<u64>,
@@ -204,7 +204,7 @@ impl<S: System> WaitList<S> {
     ) -> Poll<R> {
         let mut is_in = place.is_some_and(|number| self.renew(number, waker));
         if !is_in {
-            *place = None; // (it was woken, and looks now)
+            *place = None; // (it is new, or it was woken)
         }
         loop {
             if let Some(found) = look() {
@@ -221,7 +221,7 @@ impl<S: System> WaitList<S> {
         }
     }
 
-    /// Gives a sleeper this waker in place of its old one. It is false if it was woken.
+    /// Gives a sleeper this waker in place of its old one. Returns false if the sleeper was woken.
     fn renew(&self, number: u64, waker: &Waker) -> bool {
         let renewed = Sleeper::Task(waker.clone());
         let old = self.list.hold(|list| {
