@@ -1,4 +1,4 @@
-/* The life of a mailbox with CELLS cells, its argument: each gets an item, and one consumer takes it. by_cells.py runs it. */
+/* by_cells [CELLS]: the life of a mailbox with so many cells, or 256. Each gets an item, which one consumer takes. */
 #include "hazbultra.h"
 
 #include <stdio.h>

@@ -64,7 +64,7 @@ static jsCtx *jets;
 static natsSubscription *subscription;
 static int file; /* to which the sample appends its effects */
 static atomic_bool has_fault;
-/* Each prints one line. FAIL also sends the signal to stop, which all threads block and one awaits. EXIT ends at once. */
+/* Each prints one line. FAIL also sends the signal to stop, which all threads block and one awaits. EXIT also exits. */
 #define SAY(...) fprintf(stderr, "fleet: " __VA_ARGS__)
 #define FAIL(...) (SAY(__VA_ARGS__), atomic_store(&has_fault, true), kill(getpid(), SIGTERM))
 #define EXIT(status, ...) (SAY(__VA_ARGS__), exit(status))
