@@ -1,7 +1,7 @@
 //! Tests the channel for long: `cargo run --release --example soak -- WHAT SECONDS VALUES`. WHAT is one of these:
 //!
 //! - `ends`: values go through channels of many setups, while ends are cloned and dropped at random, calls give up after some
-//!   time, and workers panic. No value is lost or comes twice, those of one sender come in order, and each audit agrees.
+//!   time, and workers panic. No value is lost or done twice, a sender's come in order unless given back, and audits agree.
 //! - `idle`: 64 receivers sleep, and take next to no processor time.
 //! - `memory`: values go by an idle sender and an idle receiver, with and without an audit. Memory does not grow.
 //! - `full`: a send that gets no memory returns its value, and all others are received. It needs a limit: `ulimit -v 200000`.
