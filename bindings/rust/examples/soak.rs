@@ -23,7 +23,7 @@ struct Value {
     sender: u64,
     /// How many values this sender sent before.
     place: u64,
-    /// Whether a worker panicked while it had the value. Then it may come later than the next ones.
+    /// Whether a worker panicked with the value. Then the value may come later than the sender's next ones.
     came_back: bool,
 }
 
