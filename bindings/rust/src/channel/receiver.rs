@@ -112,8 +112,8 @@ impl<T> Receiver<T> {
         now(self.take_job())
     }
 
-    /// Receives a value. The task waits until one comes, and no thread sleeps. Any executor will do. If the future is
-    /// dropped before, it receives nothing. A poll takes [locks of a receive](Receiver), a drop that of the list of sleepers.
+    /// Receives a value. The task waits until one comes, in any executor, and no thread sleeps. If the future is dropped
+    /// before, it receives nothing. A poll takes the [locks of a receive](Receiver), a drop that of the list of sleepers.
     pub fn recv_async(&self) -> RecvFuture<'_, T> {
         RecvFuture {
             receiver: self,

@@ -81,8 +81,8 @@ impl<T> Sender<T> {
     }
 
     /// Sends a value. If the channel is full, the task waits until there is room, and no thread sleeps. Any executor
-    /// will do. If the future is dropped before, it sends nothing. A poll takes [locks of a send](Sender), a drop that of
-    /// the list of sleepers.
+    /// will do. If the future is dropped before, it sends nothing. A poll takes the [locks of a send](Sender), a drop that
+    /// of the list of sleepers.
     pub fn send_async(&self, value: T) -> SendFuture<'_, T> {
         SendFuture {
             sender: self,
