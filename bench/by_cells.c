@@ -1,4 +1,4 @@
-/* The life of a mailbox with so many cells: each gets an item, which one consumer takes. by_cells.py counts each call. */
+/* by_cells [CELLS]: the life of a mailbox with so many cells, or 256. Each gets an item, which one consumer takes. */
 #include "hazbultra.h"
 
 #include <stdio.h>

@@ -3,8 +3,8 @@
 
 usage: bench/channels.py [--rounds 11] [--values 500000] [--counts]
 
-Nanoseconds are medians of interleaved rounds, in so many threads that send x that receive, without making. With 4 x 16 there is
-also the 99th percentile of the time that a value was on its way. A row says how many times those of crossbeam-channel they are.
+Nanoseconds are medians of interleaved rounds, without making. A x B is A threads that send and B that receive. With 4 x 16 there
+is also the 99th percentile of the time that a value was on its way. A row says how many times those of crossbeam-channel they are.
 Instructions are callgrind's, of a send and a receive, in one thread. With --counts there are no nanoseconds. On four idle
 processors it takes two minutes. It wants cargo, valgrind, and crossbeam-channel and flume of Debian.
 """
@@ -23,7 +23,7 @@ def told(*words):
 
 
 def counts(what, form):
-    """The instructions of a value that is received before the next is sent, and of one of many that are sent before."""
+    """The instructions of a value that is received before the next is sent, and of one of many that are sent first."""
     for way in ("relay", "turns"):
         yield measuring.by_item(*COUNTED, lambda values: measuring.instructions((PROGRAM, what, form, way, 1, 1, values)))
 

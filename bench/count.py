@@ -21,7 +21,7 @@ BY_HAND = measuring.ROOM / "by_hand"
 UNITS = {"mailbox": "an item", "polled": "an item", "puts": "a put", "chacha": "an item", "taken": "an item", "passed": "an item"}
 # `polled` is the loop `mailbox`, counted without the making of its mailbox and producer.
 SAME = {"polled": "mailbox"}
-# A count is the difference of two runs. So often each of them does the loop.
+# A count is the difference of two runs. This is how often each of them does the loop.
 SIZES = (2, 6)
 
 
@@ -34,7 +34,7 @@ def build():
 
 
 def difference(program, loop, what):
-    """The instructions of one time, the items of one time, and what was printed at both sizes."""
+    """The instructions and the items of doing the loop once, and what was printed at both sizes."""
     table, consumers, shape = what
     ran = [measuring.counted((program, loop, table, consumers, times, shape)) for times in SIZES]
     (few, first), (many, last) = ran

@@ -19,7 +19,7 @@ STACK = 1 << 23
 
 
 def one_run(producers, consumers, pairs, items, shape, limit):
-    """A run's row."""
+    """Makes one run, and returns its row of the table."""
     words = (PROGRAM, producers, consumers, pairs, items, 1, shape)
     if limit is not None:
         most = int(limit * 8 * items) + (producers + consumers) * STACK

@@ -96,7 +96,7 @@ def nanoseconds(text):
 
 
 def table(head, rows):
-    """A table of a page. A figure has a comma in each thousand, and None is a line."""
+    """A table of a page. A figure has a comma after each thousand, and None is "-"."""
     def cell(it):
         if it is None:
             return "-"

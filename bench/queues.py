@@ -5,10 +5,10 @@ usage: bench/queues.py [--rounds 7] [--items 65536] [--keep]
 
 The mailbox stands in each shape, with cheap random words and with those of ChaCha8, inside Rattle and from plain Rust.
 Beside it stand SegQueue and ArrayQueue of crossbeam, the channel of std with a lock round its receiver, and a locked
-VecDeque. Nanoseconds are medians of interleaved rounds, without making: in one thread, and with so many threads that put x
-that take. Instructions are callgrind's, in one thread, by the number of consumers. Bytes are those that were resident at the peak of a
-whole run, less those of a run with few items. A second table has consumers that share all lanes, and such as do not. With --keep the programs of the
-last run are taken as they are. It wants rt, cargo, valgrind and crossbeam-queue of Debian.
+VecDeque. Nanoseconds are medians of interleaved rounds, without making: in one thread, and with A x B threads, of which
+A put and B take. Instructions are callgrind's, in one thread, by the number of consumers. Bytes are those that were resident at the peak of a
+whole run, less those of a run with few items. In a second table consumers share all lanes, or have a lane or a mailbox each. With --keep the
+programs of the last run are taken as they are. It wants rt, cargo, valgrind and crossbeam-queue of Debian.
 """
 import argparse
 import re
@@ -20,7 +20,7 @@ SHAPES = ("plain", "fast", "last", "fastlast")
 THREADS = ((1, 1), (2, 2), (2, 4), (4, 16))
 CONSUMERS = (1, 2, 4, 16)
 STORED = ((1, 1), (2, 4), (4, 16))
-# How many items two runs have whose memory is compared. Both take more memory than this script, with whose memory a child begins.
+# How many items two runs have whose memory is compared. Both take more than this script: a child begins with its memory.
 KEPT, KEPT_IN_QUEUES = (1 << 17, 1 << 18), (1 << 21, 1 << 22)
 COUNTED = (1000, 5000)
 # How often two runs that are compared do a loop in Rattle, each time with a mailbox of so many cells.

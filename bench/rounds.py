@@ -17,7 +17,7 @@ PROGRAM = pathlib.Path(__file__).resolve().parent.parent / "crates" / "example_s
 
 
 def memory(process):
-    """The resident memory of a process now, and the most that it had, in MiB. Of one that has ended nothing tells it."""
+    """The resident memory of a process now, and the most that it had, in MiB, or "-" if it has ended."""
     status = pathlib.Path(f"/proc/{process}/status").read_text()
     found = [re.search(rf"{name}:\s+(\d+) kB", status) for name in ("VmRSS", "VmHWM")]
     return [f"{int(it[1]) / 1024:.1f}" if it else "-" for it in found]

@@ -1,4 +1,4 @@
-"""Tests of what the scripts of bench/ make of figures that programs tell."""
+"""Tests of what the scripts of bench/ make of figures that programs print."""
 import os
 import pathlib
 import subprocess

@@ -1,7 +1,7 @@
 #!/usr/bin/env python3
 """Compares the C interface in each place that declares it: the header, the Rust crate's `extern` block, the proved crate's exports.
 
-No compiler sees two of the three, so one would pass a `u32` for a `u64`. A type is read as `u64`, `usize`, `bool`, the name of a
+No compiler sees two of the three, so none finds a `u32` for a `u64`. A type is read as `u64`, `usize`, `bool`, the name of a
 struct in small letters, or `const` or `mut` and what a pointer leads to. A slice of Rattle's is a pointer and a length in C, and a
 `Global` is nothing. The status is 0 if nothing differs.
 """

@@ -11,7 +11,7 @@ TOP = os.path.dirname(os.path.dirname(os.path.abspath(__file__)))
 LINES, BODY, PARAMETERS, IMPORTS = 400, 40, 6, 20
 # (comments of src/ may be three columns wider, for now)
 COLUMNS, COMMENT, CLAUSE_COLUMNS, LIST_COLUMNS = {"src": 120, "proofs": 120}, 123, 100, 200
-# A file of tests. The rules of the product fix the parameters of the function.
+# LONG_FILE is a file of tests. The rules of the product fix the parameters of FIXED_FUNCTION.
 LONG_FILE, FIXED_FUNCTION = "crates/test_libraries/src/shared_cells.rt", "work"
 
 CLAUSE = re.compile(r" *(?:requires|ensures)\b")

@@ -159,7 +159,7 @@ def unread(group, said):
 
 
 def judged(group, said):
-    """Of each mutant of the group whether it is refused, by its label, and why the check judges nothing, if it does not."""
+    """Of each mutant of the group whether it is refused, by its label, or why the check judges nothing."""
     verdicts = dict(re.findall(r"^fn (\S+): (.*)$", said, re.M))
     others = {it: verdict for it, verdict in verdicts.items() if it not in [mutant.function for mutant in group]}
     own = [it for it, verdict in others.items() if fails(it, verdict, said)]

@@ -60,7 +60,7 @@ class Place(Room):
         return ran.returncode, ran.stdout, ran.stderr
 
     def expect_unproved(self, why):
-        """The program is run without a proof if there is a kit, and one line says why; without one it is not run."""
+        """The program is run without a proof if there is a kit, and one line says why; without a kit it is not run."""
         status, said, errors = self.run_it("replay")
         self.assertEqual((status, said, errors.count("\n")), (2, "rt try -- replay\nx\n", 1))
         self.assertIn(f"{why}. So this run is unproved", errors)

@@ -18,8 +18,8 @@ import sys
 import textwrap
 
 MAILBOX = os.path.join(os.path.dirname(os.path.realpath(__file__)), "..", "mailbox")
-COUNTER = ("counter",)  # the word that counts the cells that were taken
-MOST = 200  # how many events are drawn at most, and how many lines of the report are shown
+COUNTER = ("counter",)  # the word that counts the cells that producers took
+MOST = 200  # how many events are drawn at most, and how many lines of the report are shown at most
 # How high rows, marks and lines of text are; where rows and columns begin; how wide gutters and tracks in them are.
 ROW, MARK, TEXT, TOP, LEFT, GUTTER, TRACK = 24, 19, 17, 76, 28, 20, 6
 

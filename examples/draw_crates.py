@@ -1,7 +1,7 @@
 #!/usr/bin/env python3
 """Draws the crates as SVG, by crates.txt and the list of docs/ARCHITECTURE.md: examples/draw_crates.py > docs/pictures/crates.svg
 
-The product's crates are in layers, with a line from each to those that it uses. Those that it uses through a third have none.
+The product's crates are in layers, with a line from each to those that it uses. No line leads to those that it uses through a third.
 """
 import functools
 import os

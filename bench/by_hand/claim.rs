@@ -4,7 +4,7 @@ use crate::layout::Layout;
 use std::sync::atomic::AtomicU64;
 use std::sync::atomic::Ordering::SeqCst;
 
-/// Stores the value if the word is empty, and returns what the word held before.
+/// Stores the value if the word is 0, and returns what the word held before.
 #[inline]
 pub fn exchange(word: &AtomicU64, value: u64) -> u64 {
     word.compare_exchange(0, value, SeqCst, SeqCst).unwrap_or_else(|found| found)
@@ -23,7 +23,7 @@ pub enum Stage {
 /// registers, and a last object one word.
 #[derive(Clone, Copy, PartialEq, Eq)]
 pub enum Place {
-    /// It loads the conciliator's word. If that is empty, it stores there next if its random word is below the limit.
+    /// It loads the conciliator's word. If that is 0, it stores there next if its random word is below the limit.
     Look { limit: u64 },
     Write,
     Again,
@@ -33,7 +33,7 @@ pub enum Place {
     SetProposal,
     /// It loads a register of the preference's read quorum: these registers are still to be loaded.
     Check { left: u64, preference: u32 },
-    /// It stores its value in the last object's word if that is empty, by a compare-exchange.
+    /// It stores its value in the last object's word if that is 0, by a compare-exchange.
     Exchange,
 }
 

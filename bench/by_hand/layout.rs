@@ -102,7 +102,7 @@ impl Layout {
             ratifiers,
             ratifier_words,
             cell_words: ratifiers as usize * ratifier_words + pairs as usize + usize::from(last),
-            // s + 3 on a conciliator, one on each register of a ratifier, two on its proposal, one on a last object.
+            // width + 4 on a conciliator, 1 on each register of a ratifier, 2 on its proposal, 1 on a last object.
             most_on_pair: u64::from(width) + 4 + u64::from(registers) + 2 + 1,
             write,
             read,

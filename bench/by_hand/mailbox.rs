@@ -1,4 +1,4 @@
-//! A mailbox that threads could share. Here one thread uses it: a producer fills it, and then each consumer reads it.
+//! A mailbox that threads could share. Here one thread makes all calls of its producer and its consumers.
 
 use crate::claim::{Claim, Stage};
 use crate::exchange::{Take, Taker};

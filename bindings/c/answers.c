@@ -92,7 +92,7 @@ static void setups(void) {
     EXPECT(made((hz_setup){1, 1, 1, 0, HZ_BITS, true, false}) == HZ_BAD_PAIRS);
 }
 
-/* A call that asks for memory. If that is refused, which `told` counts, the same call is made once more. */
+/* COMES_TO makes a call that asks for memory. If that is refused, which `told` counts, it makes the call once more. */
 static long told;
 #define COMES_TO(wanted, call) (comes_to(wanted, call) || comes_to(wanted, call))
 
@@ -256,7 +256,7 @@ static void spends(void) {
     EXPECT(blocks == 0);
 }
 
-/* The largest setup: 16 producers and 64 consumers are issued, and no more. The mailbox's id is the largest, too. */
+/* The most producers and consumers: 16 and 64 are issued, and no more. The mailbox's id is the largest, too. */
 static void numbers(void) {
     hz_setup setup = setup_of(16, 64, 1, 1, HZ_BITS);
     hz_handle hub = HZ_NONE, report = HZ_NONE, more = HZ_NONE, parts[80] = {HZ_NONE};

@@ -86,7 +86,7 @@ typedef struct {
 typedef enum {
     HZ_DONE = 0, /* the call did what it is for */
 
-    /* returned by hz_poll and hz_take; the first three are also the kinds of a note */
+    /* returned by hz_poll, and all but HZ_LOST by hz_take too; the first three are also the kinds of a note */
     HZ_TOOK = 1,
     HZ_LOST = 2,
     HZ_UNDECIDED = 3,
@@ -100,7 +100,7 @@ typedef enum {
     HZ_FULL = 9,
     HZ_CLOSED = 10,
 
-    /* why another call was refused */
+    /* why a call was refused */
     HZ_NO_MEMORY = 16,
     HZ_BAD_HANDLE = 17,
     HZ_ALL_GIVEN = 18,

@@ -34,7 +34,7 @@ HAS(hz_missing, consumers, 4);
 
 static_assert(HZ_VERSION_MAJOR * 10000 + HZ_VERSION_MINOR * 100 + HZ_VERSION_PATCH > 0, "the version is of numbers");
 
-/* The two macros take the address of a constant, too. */
+/* HZ_BEFORE_PUT and HZ_AFTER_TAKE also take a pointer to what is const. */
 void tell_of(const int *item);
 void tell_of(const int *item) {
     HZ_BEFORE_PUT(item);

@@ -1,4 +1,4 @@
-//! The same work through mailboxes and through queues. Each function returns how long it took, without their making.
+//! The same work through mailboxes and queues. `mailbox` and `queue` return how long it took, without their making.
 use crate::queues::Queue;
 use hazbultra::{Builder, Consumer, Mailbox, Poll, Producer};
 use std::hint::black_box;

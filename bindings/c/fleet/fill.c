@@ -1,4 +1,4 @@
-/* Puts each line of its input as one job into a stream of the server. If there is no such stream, it makes it. */
+/* Puts each line of its input as one job into a stream of the server. If there is no such stream, it makes one. */
 #include <nats/nats.h>
 #include <stdio.h>
 #include <stdlib.h>

@@ -39,15 +39,15 @@ static const struct option {
  * second later. A bad one can never be done, and is ended. One that no worker took is left, and given back at once. */
 enum outcome { DONE, FAILED, BAD, LEFT, OUTCOMES };
 
-/* A place for a message. Its two numbers are the same each time that the server hands it out. */
+/* A place for a message, whose two numbers are the same each time that the server hands the message out. */
 struct job {
-    natsMsg *message; /* NULL: the place is free, and the numbers are those of a job that ran, or 0 */
+    natsMsg *message; /* NULL: the place is free, and has the numbers of a job that ran, or sequence 0 */
     uint64_t sequence;
     int64_t stored;   /* (the sequence alone will not do: a stream that is made anew begins with 1 again) */
-    bool is_settling; /* if it is set, one thread alone touches the message, to tell the server of its end */
+    bool is_settling; /* if it is set, one thread alone touches the message, to tell the server of the job's end */
 };
 
-/* What the threads share. A thread reads and writes it with the lock alone. */
+/* What the threads share. A thread reads and writes it only while it holds the lock. */
 static pthread_mutex_t lock = PTHREAD_MUTEX_INITIALIZER;
 static pthread_cond_t came = PTHREAD_COND_INITIALIZER, room = PTHREAD_COND_INITIALIZER;
 static struct {
@@ -64,7 +64,7 @@ static jsCtx *jets;
 static natsSubscription *subscription;
 static int file; /* to which the sample appends its effects */
 static atomic_bool has_fault;
-/* Each prints one line. FAIL stops the process, too. (All threads block its signal, and one waits for it.) */
+/* Each prints one line. FAIL also sends the signal to stop, which all threads block and one awaits. EXIT also exits. */
 #define SAY(...) fprintf(stderr, "fleet: " __VA_ARGS__)
 #define FAIL(...) (SAY(__VA_ARGS__), atomic_store(&has_fault, true), kill(getpid(), SIGTERM))
 #define EXIT(status, ...) (SAY(__VA_ARGS__), exit(status))
@@ -94,7 +94,7 @@ static enum outcome run(const char *text, uint64_t worker) {
 }
 
 /* Stores a message in its place, and returns that. Returns NULL if this process has the message already or has run it, or
- * if another has the place. One that ran is acknowledged again. (One whose place another has comes again later.) */
+ * if another has the place. One that ran is acknowledged again. (One whose place another message has comes later.) */
 static struct job *admit(natsMsg *message) {
     jsMsgMetaData *about = NULL;
     if (natsMsg_GetMetaData(&about, message) != NATS_OK) {
@@ -178,7 +178,7 @@ struct mailbox {
     struct mailbox *next;
 };
 
-static struct mailbox *newest; /* for the main thread alone, as each field put is */
+static struct mailbox *newest; /* for the main thread alone, as each field `put` is */
 
 /* Returns whether the code is HZ_DONE. If it is not, the process fails. */
 static bool is_done(uint32_t code, const char *call) {
@@ -266,7 +266,7 @@ static void end_mailbox(struct mailbox *box) {
     free(box);
 }
 
-/* Ends each mailbox that is full and has no job left. If `all` is set, it ends every mailbox: the workers have ended. */
+/* Ends the oldest mailboxes, while each is full and has no job left. If `all` is set (no worker runs), it ends all. */
 static void end_mailboxes(bool all) {
     pthread_mutex_lock(&lock);
     struct mailbox *box = shared.oldest;
@@ -329,7 +329,7 @@ static void *watch(void *signals) {
     return NULL;
 }
 
-/* Fetches and puts jobs until the process is to stop. A fetch begins if at most half a batch waits, and waits for one. */
+/* Fetches and puts jobs until the process is to stop. A fetch begins if at most half a batch waits. */
 static void feed(void) {
     jsFetchRequest request;
     jsFetchRequest_Init(&request);

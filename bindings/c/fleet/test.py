@@ -70,7 +70,7 @@ def rows(stream):
 
 
 def expect_each(stream, jobs, most_again=0):
-    """Checks that each job ran, none twice in one process, and not too many again in another. Returns how many did."""
+    """Checks that each job ran, none twice in one process, and not too many again in another. Returns how many did that."""
     found = rows(stream)
     assert {job for job, _ in found} == set(jobs), f"{stream}: other jobs ran than there are"
     assert len(set(found)) == len(found), f"{stream}: a job ran twice in one process"

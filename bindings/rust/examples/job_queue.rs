@@ -1,4 +1,4 @@
-//! Workers sleep until a job comes. A job whose worker panics is tried again, perhaps by another worker. At last all end.
+//! Workers sleep until a job comes. A job that panics is tried again, perhaps by another worker. At last all end.
 use hazbultra::channel::{channel, Receiver};
 use std::panic;
 use std::sync::atomic::{AtomicUsize, Ordering};

@@ -1,7 +1,7 @@
 //! Tests the channel for long: `cargo run --release --example soak -- WHAT SECONDS VALUES`. WHAT is one of these:
 //!
 //! - `ends`: values go through channels of many setups, while ends are cloned and dropped at random, calls give up after some
-//!   time, and workers panic. No value is lost or comes twice, those of one sender come in order, and each audit agrees.
+//!   time, and workers panic. No value is lost or done twice, a sender's come in order unless given back, and audits agree.
 //! - `idle`: 64 receivers sleep, and take next to no processor time.
 //! - `memory`: values go by an idle sender and an idle receiver, with and without an audit. Memory does not grow.
 //! - `full`: a send that gets no memory returns its value, and all others are received. It needs a limit: `ulimit -v 200000`.
@@ -23,7 +23,7 @@ struct Value {
     sender: u64,
     /// How many values this sender sent before.
     place: u64,
-    /// Whether a worker panicked while it had the value. Then it may come later than the next ones.
+    /// Whether a worker panicked with the value. Then the value may come later than the sender's next ones.
     came_back: bool,
 }
 
@@ -258,7 +258,7 @@ fn memory(seconds: u64) -> String {
     said.join("\n")
 }
 
-/// Sends until there is no memory. Then it receives all that was sent.
+/// Sends until there is no memory. Then receives all that was sent.
 fn full() -> String {
     let (sender, receiver) = channel();
     // (so the receiver has its memory before there is no more)

@@ -5,7 +5,7 @@ use crate::mailbox::Mailbox;
 use crate::seeds;
 use std::fmt;
 
-/// The quorum table of the ratifiers in each cell. All promises hold with each. They differ in how many accesses polls make.
+/// The quorum table of the ratifiers in each cell. All promises hold with each. How many accesses polls make differs.
 #[derive(Clone, Copy, PartialEq, Eq, Hash, Debug, Default)]
 #[non_exhaustive]
 pub enum Table {
@@ -108,7 +108,7 @@ impl<T> Builder<T> {
     }
 
     /// Sets the seed of `ChaCha8`, from which each consumer draws random words, out of a stream of its own. There are no
-    /// other random words. So the same calls in one thread have the same results again. If you set no seed, each mailbox
+    /// other random words. So with one seed equal calls in one thread go the same way. If you set no seed, each mailbox
     /// gets one from the system, as hash maps do. With [`Shape::Exchange`] random words make no difference.
     pub fn seed(self, seed: [u8; 32]) -> Self {
         Builder {

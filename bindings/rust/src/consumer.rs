@@ -56,7 +56,7 @@ impl<T> fmt::Debug for Poll<T> {
 pub enum Sweep<T> {
     /// This consumer took this value.
     Took(T),
-    /// It found no further item on any lane, and at least one lane has not ended.
+    /// It found no further item on any lane, and has not met the end of each lane.
     Nothing,
     /// All lanes have ended, and this consumer has met the end of each.
     Ended,
@@ -207,7 +207,7 @@ impl<T> Consumer<T> {
 
     /// Tries the lanes one after the other, until it takes an item or finds no further one on any lane. It never waits.
     ///
-    /// It goes on past items that it loses. It begins with the lane after the one that it tried last.
+    /// It goes on past items that it loses. The first sweep begins with lane 0, a later one after the lane tried last.
     pub fn sweep(&mut self) -> Sweep<T> {
         let lanes = self.lanes;
         let mut quiet = 0;

@@ -2,7 +2,7 @@
 //! most one consumer takes it**. A report at the end says who took what, and gives back what is left. No put and no poll
 //! takes a lock or waits, except in the allocator, for the box of a value.
 //!
-//! [`channel`] is a channel over such mailboxes: it never ends, and its receivers sleep until something comes.
+//! [`channel`] is a channel over such mailboxes: any number of values may be sent, and receivers sleep until one comes.
 //!
 //! The mailbox is written in Rattle, which is Rust with contracts, and proved for every run: every order of the threads'
 //! steps, and all random words. This crate links an archive built from it, and needs nothing else. It is for x86-64 Linux,

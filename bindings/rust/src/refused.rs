@@ -1,4 +1,4 @@
-//! Programs with a mistake that the types refuse. The first program has no mistake and compiles. No other may compile.
+//! Programs, each with a mistake that the types refuse, but for the first, which compiles. No other may compile.
 //! CI tries them all. rustdoc checks the codes `E0xxx` on nightly only. On stable any error of the compiler will do.
 //!
 //! ```

@@ -29,7 +29,7 @@ pub struct LaneReport<T> {
     pub left: Vec<T>,
 }
 
-/// The notes of one consumer on one lane.
+/// The notes of one consumer on one lane, and whether its claim on the next item is begun.
 #[derive(Clone, PartialEq, Eq, Hash, Debug)]
 #[non_exhaustive]
 pub struct Diary {

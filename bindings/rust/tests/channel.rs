@@ -1,4 +1,4 @@
-//! Tests of the channel, which is not proved. Segments are small, so that each test goes through many.
+//! Tests of the channel, which is not proved. Most have small segments, so that values go through many.
 use hazbultra::channel::{bounded, channel, Builder, Receiver, Sender};
 use hazbultra::channel::{RecvError, RecvTimeoutError, SendError, TryRecvError, TrySendError};
 use std::collections::BTreeMap;
@@ -288,7 +288,7 @@ fn a_send_that_is_dropped_sends_nothing() {
     assert!(receiver.iter().eq([1]));
 }
 
-/// A few values at a time, while the channel never ends: so nothing else wakes a receiver whose wake-up is lost.
+/// Sends a few values at a time, while the channel never ends: so nothing else wakes a receiver whose wake-up is lost.
 #[test]
 fn no_round_sleeps_for_ever() {
     let (sender, receiver) = Builder::new().cells(3).build();

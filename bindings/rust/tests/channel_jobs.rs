@@ -1,4 +1,4 @@
-//! Tests of the channel's jobs and of its audit. Segments are small, so that each test goes through many.
+//! Tests of the channel's jobs and of its audit. Most have small segments, so that values go through many.
 use hazbultra::channel::{
     bounded, Builder, Receiver, RecvError, Sender, TryRecvError, TrySendError,
 };

@@ -62,7 +62,7 @@ def manifest(name, *dependencies):
 
 
 def end_of(text, at):
-    """Where the first block that opens after `at` ends."""
+    """The place where the first block that opens after `at` ends."""
     depth = 0
     for place in range(text.index("{", at), len(text)):
         depth += {"{": 1, "}": -1}.get(text[place], 0)

@@ -86,7 +86,7 @@ fn a_value_that_finds_no_cell_comes_back() {
     assert_eq!(drops.count(), 1);
 }
 
-/// This holds also if it has won the item and has not loaded it yet, which is the latest place to stop.
+/// The consumer stops after each number of accesses. At the latest it has won the item, but not loaded it.
 #[test]
 fn a_consumer_that_stops_midway_leaves_the_value() {
     for shape in [

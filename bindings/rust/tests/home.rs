@@ -1,4 +1,4 @@
-//! Tests that producers and consumers return when they are dropped, and that a gather before that is refused.
+//! Tests of the issue and the return of producers and consumers, of sweeps, and of numbers that a builder refuses.
 use hazbultra::{
     BuildError, Consumer, GatherError, IssueError, Mailbox, Poll, Producer, Shape, Sweep,
 };

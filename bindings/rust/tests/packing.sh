@@ -54,7 +54,7 @@ depended_on() {
         echo "hazbultra = { git = \"file://$room/depended_on/repository\" }"
     } >Cargo.toml && cargo fetch --quiet && prints . && has_mark target/debug/user
 }
-vendored() { # whether it builds after all from which it was vendored was removed
+vendored() { # whether it builds after its sources outside the vendored folder were removed
     mv ../depended_on/user . && cd user && mkdir .cargo && cargo vendor --offline >.cargo/config.toml &&
         rm -r ../../depended_on "$CARGO_HOME" target && prints . && has_mark target/debug/user
 }

@@ -1,4 +1,4 @@
-//! Tests of polls by consumers that compete for one item at the same time.
+//! Tests of polls and takes by consumers that compete for the same items, and of builders with 0 pairs.
 use hazbultra::{BuildError, Builder, Mailbox, Note, Poll, Shape};
 use std::thread;
 

@@ -1,6 +1,6 @@
 //! Random calls on mailboxes in which each claim is one exchange, compared with a model that goes access by access.
-//!
 //! Each run is played twice: by takes, and by the polls that a take stands for. Consumers stop midway, and lanes end.
+//! The last test has no model: 64 consumers share one large mailbox.
 use hazbultra::{Consumer, Full, Mailbox, Note, Poll, Shape};
 
 /// Which access a consumer makes next on a lane: of the link, of the claim, or of the item that it has won.

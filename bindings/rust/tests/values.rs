@@ -1,4 +1,4 @@
-//! Tests that values of many types go through a mailbox and come out as they were.
+//! Tests of values of many types, which come out as they were, of reports, and of all tables, shapes and seeds.
 use hazbultra::{Full, Mailbox, Note, Poll, Shape, Table};
 use std::thread;
 

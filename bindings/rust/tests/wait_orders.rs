@@ -1,8 +1,8 @@
 //! Runs the source of the channel's wait list in each order of its steps, and finds that no wake-up is lost.
 //!
-//! Each sender sends one value, and each receiver takes one. A receiver waits as a thread or as a task. A thread may give up
-//! at any time, and a task may be dropped at any time, also after it was woken. In no order is a value left while a receiver
-//! sleeps for ever. `tests/wrong_bodies.py` tries wrong changes of that source, each of which this search refuses.
+//! Each sender sends one value, and each receiver takes one. A receiver waits as a thread or as a task. Some may give
+//! up, or be dropped, at any time, also after they were woken. In no order is a value left while a receiver sleeps for
+//! ever. `tests/wrong_bodies.py` tries wrong changes of that source, each of which this search refuses.
 mod orders;
 #[allow(
     dead_code,

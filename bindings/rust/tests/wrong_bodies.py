@@ -19,7 +19,7 @@ TEST = "test -q --test channel "
 DROPS = TEST + "ten_million"
 JOBS = "test -q --test channel_jobs "
 AT_A_TIME = 4
-# What is wrong, the file, the right text, the wrong one, and what catches it.
+# What is wrong, the file, the right text, the wrong one, and the test that catches it.
 BODIES = [
     ("a token is not passed on", "wait", "            self.wake_one();\n        }\n    }\n\n    /// Looks until", "        }\n    }\n\n    /// Looks until", SEARCH),
     ("a thread does not look after it entered the list", "wait", "            if let Some(found) = look() {\n                self.leave(number);\n                return Some(found);\n            }\n", "", SEARCH),

@@ -6,10 +6,10 @@ use std::collections::{BTreeMap, VecDeque};
 use std::fmt;
 use std::sync::{Arc, Mutex};
 
-/// So many accounts wait for somebody to ask for them.
+/// At most so many accounts wait for somebody to ask for them, the newest ones. Older ones go.
 const KEPT: usize = 16;
 
-/// In place of a sender's number: a job gave the value back.
+/// Stands in place of a sender's number if a job gave the value back.
 pub(super) const GIVEN_BACK: u64 = u64::MAX;
 
 /// Who put what into a segment, and who took what from it. The rest is in the report of its mailbox.
@@ -17,12 +17,12 @@ pub(super) const GIVEN_BACK: u64 = u64::MAX;
 pub(super) struct Logs {
     /// The sender of each place.
     pub(super) senders: Vec<u64>,
-    /// Of each consumer the receiver of each place that it took.
+    /// The number of each consumer, with the receiver of each place that it took.
     pub(super) takers: Vec<(usize, Vec<u64>)>,
 }
 
 /// What became of the values of one segment. [`Audit::accounts`] hands it out. Its `Debug` shows how many values are left,
-/// so that it is there for each `T`.
+/// but not the values. So `T` needs no `Debug`.
 #[derive(Clone, PartialEq, Eq)]
 #[non_exhaustive]
 pub struct Account<T> {
@@ -43,7 +43,7 @@ pub struct Fate {
 }
 
 /// The counts of all finished segments, also of those whose accounts were handed out. There is an entry for each end that
-/// ever sent or took something.
+/// sent or took a value that is counted.
 #[derive(Clone, PartialEq, Eq, Default, Debug)]
 #[non_exhaustive]
 pub struct Totals {
@@ -61,8 +61,8 @@ pub struct Totals {
 
 /// The accounts of a channel. [`Builder::audited`](super::Builder::audited) makes it.
 ///
-/// An account is made when a segment is over and no end stands in it any more, and of the last segments when the last
-/// receiver is dropped. Those of one chain come in the order of their values. The newest 16 accounts wait. Older ones that
+/// An account is made when a segment is over and no end stands in it any more, or when the last receiver is dropped.
+/// The accounts of one chain come in the order of their values. The newest 16 accounts wait. Older ones that
 /// nobody asked for go, and are in the [totals](Audit::totals) alone. Each call takes the lock of the accounts.
 pub struct Audit<T> {
     ledger: Arc<Ledger<T>>,
@@ -74,7 +74,7 @@ pub(super) struct Ledger<T> {
 
 struct Book<T> {
     accounts: VecDeque<Account<T>>,
-    /// How many accounts are kept. After the audit was dropped it is none.
+    /// How many accounts are kept at most: 0 after the audit was dropped.
     kept: usize,
     totals: Totals,
 }
@@ -93,7 +93,7 @@ impl<T> Audit<T> {
         (audit, ledger)
     }
 
-    /// The accounts since the last call, each once.
+    /// The accounts that were made since the last call and still wait, each once.
     #[must_use = "each account is handed out once"]
     pub fn accounts(&self) -> Vec<Account<T>> {
         std::mem::take(&mut lock(&self.ledger.book).accounts).into()
@@ -109,13 +109,13 @@ impl<T> Audit<T> {
 impl<T> Drop for Audit<T> {
     fn drop(&mut self) {
         lock(&self.ledger.book).kept = 0;
-        // (the values that are left in them are dropped under no lock)
+        // (the values that are left in the accounts are dropped under no lock)
         drop(self.accounts());
     }
 }
 
 impl<T> Ledger<T> {
-    /// Makes the account of a mailbox to which all were returned.
+    /// Makes the account of a mailbox to which all producers and consumers were returned.
     pub(super) fn close(&self, mailbox: Mailbox<u64>, logs: &Logs, left: Vec<T>) {
         let account = mailbox.gather().ok().map(|report| Account {
             fates: fates(&report, logs),
@@ -135,7 +135,7 @@ impl<T> Ledger<T> {
     }
 }
 
-/// The report says which consumer took which place, and the logs who that was.
+/// The report says which consumer took which place, and the logs say which sender and receiver that was.
 fn fates(report: &Report<u64>, logs: &Logs) -> Vec<Fate> {
     let senders = logs.senders.iter().map(|sender| Fate {
         sender: (*sender != GIVEN_BACK).then_some(*sender),

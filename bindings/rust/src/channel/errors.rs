@@ -1,11 +1,11 @@
-//! What can go wrong, by the names of `crossbeam-channel`.
+//! The errors of a channel, with the names that `crossbeam-channel` has for its own.
 use std::error::Error;
 
-/// The value was not sent: all receivers are gone, or there is no memory for a segment. This is the value.
+/// The value was not sent: all receivers are gone, or there is no memory for a segment. The field is the value.
 #[derive(Clone, Copy, PartialEq, Eq)]
 pub struct SendError<T>(pub T);
 
-/// Why a value was not sent at once. It is in the error.
+/// Why a value was not sent at once. The value is in the error.
 #[derive(Clone, Copy, PartialEq, Eq)]
 pub enum TrySendError<T> {
     /// The channel has as many values as its bound allows, or there is no memory for a segment.
@@ -14,7 +14,7 @@ pub enum TrySendError<T> {
     Disconnected(T),
 }
 
-/// Why a value was not sent in time. It is in the error.
+/// Why a value was not sent in time. The value is in the error.
 #[derive(Clone, Copy, PartialEq, Eq)]
 pub enum SendTimeoutError<T> {
     /// The channel was full until then, or there is no memory for a segment.
@@ -39,21 +39,21 @@ pub enum TryRecvError {
 /// Why no value was received in time.
 #[derive(Clone, Copy, PartialEq, Eq, Debug)]
 pub enum RecvTimeoutError {
-    /// Nothing was there until then.
+    /// Nothing was received until then.
     Timeout,
     /// Nothing is left, and nothing comes.
     Disconnected,
 }
 
 impl<T> SendError<T> {
-    /// The value.
+    /// Returns the value that was not sent.
     pub fn into_inner(self) -> T {
         self.0
     }
 }
 
 impl<T> TrySendError<T> {
-    /// The value.
+    /// Returns the value that was not sent.
     pub fn into_inner(self) -> T {
         match self {
             TrySendError::Full(value) | TrySendError::Disconnected(value) => value,
@@ -72,7 +72,7 @@ impl<T> TrySendError<T> {
 }
 
 impl<T> SendTimeoutError<T> {
-    /// The value.
+    /// Returns the value that was not sent.
     pub fn into_inner(self) -> T {
         match self {
             SendTimeoutError::Timeout(value) | SendTimeoutError::Disconnected(value) => value,
@@ -142,7 +142,7 @@ impl From<RecvError> for RecvTimeoutError {
     }
 }
 
-/// Makes a trait of `fmt` by the text that it is to write.
+/// Implements traits of `std::fmt`, each by the text that it writes.
 macro_rules! written {
     ($($trait:ident [$($t:ident)?] $of:ty: $text:expr;)*) => {$(
         impl<$($t)?> std::fmt::$trait for $of {
@@ -158,7 +158,7 @@ pub(super) use written;
 const SEND_CLOSED: &str = "sending on a disconnected channel";
 const RECV_CLOSED: &str = "receiving on an empty and disconnected channel";
 
-// (`Debug` too, so that it is there for each `T`)
+// (`Debug` is among them, so that `T` needs no `Debug`)
 written! {
     Display [T] SendError<T>: |_| SEND_CLOSED;
     Display [T] TrySendError<T>: |it| if it.is_full() { "sending on a full channel" } else { SEND_CLOSED };

@@ -5,7 +5,7 @@ use std::ops::{Deref, DerefMut};
 use std::sync::Arc;
 
 /// A received value, which goes back to the channel when this is dropped, also by a panic, unless [`done`](Job::done) was
-/// called. [`Receiver::recv_job`](super::Receiver::recv_job) makes it.
+/// called. [`Receiver::recv_job`](super::Receiver::recv_job) and `try_recv_job` make it.
 ///
 /// While a job is open the channel does not end: receivers sleep, since the value may come back. So a thread that holds a
 /// job, and waits on the same channel for its end, waits for ever.

@@ -13,7 +13,7 @@ use std::task::{Context, Poll};
 use std::thread;
 use std::time::{Duration, Instant};
 
-/// Receives values. A clone of it is another receiver, and each value goes to one of them.
+/// Receives values. A clone of it is another receiver, and each value goes to at most one receiver.
 ///
 /// **Locks of a receive.** Each of the first 64 receivers has a seat of its own. A receive holds the lock of its seat. So it
 /// waits only for another thread that shares this receiver by `&`, for one of the receivers beyond 64, which share seats, or
@@ -78,7 +78,7 @@ impl<T> Receiver<T> {
     /// Receives a value if one is there now. It never sleeps, but for [the locks of a receive](Receiver).
     ///
     /// # Errors
-    /// Nothing is there, or nothing comes any more.
+    /// Nothing is there, there is no memory to look at a segment, or nothing comes any more.
     #[inline]
     pub fn try_recv(&self) -> Result<T, TryRecvError> {
         self.take_or(|look| now(self.take_after(look)))
@@ -97,12 +97,12 @@ impl<T> Receiver<T> {
     /// Receives a value. It sleeps until one comes, but not longer than this. It takes the [locks of a receive](Receiver).
     ///
     /// # Errors
-    /// Nothing came until then, or nothing comes any more.
+    /// It received nothing until then, or nothing comes any more.
     pub fn recv_timeout(&self, timeout: Duration) -> Result<T, RecvTimeoutError> {
         self.recv_until(Instant::now().checked_add(timeout))
     }
 
-    /// The same until a time.
+    /// Does what [`recv_timeout`](Receiver::recv_timeout) does, but sleeps until this time at most.
     ///
     /// # Errors
     /// As [`recv_timeout`](Receiver::recv_timeout).
@@ -111,7 +111,7 @@ impl<T> Receiver<T> {
     }
 
     /// Receives a value as a job, which gives the value back to the channel unless it is [done](Job::done). It sleeps until
-    /// one comes. It takes the [locks of a receive](Receiver). A job that is dropped takes those of a
+    /// one comes. It takes the [locks of a receive](Receiver). A job that gives its value back takes those of a
     /// [send](super::Sender).
     ///
     /// # Errors
@@ -123,13 +123,13 @@ impl<T> Receiver<T> {
     /// Receives a value as a job if one is there now. It never sleeps, but for [the locks of a receive](Receiver).
     ///
     /// # Errors
-    /// Nothing is there, or nothing comes any more.
+    /// Nothing is there, there is no memory to look at a segment, or nothing comes any more.
     pub fn try_recv_job(&self) -> Result<Job<T>, TryRecvError> {
         now(self.take_job())
     }
 
-    /// Receives a value. The task waits until one comes, and no thread sleeps. It is for any executor. A future that is
-    /// dropped receives nothing. A poll takes the [locks of a receive](Receiver), and a drop that of the list of sleepers.
+    /// Receives a value. The task waits until one comes, in any executor, and no thread sleeps. If the future is dropped
+    /// before, it receives nothing. A poll takes the [locks of a receive](Receiver), a drop that of the list of sleepers.
     pub fn recv_async(&self) -> RecvFuture<'_, T> {
         RecvFuture {
             receiver: self,
@@ -168,7 +168,7 @@ impl<T> Receiver<T> {
                 Some(Got::NoMemory | Got::Nothing) => {}
             }
             if until.is_some_and(|until| Instant::now() >= until) {
-                // (there is a value for somebody else)
+                // (it gets no memory for a value that is there, so it wakes another receiver)
                 self.shared.empty.wake_one();
                 return Err(RecvTimeoutError::Timeout);
             }
@@ -176,12 +176,12 @@ impl<T> Receiver<T> {
         }
     }
 
-    /// Iterates over the values that it receives, until nothing comes any more. Each is a [`recv`](Receiver::recv).
+    /// Iterates over the values that calls of [`recv`](Receiver::recv) return, until nothing comes any more.
     pub fn iter(&self) -> Iter<'_, T> {
         Iter { receiver: self }
     }
 
-    /// Iterates over the values that it receives, until nothing is there. Each is a [`try_recv`](Receiver::try_recv).
+    /// Iterates over the values that calls of [`try_recv`](Receiver::try_recv) return, until one returns an error.
     pub fn try_iter(&self) -> TryIter<'_, T> {
         TryIter { receiver: self }
     }
@@ -222,7 +222,7 @@ impl<T> Future for RecvFuture<'_, T> {
             Got::Closed => Some(Err(RecvError)),
             Got::Nothing => None,
             Got::NoMemory => {
-                waker.wake_by_ref(); // (it tries again)
+                waker.wake_by_ref(); // (so the task is polled again)
                 None
             }
         };
@@ -243,21 +243,21 @@ written! {
     Debug [T] RecvFuture<'_, T>: |_| "RecvFuture { .. }";
 }
 
-/// The values that a receiver receives. [`Receiver::iter`] makes it.
+/// An iterator over the values that a receiver receives. [`Receiver::iter`] makes it.
 #[must_use = "it does nothing until it is iterated over"]
 #[derive(Debug)]
 pub struct Iter<'a, T> {
     receiver: &'a Receiver<T>,
 }
 
-/// The values that are there now. [`Receiver::try_iter`] makes it.
+/// An iterator over the values that are there. [`Receiver::try_iter`] makes it.
 #[must_use = "it does nothing until it is iterated over"]
 #[derive(Debug)]
 pub struct TryIter<'a, T> {
     receiver: &'a Receiver<T>,
 }
 
-/// The values that a receiver receives. [`Receiver::into_iter`] makes it, and owns the receiver.
+/// An iterator that owns a receiver, over the values that it receives. [`Receiver::into_iter`] makes it.
 #[must_use = "it does nothing until it is iterated over"]
 #[derive(Debug)]
 pub struct IntoIter<T> {

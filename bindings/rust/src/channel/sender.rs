@@ -72,7 +72,7 @@ impl<T> Sender<T> {
         self.send_until(value, Instant::now().checked_add(timeout))
     }
 
-    /// The same until a time.
+    /// Does what [`send_timeout`](Sender::send_timeout) does, but sleeps until this time at most.
     ///
     /// # Errors
     /// As [`send_timeout`](Sender::send_timeout).
@@ -80,9 +80,9 @@ impl<T> Sender<T> {
         self.send_until(value, Some(deadline))
     }
 
-    /// Sends a value. If the channel is full, the task waits until there is room, and no thread sleeps. It is for any
-    /// executor. A future that is dropped sends nothing. A poll takes the [locks of a send](Sender), and a drop that of the
-    /// list of sleepers.
+    /// Sends a value. If the channel is full, the task waits until there is room, and no thread sleeps. Any executor
+    /// will do. If the future is dropped before, it sends nothing. A poll takes the [locks of a send](Sender), a drop that
+    /// of the list of sleepers.
     pub fn send_async(&self, value: T) -> SendFuture<'_, T> {
         SendFuture {
             sender: self,
@@ -148,7 +148,7 @@ impl<T> Future for SendFuture<'_, T> {
     type Output = Result<(), SendError<T>>;
 
     /// # Panics
-    /// It was ready before.
+    /// The future was ready at an earlier poll.
     fn poll(self: Pin<&mut Self>, context: &mut Context<'_>) -> Poll<Self::Output> {
         let this = self.get_mut();
         let sender = this.sender;
