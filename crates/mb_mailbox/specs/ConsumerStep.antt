@@ -7,7 +7,7 @@ use Rattle.mb_mailbox.specs.Imports.{Parts, Stage, WorldAccess, cells_met, claim
 use Rattle.mb_mailbox.specs.declared.consumer.Poll.{Poll}
 use Rattle.mb_mailbox.specs.declared.consumer.Poll.TheVariants as poll
 
--- the answer of a load of a link, by what it found. If the link leads to a cell, there is no answer yet, and the
+-- the answer of a load of a head or link, by what it found. If that leads to a cell, there is no answer yet, and the
 -- consumer goes on there
 abbrev pub link_answer : Look → Option Poll
 link_answer look.Nothing = Some poll.Nothing

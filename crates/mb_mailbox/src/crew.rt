@@ -115,7 +115,7 @@ pub fn work<
     ensures nothing_given { (result ≡ Err AllGiven) ⊎ (result ≡ Err BadBudget)
         → hub.new ≡ hub.old }
 
-    // In each case all that were issued are returned, and each producer issued has ended its lane.
+    // Whatever the result is, all that this call issued are returned, and each producer among them ended its lane.
     ensures worked { IfOk result (λ w.
         IsWorked (G.may_stop gate.now) budget (lists_in items.items) (vec_len rngs) w hub.old
         hub.new) }
