@@ -35,7 +35,7 @@ pub record ConsumerIsBefore (cs : Claims) (c p : ℕ) (x : Parts) (notes : List 
   pub ended : AreEnds cs c (cells_met p x.reads) (reverse notes) x
 
 -- the consumer holds a claim on cell k, the last that it met on lane p, and has loaded neither the item nor the link
--- there. That cell has no note. Its claims on the cells before it have ended, each as its note says
+-- there. That cell has no note. The consumer's claims on the cells met before have ended, each as its note says
 pub record ConsumerIsAt (layout : Layout) (cs : Claims) (c p : ℕ) (x : Parts) (notes : List Note) (k : ℕ)
     (claim : Claim) : Type 0 where
   pub cells : List ℕ

@@ -11,7 +11,7 @@ use Rattle.mb_shared_claims.specs.SeatSteps.{access_of, with_access, IsSeatStep,
 
 -- ---- the laws of claims that are used here
 -- if the words hold what a history leaves, and a claim's next access is made, they hold what the longer history leaves.
--- Before it the claim has made all that its consumer did on the cell in that history, and goes on
+-- Before that access the claim has made all that its consumer did on the cell in that history, and goes on
 abbrev pub KeepsMemory : Type 0
 KeepsMemory =
     (layout : Layout) (cells k : ℕ) (claim : Claim) (next : ClaimOp) (word : ℕ) (words : List ℕ) (h : List ClaimAccess)

@@ -22,8 +22,8 @@ impl<A: Allocator + Drop> Consumer<A> {
     /// Makes accesses on a lane until one has a result, or until it has made as many as the budget allows. Lanes count
     /// from 0. It draws one word from the source for each access of a claim. A claim that the budget cuts short is kept,
     /// and the next poll of the lane goes on with it. The result is [`Poll::Spent`] if the budget is 0, never if it is
-    /// at least [`max_steps`](mb_claim::Layout::max_steps) plus 2. [`Poll::NoLane`] comes first, if there is no such lane,
-    /// and changes nothing. A poll takes no lock and no memory.
+    /// at least [`max_steps`](mb_claim::Layout::max_steps) plus 2. [`Poll::NoLane`] comes first, if there is no such
+    /// lane, and changes nothing. A poll takes no lock and no memory.
     pub fn poll<B: Allocator + Drop, R: Rng>(
         &mut self,
         mailbox: &Mailbox<B>,

@@ -15,7 +15,7 @@ abbrev sixteen : List Bool
 sixteen = false ∷ false ∷ false ∷ false ∷ false ∷ false ∷ false ∷ false ∷ false ∷ false ∷ false
     ∷ false ∷ false ∷ false ∷ false ∷ false ∷ []
 
--- if o is `None`, then P, which `IfNone` says of that case, holds. By `left_of`, if it is some x, so are P x and Q x
+-- if o is `None`, `IfNone o P` gives P. By `left_of`, if o is some x, two statements `IfSome` on o give P x and Q x
 none_left : {P : Type 0} (o : Option ℕ) → is_some o ≡ false → IfNone o P → P
 none_left None e h = h
 none_left (Some x) e h = absurd (cc)
