@@ -99,8 +99,8 @@ module _ {Y : Type 0} (f : HubView → List (Option Y)) where
       taken_by_consumers at val step ss (with_taken_consumer s h) ∙ ap (filled at val ss) (step s h)
 
 module _ {Y : Type 0} (f : HubView → Y) where
-  -- a field that no issue of one producer changes is the same after several were issued. The three other lemmas say
-  -- this of consumers issued, of producers returned, and of consumers returned
+  -- a field that does not change if one producer is issued is the same after several were issued. The three other
+  -- lemmas say this of consumers issued, of producers returned, and of consumers returned
   pub same_by_producers : {X : Type 0} → ((h : HubView) → f (with_producer h) ≡ f h)
       → (xs : List X) (h : HubView) → f (with_producers xs h) ≡ f h
   same_by_producers same [] h = refl

@@ -33,7 +33,7 @@ pub record IsLastMet (p k : ℕ) (x : Parts) : Type 0 where
 pub data ConsumerStep (cs : Claims) (c p : ℕ) (x : Parts) (a : WorldAccess) (answer : Option Poll)
     : Type 0 where
   -- The consumer is done with the last cell that it met on the lane, if there is one, and holds no claim there. It
-  -- loads the link past that cell, or the lane's head.
+  -- loads the link past that cell, or the lane's head if there is no such cell.
   looks : (v : ℕ) → MayLookPast cs c (cells_met p x.reads) x
       → a ≡ link_load c p (cells_met p x.reads) v → answer ≡ link_answer (look_of v)
       → ConsumerStep cs c p x a answer

@@ -88,7 +88,7 @@ outcome answer = Some answer
 -- the consumer made a poll of lane p with this budget and this answer
 pub record IsPollOf (p budget : ℕ) (answer : Poll) (s t : Stream) (old new : ConsumerView)
     : Type 0 where
-  -- the accesses that it made, the newest first. The parts have just these more, and a note comes with the answer
+  -- the accesses that it made, the newest first. The parts have just these more, and the notes the answer's, if any
   pub accesses : WorldHistory
   pub done : HasDone p accesses (outcome answer) old new
   -- each is the next one on the lane, and the poll ends with the first that comes to an answer
