@@ -67,7 +67,7 @@ pub record WereTakenInEarly (lists : List (List ℕ)) (sources : ℕ) (old new :
   pub taken : WereTakenIn front given old new
 
 -- ---- items that were not put because no cell was left
--- how many items of its list a producer did not put. This is 0 if the producer was stopped
+-- how many items of its list a producer did not put because no cell was left. This is 0 if it was stopped
 abbrev pub items_behind : Bool → List ℕ → List ℕ → ℕ
 items_behind true list put = 0
 items_behind false list put = length list - length put

@@ -10,7 +10,7 @@ pub enum Who {
     Consumer(u32),
 }
 
-/// [`work`](crate::work) asks a gate before each put and poll of a worker ([`Gate::enter`]), and tells it after
+/// [`work`](crate::work) asks a gate before each put and poll of a worker ([`Gate::enter`]), and tells it afterwards
 /// ([`Gate::leave`]). The calls of a worker have the numbers 1, 2, .. in order. So a gate that returns `call <= 3` lets
 /// each worker make three. All workers share the gate. So one that waits in `enter` may wait for the others. `enter`
 /// and `leave` have to return.
