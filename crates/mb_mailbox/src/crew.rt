@@ -58,7 +58,7 @@ pub enum WorkFault {
     /// The allocator refused what the run needs. Each producer issued has ended its lane, and all that the call issued
     /// is returned. The hub keeps what was returned before.
     NoMemory,
-    /// A thread could not be started, for whatever reason: threads do not use the caller's allocator. This comes only if
+    /// A thread could not be started, for whatever reason: threads do not use the caller's allocator. It comes only if
     /// there is a list or a source. As after `NoMemory`, each lane issued has ended, and all issued are returned.
     NoThread,
 }

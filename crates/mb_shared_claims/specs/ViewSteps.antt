@@ -28,7 +28,7 @@ abbrev pub with_one_more : ClaimAccess → View → View
 with_one_more a (Standing size own done) = Standing size own (a ∷ done)
 with_one_more a v = v
 
--- the access came after a history of all claims in which its consumer had this part. With the access it is lawful
+-- the access, added to some history of all claims in which its consumer had this part, makes a lawful history
 abbrev pub ComesAfter : Claims → ClaimAccess → List ClaimAccess → Type 0
 ComesAfter cs a done =
     (h : List ClaimAccess) × IsClaimLawful cs (a ∷ h) × (part a.consumer h ≡ done)
