@@ -10,7 +10,7 @@ use Rattle.mb_mailbox.specs.declared.gate.Who.{Who}
 use Rattle.mb_mailbox.specs.declared.gate.Who.TheVariants as who
 
 module _ (may_pass : Who → ℕ → Type 0) where
-  -- no call was made, so the gate let each call through
+  -- if no call was made, the gate let each call through
   pub none_passed : (w : Who) (calls : ℕ) → calls ≡ 0 → ArePassed may_pass w calls
   none_passed w calls none n low high = absurd (omega (arith, none, low, high))
 

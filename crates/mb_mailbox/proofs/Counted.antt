@@ -31,7 +31,7 @@ counted plan hs r is =
         ap (λ (v : LaneView). length v.put) same ∙ length-map (put_list p hs.pool) (λ (z : Entry). z.value)
 
 -- ---- which diary has a note, and where
--- if the value that is o if a test holds, and else `None`, is some x, the test holds, and o is x
+-- if `if b then o else None` is `Some x`, then b is true and o is `Some x`
 some_chosen : {X : Type 0} (b : Bool) (o : Option X) (x : X) → (if b then o else None) ≡ Some x
     → (b ≡ true) × (o ≡ Some x)
 some_chosen true o x e = (refl, e)

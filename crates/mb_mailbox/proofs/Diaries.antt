@@ -133,7 +133,7 @@ get_past (x ∷ xs) ys (suc i) j e = get_past xs ys i j (omega (arith, e))
 pub next_row : (c w : ℕ) → (c + 1) * w ≡ c * w + w
 next_row c w = grind arith
 
--- diary q of consumer e is at place e * w + q. From c * w on e is at least c, before (c + 1) * w at most c (`not_past`)
+-- if diary q of consumer e, at place e * w + q, is not before c * w, then e is not below c. `not_past` is of e above c
 not_before : (w c e q : ℕ) → q < w → c * w ≤ e * w + q → e < c → ⊥
 not_before w c e q low from less =
     let most : (e + 1) * w ≤ c * w = mul-le-mul_right w (omega (arith, less)) in

@@ -129,7 +129,7 @@ module _ {R Z : Type 0} (m : MailboxView) (may_stop may_pass : Who → ℕ → T
       (run_of m may_stop may_pass stream h lanes.from lanes.end lanes.budget items given.puts split.puts
       given.polls split.polls hub given.are_puts given.are_polls split.put split.polled)
 
-  -- so all producers and consumers that were issued were returned
+  -- all producers and consumers that were issued were returned
   pub taken : WereTakenIn (lists_in items) (length given.polls) h now
   taken = record { lanes = puts; consumers = polls; run = run }
 

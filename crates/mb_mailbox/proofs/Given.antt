@@ -15,7 +15,7 @@ pub record HasNumber (c : ℕ) (s : ConsumerView) : Type 0 where
   pub consumer : s.seat.consumer ≡ c
   pub none : accesses_made s ≡ 0
 
--- a new consumer has the next number
+-- a new consumer has the hub's next number, and has made no access
 pub new_number : (m : MailboxView) (h : HubView) (c : ℕ) (s : ConsumerView) → length h.records ≡ c
     → IsNewConsumer m h s → HasNumber c s
 new_number m h c s e i = record {

@@ -8,7 +8,7 @@ use Rattle.mb_mailbox.specs.HubRuns.{with_consumers, with_producers, with_taken_
 use Rattle.mb_mailbox.specs.Producers.{ProducerView}
 
 -- ---- one more at the end of the list
--- for a list with one more at its end, a hub issues one more producer after the others. The next lemma is of consumers
+-- for a list with one more at its end, a hub issues one producer more. The next lemma says the same of consumers
 pub producers_snoc : {X : Type 0} (xs : List X) (x : X) (h : HubView)
     → with_producers (xs ++ x ∷ []) h ≡ with_producer (with_producers xs h)
 producers_snoc [] x h = refl
@@ -65,8 +65,8 @@ outs_alike (x ∷ xs) (w ∷ ws) e = ap (λ l. None ∷ l) (outs_alike xs ws (om
 
 -- ---- one list or field of a hub, after several producers or consumers were issued or returned
 module _ {X Y : Type 0} (f : HubView → List (Option Y)) where
-  -- if each producer issued adds one `None` to a list of the hub, several add one `None` each. The next lemma is of
-  -- consumers
+  -- if each producer issued adds one `None` to a list of the hub, several add one `None` each. The next lemma says
+  -- the same of consumers
   pub given_by_producers : ((h : HubView) → f (with_producer h) ≡ f h ++ None ∷ [])
       → (xs : List X) (h : HubView) → f (with_producers xs h) ≡ f h ++ outs xs
   given_by_producers more [] h = sym (append-nil (f h))
@@ -83,7 +83,7 @@ module _ {X Y : Type 0} (f : HubView → List (Option Y)) where
 
 module _ {Y : Type 0} (f : HubView → List (Option Y)) where
   -- if each producer returned sets the place of its number in a list of the hub, several fill their places. The next
-  -- lemma is of consumers
+  -- lemma says the same of consumers
   pub taken_by_producers : (at : ProducerView → ℕ) (val : ProducerView → Option Y)
       → ((s : ProducerView) (h : HubView) → f (with_taken_producer s h) ≡ slice_set (f h) (at s) (val s))
       → (ss : List ProducerView) (h : HubView) → f (with_taken_producers ss h) ≡ filled at val ss (f h)
@@ -99,8 +99,8 @@ module _ {Y : Type 0} (f : HubView → List (Option Y)) where
       taken_by_consumers at val step ss (with_taken_consumer s h) ∙ ap (filled at val ss) (step s h)
 
 module _ {Y : Type 0} (f : HubView → Y) where
-  -- a field that no issue of one producer changes is the same after several were issued. The three other lemmas say
-  -- this of consumers issued, of producers returned, and of consumers returned
+  -- a field that does not change if one producer is issued is the same after several were issued. The three other
+  -- lemmas say this of consumers issued, of producers returned, and of consumers returned
   pub same_by_producers : {X : Type 0} → ((h : HubView) → f (with_producer h) ≡ f h)
       → (xs : List X) (h : HubView) → f (with_producers xs h) ≡ f h
   same_by_producers same [] h = refl

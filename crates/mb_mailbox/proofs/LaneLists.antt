@@ -46,7 +46,7 @@ pub none_counted : (n : ℕ) → sum_by length (by_lane n []) ≡ 0
 none_counted n = no_sum 0 n
 
 -- ---- a list with one note more, cut by lane
--- a note added at the end of a list comes to the end of this lane's list if it is on this lane, and else not into it
+-- after a note is added to a list, the list of lane q has it at its end if it is on lane q, and else is as before
 on_end : (q : ℕ) (xs : List Noted) (x : Noted) → on_lane q (xs ++ x ∷ []) ≡ on_lane q xs ++ on_lane q (x ∷ [])
 on_end q [] x = refl
 on_end q (y ∷ ys) x = by (nat_eq q y.lane) (on_end q ys x)

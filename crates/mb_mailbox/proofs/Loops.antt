@@ -164,7 +164,7 @@ full_more f most was now xs x e is =
     omega (arith, e, is, whole, last)
 
 -- ---- accesses with a budget for each call
--- if the accesses of the calls before were at most the budget for each, so they are with one call more
+-- if accesses are at most the budget for each call so far, they still are after one call more of at most the budget
 pub budget_more : (budget call base old new : ℕ) → 1 ≤ call → old ≤ base + budget * (call - 1) → new ≤ old + budget
     → new ≤ base + budget * (call + 1 - 1)
 budget_more budget call base old new first was step =

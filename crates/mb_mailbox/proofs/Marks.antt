@@ -39,7 +39,7 @@ clear (true ∷ xs) p a e = absurd a
 clear (false ∷ xs) zero a e = absurd (cc)
 clear (false ∷ xs) (suc p) a e = clear xs p a e
 
--- within the list, whether a place is marked does not depend on the default past the end
+-- if a place within the list is marked by the default `true`, it is so by the default `false`: the default is not used
 pub within : (xs : List Bool) (p : ℕ) → p < length xs → slice_index_or xs p true ≡ true
     → slice_index_or xs p false ≡ true
 within [] p low e = absurd (omega (arith, low))

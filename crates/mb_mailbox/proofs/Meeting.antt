@@ -8,7 +8,7 @@ use Rattle.mb_mailbox.specs.ConsumerStep.{link_answer}
 use Rattle.mb_mailbox.specs.Consumers.{ConsumerView}
 use Rattle.mb_mailbox.specs.Steps.{AnswerTells, note_with}
 
--- no answer of such a load comes with a note
+-- no answer of a load of a link comes with a note
 pub quiet : (l : Look) → note_with (link_answer l) ≡ None
 quiet look.Nothing = refl
 quiet look.Ended = refl

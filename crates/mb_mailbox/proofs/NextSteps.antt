@@ -16,7 +16,7 @@ use Rattle.mb_mailbox.specs.Moves.{HasPlace, HasTurns}
 use Rattle.mb_mailbox.proofs.Moving.{before, holds, may_past}
 
 -- the size that a consumer knows of its table of claims gives the same claims as the table's name. So the next access
--- by the one is the next by the other
+-- by that size is the next one by the name
 named : (s : ConsumerView) (p : ℕ) (a : WorldAccess) (answer : Option Poll) (i : IsConsumer s)
     → ConsumerStep (claims_in i.size.layout i.size.cells) s.seat.consumer p (parts_of s.reader s.seat) a answer
     → ConsumerStep (claims_at s.seat.table) s.seat.consumer p (parts_of s.reader s.seat) a answer

@@ -115,7 +115,7 @@ module _ (own : OwnCell) (one : OneStage) (meets : MeetsCell) (tells : TellsCell
       by (stage.Lost w) is none won = absurd (cc)
       by stage.Undecided is none won = absurd (cc)
 
-  -- if `AreLooks` or `IsOnClaim` holds of some accesses, it does so with one access more that comes to no answer
+  -- if `AreLooks` or `IsOnClaim` holds of some accesses, one of both holds with one access more that comes to no answer
   one_more : (a : WorldAccess) (done : WorldHistory) → ConsumerStep cs c p (x done) a None
       → AreLooks done ⊎ IsOnClaim done → AreLooks (a ∷ done) ⊎ IsOnClaim (a ∷ done)
   one_more a done (looks v past e none) (inl were) =

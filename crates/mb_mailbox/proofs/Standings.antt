@@ -15,7 +15,7 @@ use Rattle.mb_world.specs.declared.place.Place.TheVariants.{At, Before}
 use Rattle.mb_mailbox.proofs.Lists.{get_some, set_get, some_same}
 
 -- ---- claims that have ended with notes
--- if each claim on these cells that ended with a note by x did so by y, then `AreEnds` holds by y if it does by x
+-- if each claim on these cells that ended with a note by x ended with that note by y, `AreEnds` of x gives it of y
 pub ends_more : (cs : Claims) (c : ℕ) (x y : Parts) (ks : List ℕ) (ns : List Note)
     → ((k : ℕ) (n : Note) → Has ks k → EndsAs cs c k n x → EndsAs cs c k n y) → AreEnds cs c ks ns x
     → AreEnds cs c ks ns y
@@ -25,7 +25,7 @@ ends_more cs c x y (k ∷ ks) [] more e = absurd e
 ends_more cs c x y (k ∷ ks) (n ∷ ns) more e =
     (more k n (inl refl) e.0, ends_more cs c x y ks ns (λ j m has. more j m (inr has)) e.1)
 
--- a claim that ended with a note by x did so by y, if its steps are the same, and y has the loads of its item, too
+-- a claim that ended with a note by x ended with it by y, if its steps are the same and y has x's loads of its item
 pub end_kept : (cs : Claims) (c k : ℕ) (n : Note) (x y : Parts) → x.claimed k ≡ y.claimed k
     → ((v : ℕ) → HasRead (Item k) v x.reads → HasRead (Item k) v y.reads) → EndsAs cs c k n x → EndsAs cs c k n y
 end_kept cs c k (Took v) x y same more e = (subst (λ xs. IsClaimPrefix cs c xs stage.Won) same e.0, more v e.1)

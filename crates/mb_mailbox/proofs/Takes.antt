@@ -13,7 +13,7 @@ use Rattle.mb_mailbox.specs.declared.consumer.Poll.TheVariants as poll
 use Rattle.mb_mailbox.proofs.Grown.{grown_by}
 use Rattle.mb_mailbox.proofs.Polls.{told_from}
 
--- after a poll of what is left, the accesses since `start` are at most `most`, and by `spent_by` just `most` if spent
+-- after a poll of what is left, the accesses since `start` are at most `most`. By `spent_by` they are `most` if spent
 pub within_by : (p most : ℕ) (answer : Poll) (s t : Stream) (start old new : ConsumerView)
     → IsPollOfRest p most answer s t start old new → accesses_made new ≤ accesses_made start + most
 within_by p most answer s t start old new i =

@@ -22,7 +22,7 @@ zip_through R S T step (x ∷ xs) [] zs r s = absurd r
 zip_through R S T step (x ∷ xs) (y ∷ ys) [] r s = absurd s
 zip_through R S T step (x ∷ xs) (y ∷ ys) (z ∷ zs) r s = (step x y z r.0 s.0, zip_through R S T step xs ys zs r.1 s.1)
 
--- if one relation implies another, it does so place by place
+-- if R implies S, two lists related place by place by R are so by S, too
 pub zip_as : {A B : Type 0} (R S : A → B → Type 0) → ((a : A) (b : B) → R a b → S a b)
     → (xs : List A) (ys : List B) → AllZip R xs ys → AllZip S xs ys
 zip_as R S step [] [] z = tt

@@ -12,8 +12,8 @@ use Rattle.mb_mailbox.specs.declared.gate.Who.{Who}
 use Rattle.mb_mailbox.specs.declared.gate.Who.TheVariants as who
 use Rattle.mb_mailbox.specs.declared.crew.Worked.{Worked}
 
--- the gate let the producer of lane p through before each of its calls. It made one for each item that it put. If it
--- was not stopped and put less than its list, it made one more, for the item that found no cell
+-- the gate let the producer of lane p through before calls 1, 2, .. up to the number of items that it put. If it was
+-- not stopped and put less than its list, also before one call more: that for the item that found no cell
 pub record WasPassed (may_pass : Who → ℕ → Type 0) (p : ℕ) (list : List ℕ) (l : ProducerEnd) : Type 0 where
   pub put : ArePassed may_pass (who.Producer p) (length l.put)
   pub full : l.stopped ≡ false → length l.put < length list → may_pass (who.Producer p) (suc (length l.put))

@@ -7,7 +7,7 @@ use Rattle.mb_mailbox.specs.Imports.{Parts, Stage, WorldAccess, cells_met, claim
 use Rattle.mb_mailbox.specs.declared.consumer.Poll.{Poll}
 use Rattle.mb_mailbox.specs.declared.consumer.Poll.TheVariants as poll
 
--- the answer of a load of a link, by what it found. If the link leads to a cell, there is no answer yet, and the
+-- the answer of a load of a head or link, by what it found. If that leads to a cell, there is no answer yet, and the
 -- consumer goes on there
 abbrev pub link_answer : Look → Option Poll
 link_answer look.Nothing = Some poll.Nothing
@@ -33,7 +33,7 @@ pub record IsLastMet (p k : ℕ) (x : Parts) : Type 0 where
 pub data ConsumerStep (cs : Claims) (c p : ℕ) (x : Parts) (a : WorldAccess) (answer : Option Poll)
     : Type 0 where
   -- The consumer is done with the last cell that it met on the lane, if there is one, and holds no claim there. It
-  -- loads the link past that cell, or the lane's head.
+  -- loads the link past that cell, or the lane's head if there is no such cell.
   looks : (v : ℕ) → MayLookPast cs c (cells_met p x.reads) x
       → a ≡ link_load c p (cells_met p x.reads) v → answer ≡ link_answer (look_of v)
       → ConsumerStep cs c p x a answer

@@ -27,15 +27,15 @@ AreEnds cs c [] [] x = Unit {0}
 AreEnds cs c (k ∷ ks) (n ∷ ns) x = EndsAs cs c k n x × AreEnds cs c ks ns x
 AreEnds cs c _ _ x = ⊥
 
--- the consumer stands before the link of the last cell that it met on lane p, or before the lane's head. It has a
--- note on each cell that it met there
+-- the consumer stands before the link of the last cell that it met on lane p, or before the head if it met none. Its
+-- claims on the cells that it met there have ended, each as its note says
 pub record ConsumerIsBefore (cs : Claims) (c p : ℕ) (x : Parts) (notes : List Note) (at : Cursor)
     : Type 0 where
   pub word : word_of at ≡ place_past p (cells_met p x.reads)
   pub ended : AreEnds cs c (cells_met p x.reads) (reverse notes) x
 
 -- the consumer holds a claim on cell k, the last that it met on lane p, and has loaded neither the item nor the link
--- there. That cell has no note, and each cell before it has one
+-- there. That cell has no note. The consumer's claims on the cells met before have ended, each as its note says
 pub record ConsumerIsAt (layout : Layout) (cs : Claims) (c p : ℕ) (x : Parts) (notes : List Note) (k : ℕ)
     (claim : Claim) : Type 0 where
   pub cells : List ℕ
@@ -60,7 +60,7 @@ pub record IsConsumer (s : ConsumerView) : Type 0 where
   pub same : s.reader.reader ≡ s.seat.consumer
   -- the two parts of the consumer fit each other
   pub fit : Fits (claims_in size.layout size.cells) s.seat.consumer (parts_of s.reader s.seat)
-  -- the two parts determine its place on each lane, and its notes there
+  -- it has a place and a list of notes for each lane, which agree with its two parts
   pub places_count : length s.places ≡ s.reader.table.size.lanes
   pub notes_count : length s.notes ≡ s.reader.table.size.lanes
   pub lanes : (p : ℕ) (place : Place) (notes : List Note) → slice_get s.places p ≡ Some place

@@ -30,7 +30,7 @@ module _ {R Z : Type 0} (m : MailboxView) where
     pub are : ArePutJobs m (length old.puts) lists puts
     pub hub : new ≡ with_producers puts old
 
-  -- the same (`ArePutsGiven`) holds for a beginning of these lists
+  -- `ArePutsGiven` holds for a beginning of these lists
   pub record ArePutsGivenEarly (lists : List (Vec ℕ Z)) (jobs : List (Job R Z)) (old new : HubView) : Type 0 where
     pub front : List (Vec ℕ Z)
     pub rest : List (Vec ℕ Z)
@@ -58,7 +58,7 @@ module _ {R Z : Type 0} (m : MailboxView) where
     pub are_polls : ArePollJobs m (with_producers puts old) polls
     pub hub : new ≡ with_consumers polls (with_producers puts old)
 
-  -- the same (`AreGiven`) holds for a beginning of these lists, with at most this many consumers
+  -- `AreGiven` holds for a beginning of these lists, with at most this many consumers
   pub record AreGivenEarly (lists : List (Vec ℕ Z)) (sources : ℕ) (jobs : List (Job R Z)) (old new : HubView)
       : Type 0 where
     pub front : List (Vec ℕ Z)

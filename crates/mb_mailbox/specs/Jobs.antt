@@ -69,8 +69,8 @@ ends_met [] = 0
 ends_met (a ∷ older) = from_bool (tells_end a.word a.act) + ends_met older
 
 -- some lanes are marked, perhaps none, each of them from `from` on and below `end`. The consumer has read each to its
--- end mark. It has loaded as many end marks as lanes are marked. Since a cell is in one lane, it has loaded the end
--- mark of each marked lane once, and no other end mark
+-- end mark. It has loaded as many end marks as lanes are marked. So it has loaded the end mark of each marked
+-- lane once, and no other end mark: a cell is in one lane
 pub record HasReadEnds (from end : ℕ) (s : ConsumerView) : Type 0 where
   pub marks : List Bool
   pub within : (p : ℕ) → slice_index_or marks p false ≡ true → (from ≤ p) × (p < end)

@@ -20,7 +20,7 @@ abbrev pub HasTurns : ConsumerView → Claim → List ObjectTurn → Type 0
 HasTurns s claim xs =
     (size : TableSize) → s.seat.table.size ≡ Some size → IsClaimIn size.layout claim xs
 
--- consumer `s`, but with these two parts, and at this place on lane p. If `note` has a note, it is added on lane p
+-- consumer `s`, but with these two parts, at this place on lane p, and with `note` added there, unless it is `None`
 abbrev pub moved_to : ℕ → Place → Option Note → History → List ClaimAccess → ConsumerView
     → ConsumerView
 moved_to p place note reads made s = record {

@@ -67,7 +67,7 @@ claim_takes (poll.Took x) = 2
 claim_takes _ = 1
 
 -- after n accesses on lane p, further ones come to this answer of a claim, and leave `left` of a budget of `most`. If
--- the poll is spent, nothing is left, and else each cell met on the lane has a note
+-- the poll is spent, nothing is left, and else each cell met on the lane has a note. `IsConsumer` still holds
 pub record IsPursuit (p n most left : ℕ) (answer : Poll) (t u : Stream) (from new : ConsumerView)
     : Type 0 where
   pub made : ℕ

@@ -32,10 +32,10 @@ pub record IsReportedRun (may_stop may_pass : Who → ℕ → Type 0) (terms : T
   pub size : mailbox.cells.size ≡ size_of terms.plan
   pub hub : HubView
   pub belongs : IsHubOf mailbox hub
-  -- each call of a consumer is a poll with this budget, and draws from the consumer's own source. Its field
-  -- `worked` says: a worker was stopped only before a call at which the gate may stop it, or before call 2^64 - 1. Each
-  -- other producer has put its list, or a fetch-add of its own found no cell. Each other consumer has a note on each
-  -- item. The counts are of these workers
+  -- each call of a consumer is a poll with this budget, and draws from the consumer's own source. The field
+  -- `worked` in it says: a worker was stopped only before a call at which the gate may stop it, or before call
+  -- 2^64 - 1. Each other producer has put its list, or a fetch-add of its own found no cell. Each other consumer has a
+  -- note on each item. The counts are of these workers
   pub called : IsCalled may_stop may_pass terms.budget lists terms.sources counts (hub_empty mailbox) hub
   -- the report is gathered from this hub, and `hs` has all accesses of the producers and consumers returned to the hub
   pub told : IsReportIn mailbox.cells.size.lanes (consumer_count mailbox.claims.layout) hub r

@@ -45,7 +45,7 @@ module _ {Z : Type 0} where
   IsDoneOf m (done.Put d) = IsProducerOf m d.producer
   IsDoneOf m (done.Poll d) = IsConsumerOf m d.consumer
 
-  -- how many items of the worker's list were not put because no cell was left
+  -- how many items of a producer's list were not put because no cell was left, and 0 for a consumer
   abbrev pub full_of : Done Z → ℕ
   full_of (done.Put d) = d.full
   full_of (done.Poll d) = 0

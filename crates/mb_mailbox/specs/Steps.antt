@@ -88,7 +88,7 @@ outcome answer = Some answer
 -- the consumer made a poll of lane p with this budget and this answer
 pub record IsPollOf (p budget : ℕ) (answer : Poll) (s t : Stream) (old new : ConsumerView)
     : Type 0 where
-  -- the accesses that it made, the newest first. The parts have just these more, and a note comes with the answer
+  -- the accesses that it made, the newest first. The parts have just these more, and the notes the answer's, if any
   pub accesses : WorldHistory
   pub done : HasDone p accesses (outcome answer) old new
   -- each is the next one on the lane, and the poll ends with the first that comes to an answer
@@ -104,7 +104,7 @@ pub record IsPollOf (p budget : ℕ) (answer : Poll) (s t : Stream) (old new : C
 abbrev pub HasNoteOnEach : ℕ → ConsumerView → Type 0
 HasNoteOnEach p s = length (notes_on p s.notes) ≡ length (cells_met p s.reader.part)
 
--- the consumer has loaded the end mark past the last cell that it met on lane p, or at the lane's head
+-- the consumer has loaded the end mark past the last cell that it met on lane p, or in the head if it met none
 abbrev pub HasLoadedEnd : ℕ → ConsumerView → Type 0
 HasLoadedEnd p s = HasRead (place_past p (cells_met p s.reader.part)) END s.reader.part
 
@@ -117,7 +117,7 @@ pub record HasReadWhole (p : ℕ) (theirs : History) (over : Bool) (s : Consumer
 
 -- what holds of lane p after accesses that came to this answer
 pub record AnswerTells (p : ℕ) (answer : Option Poll) (old new : ConsumerView) : Type 0 where
-  -- if there is an answer, the consumer holds no claim there, and has a note on each cell that it met
+  -- if there is an answer, the consumer has a note on each cell that it met on the lane. So it holds no claim there
   pub noted : answer ≢ None → HasNoteOnEach p new
   -- if the answer is `Ended`, the consumer has loaded the end mark
   pub ended : answer ≡ Some poll.Ended → HasLoadedEnd p new

@@ -67,7 +67,7 @@ pub record WereTakenInEarly (lists : List (List ℕ)) (sources : ℕ) (old new :
   pub taken : WereTakenIn front given old new
 
 -- ---- items that were not put because no cell was left
--- how many items of its list a producer did not put. This is 0 if the producer was stopped
+-- how many items of its list a producer did not put because no cell was left. This is 0 if it was stopped
 abbrev pub items_behind : Bool → List ℕ → List ℕ → ℕ
 items_behind true list put = 0
 items_behind false list put = length list - length put
@@ -102,8 +102,8 @@ pub record HasMetEnd (c p : ℕ) (reads : History) : Type 0 where
   pub end : HasLoaded c (place_past p cells) END reads
 
 -- some lanes are marked, perhaps none, each of them from `from` on and below `end`. Consumer c has loaded the end
--- mark of each. It has loaded as many end marks as lanes are marked. Since a cell is in one lane, it has loaded the
--- end mark of each marked lane once, and no other end mark
+-- mark of each. It has loaded as many end marks as lanes are marked. So it has loaded the end mark of each marked
+-- lane once, and no other end mark: a cell is in one lane
 pub record HasMetEnds (from end c : ℕ) (reads : History) : Type 0 where
   pub marks : List Bool
   pub within : (p : ℕ) → slice_index_or marks p false ≡ true → (from ≤ p) × (p < end)
@@ -154,18 +154,18 @@ pub record IsWorked (may_stop : Who → ℕ → Type 0) (budget : ℕ) (lists : 
   pub stopped : w.stopped ≡ sum_by (λ l. from_bool l.stopped) lanes + sum_by (λ c. from_bool c.stopped) consumers
   pub stopped_puts : AreStoppedPuts may_stop new.cells.table.size.cells (length old.puts) lists lanes
   pub stopped_polls : AreStoppedPolls may_stop budget (length old.records) consumers
-  -- A consumer that was not stopped has loaded as many end marks as lanes were issued in this call. One that was
+  -- A consumer that was not stopped has loaded as many end marks as lanes were issued in this run. One that was
   -- stopped has loaded fewer
   pub ends : All (λ c. c.stopped ≡ false → ends_met c.reads ≡ length lists) consumers
   pub unread : All (λ c. c.stopped ≡ true → ends_met c.reads < length lists) consumers
   -- Each consumer, stopped or not, has loaded the end marks of none, some or all of these lanes, and no more end
   -- marks. It loaded each past the cells of the lane that it met
   pub met : HaveMetEnds (length old.puts) (length old.puts + length lists) (length old.records) consumers
-  -- No consumer has loaded the head of a lane that was not issued in this call
+  -- No consumer has loaded the head of a lane that was not issued in this run
   pub only : All (λ c. IsOnLanes (length old.puts) (length old.puts + length lists) c.reads) consumers
   -- `full` counts the items that the producers that were not stopped did not put, up to 2^64 - 1
   pub full : w.full ≡ min (2 ^ 64 - 1) (items_beyond lists lanes)
   -- If a producer that was not stopped put less than its list, a fetch-add of its own found no cell
   pub cut : AreCutByCells new.cells.table.size.cells (length old.puts) lists lanes
-  -- Each consumer that was not stopped has a note on each item of the lanes issued in this call
+  -- Each consumer that was not stopped has a note on each item of the lanes issued in this run
   pub noted : All (λ c. c.stopped ≡ false → HasNoteAtEach (length old.puts) lanes c.kept) consumers

@@ -27,8 +27,8 @@ pub enum Poll {
     Lost(u32),
     /// This consumer's claim on the item at which it stood ended undecided: another may have won it, or nobody.
     Undecided,
-    /// The consumer found no further item linked. If the producer was not returned before, it may have linked one by
-    /// now.
+    /// The consumer found no further item linked. The lane's producer may have linked one since then, if it was not
+    /// returned before.
     Nothing,
     /// The lane has ended: no further item comes.
     Ended,

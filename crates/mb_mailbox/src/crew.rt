@@ -58,8 +58,8 @@ pub enum WorkFault {
     /// The allocator refused what the run needs. Each producer issued has ended its lane, and all that the call issued
     /// is returned. The hub keeps what was returned before.
     NoMemory,
-    /// A thread could not be started, for whatever reason: it is started without the caller's allocator. It comes only
-    /// if there is a list or a source. As after `NoMemory`, each lane issued has ended, and all issued are returned.
+    /// A thread could not be started, for whatever reason: threads do not use the caller's allocator. It comes only if
+    /// there is a list or a source. As after `NoMemory`, each lane issued has ended, and all issued are returned.
     NoThread,
 }
 
@@ -115,7 +115,7 @@ pub fn work<
     ensures nothing_given { (result ≡ Err AllGiven) ⊎ (result ≡ Err BadBudget)
         → hub.new ≡ hub.old }
 
-    // In each case all that were issued are returned, and each producer issued has ended its lane.
+    // Whatever the result is, all that this call issued are returned, and each producer among them ended its lane.
     ensures worked { IfOk result (λ w.
         IsWorked (G.may_stop gate.now) budget (lists_in items.items) (vec_len rngs) w hub.old
         hub.new) }

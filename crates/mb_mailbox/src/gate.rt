@@ -10,14 +10,14 @@ pub enum Who {
     Consumer(u32),
 }
 
-/// [`work`](crate::work) asks a gate before each put and poll of a worker ([`Gate::enter`]), and tells it after
+/// [`work`](crate::work) asks a gate before each put and poll of a worker ([`Gate::enter`]), and tells it afterwards
 /// ([`Gate::leave`]). The calls of a worker have the numbers 1, 2, .. in order. So a gate that returns `call <= 3` lets
-/// each worker make three. All workers share the gate. So one that waits in `enter` may wait for the others. Both calls
-/// have to return.
+/// each worker make three. All workers share the gate. So one that waits in `enter` may wait for the others. `enter`
+/// and `leave` have to return.
 ///
 /// Two ghost members say whom `enter` may stop before which call (`may_stop`), and whom it may let pass (`may_pass`).
-/// By default each names every worker before every call. Then `worked` of `work` does not say that each list was put
-/// whole. `called` uses `may_pass`. [`OpenGate`] stops nobody. No clause says that `leave` is called: that is tested.
+/// By default each names every worker before every call. Then clause `worked` of `work` does not say that each list
+/// was put whole. Clause `called` uses `may_pass`. [`OpenGate`] stops nobody. That `leave` is called is only tested.
 pub trait Gate: Sync {
     ghost use Rattle.mb_mailbox.specs.declared.gate.Who.{Who};
 

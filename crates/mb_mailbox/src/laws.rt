@@ -21,7 +21,7 @@ use mb_claim::steps::accesses_lengthen_one_part;
 use mb_world::laws::{last_objects_settle_items, shaped_setups_have_last_objects};
 use mb_world::steps::loads_meet_cells;
 
-/// Whatever its budget, a poll makes at most as many accesses as a whole claim may have, the load of a link, and the
+/// Whatever its budget, a poll makes at most two accesses more than a whole claim may have: the load of a link, and the
 /// load of an item. The poll and its consumer are as [`Consumer::poll`](crate::Consumer::poll) and
 /// [`keeps_its_parts`](crate::Consumer::keeps_its_parts) say.
 pub fn polls_are_short()

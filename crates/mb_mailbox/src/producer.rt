@@ -54,9 +54,9 @@ impl<A: Allocator + Drop> Producer<A> {
         self.seat.lane()
     }
 
-    /// Puts an item, any number, at the end of the lane. It takes a cell, stores the item there, and links the cell.
-    /// These are three accesses. The first put that returns [`Put::Full`] makes the fetch-add alone, and any put after
-    /// it makes none. Nor does one that returns [`Put::Closed`]. It takes no lock and no memory.
+    /// Puts an item, any number, at the end of the lane. If a cell is left, it makes three accesses: it draws the cell,
+    /// stores the item there, and links the cell. The first put that returns [`Put::Full`] makes the fetch-add alone. A
+    /// later one makes no access, nor does one that returns [`Put::Closed`]. A put takes no lock and no memory.
     #[inline(always)]
     pub fn put<B: Allocator + Drop>(&mut self, mailbox: &Mailbox<B>, x: u64) -> Put
         requires belongs { IsProducerOf mailbox.now self.old }

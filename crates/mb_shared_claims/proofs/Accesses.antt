@@ -30,7 +30,7 @@ pub store_small :
 store_small object word n value op reg e small fits =
     subst (λ (o : Op). IsInWords (step_of object o n word).turn) (sym e) ((tt, small), fits)
 
--- what an exchange stores, if it stores anything, is below 2^64
+-- if an exchange's value w is below 2^64, so is what the exchange stores, if it stores anything
 stored_small : (b : Bool) (w : ℕ) → w < 18446744073709551616
     → IfSome (cond b (Some w) None) (λ value. value < 18446744073709551616)
 stored_small true w small = small

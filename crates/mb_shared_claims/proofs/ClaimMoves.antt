@@ -10,8 +10,8 @@ use Rattle.mb_shared_claims.specs.Seats.{SeatView, TableView, name_of, claims_at
 use Rattle.mb_shared_claims.specs.SeatSteps.{access_of, with_access, IsSeatStep, MayComeNext}
 
 -- ---- the laws of claims that are used here
--- if the words hold what a history leaves, after the next access of a claim they hold what the history with it leaves.
--- The claim has made all that its consumer did on the cell in that history, and goes on
+-- if the words hold what a history leaves, and a claim's next access is made, they hold what the longer history leaves.
+-- Before that access the claim has made all that its consumer did on the cell in that history, and goes on
 abbrev pub KeepsMemory : Type 0
 KeepsMemory =
     (layout : Layout) (cells k : ℕ) (claim : Claim) (next : ClaimOp) (word : ℕ) (words : List ℕ) (h : List ClaimAccess)
@@ -76,7 +76,7 @@ module _ (cut : CutParts) (t : TableView) (seat : SeatView) (cell : ℕ) (claim 
       (subst (λ c. IsClaimLawful cs (access_of c cell next seen word ∷ comes.0)) (sym own) comes.1) low
       (in_history comes.0 comes.2) going is
 
-  -- if the seat made the claim's next access, and that led to the claim that follows, it is a step of the seat
+  -- if the seat made the claim's next access, and that led to the claim that follows, the access is a step of the seat
   pub seat_step :
       FindsTold → (now : SeatView) (word : ℕ) (follows : Claim) (next : ClaimOp) (seen : ℕ) → seat.table ≡ name_of t
       → IsNextOp t.layout claim next → now ≡ with_access (access_of seat.consumer cell next seen word) seat

@@ -22,7 +22,7 @@ HasOneStage =
 own_stage : (c : ℕ) → stage_for c c ≡ Won
 own_stage c = search rules
 
--- a claim path of one exchange has the stage r, which is won if it found 0, and `stage_for c w` if it found w + 1
+-- a claim path of one exchange has the stage r, if r is won after a found 0, and `stage_for c w` after a found w + 1
 ended_by :
     HasOneStage → (t : QuorumTable) (c word found : ℕ) (s r : Stage) → IsQuorumTable t
     → IsClaimPrefixFrom t c (LastObject ∷ []) 0 c (step_of 0 (to.Exchange Last (c + 1)) found word ∷ []) s
@@ -85,7 +85,7 @@ module _ (layout : Layout) (c : ℕ) (alone : kinds_of layout ≡ LastObject ∷
       subst (λ (z : Claim × Op). CanClaimFind layout z.0 (record { object = next.object; op = z.1 }) found)
       (λ i. (at i, so.1 i)) can
 
-  -- after that exchange the claim has the stage r, which is won if it found 0, and `stage_for c w` if it found w + 1
+  -- after that exchange the claim has the stage r, if r is won after a found 0, and `stage_for c w` after a found w + 1
   pub stage_alone :
       HasOneStage → IsQuorumTable (quorums_of layout) → (next : ClaimOp) (end : Claim) (found word : ℕ) (r : Stage)
       → (next.object ≡ 0) × (next.op ≡ to.Exchange Last (c + 1)) → consumer_of end ≡ c

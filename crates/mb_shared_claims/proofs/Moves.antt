@@ -22,8 +22,8 @@ abbrev pub rule_of : TableSize → State (Unit {0}) View → Type 0
 rule_of k s = IsClaimsState k s.words s.views
 
 -- ---- an access of a consumer's seat
--- take words that a history leaves, in which consumer `own` has done this. If the word at `at` holds n, and gets f n,
--- the words hold what the history with the access for n leaves. The access is that consumer's
+-- take words that a history leaves, in which consumer `own` has the part `done`. If the word at `at` holds n and gets
+-- f n, the words hold what the history with the access for n leaves. The access is that consumer's
 abbrev pub GoesOn : TableSize → ℕ → List ClaimAccess → ℕ → (ℕ → ℕ) → (ℕ → ClaimAccess) → Type 0
 GoesOn k own done at f access =
     (words : List ℕ) (h : List ClaimAccess) → IsMemoryOf (claims_of_size k) words h → part own h ≡ done

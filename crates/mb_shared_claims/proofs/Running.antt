@@ -94,7 +94,7 @@ module _ (t : TableView) (cell : ℕ) {M : Type 0} {K : Type 0} (seat : M → Se
       pub count : length (part_on (seat now).consumer cell (seat now).part)
           ≡ n + length (part_on (seat start).consumer cell (seat start).part)
 
-    -- n accesses of the claim, one after the other, lead to that (`Arrived`)
+    -- after n accesses of the claim, one after the other, `Arrived` holds
     pub arrives :
         (n : ℕ) (at : Claim) (now : M) → AreClaimSteps t.layout (DrawsAndMakesNext draws makes) claim start n at now
         → Arrived n at now
@@ -193,7 +193,7 @@ module _ (t : TableView) (cell : ℕ) {M : Type 0} {K : Type 0} (seat : M → Se
       chain n at now steps = subst (λ x. AreClaimSteps x (DrawsAndMakesNext draws makes) claim start
           n at now) same steps
 
-      -- n accesses of the claim over the equal layout, one after the other, lead to that (`Arrived`)
+      -- after n accesses of the claim over the equal layout, one after the other, `Arrived` holds
       pub arrives_in :
           (n : ℕ) (at : Claim) (now : M) → AreClaimSteps l (DrawsAndMakesNext draws makes) claim start n at now
           → Arrived n at now

@@ -50,7 +50,7 @@ count_out [] = 0
 count_out (Some done ∷ rest) = count_out rest
 count_out (None ∷ rest) = suc (count_out rest)
 
--- the part of consumer c that was returned, or nothing if none was
+-- the part of consumer c that was returned, or an empty part if none was
 abbrev pub taken_part : Roll → ℕ → List ClaimAccess
 taken_part [] c = []
 taken_part (Some done ∷ rest) zero = done

@@ -9,7 +9,7 @@ use Rattle.mb_shared_claims.specs.Views.{claims_of_size, Roll, IsOut}
 abbrev pub Seated : Type 0
 Seated = Me (Unit {0}) View
 
--- the roll that a view has, if it is the hub's
+-- the roll in the hub's view, and an empty one for any other view
 abbrev pub roll_of : View → Roll
 roll_of (Handing size roll) = roll
 roll_of (Drawing size roll) = roll
@@ -17,7 +17,7 @@ roll_of (Standing size own done) = []
 roll_of (Taking size roll own done) = roll
 roll_of Spent = []
 
--- the part that a view has, if it is that of a consumer's seat
+-- the part in the view of a consumer's seat, and an empty one for any other view
 abbrev pub part_of : View → List ClaimAccess
 part_of (Standing size own done) = done
 part_of _ = []
@@ -28,7 +28,7 @@ abbrev pub with_one_more : ClaimAccess → View → View
 with_one_more a (Standing size own done) = Standing size own (a ∷ done)
 with_one_more a v = v
 
--- the access came after a history of all claims in which its consumer had done this, and with it the history is lawful
+-- the access, added to some history of all claims in which its consumer had this part, makes a lawful history
 abbrev pub ComesAfter : Claims → ClaimAccess → List ClaimAccess → Type 0
 ComesAfter cs a done =
     (h : List ClaimAccess) × IsClaimLawful cs (a ∷ h) × (part a.consumer h ≡ done)

@@ -21,7 +21,7 @@ WasTaken roll c xs = slice_get roll c ≡ Some (Some xs)
 abbrev pub IsOut : Roll → ℕ → Type 0
 IsOut roll c = slice_get roll c ≡ Some None
 
--- the view has this part of consumer c: it is that of the consumer's seat, or that of the hub, which took the seat back
+-- the view has this part of consumer c: it is the view of c's seat, or the view of the hub, which took that seat back
 abbrev pub HasPart : View → ℕ → List ClaimAccess → Type 0
 HasPart (Handing size roll) c xs = WasTaken roll c xs
 HasPart (Drawing size roll) c xs = WasTaken roll c xs

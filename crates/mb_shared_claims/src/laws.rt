@@ -46,11 +46,11 @@ pub fn states_have_one_history()
 /// Each kind of step leads from a state to a state. It changes only the view of the seat that makes it, with two
 /// exceptions: issuing a number adds the view of its seat, and a seat returned has no part any more.
 pub fn steps_keep_states()
-    // A table begins with zeros and its hub.
+    // The words of a new table, all 0, and the view of its hub, with no number issued, are a state.
     ensures new { (k : TableSize)
         → IsClaimsState k (replicate (roster k + 1) 0) (Handing k [] ∷ []) }
 
-    // One law holds of each access, be it a load, a store or an exchange. It has no case for other seats.
+    // An access that may come next leads to a state, be it a load, a store or an exchange. It changes one view alone.
     ensures access { (k size : TableSize) (words : List ℕ) (views : List View)
         (id own cell word : ℕ) (done : List ClaimAccess)
         (next : ClaimOp) → let cs = claims_of_size k in

@@ -15,7 +15,7 @@
 //!
 //! - [`SharedClaims`] has the words. [`SharedClaims::new`] makes it with its [`ClaimHub`]. [`SharedClaims::enroll`]
 //!   issues the next number, [`SharedClaims::take_in`] takes a seat back, and [`SharedClaims::close`] says that all
-//!   parts are of one history. Each call needs that hub and seat are of this table.
+//!   parts are of one history. A hub or seat that a call gets has to be of its table.
 //! - [`SharedClaims::step`] makes the next access of a claim from a [`ClaimSeat`]. It takes no lock and never waits.
 //!   [`SharedClaims::straight`] makes the accesses of a new claim, faster.
 //! - [`laws`] has what the rule says of each state of a table, that each kind of step keeps it, and that no cell has

@@ -54,7 +54,7 @@ pub(super) fn meet<A: Allocator + Drop, B: Allocator + Drop>(
     claims_begin_objects();
     fields.reader.has_history();
 
-    // The contract of this call says that the number is one of the mailbox's consumers. So there is a claim for it.
+    // The contract of `ClaimSeat::consumer` says that the number is one of the mailbox's. So there is a claim for it.
     fields.seat.consumer();
     mailbox.cells.look(&mut fields.reader, at)
 }

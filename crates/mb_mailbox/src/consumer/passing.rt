@@ -68,7 +68,7 @@ fn settle<A: Allocator + Drop, B: Allocator + Drop, R: Rng>(
 }
 
 /// Goes on past items that the consumer loses, from this cursor on, as long as the most accesses for an item, three,
-/// are left. If a poll comes to another answer, returns that. The place on the lane is up to date again at the end.
+/// are left. If a poll's answer is no loss, returns that answer. The place on the lane is up to date again at the end.
 #[inline(always)]
 pub(super) fn pass<A: Allocator + Drop, B: Allocator + Drop, R: Rng>(
     fields: &mut ConsumerFields<A>,

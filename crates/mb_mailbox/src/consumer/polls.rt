@@ -21,9 +21,9 @@ impl<A: Allocator + Drop> Consumer<A> {
 
     /// Makes accesses on a lane until one has a result, or until it has made as many as the budget allows. Lanes count
     /// from 0. It draws one word from the source for each access of a claim. A claim that the budget cuts short is kept,
-    /// and the next poll of the lane goes on with it. With a budget of 0 it is [`Poll::Spent`], and with one of at least
-    /// [`max_steps`](mb_claim::Layout::max_steps) plus 2 it never is. [`Poll::NoLane`] comes first, if there is no such
-    /// lane, and changes nothing. It takes no lock and no memory.
+    /// and the next poll of the lane goes on with it. The result is [`Poll::Spent`] if the budget is 0, never if it is
+    /// at least [`max_steps`](mb_claim::Layout::max_steps) plus 2. [`Poll::NoLane`] comes first, if there is no such
+    /// lane, and changes nothing. A poll takes no lock and no memory.
     pub fn poll<B: Allocator + Drop, R: Rng>(
         &mut self,
         mailbox: &Mailbox<B>,
@@ -45,7 +45,7 @@ impl<A: Allocator + Drop> Consumer<A> {
         ensures unspent { most_accesses mailbox.now.claims.layout + 2 ≤ budget → result ≢ Spent }
         ensures decided { (shape_of mailbox.now.claims.layout).last ≡ true → result ≢ Undecided }
 
-        // What the answer says of the lane, even if its producer was taken in before the consumer was given.
+        // What the answer says of the lane. It says more if the producer was returned before the consumer was issued.
         ensures told { result ≢ NoLane → AnswerTells lane (outcome result) self.old self.new }
         ensures belongs { IsConsumerOf mailbox.now self.new }
     {
@@ -75,8 +75,8 @@ impl<A: Allocator + Drop> Consumer<A> {
         Some(lane as u32)
     }
 
-    /// A poll of a lane that there is, with the clauses of [`Consumer::poll`]. Its budget is `left`, which is then what
-    /// it leaves.
+    /// A poll of a lane that there is, with the clauses of [`Consumer::poll`]. Its budget is `left`. Afterwards `left`
+    /// is what the poll did not use.
     #[inline(always)]
     pub(super) fn poll_rest<B: Allocator + Drop, R: Rng>(
         &mut self,
@@ -124,7 +124,7 @@ impl<A: Allocator + Drop> Consumer<A> {
             Look::Cell(cell) => cell,
         };
 
-        // This call's contract says that the consumer is one of the mailbox's. So it may begin a claim.
+        // The contract of `ClaimSeat::consumer` says that the number is one of the mailbox's. So a claim may begin.
         fields.seat.consumer();
         run_new(fields, mailbox, lane, cell, left, rng)
     }

@@ -23,7 +23,7 @@ use std::alloc::Allocator;
 /// Goes on by steps with the claim that the consumer holds on this lane: to the claim's end and, if it is won, the load
 /// of the item, or until it has made the accesses that are left. It takes the consumer's fields, not the consumer. The
 /// claim is changed where `places` has it.
-// It stands alone, so that the rest of a poll is short enough to be inlined.
+// It is never inlined, so that the rest of a poll is short enough to be inlined.
 #[inline(never)]
 pub(super) fn run_held<A: Allocator + Drop, B: Allocator + Drop, R: Rng>(
     fields: &mut ConsumerFields<A>,
@@ -96,9 +96,9 @@ pub(super) fn run_held<A: Allocator + Drop, B: Allocator + Drop, R: Rng>(
     }
 }
 
-/// Makes the accesses of a new claim, with the clauses of [`run_held`]. As long as there is room for whole objects, it
-/// goes straight through them. [`run_rest`] makes the other accesses. With no budget left the claim is only set in
-/// `places`, which costs less here than in [`run_rest`].
+/// Makes the accesses of a new claim, with the clauses of [`run_held`]. It goes straight through whole objects as long
+/// as the budget is enough for them. [`run_rest`] makes the other accesses. With no budget left the claim is only set
+/// in `places`, which costs less here than in [`run_rest`].
 #[inline(always)]
 pub(super) fn run_new<A: Allocator + Drop, B: Allocator + Drop, R: Rng>(
     fields: &mut ConsumerFields<A>,

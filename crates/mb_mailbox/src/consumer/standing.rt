@@ -29,7 +29,7 @@ pub(super) fn accesses_are_counted()
         → length (part_on after.consumer k after.part)
         ≡ n + length (part_on seat.consumer k seat.part) }
 
-    // These and those that the seat made there before are together no more than a claim of the layout may make.
+    // n accesses of a claim, and those that its seat made on the cell before, are no more than a claim may make.
     ensures few { (layout : Layout) (cells k n : ℕ) (claim now : Claim) (seat after : SeatView)
         (s t : Stream) → seat.table.size ≡ Some (record { layout = layout; cells = cells })
         → AreSeatSteps layout k claim seat s n now after t

@@ -16,11 +16,11 @@ impl<A: Allocator + Drop> Consumer<A> {
     ghost use Rattle.mb_mailbox.specs.Steps.{AnswerTells, IsPollOf, outcome};
     ghost use Rattle.mb_mailbox.specs.Takes.{HasPassed, IsTakeOf};
 
-    /// Makes accesses on a lane until it takes an item, or until it has made `most` of them. It goes on past items that
-    /// it loses, and each of them gets its note. It is the same as calls of [`Consumer::poll`] one after another, as
-    /// long as these return [`Poll::Lost`], each with what is left of `most`. So it never returns `Lost`. It returns
-    /// [`Poll::Undecided`] as a poll does. [`Poll::Spent`] comes only after `most` accesses. [`Poll::NoLane`] comes
-    /// first, if there is no such lane, and changes nothing. It takes no lock and no memory.
+    /// Makes accesses on a lane until one has a result that is no loss, or until it has made `most` of them. It goes on
+    /// past items that it loses, and each of them gets its note. A take is calls of [`Consumer::poll`], each with what
+    /// is left of `most`, up to the first that does not return [`Poll::Lost`]. It returns what that call returns, so it
+    /// never returns `Lost`. [`Poll::Spent`] comes only after `most` accesses. [`Poll::NoLane`] comes first, if there
+    /// is no such lane, and changes nothing. It takes no lock and no memory.
     ///
     /// An item that is lost takes one access for its link and at most [`max_steps`](mb_claim::Layout::max_steps) for
     /// its claim. An item that is taken takes one more.
@@ -36,7 +36,7 @@ impl<A: Allocator + Drop> Consumer<A> {
         ensures refused { result ≡ NoLane
             → (self.new ≡ self.old) × (R.stream rng.new ≡ R.stream rng.old) }
 
-        // Polls that lost their items, and then one that did not, each of what was left of the budget.
+        // The polls lost their items, up to the last, which lost none. The budget of each was what was left of `most`.
         ensures taken { result ≢ NoLane
             → IsTakeOf lane most result (R.stream rng.old) (R.stream rng.new) self.old self.new }
         ensures not_lost { (w : ℕ) → result ≢ Lost w }
@@ -48,7 +48,7 @@ impl<A: Allocator + Drop> Consumer<A> {
         // If each cell has a last object, the answer is never `Undecided`.
         ensures decided { (shape_of mailbox.now.claims.layout).last ≡ true → result ≢ Undecided }
 
-        // What the answer says of the lane, even if its producer was taken in before the consumer was given.
+        // What the answer says of the lane. It says more if the producer was returned before the consumer was issued.
         ensures told { result ≢ NoLane → AnswerTells lane (outcome result) self.old self.new }
         ensures belongs { IsConsumerOf mailbox.now self.new }
     {
@@ -89,8 +89,8 @@ impl<A: Allocator + Drop> Consumer<A> {
         self.poll_rest(mailbox, lane, left, rng)
     }
 
-    /// Goes on past items that it loses, if each cell has a last object alone and no claim is held on the lane. It stops
-    /// if fewer than three accesses are left. If it comes to another answer, returns that.
+    /// Goes past items that it loses, if each cell has a last object alone and no claim is held on the lane. Stops if
+    /// fewer than three accesses are left. If a poll comes to an answer that is no loss, it returns that answer.
     #[inline(always)]
     fn pass_lost<B: Allocator + Drop, R: Rng>(
         &mut self,
@@ -102,14 +102,14 @@ impl<A: Allocator + Drop> Consumer<A> {
         requires belongs { IsConsumerOf mailbox.now self.old }
         requires lane { lane < mailbox.now.cells.size.lanes }
 
-        // Without an answer the items were lost, one after another, and `left` is what is left.
+        // If it returns no answer, it lost each item that it met, and `left` is what is left of the budget.
         ensures passed { result ≡ None → (winners : List ℕ)
             × HasPassed lane left.old winners (R.stream rng.old) (R.stream rng.new)
             self.old self.new }
         ensures left { result ≡ None → accesses_made self.new + left.new
             ≡ accesses_made self.old + left.old }
 
-        // With an answer they make a take.
+        // If it returns an answer, its polls make a take with that answer.
         ensures taken { IfSome result (λ answer.
             IsTakeOf lane left.old answer (R.stream rng.old) (R.stream rng.new) self.old self.new
             × AnswerTells lane (outcome answer) self.old self.new) }

@@ -14,7 +14,7 @@ use std::snapshot::Snapshot;
 use std::sync::{OnceToken, Wait};
 use std::thread::Scope;
 
-/// The same end, but it says that the run is aborted. A worker that got no thread has it.
+/// This end, changed to say that the run is aborted. A worker that got no thread has such an end.
 fn without_thread<A: Allocator + Drop>(end: Done<A>) -> Done<A>
     ensures { result ≡ with_abort end }
 {

@@ -121,7 +121,7 @@ fn put_list<A: Allocator + Drop, B: Allocator + Drop, G: Gate>(
     }
 }
 
-/// The first lane that is not marked in `ended`: from `at` to `end`, and then from `from` to `end`. `None` if all are.
+/// The first lane not marked in `ended`, from `at` on and below `end`, else from `from` on. `None` if all are marked.
 fn next_lane(ended: &[bool], at: u32, from: u32, end: u32) -> Option<u32>
     requires at { at ≤ end }
     requires few { end ≤ length ended.now }

@@ -35,7 +35,7 @@ pub(super) fn gathering_is_sound()
         → IsRollOf m.cells.size h.cells.roll pool
         → IsReportIn m.cells.size.lanes (consumer_count m.claims.layout) h r → IsGathered m h r }
 
-    // What follows if `IsGathered` holds of a report.
+    // If `IsGathered` holds of a report, so does `UndecidedHasCompany`, and `FullTakesAll` if no producer is missing.
     ensures full { (m : MailboxView) (h : HubView) (r : ReportView) → IsHub h → IsHubOf m h
         → count_missing h.puts ≡ 0 → IsGathered m h r → FullTakesAll m h r }
     ensures undecided { (m : MailboxView) (h : HubView) (r : ReportView) → IsGathered m h r

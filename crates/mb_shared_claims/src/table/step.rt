@@ -127,8 +127,8 @@ impl<A: Allocator + Drop> SharedClaims<A> {
         self.make_at::<W>(seat, address, cell, next, word)
     }
 
-    /// Makes an access of a claim that may come next, at the address of its word. Returns what [`SharedClaims::make`]
-    /// does.
+    /// Makes an access of a claim that may come next, at the address of its word. The result is that of
+    /// [`SharedClaims::make`].
     #[inline(always)]
     pub(super) fn make_at<W: AccessSpec>(
         &self,

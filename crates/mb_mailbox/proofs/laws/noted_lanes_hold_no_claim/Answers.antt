@@ -34,7 +34,7 @@ no_claim s p k claim i each at =
 pub returns-clause-place : goal.returns-clause-place
 returns-clause-place c = no_claim
 
--- no claim is begun there: if the consumer has a place on the lane, that is before a link
+-- if a consumer has a note on each cell that it met on a lane, no claim is begun there: its place is before a link
 none_begun : (s : ConsumerView) (p : ℕ) → IsConsumer s → HasNoteOnEach p s
     → option_map_or has_begun_at (slice_get s.places p) false ≡ false
 none_begun s p i each = by (slice_get s.places p) refl

@@ -1,4 +1,4 @@
--- Loop invariant of `Consumer::take`: the items that were passed.
+-- What the loop of `Consumer::take` keeps: each poll so far lost its item.
 use Rattle.std.proofs.Common.{◌≡◌, ◌+◌, ◌<◌, ℕ, List}
 use Rattle.mb_mailbox.specs.Consumers.{IsConsumerOf}
 use Rattle.mb_mailbox.specs.Jobs.{accesses_made}

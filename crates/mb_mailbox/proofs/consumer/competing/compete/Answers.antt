@@ -4,7 +4,7 @@ use Rattle.mb_claim.specs.declared.access.Stage.TheVariants as stage
 use Rattle.mb_mailbox.specs.Imports.{SeatView}
 use Rattle.mb_mailbox.proofs.consumer.competing.compete.Goals as goal
 
--- to the accesses made so far comes one more, with the word drawn
+-- the accesses of the claim are those made so far and one more, with the word drawn
 pub returns-then-ne-clause-steps : goal.returns-then-ne-clause-steps
 returns-then-ne-clause-steps g c =
     let was = c.steps.invariant in

@@ -7,7 +7,7 @@ use Rattle.mb_mailbox.proofs.consumer.competing.compete.Given as goal
 abbrev pub decreases-steps : goal.decreases-steps
 decreases-steps g l = l.left
 
--- as many accesses were made as the budget lost. The claim has the turns of its part, and goes on. Some budget is left
+-- accesses made and `left` add up to the budget, and `left` is not 0. The claim has the turns of its part, and goes on
 abbrev pub invariant-steps : goal.invariant-steps
 invariant-steps g l = record {
   steps : (n : ℕ) × (n + l.left ≡ l.fn.left)

@@ -93,7 +93,7 @@ module _ (g : Over) (c : After-meet g) where
         (record { cells = c.meet.ensures.belongs.cells; claims = c.meet.ensures.belongs.claims }),
   )
 
--- after `settle`, the accesses of the new claim
+-- after `settle`, which makes the accesses of the new claim
 module _ (g : Over) (c : After-settle g) where
   abbrev from : ConsumerView
   from = at_link c.args.lane c.items.at (with_fields c.items.fields)

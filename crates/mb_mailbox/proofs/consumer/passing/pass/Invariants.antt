@@ -1,4 +1,4 @@
--- Loop invariant of `pass`: what the consumer would be, if the cursor were its place on the lane.
+-- What the loop of `pass` keeps. It is said of the consumer with the cursor as its place on the lane.
 use Rattle.mb_mailbox.specs.ConsumerWords.{with_fields}
 use Rattle.mb_mailbox.proofs.Takes.{HasPassedTo}
 use Rattle.mb_mailbox.proofs.consumer.passing.pass.Given as goal

@@ -83,7 +83,7 @@ module _ (g : Over) (c : After-stay g) (claim_is : c.requires.held.claim ≡ c.s
   abbrev was : ConsumerView
   was = with_fields c.args.fields.now
 
-  -- with the places set by `stay` it is the consumer that holds the claim
+  -- `was` with the places set by `stay` is the consumer that holds the claim
   held_is : holding c.args.lane c.args.cell c.requires.held.claim was ≡ record was { places = c.stay.new.places.items }
   held_is = ap (λ (ps : List Place). record was { places = ps })
       (ap (λ z. slice_set c.args.fields.now.places.items c.args.lane (At c.args.cell z)) claim_is ∙ sym c.stay.ensures)

@@ -6,7 +6,7 @@ use Rattle.mb_mailbox.specs.Hubs.{IsHubOf}
 use Rattle.mb_mailbox.specs.Runs.{IsDoneOf, full_of, is_aborted, is_stopped, with_taken}
 use Rattle.mb_mailbox.proofs.crew.collect.settle.Given as goal
 
--- those in the ends yielded so far are returned, and the totals are of these ends. Hub and rest are the mailbox's
+-- the hub took back what each end yielded so far has, and the totals are of these ends. Hub and rest are the mailbox's
 abbrev pub invariant-loop-end : goal.invariant-loop-end
 invariant-loop-end g l = record {
   rest : l.yielded ++ into_iter_items l.end-iterator ≡ l.fn.ends.items;

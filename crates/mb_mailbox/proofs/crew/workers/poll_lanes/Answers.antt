@@ -15,7 +15,7 @@ abbrev sixteen : List Bool
 sixteen = false ∷ false ∷ false ∷ false ∷ false ∷ false ∷ false ∷ false ∷ false ∷ false ∷ false
     ∷ false ∷ false ∷ false ∷ false ∷ false ∷ []
 
--- if no lane was found, what is said of that case holds. By `left_of`, if one was found, both statements on it hold
+-- if o is `None`, `IfNone o P` gives P. By `left_of`, if o is some x, two statements `IfSome` on o give P x and Q x
 none_left : {P : Type 0} (o : Option ℕ) → is_some o ≡ false → IfNone o P → P
 none_left None e h = h
 none_left (Some x) e h = absurd (cc)

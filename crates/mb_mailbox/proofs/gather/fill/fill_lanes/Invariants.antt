@@ -2,7 +2,7 @@ use Rattle.std.proofs.Common.{◌≡◌, ◌≤◌, length}
 use Rattle.mb_mailbox.specs.Filling.{changed_from, with_items}
 use Rattle.mb_mailbox.proofs.gather.fill.fill_lanes.Given as goal
 
--- to move in the put lists that are left leads to the same lanes as to move in all of them at first
+-- to move in the put lists that remain leads to the same lanes as to move in all at first. There are enough lanes
 abbrev pub invariant-loop-kept : goal.invariant-loop-kept
 invariant-loop-kept g l = record {
   room : length l.puts.items ≤ length l.lanes.items;

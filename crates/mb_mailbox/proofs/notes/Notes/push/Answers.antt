@@ -8,8 +8,8 @@ use Rattle.mb_mailbox.proofs.LaneLists.{counted_on, grown, lanes_counted}
 use Rattle.mb_mailbox.proofs.Marked.{few_words, told_length, told_push, words_push}
 use Rattle.mb_mailbox.proofs.notes.Notes.push.Goals as goal
 
--- In the proofs ms and ws are the marks and words before. `low` says that the notes have the lane, m is the new mark, o
--- its word and x its note
+-- In the proofs ms and ws are the marks and words before the call. `low` says that the notes have the lane. m is the
+-- new mark, o its word if it needs one, and x its note
 pub overflow_cast-lane : goal.overflow_cast-lane
 overflow_cast-lane g c =
     let all = all_told c.self.inside.marks.items c.self.inside.words.items in

@@ -23,7 +23,7 @@ join_seat-requires g c =
           (ap (λ (z : Seated). z.0) c.seat.invariant.is),
     )
 
--- the hub, whose view has that seat's part beside the roll, may put the part into the roll
+-- the hub, whose view has the returned seat's part beside the roll, may put this part into the roll
 pub load-requires : goal.load-requires
 load-requires g c =
     let j = c.join_seat.ensures in
