@@ -40,7 +40,7 @@ claim_bounded cs law h c k lawful =
     (family cs h k law lawful) c
 
 -- ---- how many accesses a row of a shape allows
--- n pairs allow n times the accesses that one pair allows
+-- n pairs allow `max_steps` accesses: n times as many as one pair
 pub pairs_steps : (t : QuorumTable) (n : ℕ) → most_on_objects t (pairs_of (spread t.values) n) ≡ max_steps t n
 pairs_steps t zero = omega arith
 pairs_steps t (suc n) =

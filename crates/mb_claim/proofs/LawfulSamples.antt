@@ -16,7 +16,7 @@ abbrev pub AreAll : (ℕ → ℕ → Type 0) → List ClaimAccess → Type 0
 AreAll P [] = Unit {0}
 AreAll P (a ∷ h) = P a.consumer a.cell × AreAll P h
 
--- with one access more, P holds of consumer c and cell k if they have a step. Cases: whether the access is theirs
+-- if P holds of one more access, and of c and k if they had a step before, P holds of c and k if they have a step now
 known_by :
     (P : ℕ → ℕ → Type 0) (c k : ℕ) (a : ClaimAccess) (xs : List ObjectTurn) (p q : Bool) → eqb a.consumer c ≡ p
     → eqb a.cell k ≡ q

@@ -13,7 +13,7 @@ use Rattle.mb_claim.proofs.Lists.{not_empty}
 use Rattle.mb_claim.proofs.NextSteps.{one_next}
 use Rattle.mb_claim.proofs.Unique.{one_stage_lem}
 
--- two accesses with the same consumer, cell, object, act and random word are one
+-- two accesses with the same consumer, cell, object, act and random word are equal
 same_record :
     (a b : ClaimAccess) → a.consumer ≡ b.consumer → a.cell ≡ b.cell → a.step.object ≡ b.step.object
     → a.step.turn.act ≡ b.step.turn.act → a.step.turn.word ≡ b.step.turn.word → a ≡ b

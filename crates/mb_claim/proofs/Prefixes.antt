@@ -82,13 +82,13 @@ IsCut {A} later xs rest back =
     ((front : List A) × (xs ≡ front ++ back) × (rest ≡ later ++ front))
     ⊎ ((first : A) × (more : List A) × (back ≡ (first ∷ more) ++ xs))
 
--- if one of these cases holds, it holds too with the same element put before `later` and before `rest`
+-- if one of the cases of `IsCut` holds, so does one with the same element put before `later` and before `rest`
 cut_more :
     {A : Type 0} (y z : A) (ys xs zs back : List A) → y ≡ z → IsCut ys xs zs back → IsCut (y ∷ ys) xs (z ∷ zs) back
 cut_more y z ys xs zs back e (inl (front, p, q)) = inl (front, p, ap₂ (λ a zs. a ∷ zs) (sym e) q)
 cut_more y z ys xs zs back e (inr p) = inr p
 
--- of two ways to cut one list, one of these two cases always holds
+-- if one list is cut in two ways, one of the two cases of `IsCut` holds
 cut : {A : Type 0} (later xs rest back : List A) → later ++ xs ≡ rest ++ back → IsCut later xs rest back
 cut [] xs rest back e = inl (rest, e, refl)
 cut (y ∷ ys) xs [] back e = inr (y, ys, sym e)

@@ -9,7 +9,7 @@ use Rattle.mb_claim.specs.History.{part_on, object_history}
 use Rattle.mb_claim.specs.Paths.{turns_on, Passes, IsClaimPrefixFrom}
 
 -- the turns are whole paths through objects with numbers from o on, all undecided. The first input is v, the last
--- output w
+-- output w. With no objects there are no turns, and w is v
 abbrev pub PassesAll : QuorumTable → List Kind → ℕ → ℕ → List ObjectTurn → ℕ → Type 0
 PassesAll t [] o v xs w = (xs ≡ []) × (w ≡ v)
 PassesAll t (kind ∷ kinds) o v xs w =

@@ -33,9 +33,9 @@ pub struct ClaimOp {
 /// An access that a claim has made.
 #[derive(Clone, Copy, PartialEq, Eq, Debug)]
 pub struct ClaimStep {
-    /// What it did, and on which object.
+    /// What the claim did, and on which object.
     pub step: ObjectTurn,
-    /// How far the claim has come with it.
+    /// How far the claim has come with this access.
     pub stage: Stage,
 }
 

@@ -5,7 +5,7 @@
 //! A table of shared words begins with [`histories_begin_with_zeros`]. Each access of a claim rests on
 //! [`claims_make_steps`]: the claim can be called, its word is one of the cell's, and it can go on with what it finds
 //! there. After the access the words are those that the history leaves with it. [`accesses_lengthen_one_part`] says
-//! what it adds to each consumer's part. [`other_words_are_free`]: words after those of the claims may hold anything.
+//! what an access adds to each part. [`other_words_are_free`]: words after those of the claims may hold anything.
 ghost use Rattle.std.specs.Prelude.{ℕ, ◌≡◌, ◌≢◌, ◌+◌, ◌*◌, ◌<◌, ◌≤◌, List, [], ◌∷◌, length, slice_index, slice_set};
 ghost use Rattle.mb_deciding.specs.declared.access.Op.TheVariants as to;
 ghost use Rattle.mb_deciding.specs.Vocabulary.{IsInWords, IsSameOp, IsOpAt, CanFind, reg_of, seen_by};

@@ -45,8 +45,8 @@ pub fn unary_quorums_are_own_and_others()
     ensures read { (m v r : ℕ) → v < m → IsMember ((unary_table m).read v) r ↔ ((r < m) × (r ≢ v)) }
 {}
 
-/// In the bit table, a write quorum holds for each bit of its value the register that the bit names, of the two for
-/// that bit. A read quorum holds the other one.
+/// In the bit table, a write quorum holds exactly the registers 2i + (bit i of its value), for each i below the width.
+/// A read quorum holds for each such i the other one of the registers 2i and 2i + 1, and no more.
 pub fn bits_quorums_follow_the_bits()
     ensures write { (m v r : ℕ) → IsMember ((bits_table m).write v) r
         ↔ ((i : ℕ) × (i < width_of m) × (r ≡ 2 * i + bit_at v i)) }
@@ -70,7 +70,7 @@ pub fn middle_quorums_are_sets_by_rising_mask()
         ↔ ((r < (middle_table m).registers) × (IsMember ((middle_table m).write v) r → ⊥)) }
 {}
 
-/// The width of the bit table of m values is the least number b with `m <= 2^b`.
+/// The width for m values (`width_of`), half the registers of their bit table, is the least number b with `m <= 2^b`.
 pub fn width_is_the_least()
     ensures { (m : ℕ) → IsLeastWidth m (width_of m) }
 {}

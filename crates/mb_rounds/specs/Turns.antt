@@ -20,7 +20,7 @@ given_out [] = []
 given_out (HandedIn items ∷ older) = given_out older
 given_out (Gave taken ∷ older) = concat taken ++ given_out older
 
--- after these turns, and no others, these items are carried
+-- after these turns, and no others, these items are carried. A round may change their order
 abbrev pub AreCarriedAfter : List Turn → List ℕ → Type 0
 AreCarriedAfter [] now = now ≡ []
 AreCarriedAfter (HandedIn items ∷ older) now = (was : List ℕ) × AreCarriedAfter older was × (now ≡ was ++ items)

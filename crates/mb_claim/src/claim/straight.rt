@@ -23,7 +23,7 @@ pub struct Stretch {
     pub stage: Stage,
     /// The number of the object, if the claim is going.
     pub object: u32,
-    /// The claim's input to the object, if it is going. It is some consumer's number even if the claim has ended.
+    /// The claim's input to the object, if the claim is going. Also if it has ended, this is some consumer's number.
     pub value: u32,
     /// What is left of the budget.
     pub left: u64,
