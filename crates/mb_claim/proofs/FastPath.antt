@@ -24,7 +24,7 @@ module _ (t : QuorumTable) (ks : List Kind) (hs : ℕ → List Access) (law : Ar
   abbrev second : Family t (Ratifier ∷ ks) 1 hs (λ a. a ≡ u)
   second = next_decided t Ratifier (Ratifier ∷ ks) 0 hs P fam (law Ratifier) c u p
 
-  -- the family from the object after the second ratifier on
+  -- the family from the object after the second ratifier on: each consumer that comes there has the input u, too
   abbrev third : Family t ks 2 hs (λ a. a ≡ u)
   third = next t Ratifier ks 1 hs (λ a. a ≡ u) second (law Ratifier)
 

@@ -6,7 +6,7 @@ use mb_deciding::{Op, Turn};
 pub struct ObjectTurn {
     /// The number of the object in its cell, from 0 on.
     pub object: u32,
-    /// What was done there, with its random word.
+    /// The act that was made there, with its random word.
     pub turn: Turn,
 }
 

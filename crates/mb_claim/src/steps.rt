@@ -55,7 +55,7 @@ pub fn claims_have_one_next_op()
         → IsClaimPrefix cs c (x ∷ xs) s → IsClaimPrefix cs c (y ∷ xs) r
         → (x.object ≡ y.object) × IsSameOp x.turn.act y.turn.act }
 
-    // The claim was going before: nothing follows an ended claim.
+    // Before its newest step a claim was going: nothing follows an ended claim.
     ensures going { (cs : Claims) (c : ℕ) (x : ObjectTurn) (xs : List ObjectTurn) (s : Stage)
         → IsClaimPrefix cs c (x ∷ xs) s → IsClaimPrefix cs c xs Going }
 
@@ -78,7 +78,7 @@ pub fn places_make_steps()
         → IsInWords (access_after c k object op word h).step.turn
         → MayFollow cs (access_after c k object op word h) h }
 
-    // The place can go on with the value that this access finds.
+    // This access finds a value that the place allows (`CanFind`).
     ensures found { (cs : Claims) (c k object : ℕ) (pc : Pc) (op : Op) (h : List ClaimAccess)
         → ClaimsAreSound cs → IsClaimLawful cs h → HasPlace cs c k object pc h
         → IsOpAt cs.table pc op
@@ -125,7 +125,7 @@ pub fn words_follow_steps()
         → let a = access_in cs c k object op word words in
         IsInWords a.step.turn → IsMemoryOf cs (words_after cs k object op words) (a ∷ h) }
 
-    // The place can go on with the value that this access finds.
+    // This access finds a value that the place allows (`CanFind`).
     ensures found { (cs : Claims) (c k object : ℕ) (pc : Pc) (op : Op) (words : List ℕ)
         (h : List ClaimAccess)
         → ClaimsAreSound cs → IsMemoryOf cs words h

@@ -56,7 +56,7 @@ pub fn bits_quorums_follow_the_bits()
 
 /// The sets of h registers among n are numbered from 0, by rising mask, each once. In the middle table the write quorum
 /// of v is set number v of the sets of half of the registers, rounded down. Its read quorum holds all other registers.
-/// No fewer registers have a set for each value.
+/// Fewer registers have fewer such sets than values.
 pub fn middle_quorums_are_sets_by_rising_mask()
     ensures within { (n h v : ℕ) → set_number n h v < 2 ^ n }
     ensures size { (n h v : ℕ) → v < choose n h → count_ones (set_number n h v) ≡ h }

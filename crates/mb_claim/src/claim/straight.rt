@@ -227,7 +227,7 @@ impl Claim {
         true
     }
 
-    /// Makes the exchange, if the claim stands before a last object and an access is left.
+    /// Makes the exchange of a last object, if the claim stands before one and an access is left. Else nothing changes.
     #[inline(always)]
     fn settle<M: Drawing>(
         layout: &Layout,
