@@ -83,7 +83,7 @@ memory_cut : (k : ℕ) (h : List ClaimAccess) → IsMemoryTrue h → IsMemoryTru
 memory_cut k [] m = tt
 memory_cut k (a ∷ h) m = memory_by k a h (eqb a.cell k) refl m.0 (memory_cut k h m.1)
 
--- if an access and a history have numbers below 2 ^ 64, so has the history with it. Cases: whether the access is kept
+-- if an access and a history have values and random words below 2 ^ 64, so has the history with the access, if kept
 words_by :
     (a : ClaimAccess) (xs : List ClaimAccess) (q : Bool) → IsInWords a.step.turn → AreInWords xs
     → AreInWords (cons_option (cond q (Some a) None) xs)

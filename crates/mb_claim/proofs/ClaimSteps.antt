@@ -93,7 +93,7 @@ module _ (t : QuorumTable) (kinds : List Kind) (c object : ℕ) (pc : Pc) (xs : 
         place = at;
       }
 
-  -- if the new turn ended the path on the last object undecided, the turns are a prefix with the stage `Undecided`
+  -- if the new turn ended the path on the row's final object undecided, the turns are a prefix with stage `Undecided`
   undecided_last :
       (u : ℕ) → IsPath t p.kind p.input (x ∷ p.turns) (answer false u) → slice_get kinds (suc object) ≡ None
       → IsClaimPrefixFrom t c kinds 0 c (record { object = object; turn = x } ∷ xs) Undecided

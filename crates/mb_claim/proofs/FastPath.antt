@@ -81,7 +81,7 @@ module _ (t : QuorumTable) (law : AreDeciding t) (ratifying : AreRatifying t) (k
       (some (part-object_history q k 0 h ∙ ap (turns_at 0) (alone q ne)))) (cases_eq q c) in
       true≢false (sym ((ratifying (λ q. q)).acceptance (hs 0) here c mine c false u path).0)
 
-  -- if only consumer c has come and has ended its claim, the first ratifier has decided for it
+  -- if only consumer c has come and has ended its claim, the first ratifier has decided for c
   decided_by :
       (h : List ClaimAccess) → IsClaimLawful (claims_of t kinds cells) h → ((d : ℕ) → d ≢ c → part_on d k h ≡ [])
       → (s : Stage)

@@ -77,7 +77,7 @@ module _ (t : QuorumTable) (kinds : List Kind) (c object : ℕ) (pc : Pc) (xs : 
     undecided_then u s path behind =
         then_here s (inr (inr (u, [], record { turns = x ∷ p.turns; all = refl; path = path }, behind)))
 
-    -- if the turn ends the path on the last object undecided, the claim is undecided
+    -- if the turn ends the path on the row's final object undecided, the claim is undecided
     pub undecided_here :
         (u : ℕ) → IsPath t p.kind p.input (x ∷ p.turns) (answer false u) → p.after ≡ []
         → IsClaimPrefixFrom t c kinds 0 c longer Undecided

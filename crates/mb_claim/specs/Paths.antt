@@ -21,7 +21,7 @@ stage_of c output = if output.decided then stage_for c output.value else Undecid
 -- ---- whole paths
 -- A whole path through objects with numbers from o on, and its output: whole paths of the objects in their order,
 -- joined. The first input is v, each next input is the value of the output before. It ends at the first output that
--- is decided, or after the last object.
+-- is decided, or after the final object of the row.
 abbrev pub IsClaimPath : QuorumTable → List Kind → ℕ → ℕ → List ObjectTurn → Out → Type 0
 IsClaimPath t [] o v xs output = (xs ≡ []) × (output ≡ answer false v)
 IsClaimPath t (kind ∷ kinds) o v xs output =

@@ -29,7 +29,7 @@ pub fn history_extends()
         → IsClaimLawful cs h → MayFollow cs a h → Adds cs a h }
 {}
 
-/// What an access adds to the parts of a history, whether or not it may come next there.
+/// What an access adds to the parts of a history, also if the access may not come next in that history.
 pub fn accesses_lengthen_one_part()
     ensures own { (a : ClaimAccess) (h : List ClaimAccess)
         → part a.consumer (a ∷ h) ≡ a ∷ part a.consumer h }
@@ -47,8 +47,8 @@ pub fn accesses_lengthen_one_part()
     ensures cells { (c k : ℕ) (h : List ClaimAccess) → part_on c k (part c h) ≡ part_on c k h }
 {}
 
-/// What a claim has done determines its next op, whatever memory holds. So a history goes on in one way with the access
-/// of a consumer on a cell, but for the random word.
+/// What a claim has done determines its next op, whatever memory holds. So after a history a consumer has one next
+/// access on a cell at most, but for the random word.
 pub fn claims_have_one_next_op()
     ensures op { (cs : Claims) (c : ℕ) (x y : ObjectTurn) (xs : List ObjectTurn) (s r : Stage)
         → ClaimsAreSound cs
@@ -158,7 +158,7 @@ pub fn claims_make_steps()
         → claim_stage claim ≡ Going → IsNextOp layout claim next
         → CanClaimFind layout claim next (found_in cs k next.object next.op words) }
 
-    // A store finds nothing, so any value will do for it.
+    // A store finds no value, so `CanClaimFind` holds of it with any `seen`.
     ensures stored { (layout : Layout) (claim : Claim) (next : ClaimOp) (reg : Reg) (value seen : ℕ)
         → next.op ≡ to.Store reg value → CanClaimFind layout claim next seen }
 
