@@ -36,7 +36,7 @@ came_undecided t c kind ks o v n xs s below (inr (inr (u, later, x, p))) some =
           (turns_at-turns_on_other o m x.turns (λ e. omega (arith, e, l)));
     }
 
--- a consumer with a turn after two ratifiers was left undecided by both
+-- a consumer with a turn after two ratifiers was left undecided by both ratifiers
 pub both_came_undecided :
     (t : QuorumTable) (c : ℕ) (ks : List Kind) (v n : ℕ) (xs : List ObjectTurn) (s : Stage) → 2 ≤ n
     → IsClaimPrefixFrom t c (Ratifier ∷ Ratifier ∷ ks) 0 v xs s → turns_at n xs ≢ []

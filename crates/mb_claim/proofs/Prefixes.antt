@@ -109,7 +109,7 @@ cut_turns_on o (turn ∷ turns) (m ∷ mid) xs e =
     cut_turns_on o turns mid xs (tails (record { object = o; turn = turn }) m (turns_on o turns) (mid ++ xs) e) in
     (turn ∷ rest.0, rest.1, ap (λ zs. turn ∷ zs) rest.2, ap₂ (λ a zs. a ∷ zs) (sym first) rest.3, rest.4)
 
--- a beginning that ends within the path of the first object is a prefix with the stage `Going`
+-- a beginning of a whole path that ends before the end of the first object's path is a prefix with the stage `Going`
 begun_within :
     (t : QuorumTable) (c : ℕ) (kind : Kind) (kinds : List Kind) (o v : ℕ) (first : ObjectTurn)
     (mid xs : List ObjectTurn) (turns : List Turn) (d : Bool) (u : ℕ)
