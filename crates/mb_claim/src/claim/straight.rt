@@ -55,7 +55,7 @@ impl Claim {
 
     /// Makes the accesses of a new claim on a cell whose words begin at `begin`. It goes object by object, as long as
     /// 10 accesses and 2 for each quorum register are left. For a last object one is enough. It makes at most `most`
-    /// accesses, those of as many calls of [`Claim::step`]. It needs a consumer of the layout, words whose positions
+    /// accesses, as that many calls of [`Claim::step`] do. It needs a consumer of the layout, words whose positions
     /// are below 2^64, and a memory that can make each access.
     #[inline(always)]
     pub fn straight<M: Drawing>(
