@@ -54,7 +54,7 @@ module _ (cs : Claims) (law : AreDeciding cs.table) (one : OneOp cs.table) (act 
   one_stage : (c k : ℕ) (s r : Stage) (h : List ClaimAccess) → HasStage cs c k s h → HasStage cs c k r h → s ≡ r
   one_stage c k s r h p q = one_stage_lem cs.table law c cs.kinds 0 c (part_on c k h) s r p.1 q.1
 
-  -- after a history a step has one entry. The accesses of entries are all on cell 0
+  -- after a history a step has one entry at most. The accesses of entries are all on cell 0
   one_entry :
       (word : ℕ) (h : List ClaimAccess) (e f : ClaimEntry)
       → IsClaimLawful cs (with_entry word e h) → IsClaimLawful cs (with_entry word f h)

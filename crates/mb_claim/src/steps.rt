@@ -213,7 +213,7 @@ pub fn addresses_are_apart()
         → address_of r (row_of shape s n) k i (Quorum q)
         ≡ k * shaped_words r shape n + i * (1 + r) + (1 + q) }
 
-    // After them come the pairs.
+    // Let f objects come before the pairs. Of pair i the conciliator is object f + 2i, and the ratifier f + 2i + 1.
     ensures shaped_conciliator { (r s n k i : ℕ) (shape : Shape) → i < n
         → let f = length (fast_row shape.fast) in
         address_of r (row_of shape s n) k (f + 2 * i) Value

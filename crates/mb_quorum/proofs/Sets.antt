@@ -3,7 +3,7 @@ use Rattle.std.proofs.Common.{◌≡◌, ◌≢◌, ℕ, zero, suc, ◌+◌, ◌
 use Rattle.mb_quorum.specs.Middle.{choose, set_number}
 use Rattle.mb_quorum.specs.MiddleLaw.{without_last, with_last}
 
--- there are as many sets of h registers among n as sets without the last register and sets with it, counted together
+-- for n and h above 0: the sets of h registers among n are those without the last register and those with it
 pub choose_by_last :
     (n h : ℕ) → n ≢ 0 → h ≢ 0 → choose n h ≡ choose (n - 1) h + choose (n - 1) (h - 1)
 choose_by_last zero h some more = absurd (some refl)

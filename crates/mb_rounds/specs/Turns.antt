@@ -1,4 +1,4 @@
--- All that was handed in and given out by rounds, turn by turn. A turn here is of the type below, and none of a process.
+-- What was handed in, and what rounds gave out, turn by turn. A turn here is a `Turn` (below), and none of a process.
 use Rattle.std.specs.Prelude.{ℕ, ◌≡◌, ◌++◌, List, [], ◌∷◌}
 use Rattle.std.specs.List.{concat}
 use Rattle.mb_rounds.specs.Carried.{AreSameItems}
