@@ -23,7 +23,7 @@ some_path t Ratifier v =
 some_path t LastObject v =
     (record { act = Exchange Last (v + 1) 0; word = 0 } ∷ [], true, v, (refl, inl (refl, refl)))
 
--- each whole path of an object begins one of it and the later objects, if these have a whole path with any input
+-- if the later objects have a whole path with any input, a whole path of an object begins one of it and those
 path_on :
     (t : QuorumTable) (kind : Kind) (kinds : List Kind) (o v : ℕ)
     → ((u : ℕ) → (xs : List ObjectTurn) × (output : Out) × IsClaimPath t kinds (suc o) u xs output)

@@ -25,7 +25,7 @@ impl Claim {
     ghost use Rattle.mb_claim.specs.{FitsLayout, IsClaimIn, IsNextOp, CanClaimFind, IsClaimStep, steps_left, step_of};
     ghost use Rattle.mb_claim.specs.{Pc, stage_for, placed_at, stood_at, quorums_of, kinds_of, consumer_count, most_accesses, IsStanding};
 
-    /// The claim of a consumer that has made no access. The consumer's number is below the layout's number of them.
+    /// The claim of a consumer that has made no access. The consumer's number has to be below [`Layout::consumers`].
     #[inline(always)]
     pub fn new(layout: &Layout, consumer: u32) -> Claim
         requires { consumer < consumer_count layout.now }

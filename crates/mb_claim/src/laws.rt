@@ -181,7 +181,7 @@ pub fn last_objects_decide_claims()
         → HasStage (claims_in layout cells) c k Undecided h → ⊥ }
 {}
 
-/// In a layout with a fast path: if object 0 has decided for one consumer, nobody comes to a conciliator of that cell.
+/// In a layout with a fast path: if object 0 of a cell has decided for a consumer, nobody comes to a conciliator there.
 /// Nobody does either if a consumer has ended its claim before the first access of any other (`alone`). In this clause
 /// `s` is the stage of that claim, and `i` the conciliator's last attempt.
 pub fn fast_layouts_avoid_conciliators()

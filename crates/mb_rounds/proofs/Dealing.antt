@@ -16,7 +16,7 @@ pub record HasShares (q k left : ℕ) : Type 0 where
   pub low : q * k ≤ left
   pub high : left ≤ k + q * k
 
--- n items are enough for k lists (k > 0) of n / k items each, in whole numbers, and not too many for one more each
+-- if k > 0, n items are enough for k lists of n / k items each, in whole numbers, and not too many for one more each
 pub shares_first : (n k : ℕ) → 0 < k → HasShares (n / k) k n
 shares_first n k some = record {
   low = div-mul-le_self n k;
