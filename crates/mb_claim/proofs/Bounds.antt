@@ -57,12 +57,12 @@ pub most-append :
 most-append t [] ys = omega arith
 most-append t (kind ∷ xs) ys = omega (arith, most-append t xs ys)
 
--- the ratifiers of a fast path allow `fast_steps` accesses
+-- a fast path, if there is one, allows `fast_steps` accesses. Without one both numbers are 0
 fast_most : (t : QuorumTable) (b : Bool) → most_on_objects t (fast_row b) ≡ fast_steps t b
 fast_most t true = omega arith
 fast_most t false = omega arith
 
--- a last object allows `last_steps` accesses
+-- a last object, if there is one, allows `last_steps` accesses. Without one both numbers are 0
 last_most : (t : QuorumTable) (b : Bool) → most_on_objects t (last_row b) ≡ last_steps b
 last_most t true = omega arith
 last_most t false = omega arith

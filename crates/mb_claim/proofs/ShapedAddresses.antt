@@ -26,7 +26,7 @@ before_behind r (x ∷ xs) ys zero o e = absurd (omega (arith, e))
 before_behind r (x ∷ xs) ys (suc n) o e = omega (arith, before_behind r xs ys n o (omega (arith, e)))
 
 -- ---- the words of the fast path and of the last object
--- each object of a fast path has the words of a ratifier
+-- a fast path has the words of a ratifier for each of its objects, if it has any
 fast_words : (r : ℕ) (b : Bool) → row_words r (fast_row b) ≡ length (fast_row b) * (1 + r)
 fast_words r true = omega arith
 fast_words r false = omega arith

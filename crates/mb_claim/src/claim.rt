@@ -162,7 +162,7 @@ impl Claim {
         ensures stage { result ≡ claim_stage self.new }
         ensures stays { out ≡ None → self.new ≡ stood_at self.old.place true self.old }
 
-        // Fewer accesses are left than at the place before the access.
+        // If `out` or the new place leaves fewer turns than `pc`, fewer accesses are left than to the claim at `pc`.
         ensures fewer { (pc : Pc)
             → turns_after (quorums_of layout.now) (next_from out self.old.place)
             < turns_left (quorums_of layout.now) pc
