@@ -40,7 +40,7 @@ claim_bounded cs law h c k lawful =
     (family cs h k law lawful) c
 
 -- ---- how many accesses a row of a shape allows
--- n pairs allow n times the accesses that one pair allows
+-- n pairs allow `max_steps` accesses: n times as many as one pair
 pub pairs_steps : (t : QuorumTable) (n : ℕ) → most_on_objects t (pairs_of (spread t.values) n) ≡ max_steps t n
 pairs_steps t zero = omega arith
 pairs_steps t (suc n) =
@@ -57,12 +57,12 @@ pub most-append :
 most-append t [] ys = omega arith
 most-append t (kind ∷ xs) ys = omega (arith, most-append t xs ys)
 
--- the ratifiers of a fast path allow `fast_steps` accesses
+-- a fast path, if there is one, allows `fast_steps` accesses. Without one both numbers are 0
 fast_most : (t : QuorumTable) (b : Bool) → most_on_objects t (fast_row b) ≡ fast_steps t b
 fast_most t true = omega arith
 fast_most t false = omega arith
 
--- a last object allows `last_steps` accesses
+-- a last object, if there is one, allows `last_steps` accesses. Without one both numbers are 0
 last_most : (t : QuorumTable) (b : Bool) → most_on_objects t (last_row b) ≡ last_steps b
 last_most t true = omega arith
 last_most t false = omega arith

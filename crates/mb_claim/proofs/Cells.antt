@@ -9,14 +9,14 @@ use Rattle.mb_claim.specs.{IsMemoryTrue, AreInWords, on_cell, IsClaimPart, IsCla
 use Rattle.mb_claim.proofs.Lists.{filter_map-filter_map, filter_map_agree}
 
 -- ---- picking after a test
--- picking after a test gives what picking alone gives, if an access that fails the test gives nothing
+-- if g picks nothing from an access that fails test b, g picks the same after the test as without it
 picks :
     {B : Type 0} (g : ClaimAccess → Option B) (b : Bool) (a : ClaimAccess) → (b ≡ false → g a ≡ None)
     → option_and_then g (cond b (Some a) None) ≡ g a
 picks g true a none = refl
 picks g false a none = sym (none refl)
 
--- picking after a test gives nothing, if an access that passes the test gives nothing
+-- if g picks nothing from an access that passes test b, g picks nothing after the test
 drops :
     {B : Type 0} (g : ClaimAccess → Option B) (b : Bool) (a : ClaimAccess) → (b ≡ true → g a ≡ None)
     → option_and_then g (cond b (Some a) None) ≡ None
@@ -42,7 +42,7 @@ kept c k h =
     (step_by c k)
     (λ a. picks (step_by c k) (eqb a.cell k) a (λ e. cond_none (eqb a.consumer c) (eqb a.cell k) a.step e)) h
 
--- a history cut down to cell k has no part on another cell
+-- in a history cut down to cell k each part on another cell is empty
 pub gone : (c k j : ℕ) (h : List ClaimAccess) → (j ≡ k → ⊥) → part_on c j (on_cell k h) ≡ []
 gone c k j h ne =
     filter_map-filter_map (step_by c j) (λ (a : ClaimAccess). cond (eqb a.cell k) (Some a) None) h
@@ -83,7 +83,7 @@ memory_cut : (k : ℕ) (h : List ClaimAccess) → IsMemoryTrue h → IsMemoryTru
 memory_cut k [] m = tt
 memory_cut k (a ∷ h) m = memory_by k a h (eqb a.cell k) refl m.0 (memory_cut k h m.1)
 
--- if an access and a history have numbers below 2 ^ 64, so has the history with it. Cases: whether the access is kept
+-- if an access and a history have values and random words below 2 ^ 64, so has the history with the access, if kept
 words_by :
     (a : ClaimAccess) (xs : List ClaimAccess) (q : Bool) → IsInWords a.step.turn → AreInWords xs
     → AreInWords (cons_option (cond q (Some a) None) xs)

@@ -12,7 +12,7 @@ use Rattle.mb_claim.proofs.Lists.{not_empty, get_behind, first_of, none_of, leng
 use Rattle.mb_claim.proofs.Standing.{longer_is, decided_here, undecided_here, stands_on}
 
 -- ---- where a consumer stands after one turn more
--- a consumer that passed some objects, and then makes a whole undecided path on the next one, has passed that too
+-- a consumer that passed some objects, and then makes a whole undecided path on the next, has passed the next, too
 passes_more :
     (t : QuorumTable) (before : List Kind) (kind : Kind) (o v w u : ℕ) (front : List ObjectTurn) (turns : List Turn)
     → PassesAll t before o v front w → IsPath t kind w turns (answer false u)
@@ -93,7 +93,7 @@ module _ (t : QuorumTable) (kinds : List Kind) (c object : ℕ) (pc : Pc) (xs : 
         place = at;
       }
 
-  -- if the new turn ended the path on the last object undecided, the turns are a prefix with the stage `Undecided`
+  -- if the new turn ended the path on the row's final object undecided, the turns are a prefix with stage `Undecided`
   undecided_last :
       (u : ℕ) → IsPath t p.kind p.input (x ∷ p.turns) (answer false u) → slice_get kinds (suc object) ≡ None
       → IsClaimPrefixFrom t c kinds 0 c (record { object = object; turn = x } ∷ xs) Undecided

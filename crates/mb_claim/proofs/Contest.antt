@@ -43,7 +43,7 @@ module _
         stored = a.4;
       }
 
-  -- if object o is a ratifier with an undecided output, two processes have announced different values there
+  -- if object o is a ratifier with an undecided output, two processes have announced different values to it
   contest_here : k ≡ Ratifier → (c u : ℕ) → HasOutput (object_of t k fam.input) c false u (hs o) → Contest t hs E o
   contest_here e c u out =
       let found =

@@ -24,7 +24,7 @@ module _ (t : QuorumTable) (ks : List Kind) (hs : ℕ → List Access) (law : Ar
   abbrev second : Family t (Ratifier ∷ ks) 1 hs (λ a. a ≡ u)
   second = next_decided t Ratifier (Ratifier ∷ ks) 0 hs P fam (law Ratifier) c u p
 
-  -- the family from the object after the second ratifier on
+  -- the family from the object after the second ratifier on: each consumer that comes there has the input u, too
   abbrev third : Family t ks 2 hs (λ a. a ≡ u)
   third = next t Ratifier ks 1 hs (λ a. a ≡ u) second (law Ratifier)
 
@@ -81,7 +81,7 @@ module _ (t : QuorumTable) (law : AreDeciding t) (ratifying : AreRatifying t) (k
       (some (part-object_history q k 0 h ∙ ap (turns_at 0) (alone q ne)))) (cases_eq q c) in
       true≢false (sym ((ratifying (λ q. q)).acceptance (hs 0) here c mine c false u path).0)
 
-  -- if only consumer c has come and has ended its claim, the first ratifier has decided for it
+  -- if only consumer c has come and has ended its claim, the first ratifier has decided for c
   decided_by :
       (h : List ClaimAccess) → IsClaimLawful (claims_of t kinds cells) h → ((d : ℕ) → d ≢ c → part_on d k h ≡ [])
       → (s : Stage)

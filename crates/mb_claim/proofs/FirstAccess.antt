@@ -1,4 +1,4 @@
--- A claim that has made no access: it is going, not begun, on object 0. A conciliator's word is loaded first.
+-- A claim that has made no access is going, not begun, on object 0. If that is a conciliator, its word is loaded first.
 use Rattle.std.proofs.Common.{◌≡◌, ◌<◌, ◌≤◌, ℕ, zero, suc, Bool, true, false, List, [], ◌∷◌, ◌++◌, ◌+◌, length, refl}
 use Rattle.std.proofs.Common.{sym, ◌∙◌, ap, subst, inl, arith}
 use Rattle.mb_quorum.specs.Vocabulary.{QuorumTable}
@@ -58,7 +58,7 @@ module _ (t : QuorumTable) (law : AreDeciding t) (c : ℕ) (known : c < t.values
       absurd (open_closed t kind (law kind) c [] x.turns (answer false u) (sym empty) ((law kind
       (λ p. p)).opens c known) x.path)
 
-  -- if object 0 is a conciliator, a consumer without turns stands there, loads its word and finds at most `values`
+  -- if object 0 is a conciliator, a consumer without turns stands there, loads its word, and finds at most `t.values`
   stands_first :
       (s object : ℕ) (rest : List Kind) (pc : Pc) (op : Op) → StandsAt t (Conciliator s ∷ rest) c object pc []
       → IsOpAt t pc op

@@ -1,4 +1,4 @@
--- A claim on a row that ends with a last object is never undecided. After a fast path come all conciliators.
+-- A claim on a row that ends with a last object is never undecided. Conciliators come after the fast path, if any.
 use Rattle.std.proofs.Common.{◌≡◌, ◌==◌, ◌≤◌, ℕ, zero, suc, true, Some, List, [], ◌∷◌, ◌++◌, inl, inr}
 use Rattle.std.proofs.Common.{sym, ap, ◌∙◌, slice_get, append_assoc, true≢false, arith}
 use Rattle.mb_quorum.specs.Vocabulary.{QuorumTable}

@@ -16,7 +16,7 @@ abbrev pub AreAll : (ℕ → ℕ → Type 0) → List ClaimAccess → Type 0
 AreAll P [] = Unit {0}
 AreAll P (a ∷ h) = P a.consumer a.cell × AreAll P h
 
--- with one access more, P holds of consumer c and cell k if they have a step. Cases: whether the access is theirs
+-- if P holds of one more access, and of c and k if they had a step before, P holds of c and k if they have a step now
 known_by :
     (P : ℕ → ℕ → Type 0) (c k : ℕ) (a : ClaimAccess) (xs : List ObjectTurn) (p q : Bool) → eqb a.consumer c ≡ p
     → eqb a.cell k ≡ q
@@ -141,7 +141,7 @@ lawful =
     }
 
 -- ---- both are undecided
--- consumer 0 leaves each object undecided with its own number, so it is undecided
+-- consumer 0 leaves each object undecided with its own number, so its claim is undecided
 pub first_undecided : IsClaimPrefixFrom (unary_table 2) 0 (pairs_of 2 1) 0 0 (part_on 0 0 both_undecided) Undecided
 first_undecided =
     let xs : List ObjectTurn = part_on 0 0 both_undecided in
@@ -172,7 +172,7 @@ first_undecided =
       )),
     ))
 
--- consumer 1 leaves each object undecided with its own number, so it is undecided
+-- consumer 1 leaves each object undecided with its own number, so its claim is undecided
 pub second_undecided : IsClaimPrefixFrom (unary_table 2) 1 (pairs_of 2 1) 0 1 (part_on 1 0 both_undecided) Undecided
 second_undecided =
     let xs : List ObjectTurn = part_on 1 0 both_undecided in

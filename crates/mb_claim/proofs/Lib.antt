@@ -1,4 +1,4 @@
--- In the order of reading: a file uses only files above it.
+-- The files in the order of reading: each uses only files above it.
 
 -- Lists, turns and histories
 pub mod Lists

@@ -65,7 +65,7 @@ module _ {M : Type 0} (layout : Layout) (parts : PlacesMakeParts (quorums_of lay
     consumer_after zero at = refl
     consumer_after (suc n) at = refl
 
-    -- the claim before n accesses and the claim after them are equal once both are put at one place and begun
+    -- the claim before n accesses and the claim after them are equal once both are put at one place and marked as begun
     moved_after : (n : ℕ) (at follows : Pc) → stood_at follows true (stood_after n at claim)
         ≡ stood_at follows true claim
     moved_after zero at follows = refl

@@ -64,7 +64,7 @@ IsMemoryTrue-object_history k o [] m = tt
 IsMemoryTrue-object_history k o (a ∷ h) m =
     cut_by k o a h (eqb a.cell k) (eqb a.step.object o) refl refl m.0 (IsMemoryTrue-object_history k o h m.1)
 
--- if an access and an object's history have numbers below 2 ^ 64, so has the history with the access
+-- if an access and an object's history have values and random words below 2 ^ 64, so has the history with the access
 words_by :
     (a : ClaimAccess) (xs : List Access) (q r : Bool) → IsInWords a.step.turn → AreObjectInWords xs
     → AreObjectInWords (cons_option

@@ -6,7 +6,7 @@ use Rattle.mb_claim.proofs.Lists.{not_empty}
 use Rattle.mb_claim.proofs.Prefixes.{completed, begun}
 
 module _ (cs : Claims) where
-  -- if a part belongs to a claim, it still does without its last step. Cases: whether the last access is in it
+  -- if a part belongs to a claim, it still does without its last step. Cases: whether the last access is in the part
   part_older :
       (c k : ℕ) (x : ObjectTurn) (xs : List ObjectTurn) (p q : Bool)
       → (cons_option (cond p (cond q (Some x) None) None) xs ≢ []

@@ -13,7 +13,7 @@ use Rattle.mb_claim.proofs.Lists.{not_empty}
 use Rattle.mb_claim.proofs.NextSteps.{one_next}
 use Rattle.mb_claim.proofs.Unique.{one_stage_lem}
 
--- two accesses with the same consumer, cell, object, act and random word are one
+-- two accesses with the same consumer, cell, object, act and random word are equal
 same_record :
     (a b : ClaimAccess) → a.consumer ≡ b.consumer → a.cell ≡ b.cell → a.step.object ≡ b.step.object
     → a.step.turn.act ≡ b.step.turn.act → a.step.turn.word ≡ b.step.turn.word → a ≡ b
@@ -54,7 +54,7 @@ module _ (cs : Claims) (law : AreDeciding cs.table) (one : OneOp cs.table) (act 
   one_stage : (c k : ℕ) (s r : Stage) (h : List ClaimAccess) → HasStage cs c k s h → HasStage cs c k r h → s ≡ r
   one_stage c k s r h p q = one_stage_lem cs.table law c cs.kinds 0 c (part_on c k h) s r p.1 q.1
 
-  -- after a history a step has one entry. The accesses of entries are all on cell 0
+  -- after a history a step has one entry at most. The accesses of entries are all on cell 0
   one_entry :
       (word : ℕ) (h : List ClaimAccess) (e f : ClaimEntry)
       → IsClaimLawful cs (with_entry word e h) → IsClaimLawful cs (with_entry word f h)

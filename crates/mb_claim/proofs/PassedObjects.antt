@@ -64,7 +64,7 @@ pub record LawfulObject (t : QuorumTable) (kind : Kind) (hs : ℕ → List Acces
   pub same : part c (hs o) ≡ turns
   pub within : inputs c < t.values
 
--- in a family, too, the split of the steps of a consumer that passed object o gives its output there, and later steps
+-- also in a family: the split of a consumer's steps after object o, which it passed, gives its output and later steps
 pub step_passes :
     (t : QuorumTable) (k : Kind) (ks : List Kind) (o : ℕ) (hs : ℕ → List Access) (P : ℕ → Type 0)
     (fam : Family t (k ∷ ks) o hs P) (law : OfKind t k) (c : ℕ) → fam.input c < t.values

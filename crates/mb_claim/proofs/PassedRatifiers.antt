@@ -1,4 +1,4 @@
--- A consumer that goes on past an object was left undecided by it.
+-- A consumer that goes on past an object was left undecided by that object.
 use Rattle.std.proofs.Common.{◌≡◌, ◌≢◌, ◌<◌, ◌≤◌, ℕ, suc, false, List, [], ◌∷◌, inl, inr, sym, ◌∙◌, ap, subst, arith}
 use Rattle.mb_quorum.specs.Vocabulary.{QuorumTable}
 use Rattle.mb_deciding.specs.Vocabulary.{answer, IsPath}
@@ -36,7 +36,7 @@ came_undecided t c kind ks o v n xs s below (inr (inr (u, later, x, p))) some =
           (turns_at-turns_on_other o m x.turns (λ e. omega (arith, e, l)));
     }
 
--- a consumer with a turn after two ratifiers was left undecided by both
+-- a consumer with a turn after two ratifiers was left undecided by both ratifiers
 pub both_came_undecided :
     (t : QuorumTable) (c : ℕ) (ks : List Kind) (v n : ℕ) (xs : List ObjectTurn) (s : Stage) → 2 ≤ n
     → IsClaimPrefixFrom t c (Ratifier ∷ Ratifier ∷ ks) 0 v xs s → turns_at n xs ≢ []

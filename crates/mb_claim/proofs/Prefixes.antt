@@ -23,7 +23,7 @@ some_path t Ratifier v =
 some_path t LastObject v =
     (record { act = Exchange Last (v + 1) 0; word = 0 } ∷ [], true, v, (refl, inl (refl, refl)))
 
--- each whole path of an object begins one of it and the later objects, if these have a whole path with any input
+-- if the later objects have a whole path with any input, a whole path of an object begins one of it and those
 path_on :
     (t : QuorumTable) (kind : Kind) (kinds : List Kind) (o v : ℕ)
     → ((u : ℕ) → (xs : List ObjectTurn) × (output : Out) × IsClaimPath t kinds (suc o) u xs output)
@@ -82,13 +82,13 @@ IsCut {A} later xs rest back =
     ((front : List A) × (xs ≡ front ++ back) × (rest ≡ later ++ front))
     ⊎ ((first : A) × (more : List A) × (back ≡ (first ∷ more) ++ xs))
 
--- if one of these cases holds, it holds too with the same element put before `later` and before `rest`
+-- if one of the cases of `IsCut` holds, so does one with the same element put before `later` and before `rest`
 cut_more :
     {A : Type 0} (y z : A) (ys xs zs back : List A) → y ≡ z → IsCut ys xs zs back → IsCut (y ∷ ys) xs (z ∷ zs) back
 cut_more y z ys xs zs back e (inl (front, p, q)) = inl (front, p, ap₂ (λ a zs. a ∷ zs) (sym e) q)
 cut_more y z ys xs zs back e (inr p) = inr p
 
--- of two ways to cut one list, one of these two cases always holds
+-- if one list is cut in two ways, one of the two cases of `IsCut` holds
 cut : {A : Type 0} (later xs rest back : List A) → later ++ xs ≡ rest ++ back → IsCut later xs rest back
 cut [] xs rest back e = inl (rest, e, refl)
 cut (y ∷ ys) xs [] back e = inr (y, ys, sym e)
@@ -109,7 +109,7 @@ cut_turns_on o (turn ∷ turns) (m ∷ mid) xs e =
     cut_turns_on o turns mid xs (tails (record { object = o; turn = turn }) m (turns_on o turns) (mid ++ xs) e) in
     (turn ∷ rest.0, rest.1, ap (λ zs. turn ∷ zs) rest.2, ap₂ (λ a zs. a ∷ zs) (sym first) rest.3, rest.4)
 
--- a beginning that ends within the path of the first object is a prefix with the stage `Going`
+-- a beginning of a whole path that ends before the end of the first object's path is a prefix with the stage `Going`
 begun_within :
     (t : QuorumTable) (c : ℕ) (kind : Kind) (kinds : List Kind) (o v : ℕ) (first : ObjectTurn)
     (mid xs : List ObjectTurn) (turns : List Turn) (d : Bool) (u : ℕ)

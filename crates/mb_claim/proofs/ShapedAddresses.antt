@@ -26,7 +26,7 @@ before_behind r (x ∷ xs) ys zero o e = absurd (omega (arith, e))
 before_behind r (x ∷ xs) ys (suc n) o e = omega (arith, before_behind r xs ys n o (omega (arith, e)))
 
 -- ---- the words of the fast path and of the last object
--- each object of a fast path has the words of a ratifier
+-- a fast path has the words of a ratifier for each of its objects, if it has any
 fast_words : (r : ℕ) (b : Bool) → row_words r (fast_row b) ≡ length (fast_row b) * (1 + r)
 fast_words r true = omega arith
 fast_words r false = omega arith
@@ -70,7 +70,7 @@ address_in_row r s n k o shape reg before e =
     ap (λ w. k * w) (row_words-row_of r s n shape) in
     omega (arith, cells, e)
 
--- the address of a word of object i of the fast path
+-- the address of a word of object i of the fast path: before it lie the cells before, and i ratifiers
 pub fast_address :
     (r s n k i : ℕ) (shape : Shape) (reg : Reg) → i < length (fast_row shape.fast)
     → address_of r (row_of shape s n) k i reg ≡ k * shaped_words r shape n + (i * (1 + r) + offset reg)
@@ -82,7 +82,7 @@ fast_address r s n k i shape reg h =
       fast_before r shape.fast i h,
     ))
 
--- the address of a word of object j of pair i, in a row of any shape
+-- the address of a word of object j of pair i: before it lie the cells before, the fast path, i pairs and j words
 pub shaped_address :
     (r s n k i j o : ℕ) (shape : Shape) (reg : Reg) → i < n → j < 2 → o ≡ length (fast_row shape.fast) + (2 * i + j)
     → address_of r (row_of shape s n) k o reg
@@ -97,7 +97,7 @@ shaped_address r s n k i j o shape reg h f e =
       words_before-pairs_of r s n i j (2 * i + j) refl f h,
     ))
 
--- the address of the word after the pairs, which is the last object's
+-- the address of a word of the object after n pairs: before it lie the cells before, the fast path and the pairs
 pub last_address :
     (r s n k : ℕ) (shape : Shape) (reg : Reg)
     → address_of r (row_of shape s n) k (length (fast_row shape.fast) + 2 * n) reg

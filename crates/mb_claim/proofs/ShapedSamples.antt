@@ -266,11 +266,11 @@ zero_here = ((omega arith), (omega arith), (Won, last_won))
 one_here : IsLastPart 1 0
 one_here = ((omega arith), (omega arith), (Lost 0, last_lost))
 
--- what the second exchange finds is below 2 ^ 64
+-- what the second exchange finds, and its random word, are below 2 ^ 64
 pub found_word : IsInWords (record { act = Exchange Last 2 1; word = 0 })
 found_word = ((omega arith, tt), (omega arith))
 
--- what the first exchange finds and stores is below 2 ^ 64
+-- what the first exchange finds and stores, and its random word, are below 2 ^ 64
 pub put_word : IsInWords (record { act = Exchange Last 1 0; word = 0 })
 put_word = ((omega arith, omega arith), (omega arith))
 

@@ -57,7 +57,7 @@ module _ (t : QuorumTable) (kinds : List Kind) (c object : ℕ) (pc : Pc) (xs : 
     pub longer_is : longer ≡ turns_on object (x ∷ p.turns) ++ p.front
     longer_is = ap (λ zs. record { object = object; turn = x } ∷ zs) p.all
 
-    -- if the turns here with one more are a prefix from this object on, the longer turns are a prefix from object 0 on
+    -- if the turns on this object with one more are a prefix from it on, the longer turns are a prefix from object 0 on
     then_here : (s : Stage) → IsClaimPrefixFrom t c (p.kind ∷ p.after) object p.input (turns_on object (x ∷ p.turns)) s
         → IsClaimPrefixFrom t c kinds 0 c longer s
     then_here s q = subst (λ zs. IsClaimPrefixFrom t c kinds 0 c zs s) (sym longer_is)
@@ -77,7 +77,7 @@ module _ (t : QuorumTable) (kinds : List Kind) (c object : ℕ) (pc : Pc) (xs : 
     undecided_then u s path behind =
         then_here s (inr (inr (u, [], record { turns = x ∷ p.turns; all = refl; path = path }, behind)))
 
-    -- if the turn ends the path on the last object undecided, the claim is undecided
+    -- if the turn ends the path on the row's final object undecided, the claim is undecided
     pub undecided_here :
         (u : ℕ) → IsPath t p.kind p.input (x ∷ p.turns) (answer false u) → p.after ≡ []
         → IsClaimPrefixFrom t c kinds 0 c longer Undecided
@@ -104,7 +104,7 @@ module _ (t : QuorumTable) (kinds : List Kind) (c object : ℕ) (pc : Pc) (xs : 
     ended law [] e false u path l = (Undecided, undecided_here u path e)
     ended law (k ∷ ks) e false u path l = (Going, passed_here law k ks e u path l)
 
-    -- if the turns here with one more are a prefix of a path there, the longer turns are a prefix of a claim path
+    -- if the turns on this object with one more are a prefix of its path, the longer turns are a prefix of a claim path
     pub goes_on :
         AreDeciding t
         → ((u : ℕ) (d : Bool) → IsPath t p.kind p.input (x ∷ p.turns) (answer d u) → u < t.values)
@@ -219,7 +219,7 @@ finds_there cs law stepping h c k object pc op lawful p is =
     (subst₂ (λ v ts. PcIsAt cs.table p.1.kind v pc ts) (sym at.own) (sym at.same) p.1.place) is
 
 -- ---- a claim that stands at a place is going
--- the object on which a claim stands is one of its cell's
+-- the object on which a claim stands is one of its cell's, of the kind that `StandsAt` names
 pub stands_on :
     (t : QuorumTable) (kinds : List Kind) (c object : ℕ) (pc : Pc) (xs : List ObjectTurn)
     (p : StandsAt t kinds c object pc xs)

@@ -1,4 +1,4 @@
--- How many accesses a claim can still make.
+-- How many accesses a claim can still make at most (`steps_left`).
 use Rattle.std.proofs.Common.{◌≡◌, ◌≢◌, ◌+◌, ◌<◌, ◌≤◌, ℕ, zero, suc, Option, Some, None, MatchOption, List, [], ◌∷◌}
 use Rattle.std.proofs.Common.{refl, sym, ◌∙◌, ap, slice_get, drop, arith}
 use Rattle.std.proofs.lemmas.Option.{none-some, same_Some}

@@ -143,7 +143,7 @@ module _ {M : Type 0} (layout : Layout) (parts : PlacesMakeParts (quorums_of lay
       below (reaches p.kind p.input p.turns p.place) (Some next)
       (subst (λ k. slice_get (kinds_of layout) k ≡ Some next) m at) (refl, m, first_begins t next u fit below))
 
-  -- n accesses to the last object that end undecided are accesses of the claim, which is then undecided
+  -- n accesses to object o, the row's final one, that end undecided are the claim's. The claim is then undecided
   pub passed_last :
       slice_get (kinds_of layout) (suc o) ≡ None → u < consumer_count layout
       → AreSteps (quorums_of layout) (DrawsAndMakes draws makes o) (first_place (quorums_of layout) kind v) start n
@@ -243,7 +243,7 @@ module _ {M : Type 0} (layout : Layout) (parts : PlacesMakeParts (quorums_of lay
               (ap (λ k. standing layout c k u next) (sym e)),
         )
 
-    -- if accesses to the last object end undecided, the claim made them and is undecided
+    -- if accesses to object o, the row's final one, end undecided, the claim made them and is undecided
     pub led_out :
         (stretch : Stretch) → stretch.stage ≡ Undecided → slice_get (kinds_of layout) (suc o) ≡ None
         → u < consumer_count layout

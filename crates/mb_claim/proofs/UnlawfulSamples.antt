@@ -102,7 +102,7 @@ path_last :
 path_last made true u p = clear_last u 2 made p
 path_last made false u p = one_last u made p
 
--- the register that an act stores in, or 0 if it stores in none
+-- the quorum register that an act stores in, or 0 if it stores in none
 abbrev register_of : Act → ℕ
 register_of (Store (Quorum r) value) = r
 register_of act = 0

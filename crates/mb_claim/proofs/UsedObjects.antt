@@ -68,7 +68,7 @@ pub record Used (t : QuorumTable) (kind : Kind) (hs : ℕ → List Access) (E : 
   pub enters : (c : ℕ) → part c (hs n) ≢ [] → E c (inputs c)
   pub only : (c w : ℕ) → part c (hs n) ≢ [] → E c w → inputs c ≡ w
 
--- object m has a lawful history, if E says with which input a consumer comes to it from object o on
+-- object m, which is n after o, has a lawful history, if E says exactly with which input each consumer comes to it
 used :
     (t : QuorumTable) (hs : ℕ → List Access) → AreDeciding t → (m : ℕ) (E : ℕ → ℕ → Type 0) (kind : Kind)
     (ks : List Kind) (o : ℕ) (P : ℕ → Type 0) (fam : Family t ks o hs P)

@@ -43,7 +43,7 @@ reg_of-act_of (to.Load q) s = refl
 reg_of-act_of (to.Store q m) s = refl
 reg_of-act_of (to.Exchange q m) s = refl
 
--- if the act goes to this word (b), the word holds what the act stores, or still n if it stores nothing
+-- if the act goes to this word (b is true), the word holds what the act stores, or still n if it stores nothing
 stored_here : (b : Bool) (stored : Option ℕ) (n : ℕ) → b ≡ true
     → option_map_or (λ value. cond b value n) stored n ≡ option_map_or (λ value. value) stored n
 stored_here b None n e = refl

@@ -15,7 +15,7 @@ pub record BoardState : Type 0 where
 
 -- the board is the board of a run after these steps, each a consumer and a random word
 pub record IsBoard (layout : Layout) (steps : List (ℕ × ℕ)) (board : BoardState) : Type 0 where
-  -- there is one entry for each step, of its consumer. Each may come after the accesses of the entries before it
+  -- for each step there is one entry, of the step's consumer. It may come after the accesses of the entries before it
   pub fits : AreEntriesOf (claims_in layout 1) steps board.entries []
   -- the accesses of the entries are one lawful history, which leaves the words
   pub memory : IsMemoryOf (claims_in layout 1) board.words (history_of steps board.entries)
@@ -24,7 +24,7 @@ pub record IsBoard (layout : Layout) (steps : List (ℕ × ℕ)) (board : BoardS
   -- the claim at position c is consumer c's
   pub own : (c : ℕ) (d : Claim) → c < length board.claims
       → consumer_of (slice_index_or board.claims c d) ≡ c
-  -- the claim at position c is the claim of a consumer that has made c's part of that history
+  -- the claim at position c is the claim of a consumer that has made c's part of the history of the entries
   pub standing :
       (c : ℕ) (d : Claim) → c < length board.claims
       → IsClaimIn layout (slice_index_or board.claims c d) (part_on c 0

@@ -52,8 +52,8 @@ pub record Adds (cs : Claims) (a : ClaimAccess) (h : List ClaimAccess) : Type 0 
   pub lawful : IsClaimLawful cs (a ∷ h)
   -- the part of its consumer on its cell has one step more
   pub own : part_on a.consumer a.cell (a ∷ h) ≡ a.step ∷ part_on a.consumer a.cell h
-  -- all other parts stay
+  -- all other parts stay as they are
   pub others : (c k : ℕ) → (a.consumer ≡ c → a.cell ≡ k → ⊥) → part_on c k (a ∷ h) ≡ part_on c k h
-  -- each word has what the access leaves in it
+  -- the access's word has what the access leaves in it, and each other word has what it had
   pub words : (k o : ℕ) (reg : Reg) → held_at k o reg (a ∷ h) ≡ held_after k o reg a
       (held_at k o reg h)

@@ -31,7 +31,7 @@ kinds_of layout = row_of (shape_of layout) (spread (quorums_of layout).values) (
 abbrev pub words_in : Claims → ℕ
 words_in cs = cs.cells * row_words cs.table.registers cs.kinds
 
--- the word is one of object o, which each cell of the claims has
+-- each cell of the claims has an object o, and that object has this word
 abbrev pub IsWordIn : Claims → ℕ → Reg → Type 0
 IsWordIn cs o reg = IsWordOf cs.table.registers cs.kinds o reg
 
@@ -78,7 +78,7 @@ consumer_count layout = (quorums_of layout).values
 abbrev pub cell_words : Layout → ℕ
 cell_words layout = row_words (quorums_of layout).registers (kinds_of layout)
 
--- the word is one of object o, which each cell of a layout has
+-- each cell of the layout has an object o, and that object has this word
 abbrev pub IsWordInLayout : Layout → ℕ → Reg → Type 0
 IsWordInLayout layout o reg = IsWordOf (quorums_of layout).registers (kinds_of layout) o reg
 

@@ -75,8 +75,8 @@ pub record IsClaimStep (layout : Layout) (claim : Claim) (makes : ClaimOp → �
       → IsClaimIn layout follows (step_of next.object next.op seen word ∷ xs)
 
 -- ---- the accesses that are left
--- how many accesses a claim with this stage can still make from its place on this object, whatever its loads find:
--- those that are left on the object, and all that the objects after it allow
+-- the most accesses that a claim with this stage can still make from its place on this object: those that are left on
+-- the object, and all that the objects after it allow
 abbrev pub steps_left_at : Layout → Stage → ℕ → Pc → ℕ
 steps_left_at layout Going object pc =
     turns_left (quorums_of layout) pc + most_on_objects (quorums_of layout) (drop (suc object) (kinds_of layout))
@@ -84,7 +84,7 @@ steps_left_at layout Won object pc = 0
 steps_left_at layout (Lost winner) object pc = 0
 steps_left_at layout Undecided object pc = 0
 
--- how many accesses a claim can still make
+-- the most accesses that a claim can still make
 abbrev pub steps_left : Layout → Claim → ℕ
 steps_left layout claim = steps_left_at layout claim.stage claim.object claim.place
 

@@ -1,4 +1,4 @@
--- The path of a consumer through the objects of a cell. Turns are the newest first: what is on the right came first.
+-- The path of a consumer through the objects of a cell. Turns are listed newest first: what is on the right came first.
 use Rattle.std.specs.Prelude.{ℕ, suc, ◌≡◌, ◌==◌, Bool, true, false, if◌then◌else◌, List, [], ◌∷◌, ◌++◌, map, ◌⊎◌}
 use Rattle.mb_quorum.specs.Vocabulary.{QuorumTable}
 use Rattle.mb_deciding.specs.Vocabulary.{IsPath, IsOpen, answer}
@@ -21,7 +21,7 @@ stage_of c output = if output.decided then stage_for c output.value else Undecid
 -- ---- whole paths
 -- A whole path through objects with numbers from o on, and its output: whole paths of the objects in their order,
 -- joined. The first input is v, each next input is the value of the output before. It ends at the first output that
--- is decided, or after the last object.
+-- is decided, or after the final object of the row.
 abbrev pub IsClaimPath : QuorumTable → List Kind → ℕ → ℕ → List ObjectTurn → Out → Type 0
 IsClaimPath t [] o v xs output = (xs ≡ []) × (output ≡ answer false v)
 IsClaimPath t (kind ∷ kinds) o v xs output =
@@ -34,17 +34,17 @@ IsClaimPath t (kind ∷ kinds) o v xs output =
 -- the consumer is on object o, and its path there is not at its end
 pub record GoesOnIn (t : QuorumTable) (kind : Kind) (o v : ℕ) (xs : List ObjectTurn)
     (s : Stage) : Type 0 where
-  -- all that the consumer did from here on, it did on this object
+  -- all that the consumer did on object o or a later one, it did on object o
   pub turns : List Turn
   pub all : xs ≡ turns_on o turns
-  -- these turns go on to a whole path there
+  -- these turns are a prefix of a path on the object, and no whole path
   pub going : IsOpen t kind v turns
   pub is : s ≡ Going
 
 -- object o has decided a value. The stage of consumer c is `Won` if the value is c, and else `Lost`
 pub record DecidesIn (t : QuorumTable) (c : ℕ) (kind : Kind) (o v : ℕ) (xs : List ObjectTurn)
     (s : Stage) : Type 0 where
-  -- all that the consumer did from here on, it did on this object
+  -- all that the consumer did on object o or a later one, it did on object o
   pub turns : List Turn
   pub value : ℕ
   pub all : xs ≡ turns_on o turns
@@ -56,7 +56,7 @@ pub record DecidesIn (t : QuorumTable) (c : ℕ) (kind : Kind) (o v : ℕ) (xs :
 pub record Passes
     (t : QuorumTable) (kind : Kind) (o v : ℕ) (xs : List ObjectTurn) (u : ℕ)
     (later : List ObjectTurn) : Type 0 where
-  -- the consumer's first turns are those on this object
+  -- the oldest of these turns are those on this object
   pub turns : List Turn
   pub all : xs ≡ later ++ turns_on o turns
   -- these turns are a whole path with an undecided output

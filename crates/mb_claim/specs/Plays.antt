@@ -55,7 +55,7 @@ pub record IsPlayed (cs : Claims) (steps : List (ℕ × ℕ)) (entries : List Cl
   pub lawful : IsClaimLawful cs (history_of steps entries)
   -- there is one entry for each step, which is `Done` exactly if that consumer's claim had ended before it
   pub fits : AreEntriesOf cs steps entries []
-  -- the list has one stage for each consumer, and its claim has that stage in the history
+  -- the list has one stage for each consumer: the stage of the consumer's claim in the history
   pub consumers : length stages ≡ cs.table.values
   pub reached :
       (c : ℕ) (d : Stage) → c < length stages

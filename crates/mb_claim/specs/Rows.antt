@@ -67,6 +67,6 @@ shaped_words r shape n =
 abbrev pub address_of : ℕ → List Kind → ℕ → ℕ → Reg → ℕ
 address_of r kinds k o reg = k * row_words r kinds + (words_before r kinds o + offset reg)
 
--- the word is one of object o, which the row has
+-- the row has an object o, and that object has this word
 abbrev pub IsWordOf : ℕ → List Kind → ℕ → Reg → Type 0
 IsWordOf r kinds o reg = (kind : Kind) × (slice_get kinds o ≡ Some kind) × HasReg r kind reg

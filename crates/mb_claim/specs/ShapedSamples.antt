@@ -40,7 +40,7 @@ skip_one_ratifier =
 
 -- ---- a last object
 -- lawful: the pair has left both undecided. Consumer 0 comes first to the last object and wins, and consumer 1 finds
--- its number
+-- consumer 0's number
 abbrev pub last_decides : List ClaimAccess
 last_decides =
     access_at 1 2 (Exchange Last 2 1) ∷ access_at 0 2 (Exchange Last 1 0) ∷ both_undecided
@@ -59,7 +59,7 @@ last_comes_first = access_at 0 2 (Exchange Last 1 0) ∷ []
 abbrev pub two_alone : Claims
 two_alone = claims_of (unary_table 2) (row_of with_last 2 0) 1
 
--- lawful: consumer 0 comes first and wins, and consumer 1 finds its number
+-- lawful: consumer 0 comes first and wins, and consumer 1 finds consumer 0's number
 abbrev pub exchanged_once_each : List ClaimAccess
 exchanged_once_each = access_at 1 0 (Exchange Last 2 1) ∷ access_at 0 0 (Exchange Last 1 0) ∷ []
 

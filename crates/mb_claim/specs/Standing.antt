@@ -9,7 +9,7 @@ use Rattle.mb_claim.specs.History.{part_on, object_history}
 use Rattle.mb_claim.specs.Paths.{turns_on, Passes, IsClaimPrefixFrom}
 
 -- the turns are whole paths through objects with numbers from o on, all undecided. The first input is v, the last
--- output w
+-- output w. With no objects there are no turns, and w is v
 abbrev pub PassesAll : QuorumTable → List Kind → ℕ → ℕ → List ObjectTurn → ℕ → Type 0
 PassesAll t [] o v xs w = (xs ≡ []) × (w ≡ v)
 PassesAll t (kind ∷ kinds) o v xs w =
@@ -28,7 +28,7 @@ pub record StandsAt (t : QuorumTable) (kinds : List Kind) (c object : ℕ) (pc :
   pub turns : List Turn
   -- the consumer's input to this object: the last output of the objects before, or its own number if there are none
   pub input : ℕ
-  -- the cell's kinds are these in this order, and this object has the number
+  -- the cell's kinds are these in this order, and the object's number is how many objects come before it
   pub order : kinds ≡ before ++ kind ∷ after
   pub number : object ≡ length before
   -- the consumer has passed the objects before, and all that it did since then it did on this one

@@ -6,7 +6,7 @@ use Rattle.mb_claim.specs.Types.{Claim, Going, Layout, Stretch}
 use Rattle.mb_claim.specs.Layouts.{quorums_of, kinds_of, words_before}
 use Rattle.mb_claim.specs.OneClaim.{claim_stage, consumer_of, FitsLayout}
 
--- whether a claim before its first access to object o has made an access: if o is not 0
+-- whether a claim before its first access to object o has made an access: it has, if o is not 0
 abbrev pub is_past : ℕ → Bool
 is_past zero = false
 is_past (suc o) = true

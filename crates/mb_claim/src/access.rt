@@ -6,7 +6,7 @@ use mb_deciding::{Op, Turn};
 pub struct ObjectTurn {
     /// The number of the object in its cell, from 0 on.
     pub object: u32,
-    /// What was done there, with its random word.
+    /// The act that was made there, with its random word.
     pub turn: Turn,
 }
 
@@ -33,9 +33,9 @@ pub struct ClaimOp {
 /// An access that a claim has made.
 #[derive(Clone, Copy, PartialEq, Eq, Debug)]
 pub struct ClaimStep {
-    /// What it did, and on which object.
+    /// What the claim did, and on which object.
     pub step: ObjectTurn,
-    /// How far the claim has come with it.
+    /// How far the claim has come with this access.
     pub stage: Stage,
 }
 

@@ -25,7 +25,7 @@ impl Claim {
     ghost use Rattle.mb_claim.specs.{FitsLayout, IsClaimIn, IsNextOp, CanClaimFind, IsClaimStep, steps_left, step_of};
     ghost use Rattle.mb_claim.specs.{Pc, stage_for, placed_at, stood_at, quorums_of, kinds_of, consumer_count, most_accesses, IsStanding};
 
-    /// The claim of a consumer that has made no access. Its number is below the layout's number of consumers.
+    /// The claim of a consumer that has made no access. The consumer's number has to be below [`Layout::consumers`].
     #[inline(always)]
     pub fn new(layout: &Layout, consumer: u32) -> Claim
         requires { consumer < consumer_count layout.now }
@@ -111,7 +111,7 @@ impl Claim {
         }
     }
 
-    /// Makes the next access in this memory, which is one access, and returns how far the claim has come. The call is
+    /// Makes the claim's next access, and no other, in this memory. Returns how far the claim has come. The call is
     /// [`Claim::next`], [`Memory::perform`] and [`Claim::after`]. It needs what [`Claim::next`] needs, and a memory
     /// that can make the access.
     #[inline(always)]
@@ -162,7 +162,7 @@ impl Claim {
         ensures stage { result ≡ claim_stage self.new }
         ensures stays { out ≡ None → self.new ≡ stood_at self.old.place true self.old }
 
-        // Fewer accesses are left than at the place before the access.
+        // If `out` or the new place leaves fewer turns than `pc`, fewer accesses are left than to the claim at `pc`.
         ensures fewer { (pc : Pc)
             → turns_after (quorums_of layout.now) (next_from out self.old.place)
             < turns_left (quorums_of layout.now) pc
@@ -189,7 +189,7 @@ impl Claim {
         }
     }
 
-    /// The stage of a consumer's claim if its object decided this value.
+    /// The stage of a consumer's claim if an object decided this value for it.
     #[inline(always)]
     fn stage_for(consumer: u32, value: u32) -> Stage
         ensures exact { result ≡ stage_for consumer value }

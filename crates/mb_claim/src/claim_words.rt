@@ -46,7 +46,7 @@ impl<A: Allocator + Drop> ClaimWords<A> {
 
     /// Makes the next access of a claim on its cell, with the random word of this step. It needs a claim that is
     /// `Going`, and a lawful history that leaves these words and has the claim's accesses (`held`). There is one if all
-    /// accesses here were steps of claims that were new here, one for each consumer and cell.
+    /// accesses to these words were steps of claims that began here as new ones, one for each consumer and cell.
     #[inline(always)]
     pub fn step(&mut self, layout: &Layout, claim: &mut Claim, cell: u32, word: u64) -> ClaimStep
         requires going { claim_stage claim.old ≡ Going }

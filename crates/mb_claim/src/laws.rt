@@ -126,7 +126,7 @@ pub fn claims_have_their_stages()
 {}
 
 /// A claim that is going has an access to make, and one that has ended has none. The number of accesses left is at most
-/// `most_accesses` at first ([`crate::Claim::new`]), and falls with each ([`crate::Claim::after`]).
+/// `most_accesses` at first ([`crate::Claim::new`]), and falls with each access ([`crate::Claim::after`]).
 pub fn claims_have_steps_left()
     ensures going { (layout : Layout) (claim : Claim)
         → FitsLayout layout claim → claim_stage claim ≡ Going → 0 < steps_left layout claim }
@@ -181,7 +181,7 @@ pub fn last_objects_decide_claims()
         → HasStage (claims_in layout cells) c k Undecided h → ⊥ }
 {}
 
-/// In a layout with a fast path: if object 0 has decided for one consumer, nobody comes to a conciliator of that cell.
+/// In a layout with a fast path: if object 0 of a cell has decided for a consumer, nobody comes to a conciliator there.
 /// Nobody does either if a consumer has ended its claim before the first access of any other (`alone`). In this clause
 /// `s` is the stage of that claim, and `i` the conciliator's last attempt.
 pub fn fast_layouts_avoid_conciliators()
@@ -237,7 +237,7 @@ pub fn layouts_are_sound()
     ensures some { (layout : Layout) → pair_count layout ≡ 0 → (shape_of layout).last ≡ true }
 {}
 
-/// The limits are these numbers.
+/// The limits `MAX_PAIRS`, `MAX_CELLS` and `MAX_LARGE_CELLS` are 8, 256 and 2^24.
 pub fn limits_have_their_numbers()
     ensures pairs { MAX_PAIRS ≡ 8 }
     ensures cells { MAX_CELLS ≡ 256 }

@@ -15,7 +15,7 @@ use std::fmt;
 /// The most pairs that a layout can have. The least is 1, but for [`Layout::exchange`].
 pub const MAX_PAIRS: u64 = 8;
 
-/// The most cells of a setup that is not large, such as a script's. Layouts do not depend on it.
+/// The most cells of a setup that is not large, such as a script's. Layouts do not depend on this limit.
 pub const MAX_CELLS: u32 = 256;
 
 /// The most cells whose words can be addressed, as in a large setup: 2^24.
@@ -257,7 +257,7 @@ impl Layout {
         requires word { IsWordInLayout self.now object reg }
         ensures exact { result ≡ word_address self.now cell object reg }
 
-        // No other word lies there.
+        // No other word has this address.
         ensures apart { (k o : ℕ) (other : Reg) → IsWordInLayout self.now o other
             → word_address self.now k o other ≡ result
             → (k ≡ cell) × (o ≡ object) × (other ≡ reg) }

@@ -19,7 +19,7 @@
 //!
 //! - [`Layout`] says which objects each cell has, and where their words lie in one block.
 //! - [`Claim`] is the claim of one consumer on one cell. [`Claim::next`] returns its next access, and [`Claim::after`]
-//!   the [`Stage`] that this leads to. It holds no words, so it serves a simulation and threads alike.
+//!   the [`Stage`] that this leads to. A claim holds no words, so it serves a simulation and threads alike.
 //! - [`Claim::straight`] makes the accesses of a new claim through whole objects, in a memory that draws random words.
 //!   The [`Stretch`] says where they ended.
 //! - [`ClaimWords`] has the words of some cells in one block, and makes the next access of a claim there.

@@ -17,7 +17,7 @@ pub enum ClaimEntry {
         consumer: u32,
         /// The number of the object.
         object: u32,
-        /// What it did there.
+        /// The act that the claim made there.
         act: Act,
     },
     /// The claim of the consumer had ended before and made no access.

@@ -61,7 +61,7 @@ pub fn last_objects_come_last()
     ensures won { HasStage (two_with false true) 0 0 Won last_decides }
     ensures lost { HasStage (two_with false true) 1 0 (Lost 0) last_decides }
 
-    // Consumer 0 is not undecided.
+    // After the pair alone consumer 0 is not undecided.
     ensures undecided { HasStage (two_with false true) 0 0 Undecided both_undecided → ⊥ }
 
     // After consumer 0's exchange, consumer 1's exchange does not find 0.

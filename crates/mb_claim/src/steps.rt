@@ -5,7 +5,7 @@
 //! A table of shared words begins with [`histories_begin_with_zeros`]. Each access of a claim rests on
 //! [`claims_make_steps`]: the claim can be called, its word is one of the cell's, and it can go on with what it finds
 //! there. After the access the words are those that the history leaves with it. [`accesses_lengthen_one_part`] says
-//! what it adds to each consumer's part. [`other_words_are_free`]: words after those of the claims may hold anything.
+//! what an access adds to each part. [`other_words_are_free`]: words after those of the claims may hold anything.
 ghost use Rattle.std.specs.Prelude.{ℕ, ◌≡◌, ◌≢◌, ◌+◌, ◌*◌, ◌<◌, ◌≤◌, List, [], ◌∷◌, length, slice_index, slice_set};
 ghost use Rattle.mb_deciding.specs.declared.access.Op.TheVariants as to;
 ghost use Rattle.mb_deciding.specs.Vocabulary.{IsInWords, IsSameOp, IsOpAt, CanFind, reg_of, seen_by};
@@ -29,7 +29,7 @@ pub fn history_extends()
         → IsClaimLawful cs h → MayFollow cs a h → Adds cs a h }
 {}
 
-/// What an access adds to the parts of a history, whether or not it may come next there.
+/// What an access adds to the parts of a history, also if the access may not come next in that history.
 pub fn accesses_lengthen_one_part()
     ensures own { (a : ClaimAccess) (h : List ClaimAccess)
         → part a.consumer (a ∷ h) ≡ a ∷ part a.consumer h }
@@ -47,15 +47,15 @@ pub fn accesses_lengthen_one_part()
     ensures cells { (c k : ℕ) (h : List ClaimAccess) → part_on c k (part c h) ≡ part_on c k h }
 {}
 
-/// What a claim has done determines its next op, whatever memory holds. So a history goes on in one way with the access
-/// of a consumer on a cell, but for the random word.
+/// What a claim has done determines its next op, whatever memory holds. So after a history a consumer has one next
+/// access on a cell at most, but for the random word.
 pub fn claims_have_one_next_op()
     ensures op { (cs : Claims) (c : ℕ) (x y : ObjectTurn) (xs : List ObjectTurn) (s r : Stage)
         → ClaimsAreSound cs
         → IsClaimPrefix cs c (x ∷ xs) s → IsClaimPrefix cs c (y ∷ xs) r
         → (x.object ≡ y.object) × IsSameOp x.turn.act y.turn.act }
 
-    // The claim was going before: nothing follows an ended claim.
+    // Before its newest step a claim was going: nothing follows an ended claim.
     ensures going { (cs : Claims) (c : ℕ) (x : ObjectTurn) (xs : List ObjectTurn) (s : Stage)
         → IsClaimPrefix cs c (x ∷ xs) s → IsClaimPrefix cs c xs Going }
 
@@ -78,7 +78,7 @@ pub fn places_make_steps()
         → IsInWords (access_after c k object op word h).step.turn
         → MayFollow cs (access_after c k object op word h) h }
 
-    // The place can go on with the value that this access finds.
+    // This access finds a value that the place allows (`CanFind`).
     ensures found { (cs : Claims) (c k object : ℕ) (pc : Pc) (op : Op) (h : List ClaimAccess)
         → ClaimsAreSound cs → IsClaimLawful cs h → HasPlace cs c k object pc h
         → IsOpAt cs.table pc op
@@ -125,7 +125,7 @@ pub fn words_follow_steps()
         → let a = access_in cs c k object op word words in
         IsInWords a.step.turn → IsMemoryOf cs (words_after cs k object op words) (a ∷ h) }
 
-    // The place can go on with the value that this access finds.
+    // This access finds a value that the place allows (`CanFind`).
     ensures found { (cs : Claims) (c k object : ℕ) (pc : Pc) (op : Op) (words : List ℕ)
         (h : List ClaimAccess)
         → ClaimsAreSound cs → IsMemoryOf cs words h
@@ -158,7 +158,7 @@ pub fn claims_make_steps()
         → claim_stage claim ≡ Going → IsNextOp layout claim next
         → CanClaimFind layout claim next (found_in cs k next.object next.op words) }
 
-    // A store finds nothing, so any value will do for it.
+    // A store finds no value, so `CanClaimFind` holds of it with any `seen`.
     ensures stored { (layout : Layout) (claim : Claim) (next : ClaimOp) (reg : Reg) (value seen : ℕ)
         → next.op ≡ to.Store reg value → CanClaimFind layout claim next seen }
 
@@ -213,7 +213,7 @@ pub fn addresses_are_apart()
         → address_of r (row_of shape s n) k i (Quorum q)
         ≡ k * shaped_words r shape n + i * (1 + r) + (1 + q) }
 
-    // After them come the pairs.
+    // Let f objects come before the pairs. Of pair i the conciliator is object f + 2i, and the ratifier f + 2i + 1.
     ensures shaped_conciliator { (r s n k i : ℕ) (shape : Shape) → i < n
         → let f = length (fast_row shape.fast) in
         address_of r (row_of shape s n) k (f + 2 * i) Value

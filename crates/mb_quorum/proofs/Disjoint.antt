@@ -11,7 +11,7 @@ disjoint_from_and a b none r in_a in_b =
     let bit : bit_at (bit_and a b) r ≡ 0 = ap (λ n. bit_at n r) none ∙ bit_at-zero r in
     omega (arith, bit, bit_at_and a b r, in_a, in_b)
 
--- if two masks share no register, they share no bit
+-- if two masks share no register, bit r of their `bit_and` is bit r of 0, which is 0
 no_bit : (a b r : ℕ) → AreDisjoint a b → bit_at (bit_and a b) r ≡ bit_at 0 r
 no_bit a b r disjoint =
     elim (cases_eq (bit_at a r) 1) [

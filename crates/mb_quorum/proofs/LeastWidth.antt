@@ -1,4 +1,4 @@
--- The least width for m values is how many binary digits m - 1 has.
+-- The least width for m values is how many binary digits m - 1 has. For m of 0 and 1 it is 0.
 use Rattle.std.proofs.Common.{◌≡◌, ℕ, suc, ◌-◌, ◌+◌, ◌*◌, ◌^◌, ◌<◌, ◌≤◌, inl, inr, arith}
 use Rattle.std.proofs.Math.Numerals.{one-add}
 use Rattle.std.proofs.Math.Pow.{pow-add, pow_mono, pow_pos}
@@ -6,7 +6,7 @@ use Rattle.std.proofs.lemmas.Bool.{cases_lt}
 use Rattle.mb_quorum.specs.Width.{width_of}
 use Rattle.mb_quorum.specs.WidthLaw.{width_is_least}
 
--- the number of binary digits of m - 1 is the least width for m values
+-- the number of binary digits of m - 1 is the least width for m values. Here 0 has no digits, and 0 - 1 is 0
 pub digits_are_width : (m a b : ℕ) → a ≡ m - 1 → a < 2 ^ b → 2 ^ b ≤ 2 * a + 1 → b ≡ width_of m
 digits_are_width m a b e enough tight =
     let least = width_is_least m in

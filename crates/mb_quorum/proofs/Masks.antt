@@ -15,12 +15,12 @@ mask_of-same f g (suc n) each =
     (mask_of-same f g n (λ i within. each i (omega (arith, within))))
     (ap (λ r. 2 ^ r) (each n (omega arith)))
 
--- 1 shifted left by 2 i + bit i of n is the mask of register 2 i + bit i of n alone
+-- if i is below 32, 1 shifted left by 2 i + (bit i of n) is the mask of register 2 i + (bit i of n) alone
 shifted_to : (n i : ℕ) → i < 32 → 1 * 2 ^ (2 * i + bit_and (n / 2 ^ i) 1) % 2 ^ 64 ≡ 2 ^ named_register n i
 shifted_to n i within =
     rw (shr_and_one n i) (one_shl (named_register n i) 64 (omega (arith, within, bit_at-lt n i)))
 
--- pass i of the loop adds register 2 i + bit i to the mask
+-- pass i of the loop of `mask_of_bits` adds register 2 i + (bit i of `bits`) to the mask, if i is below 32
 pub mask_of-next :
     (bits i mask : ℕ) → i < 32 → mask ≡ mask_of (named_register bits) i
     → bit_or mask (1 * 2 ^ (2 * i + bit_and (bits / 2 ^ i) 1) % 2 ^ 64) ≡ mask_of (named_register bits) (i + 1)
@@ -28,7 +28,7 @@ mask_of-next bits i mask within before =
     let next : i + 1 ≡ suc i = omega arith in
     rw next (ap₂ bit_or before (shifted_to bits i within))
 
--- the bits of the complement of v name the registers that the bits of v do not name
+-- the first n bits of the 32-bit complement of v name the registers that the first n bits of v do not name
 pub mask_of-flipped :
     (v n : ℕ) → v < 2 ^ 32 → n ≤ 32 → mask_of (named_register (bit_not w32 v)) n ≡ mask_of (other_register v) n
 mask_of-flipped v n word narrow =

@@ -6,7 +6,7 @@ use Rattle.std.proofs.lemmas.Nat.{ones_cat, ones_le_self, zero_from_ones}
 use Rattle.mb_quorum.specs.Middle.{choose, set_number}
 use Rattle.mb_quorum.specs.MiddleLaw.{double, set_below, without_last, with_last}
 
--- the empty set has no registers
+-- the mask 0 has no registers
 no_ones : count_ones 0 ≡ 0
 no_ones = omega (arith, ones_le_self 0)
 
@@ -24,7 +24,7 @@ ones_with_last n x small =
     let shape : 2 ^ n + x ≡ 1 * 2 ^ n + x = omega arith in
     omega (arith, ap count_ones shape, ones_cat n 1 x small, one_one)
 
--- each numbered set of h registers has h registers
+-- if v is below `choose n h`, set v of the sets of h registers among n has exactly h registers
 pub set_size : (n h v : ℕ) → v < choose n h → count_ones (set_number n h v) ≡ h
 set_size zero zero v known = no_ones
 set_size zero (suc h) v known = absurd (omega (arith, known))
@@ -72,11 +72,11 @@ set_rises (suc n) (suc h) v w less known =
 abbrev pub HasNumber : ℕ → ℕ → ℕ → Type 0
 HasNumber n h x = (v : ℕ) × (v < choose n h) × (x ≡ set_number n h v)
 
--- a set that has a number among n registers has one among n + 1
+-- a set of h + 1 registers that has a number among n registers has a number among n + 1
 number_without : (n h x : ℕ) → HasNumber n (suc h) x → HasNumber (suc n) (suc h) x
 number_without n h x (v, known, is) = (v, omega (arith, known), is ∙ sym (without_last n h v known))
 
--- a set that has a number among n registers, with register n added, has one among n + 1
+-- if a set of h registers has a number among n registers, the set with register n added has one among n + 1
 number_with : (n h x : ℕ) → HasNumber n h x → HasNumber (suc n) (suc h) (2 ^ n + x)
 number_with n h x (v, known, is) =
     let all : ℕ = choose n (suc h) + v in

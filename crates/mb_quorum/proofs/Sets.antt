@@ -3,7 +3,7 @@ use Rattle.std.proofs.Common.{◌≡◌, ◌≢◌, ℕ, zero, suc, ◌+◌, ◌
 use Rattle.mb_quorum.specs.Middle.{choose, set_number}
 use Rattle.mb_quorum.specs.MiddleLaw.{without_last, with_last}
 
--- there are as many sets of h registers among n as sets without the last register and sets with it, counted together
+-- for n and h above 0: the sets of h registers among n are those without the last register and those with it
 pub choose_by_last :
     (n h : ℕ) → n ≢ 0 → h ≢ 0 → choose n h ≡ choose (n - 1) h + choose (n - 1) (h - 1)
 choose_by_last zero h some more = absurd (some refl)
@@ -13,7 +13,7 @@ choose_by_last (suc n) (suc h) some more =
     let less : h ≡ suc h - 1 = omega arith in
     ap₂ (λ k i. choose k (suc h) + choose k i) before less
 
--- if v is below `choose (n - 1) h`, set v lacks the last register, and is set v of the others
+-- for n and h above 0: if v is below `choose (n - 1) h`, set v lacks the last register, and is set v of the others
 pub set_of_others :
     (n h v : ℕ) → n ≢ 0 → h ≢ 0 → v < choose (n - 1) h → set_number n h v ≡ set_number (n - 1) h v
 set_of_others zero h v some more less = absurd (some refl)
@@ -23,7 +23,7 @@ set_of_others (suc n) (suc h) v some more less =
     without_last n h v (subst (λ k. v < choose k (suc h)) before less)
     ∙ ap (λ k. set_number k (suc h) v) (sym before)
 
--- if v is not below `choose (n - 1) h`, set v is the last register, and a set of h - 1 of the others
+-- for n and h above 0: if v is at least `choose (n - 1) h`, set v is the last register with a set of h - 1 others
 pub set_with_last :
     (n h v : ℕ) → n ≢ 0 → h ≢ 0 → choose (n - 1) h ≤ v
     → set_number n h v ≡ 2 ^ (n - 1) + set_number (n - 1) (h - 1) (v - choose (n - 1) h)

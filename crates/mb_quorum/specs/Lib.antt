@@ -1,5 +1,5 @@
 pub mod Bits
--- beside each table stand the lemmas that it keeps the law of quorum tables, in a file named after it
+-- the lemmas that a table keeps the law of quorum tables are in a file named after the table: `BitsLaw` for `Bits`
 pub mod BitsLaw
 pub mod Chosen
 pub mod Mask

@@ -1,4 +1,4 @@
--- Which registers a mask holds, if it is made of named registers.
+-- The mask of the registers `register 0`, .., `register (n - 1)` holds exactly these registers.
 use Rattle.std.proofs.Common.{◌≡◌, ℕ, zero, suc, ◌^◌, ◌<◌, ◌↔◌, sym, subst, inl, inr, arith}
 use Rattle.std.specs.Int.{bit_at}
 use Rattle.std.proofs.Math.Pow.{pow-lt, pow_pos}

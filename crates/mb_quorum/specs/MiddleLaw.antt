@@ -72,7 +72,7 @@ rests_within n x y small little within r member =
       | inr above ↦ absurd (omega (arith, member, bit_at_above x n r small above))
     ]
 
--- a set within another has no more registers, and if it has as many, both have the same number
+-- if set v, of a registers, is within set w, of b registers, a is at most b. If a is b, then v is w
 pub one_within :
     (n a b v w : ℕ) → v < choose n a → w < choose n b → IsWithin (set_number n a v) (set_number n b w)
     → (a ≤ b) × (a ≡ b → v ≡ w)
@@ -151,7 +151,7 @@ one_within (suc n) (suc a) (suc b) v w written seen within =
     ]
 
 -- ---- the registers that are not in a set
--- the complement of a number below 2 ^ k has the opposite bits
+-- if n is below 2 ^ k, each of the k bits of 2 ^ k - 1 - n is the opposite of that bit of n
 pub others_have : (k n i : ℕ) → n < 2 ^ k → i < k → bit_at (2 ^ k - 1 - n) i ≡ 1 - bit_at n i
 others_have zero n i fits within = absurd (omega (arith, within))
 others_have (suc k) n zero fits within =
@@ -162,7 +162,7 @@ others_have (suc k) n (suc i) fits within =
     ∙ others_have k (n / 2) i (omega (arith, double k, fits)) (omega (arith, within))
     ∙ ap (λ d. 1 - d) (sym (bit_at-suc n i))
 
--- ---- how many sets there are
+-- ---- how many sets there are. Half of the registers means half of their number, rounded down
 -- n + 1 registers have no fewer sets of h of them than n registers
 more_sets : (n h : ℕ) → choose n h ≤ choose (suc n) h
 more_sets n zero = omega arith
@@ -245,7 +245,7 @@ all_below (suc n) m h =
     let before : halves n < m = omega (arith, halves_rise n, h) in
     omega (arith, counted n m before, all_below n m before)
 
--- if n registers have m sets of half of them, so have `halves_below n m` registers
+-- if n registers have at least m sets of half of them, so have `halves_below n m` registers
 enough_halves : (n m : ℕ) → m ≤ halves n → m ≤ halves (halves_below n m)
 enough_halves zero m h = h
 enough_halves (suc n) m h =
@@ -267,7 +267,7 @@ registers_below n c lower =
           absurd (omega (arith, higher, lower)))
     ]
 
--- if c registers have m sets of half of them, c is at least `halves_below n m`
+-- if c registers have at least m sets of half of them, c is at least `halves_below n m`
 least_halves : (n m c : ℕ) → m ≤ halves c → halves_below n m ≤ c
 least_halves zero m c h = omega arith
 least_halves (suc n) m c h =
@@ -277,15 +277,15 @@ least_halves (suc n) m c h =
       | inr reached ↦ rw (passed_over n m reached) (least_halves n m c h)
     ]
 
--- `breadth_of m` is the least number of registers with m sets of half of them
+-- `breadth_of m` is the least number of registers with at least m sets of half of them
 pub breadth_is_least : (m : ℕ) → IsLeastBreadth m (breadth_of m)
 breadth_is_least m = record { enough = enough_halves m m (self_within m); least = least_halves m m }
 
--- there is one least number of registers with m sets of half of them
+-- there is one least number of registers with at least m sets of half of them
 pub one_breadth : (m a b : ℕ) → IsLeastBreadth m a → IsLeastBreadth m b → a ≡ b
 one_breadth m a b x y = omega (arith, x.least b y.enough, y.least a x.enough)
 
--- if n registers have m sets of half of them, and no fewer registers have so many, n is `breadth_of m`
+-- if n registers have at least m sets of half of them, and no fewer registers have so many, n is `breadth_of m`
 pub least_so_far : (m n : ℕ) → m ≤ halves n → ((c : ℕ) → c < n → halves c < m) → n ≡ breadth_of m
 least_so_far m n enough smaller =
     one_breadth m n (breadth_of m)

@@ -11,7 +11,7 @@ use Rattle.mb_quorum.specs.Quorum.{IsQuorumTable, IsMember, AreDisjoint}
 use Rattle.mb_quorum.specs.Unary.{unary_table}
 
 -- ---- the bits of a read quorum
--- the subtraction that `others_cat` makes, with any numbers in place of its powers of two
+-- the subtraction that `others_cat` makes, with x, y and z in place of its powers of two, and a for 2 ^ j - 1
 cat_numbers : (a x y z : ℕ) → x ≡ suc a * y → y ≡ 2 * z → 0 < z → x - 1 - z ≡ a * y + (z - 1)
 cat_numbers a x y z product double low = omega arith
 
@@ -23,13 +23,13 @@ others_cat j w =
     (rw one-add at (pow-add 2 1 w))
     (pow_pos w)
 
--- in a number whose bits are all ones but bit w, bit w is 0
+-- in a number of j + w + 1 bits, all ones but bit w, bit w is 0
 others_same : (j w : ℕ) → bit_at (2 ^ (j + suc w) - 1 - 2 ^ w) w ≡ 0
 others_same j w =
     let low = bit_at_cat_low (2 ^ j - 1) (suc w) (2 ^ w - 1) w (omega arith) in
     rw (others_cat j w) (low ∙ bit_at_ones_above w w (omega arith))
 
--- in a number whose bits are all ones but bit w, each other bit is 1
+-- in a number of j + w + 1 bits, all ones but bit w, each other bit is 1
 others_other : (j w i : ℕ) → i < j + suc w → i ≢ w → bit_at (2 ^ (j + suc w) - 1 - 2 ^ w) i ≡ 1
 others_other j w i within other =
     let fits : 2 ^ w - 1 < 2 ^ suc w = omega (arith, rw one-add at (pow-add 2 1 w), pow_pos w) in

@@ -7,8 +7,8 @@ ghost use Rattle.mb_quorum.specs.declared.values.TheConstants.{MAX_VALUES};
 
 use crate::{BadValues, Quorums, checked_values, width};
 
-/// The bit table: two registers for each bit of a value. Let b be the least number with `2^b >= values`. For each i
-/// below b, the write quorum of v holds register 2i + bit i of v. Its read quorum holds the other of the two.
+/// The bit table: registers 2i and 2i + 1 for bit i of a value. Let b be the least number with `2^b >= values`. For
+/// each i below b, the write quorum of v holds register 2i + (bit i of v). Its read quorum holds the other of the two.
 ///
 /// With one value there are no registers, and both quorums are empty.
 #[derive(Clone, Copy, Debug, PartialEq, Eq, Hash)]

@@ -45,8 +45,8 @@ pub fn unary_quorums_are_own_and_others()
     ensures read { (m v r : ℕ) → v < m → IsMember ((unary_table m).read v) r ↔ ((r < m) × (r ≢ v)) }
 {}
 
-/// In the bit table, a write quorum holds for each bit of its value the register that the bit names, of the two for
-/// that bit. A read quorum holds the other one.
+/// In the bit table, a write quorum holds exactly the registers 2i + (bit i of its value), for each i below the width.
+/// A read quorum holds for each such i the other one of the registers 2i and 2i + 1, and no more.
 pub fn bits_quorums_follow_the_bits()
     ensures write { (m v r : ℕ) → IsMember ((bits_table m).write v) r
         ↔ ((i : ℕ) × (i < width_of m) × (r ≡ 2 * i + bit_at v i)) }
@@ -56,7 +56,7 @@ pub fn bits_quorums_follow_the_bits()
 
 /// The sets of h registers among n are numbered from 0, by rising mask, each once. In the middle table the write quorum
 /// of v is set number v of the sets of half of the registers, rounded down. Its read quorum holds all other registers.
-/// No fewer registers have a set for each value.
+/// Fewer registers have fewer such sets than values.
 pub fn middle_quorums_are_sets_by_rising_mask()
     ensures within { (n h v : ℕ) → set_number n h v < 2 ^ n }
     ensures size { (n h v : ℕ) → v < choose n h → count_ones (set_number n h v) ≡ h }
@@ -70,7 +70,7 @@ pub fn middle_quorums_are_sets_by_rising_mask()
         ↔ ((r < (middle_table m).registers) × (IsMember ((middle_table m).write v) r → ⊥)) }
 {}
 
-/// The width of the bit table of m values is the least number b with `m <= 2^b`.
+/// The width for m values (`width_of`), half the registers of their bit table, is the least number b with `m <= 2^b`.
 pub fn width_is_the_least()
     ensures { (m : ℕ) → IsLeastWidth m (width_of m) }
 {}

@@ -9,7 +9,7 @@ use crate::{BadValues, Quorums, checked_values};
 const MOST_REGISTERS: u32 = 8;
 
 /// The middle table. Number the sets of half of the registers, rounded down, from 0, by rising mask. The write quorum
-/// of v is set number v, and its read quorum holds all other registers. No fewer registers have a set for each value.
+/// of v is set number v, and its read quorum all other registers. Fewer registers have fewer such sets than values.
 ///
 /// With one value there are no registers, and both quorums are empty.
 #[derive(Clone, Copy, Debug, PartialEq, Eq, Hash)]

@@ -2,7 +2,7 @@
 /// A quorum table. Values and registers count from 0, and a quorum is a mask: register i is the bit of worth `2^i`.
 ///
 /// No call takes memory. Each table proves the law `lawful` for itself. A user of a table needs that law alone: a
-/// ratifier is right over every lawful table.
+/// ratifier is correct over every lawful table.
 ///
 /// A table of your own needs a `QuorumTable`, a lemma that this is an `IsQuorumTable`, and the four calls. In the
 /// example, value v has the quorums that value m - 1 - v has in the unary table of m values. All of the example is in

@@ -1,4 +1,4 @@
--- Lists that each have a fair share of the items: q, the items divided by the lists in whole numbers, or one more.
+-- Lists that each have a fair share of the items: q, the number of items by that of lists in whole numbers, or q + 1.
 use Rattle.std.proofs.Common.{◌≡◌, ◌∙◌, ◌+◌, ◌*◌, ◌/◌, ◌-◌, ◌<◌, ◌≤◌, ℕ, suc, List, inl, inr, length, take, ap, arith}
 use Rattle.std.proofs.Math.Nat.{add-mul, div-le_of_le-mul, div-mul-le_self, lt-div-mul-add, mul-add, mul-one, mul_comm, one-mul}
 use Rattle.std.proofs.lemmas.Bool.{cases_lt}
@@ -16,14 +16,14 @@ pub record HasShares (q k left : ℕ) : Type 0 where
   pub low : q * k ≤ left
   pub high : left ≤ k + q * k
 
--- n items are enough for k lists of n / k items each, in whole numbers, and not too many
+-- if k > 0, n items are enough for k lists of n / k items each, in whole numbers, and not too many for one more each
 pub shares_first : (n k : ℕ) → 0 < k → HasShares (n / k) k n
 shares_first n k some = record {
   low = div-mul-le_self n k;
   high = let below = lt-div-mul-add {a = n} {b = k} some in omega (arith, below);
 }
 
--- one k-th of the items that remain for k lists, in whole numbers, is a fair share: q items or one more
+-- if `left` items are enough for k fair shares and not too many, one k-th of them, in whole numbers, is q or q + 1
 pub share_of : (q k left : ℕ) → 0 < k → HasShares q k left → (q ≤ left / k) × (left / k ≤ 1 + q)
 share_of q k left some shares =
     let one = mul-add k 1 q in
@@ -34,7 +34,7 @@ share_of q k left some shares =
       div-le_of_le-mul k {m = left} {n = 1 + q} (omega (arith, one, unit, swap, high)),
     )
 
--- after that list, the items that remain are enough for fair shares of the other lists, and not too many
+-- after a list of one k-th of `left` items, the rest is enough for fair shares of the j other lists, and not too many
 pub shares_on : (q k j left : ℕ) → k ≡ 1 + j → HasShares q k left → HasShares q j (left - left / k)
 shares_on q k j left more shares =
     let some : 0 < k = omega (arith, more) in

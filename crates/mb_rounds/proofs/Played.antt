@@ -22,7 +22,7 @@ use Rattle.mb_rounds.proofs.Fronts.{fronts_told}
 pub count_sources : {X : Type 0} (stream : X → Stream) (rngs : List X) → length rngs ≡ length (map stream rngs)
 count_sources stream rngs = sym (length-map rngs stream)
 
--- a new hub has issued no number, and has one for each lane and consumer of its plan, so a round asks for no more
+-- a new hub has issued no number, and has one for each lane and consumer of its plan: all that a round asks for
 pub asks_enough : (plan : Plan) (m : MailboxView) (old : HubView) (lists sources : ℕ) → plan_at m ≡ plan
     → old ≡ hub_empty m
     → lists ≡ plan.lanes → sources ≤ consumers_of plan → AsksTooMany m lists sources old → ⊥

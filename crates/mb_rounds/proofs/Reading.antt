@@ -23,7 +23,7 @@ one_more : {X : Type 0} (xs : List X) (i : ℕ) (x : X) → i < length xs → ge
     → take (i + 1) xs ≡ take i xs ++ x ∷ []
 one_more xs i x low e = ap (λ k. take k xs) (next i) ∙ one_after xs i x low e
 
--- if x is the element at position i, and f x is `Some v`, then v comes after what f gave of the elements before it
+-- if x is the element at position i, and f x is `Some v`, then v comes after what f gave of the elements before x
 pub read_some : {X : Type 0} (f : X → Option ℕ) (xs : List X) (i : ℕ) (x : X) (v : ℕ) (before read : List ℕ)
     → i < length xs → get_or xs i x ≡ x → f x ≡ Some v → read ≡ before ++ filter_map f (take i xs)
     → read ++ v ∷ [] ≡ before ++ filter_map f (take (i + 1) xs)
@@ -37,7 +37,7 @@ read_some f xs i x v before read low here value so_far =
     only : {X : Type 0} (f : X → Option ℕ) (x : X) (v : ℕ) → f x ≡ Some v → filter_map f (x ∷ []) ≡ v ∷ []
     only f x v e = rw e refl
 
--- if x is the element at position i, and f x is `None`, it adds nothing to what f gave of the elements before it
+-- if x is the element at position i, and f x is `None`, x adds nothing to what f gave of the elements before x
 pub read_none : {X : Type 0} (f : X → Option ℕ) (xs : List X) (i : ℕ) (x : X) (before read : List ℕ)
     → i < length xs → get_or xs i x ≡ x → f x ≡ None → read ≡ before ++ filter_map f (take i xs)
     → read ≡ before ++ filter_map f (take (i + 1) xs)

@@ -1,4 +1,4 @@
--- All that was handed in and given out by rounds, turn by turn. A turn here is of the type below, and none of a process.
+-- What was handed in, and what rounds gave out, turn by turn. A turn here is a `Turn` (below), and none of a process.
 use Rattle.std.specs.Prelude.{ℕ, ◌≡◌, ◌++◌, List, [], ◌∷◌}
 use Rattle.std.specs.List.{concat}
 use Rattle.mb_rounds.specs.Carried.{AreSameItems}
@@ -20,7 +20,7 @@ given_out [] = []
 given_out (HandedIn items ∷ older) = given_out older
 given_out (Gave taken ∷ older) = concat taken ++ given_out older
 
--- after these turns, and no others, these items are carried
+-- after these turns, and no others, these items are carried. A round may change their order
 abbrev pub AreCarriedAfter : List Turn → List ℕ → Type 0
 AreCarriedAfter [] now = now ≡ []
 AreCarriedAfter (HandedIn items ∷ older) now = (was : List ℕ) × AreCarriedAfter older was × (now ≡ was ++ items)

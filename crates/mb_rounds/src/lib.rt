@@ -2,7 +2,7 @@
 //!
 //! A cell of a mailbox is used once. So long-lived work goes in rounds. Each round has a mailbox of its own:
 //!
-//! 1. The oldest items carried are dealt evenly to the producers' lists: as many as there are cells, or all.
+//! 1. The oldest items carried are dealt evenly to the producers' lists: as many as there are cells, or all if fewer.
 //! 2. Producers put them and consumers take them, each in a thread of its own ([`mb_mailbox::work`]).
 //! 3. After all threads have ended, [`mb_mailbox::Mailbox::gather`] says which consumer took what.
 //! 4. The caller gets what each consumer took. What was not taken, not put or not dealt is carried into the next round.

@@ -59,7 +59,7 @@ fn report_after<A: Allocator + Clone + Drop>(
 }
 
 /// Lets workers put these lists into a mailbox of this setup and take from it. Returns what they came to, and the
-/// mailbox's report.
+/// mailbox's report, or the fault of the round.
 pub(crate) fn play<
     A: Allocator + Clone + Drop + Send + Sync,
     W: Threads + Wait + Sync,

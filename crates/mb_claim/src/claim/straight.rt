@@ -23,7 +23,7 @@ pub struct Stretch {
     pub stage: Stage,
     /// The number of the object, if the claim is going.
     pub object: u32,
-    /// The claim's input to the object, if it is going. It is some consumer's number even if the claim has ended.
+    /// The claim's input to the object, if the claim is going. Also if it has ended, this is some consumer's number.
     pub value: u32,
     /// What is left of the budget.
     pub left: u64,
@@ -55,7 +55,7 @@ impl Claim {
 
     /// Makes the accesses of a new claim on a cell whose words begin at `begin`. It goes object by object, as long as
     /// 10 accesses and 2 for each quorum register are left. For a last object one is enough. It makes at most `most`
-    /// accesses, the same as so many calls of [`Claim::step`]. It needs a consumer of the layout, words whose positions
+    /// accesses, as that many calls of [`Claim::step`] do. It needs a consumer of the layout, words whose positions
     /// are below 2^64, and a memory that can make each access.
     #[inline(always)]
     pub fn straight<M: Drawing>(
@@ -227,7 +227,7 @@ impl Claim {
         true
     }
 
-    /// Makes the exchange, if the claim stands before a last object and an access is left.
+    /// Makes the exchange of a last object, if the claim stands before one and an access is left. Else nothing changes.
     #[inline(always)]
     fn settle<M: Drawing>(
         layout: &Layout,

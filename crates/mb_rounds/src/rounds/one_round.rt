@@ -31,7 +31,7 @@ impl<A: Allocator + Clone + Drop + Send + Sync> Rounds<A> {
     /// not dealt.
     ///
     /// [`RoundFault::TooManySources`] comes first, then [`RoundFault::BadBudget`], and then `NoMemory` or `NoThread`,
-    /// whichever is met first. After any fault nothing was given out. This holds also if consumers took items before a
+    /// whichever comes first. After any fault nothing was given out. This holds also if consumers took items before a
     /// thread could not be started: the caller does not get these.
     pub fn round<W: Threads + Wait + Sync, R: Rng + Send + Drop, G: Gate>(
         &mut self,
@@ -49,9 +49,9 @@ impl<A: Allocator + Clone + Drop + Send + Sync> Rounds<A> {
         ensures refused { OnErr result (self.new ≡ self.old) }
         ensures setup { self.new.setup ≡ self.old.setup }
 
-        // The oldest items went into a mailbox, and one assignment agrees with its report. What the ledgers have is
-        // given out, and the rest is carried. Each worker, with this budget and these sources, put or polled until it was
-        // done or stopped. `worked` counts those that were stopped.
+        // The oldest items were dealt to the producers of a mailbox, and one assignment agrees with its report. What
+        // the ledgers have is given out, and the rest is carried. Each worker, with this budget and these sources, put
+        // or polled until it was done or stopped. `worked` counts those that were stopped.
         ensures round { IfOk result (λ o. IsRound (G.may_stop gate.now) (G.may_pass gate.now)
             (terms_of self.old.setup budget (map R.stream sources.items)) self.old.carried
             (lists_in o.taken.items) o.worked o.report self.new.carried) }

@@ -1,5 +1,5 @@
--- Proof of `laws::fast_layouts_avoid_conciliators`: in a layout with a fast path: if object 0 has decided for one
--- consumer, nobody comes to a conciliator of that cell.
+-- Proof of `laws::fast_layouts_avoid_conciliators`: in a layout with a fast path, if object 0 of a cell has decided
+-- for one consumer, nobody comes to a conciliator of that cell.
 use Rattle.std.proofs.Common.{◌≡◌, ◌≤◌, true, false, ◌∷◌, ◌++◌, ℕ, List, Some, sym, ap, ◌∙◌, subst, slice_get}
 use Rattle.mb_deciding.specs.Vocabulary.{answer, IsPath, spread}
 use Rattle.mb_claim.specs.{Kind, Conciliator, Ratifier, Layout, pairs_of, last_row, quorums_of, kinds_of, claims_of}

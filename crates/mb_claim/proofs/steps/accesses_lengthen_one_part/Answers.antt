@@ -1,5 +1,5 @@
--- Proof of `steps::accesses_lengthen_one_part`: what an access adds to the parts of a history, whether or not it may
--- come next there.
+-- Proof of `steps::accesses_lengthen_one_part`: what an access adds to the parts of a history, also if the access
+-- may not come next in that history.
 use Rattle.mb_claim.proofs.ConsumerParts.{part_own, part_other, part_on-part}
 use Rattle.mb_claim.proofs.HistorySteps.{own_part, other_part}
 use Rattle.mb_claim.proofs.steps.accesses_lengthen_one_part.Goals as goal

@@ -1,5 +1,5 @@
--- Proof of `laws::bits_quorums_follow_the_bits`: in the bit table, a write quorum holds for each bit of its value the
--- register that the bit names, of the two for that bit.
+-- Proof of `laws::bits_quorums_follow_the_bits`: in the bit table, a write quorum holds the registers 2i + (bit i of
+-- its value), for each i below the width. A read quorum holds the other one of 2i and 2i + 1.
 use Rattle.mb_quorum.specs.Bits.{named_register, other_register}
 use Rattle.mb_quorum.specs.Width.{width_of}
 use Rattle.mb_quorum.specs.MaskLaw.{mask_of-member}

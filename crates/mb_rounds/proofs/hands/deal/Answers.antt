@@ -1,4 +1,4 @@
--- Proof of `deal`, which returns the items in their order, cut into `count` lists of about the same length.
+-- Proof of `deal`, which returns the items in their order, cut into `count` lists, none with two more than another.
 use Rattle.std.proofs.Common.{◌∙◌, ◌++◌, ◌<◌, ◌+◌, ◌-◌, ◌/◌, ap, arith, length, refl, rules, subst, sym}
 use Rattle.std.proofs.Math.Nat.{div-le_self}
 use Rattle.std.proofs.lemmas.List.{length-drop}

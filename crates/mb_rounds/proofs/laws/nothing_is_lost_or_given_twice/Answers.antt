@@ -1,4 +1,4 @@
--- Proof of `laws::nothing_is_lost_or_given_twice`: over any number of turns, in any order: each item that was handed in
+-- Proof of `laws::nothing_is_lost_or_given_twice`: over any number of turns, in any order, each item that was handed in
 -- was given out once or is carried now.
 use Rattle.std.proofs.Common.{sym, ◌∙◌, arith}
 use Rattle.mb_rounds.specs.Turns.{given_out}

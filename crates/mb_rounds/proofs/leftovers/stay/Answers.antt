@@ -33,7 +33,7 @@ loop-p-preserved g c =
     ∙ (λ i. c.loop-p.invariant i ++ (left i ++ behind i))
     ∙ sym (stays_more lists lanes p list.items lane got low (sym here))
 
--- after the loop all items that stay of the lanes are there, and the items that were not dealt follow
+-- after the loop the list has all items that stay of the lanes. The items that were not dealt are added after them
 pub returns : goal.returns
 returns g c =
     let lanes = c.args.report.now.lanes in

@@ -43,7 +43,7 @@ overflow_add-at g c =
     let few = objects_few layout.shape (spread (quorums_of layout).values) layout.pairs layout.few in
     omega (arith, in_row layout c.args.at.now.object c.requires.object, few)
 
--- if that ratifier is not the last of the n objects, there is an object with the next number
+-- if object o is a ratifier and not the last of the layout's n objects, there is an object with the next number
 below_end : (layout : Layout) (o n : ℕ) → slice_get (kinds_of layout) o ≡ Some Ratifier
     → n ≡ length (kinds_of layout) → o + 1 ≢ n → o + 1 < length (kinds_of layout)
 below_end layout o n at all ne = omega (arith, in_row layout o at, all, ne)
@@ -53,7 +53,7 @@ returns-clause-object g c t =
     below_end c.args.layout.now c.args.at.now.object c.objects.result c.requires.object c.objects.ensures
     c.if-at-objects.false
 
--- the output of a path is `answer d` of its value, if d says whether it is decided
+-- an output is `answer d` of its value, if d says whether it is decided
 as_answer : (out : Out) (d : Bool) → out.decided ≡ d → out ≡ answer d out.value
 as_answer out d e = ap (λ b. answer b out.value) e
 

@@ -24,7 +24,7 @@ as_answer : (t : QuorumTable) (kind : Kind) (v : ℕ) (turns : List Turn) (out :
     → IsPath t kind v turns out → IsPath t kind v turns (answer d out.value)
 as_answer t kind v turns out d e path = subst (λ b. IsPath t kind v turns (answer b out.value)) e path
 
--- ---- the new claim belongs to the longer turns: `None` is a place, `Some` an undecided output, `Some-2` a decided one
+-- ---- the new claim belongs to the turns: `None` is a new place, `Some` an undecided output, `Some-2` a decided one
 -- These three proofs begin with where the claim stood (`p`) and what the access led to there (`reached`, `come`).
 pub returns-in-None-clause-path : goal.returns-in-None-clause-path
 returns-in-None-clause-path c pc begun xs x of reaches =

@@ -1,4 +1,4 @@
--- Proof of `Claim::settle`: makes the exchange, if the claim stands before a last object and an access is left.
+-- Proof of `Claim::settle`: makes the exchange of a last object, if the claim stands before one and an access is left.
 use Rattle.std.proofs.Common.{◌≡◌, ◌+◌, ℕ, refl, sym, ◌∙◌, arith}
 use Rattle.std.proofs.lemmas.Option.{same_Some}
 use Rattle.mb_claim.specs.{Conciliator, Ratifier, LastObject, quorums_of, kinds_of, claims_in}

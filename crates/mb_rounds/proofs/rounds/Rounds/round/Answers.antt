@@ -14,7 +14,7 @@ pub returns-clause-same_items : goal.returns-clause-same_items
 returns-clause-same_items g c =
     round_adds_up _ c.args.self.now.carried _ _ _ _ c.in_ok-round.ensures.round
 
--- no more sources than consumers are given, so if no worker was stopped, each with a source has a note at each item
+-- if no worker was stopped, each consumer with a source has a note at each item put. Each source has its consumer
 pub returns-clause-noted : goal.returns-clause-noted
 returns-clause-noted g c = λ none.
     let rngs = c.args.sources.items in
