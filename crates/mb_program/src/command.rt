@@ -82,7 +82,7 @@ pub fn command_of<'a, S: AsStr>(alloc: Global, words: &'a [S]) -> Result<Choice,
     ensures options { IfOk result (HasToldOptions (map S.text words.entry.now)) }
     ensures budget { IfOk result HasBudget }
 
-    // A refusal has a kind that the words give: help comes only if they ask for it.
+    // A refusal is for want of memory, or of a kind that the words give. Help comes only if they ask for it.
     ensures kinds { IfErr result (λ e. IsRefusalOf (map S.text words.entry.now) (kind_of e)) }
 
     // Words that clap takes and that name a command are refused only if memory runs out. So are the two words of the

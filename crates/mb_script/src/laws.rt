@@ -21,8 +21,8 @@ use mb_quorum::laws::named_tables_are_lawful;
 use mb_world::laws::{histories_have_one_report, replays_do_not_differ, worlds_are_sound};
 use mb_world::steps::history_extends;
 
-/// If words are joined, with one space between two, the line is cut into the same words. If the words of a line are
-/// joined so, they are that line.
+/// If one word or more are joined, with one space between two, the line is cut into the same words. If the words of a
+/// line are joined so, they are that line.
 pub fn words_are_cut_as_spelled()
     ensures cut { (w : List ℕ) (ws : List (List ℕ)) → AllByRecursion IsWord (w ∷ ws)
         → words_in_line (join_with_byte 32 (w ∷ ws)) ≡ w ∷ ws }
@@ -63,7 +63,7 @@ pub fn first_faulty_lines_decide()
         → (s : Script) × Spells (take n (lines_of bytes)) s }
 {}
 
-/// `NoSetup` comes before every other fault of the first line, and only if its first word is not `setup`.
+/// `NoSetup` comes before every other fault of a line, and only if there is no line or its first word is not `setup`.
 pub fn setups_come_first()
     ensures always { (bytes : List ℕ) → length bytes ≤ MAX_SCRIPT_LEN
         → list_all is_ascii bytes ≡ true
