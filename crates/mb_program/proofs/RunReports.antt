@@ -102,7 +102,7 @@ lanes_told producers count lanes consumers h left r same told puts fronts full p
       record { ended = rw (t.kept) refl; whole = put ∙ front_whole t.one.put (items_of p count) t.front long_enough },
     )
   where
-    -- each lane is told
+    -- what `IsTold` says holds of each lane
     at : (p : ℕ) → p < producers → IsTold count lanes consumers h left r p
     at = is_told producers count lanes consumers h left r same told puts fronts
 

@@ -74,8 +74,8 @@ IsProgramEnd words source sink errs reader reader' writer writer' errors errors'
     ((choice : Choice) × WordsName words choice
     × WasCarriedOut choice source sink reader reader' writer writer' (ending.Failed fault))
     × ((whole : Bool) × IsPrinted errs errors errors' (fault_line fault) whole)
--- Clap refused the words, as `IsRefusalOf` says, so nothing was read. Help and the version go to the first writer alone,
--- other text to the second alone. Words that clap takes and that name a command are refused only if memory ran out.
+-- Clap refused the words, as `IsRefusalOf` says, so nothing was read. Help and the version go to the first writer only,
+-- other text to the second only. Words that clap takes and that name a command are refused only if memory ran out.
 IsProgramEnd words source sink errs reader reader' writer writer' errors errors' (ending.Refused kind printed) =
     (reader' ≡ reader) × IsRefusalOf words kind
     × IsTold sink errs writer writer' errors errors' kind printed

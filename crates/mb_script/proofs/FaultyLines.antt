@@ -92,7 +92,7 @@ events_same plan n (suc k) m (line ∷ lines) bs e low is about count same =
     (λ few fails. events_same plan (suc n) k m lines h.0 e (below_by n few) fails about (omega (arith, count)) h.2) in
     subst (λ (t : List (List ℕ)). events_of plan n t ≡ Err e) (sym h.1) further
 
--- if a script with a good first line has the fault e, and its events are replaced by others with that fault, it has e, too
+-- if a script with a good first line has the fault e, and its events are replaced by others with that fault, it has e
 events_step : (made : SetupLine) (r s : Result (List Event) Fault) (e : Fault)
     → (r >>= (λ es. Ok (script_with made es))) ≡ Err e
     → (r ≡ Err e → s ≡ Err e) → (s >>= (λ es. Ok (script_with made es))) ≡ Err e
