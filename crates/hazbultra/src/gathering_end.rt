@@ -19,8 +19,8 @@ use mb_mailbox::GatherFault;
 use std::alloc::Global;
 use std::mem;
 
-/// Takes a producer or consumer back. Its handle then leads to nothing. Returns `BAD_HANDLE` if `hub` leads to no hub or
-/// `part` to neither, and `OTHER_MAILBOX` if the two mailboxes have different numbers. After both nothing has changed.
+/// Takes a producer or consumer back. Its handle then leads to nothing. Returns `BAD_HANDLE` if `hub` leads to no hub
+/// or `part` to neither, `OTHER_MAILBOX` if the two mailboxes have different numbers. After both nothing has changed.
 #[unsafe(no_mangle)]
 pub extern "C" fn hz_take_back(hub: &mut Handle, part: &mut Handle) -> u32
     requires { AreApart hub.old.block.thing part.old.block.thing }

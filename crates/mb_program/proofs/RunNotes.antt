@@ -43,7 +43,7 @@ stopped_at may_stop budget from (x ∷ xs) (suc c) one all at =
     subst (λ (k : ℕ). one.stopped ≡ true → IsStoppedPoll may_stop budget k (length one.reads + length one.claimed)) next
     (stopped_at may_stop budget (suc from) xs c one all.1 at)
 
--- a consumer with a note at each item of the lanes, numbered from `from` on, has as many on lane `from + p` as it has items
+-- a consumer with a note at each item of the lanes from `from` on has as many on lane `from + p` as that has items
 noted_at : (from : ℕ) (lanes : List ProducerEnd) (p : ℕ) (l : ProducerEnd) (kept : ConsumerRecordView)
     → HasNoteAtEach from lanes kept → slice_get lanes p ≡ Some l
     → length (notes_on (from + p) kept.notes) ≡ length l.put
