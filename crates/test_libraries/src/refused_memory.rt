@@ -124,7 +124,7 @@ fn is_served<'a>(rt: &impl Abort, alloc: Alloc<'a>, ample: Alloc<'a>, call: Trie
 /// No call here makes this many allocations.
 const MANY: u64 = 100;
 
-/// The calls, each with the fewest and the most allocations that it may make. The comment above a call names the fewest.
+/// The calls, each with the fewest and the most allocations that it may make. The comment above it names the fewest.
 static CALLS: [(Tried, u64, u64); 10] = [
     // A list for the processes, one for the entries, and one for the outputs.
     (Tried::Ratify, 3, MANY),

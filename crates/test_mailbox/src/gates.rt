@@ -154,8 +154,8 @@ fn a_put_that_finds_no_cell_is_told_of(rt: HostRuntime) {
     same(&rt, &(flaws, gate.times[0].load(Ordering::SeqCst)), &(0, 4));
 }
 
-/// A gate that lets a consumer in for three calls, once four puts were made. If `TURNS` looks find fewer, it does not
-/// let it in.
+/// A gate that lets a consumer in for three calls, once four puts were made. If `TURNS` looks find fewer puts, the gate
+/// does not let the consumer in.
 #[derive(Drop)]
 struct ThreeCalls {
     /// How many puts were made.
