@@ -108,7 +108,7 @@ fn make<'a, A: Allocator + Copy + Drop>(
     }
 }
 
-/// The word for the result of a hub that was asked for a producer or a consumer. The functions below are for other calls.
+/// The word for the result of a hub that was asked for a producer or consumer. The next functions are for other calls.
 fn given<'a>(told: Result<(), HubFault>) -> Answered<'a> {
     let word = match told {
         Ok(()) => "given",

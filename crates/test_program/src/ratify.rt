@@ -84,7 +84,7 @@ fn a_script_is_read(rt: HostRuntime) {
     );
 }
 
-/// A case has a script with several faults, and the first by the order of the checks. It is returned, nothing is written.
+/// A case has a script with several faults, and the first by the order of the checks, which is returned.
 const FIRST_FAULTS: &[(&str, RatifyFault)] = &[
     (
         "ratify unary 2\ninput\nturns \u{80}\n",
