@@ -141,7 +141,7 @@ pub extern "C" fn hz_gather(
     }
 }
 
-/// Returns the code of a refusal. If some were not returned, it writes how many.
+/// Returns the code of a refusal. If producers or consumers are missing, the call writes how many.
 fn tell(why: GatherFault, missing: &mut MissingOut) -> u32
     ensures missing { result ≡ MISSING
         → why ≡ Missing missing.new.producers missing.new.consumers }

@@ -69,9 +69,9 @@ fn choice_of(matches: &ArgMatches) -> Option<Choice>
 
 /// Reads the command line, whose first word is the program's name.
 ///
-/// Clap decides which lines are refused, and the text that says so. A call for help counts as a refusal. A shape that
-/// is none of the four names is `InvalidValue`. If clap takes the line and it names a command, the line is refused only
-/// if memory runs out.
+/// Clap decides which lines are refused, and the text that says so. A call for help or the version counts as a refusal.
+/// A shape that is none of the four names is `InvalidValue`. If clap takes the line and it names a command, the line is
+/// refused only if memory runs out.
 pub fn command_of<'a, S: AsStr>(alloc: Global, words: &'a [S]) -> Result<Choice, Error>
     // The choice is the command that the words name, and clap refuses none of the words.
     ensures choice { IfOk result (λ choice. command_in (map S.text words.entry.now)

@@ -98,8 +98,8 @@ pub struct Workload<A: Allocator + Drop> {
     pub rngs: Vec<ChaCha8Rng, A>,
 }
 
-/// What the workers get under these options, of at most 16 producers, 64 consumers and 256 items. `run_threads` passes
-/// it to `work`.
+/// What the workers get under these options: of at most 16 producers, 64 consumers, and 256 items of each producer.
+/// `run_threads` passes it to `work`.
 pub fn workload_of<A: Allocator + Copy + Drop>(
     alloc: A,
     options: Options,

@@ -31,7 +31,8 @@ meter bytes failures = record { bytes = bytes; failures = failures }
 abbrev pub LiesIn : {F : Type 0} → Command F → F → Type 0
 LiesIn command e = (e ≢ command.no_memory) × (e ≢ command.read_fault) × (e ≢ command.write_fault)
 
--- what one call of a command did: its result, its reader and writer before it, and those after it (reader', writer')
+-- what one call of a command did: its result, its reader and writer before it, and those after it (reader', writer').
+-- If the reader's bytes are not known, what is said of them holds of some bytes
 pub record IsCommandIo {F X R W : Type 0} (command : Command F) (source : IoModel R) (sink : IoModel W)
     (reader reader' : R) (writer writer' : W) (result : Result X F) : Type 0 where
   -- if the call did what was asked, the reader had a script, and the answer to it was written and nothing else

@@ -14,7 +14,7 @@ use std::thread::{Threads, yield_now};
 /// The most looks of a worker that waits at a gate. So no worker waits for ever.
 pub(crate) const TURNS: u64 = 1_000_000_000;
 
-/// A gate at which each worker waits, at its first call, until `workers` have come. After `TURNS` looks it is stopped.
+/// A gate at which each worker waits, at its first call, until `workers` have come, or is stopped after `TURNS` looks.
 #[derive(Drop)]
 struct AllCome {
     /// How many workers have come.
