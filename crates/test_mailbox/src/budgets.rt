@@ -53,7 +53,7 @@ impl<A: Allocator + Copy + Drop> Play<A> {
         self.trial.poll(place, lane, budget, &mut self.words)
     }
 
-    /// Makes `budget` polls of budget 1, but 1 to `ONES`, and none after one that is not spent. Returns the last result.
+    /// Makes `budget` polls of budget 1, but 1 to `ONES`, and none after one not spent. Returns the last result.
     fn poll_by_ones(&mut self, place: usize, lane: u64, budget: u64) -> Option<Poll> {
         for _ in 1..budget.min(ONES) {
             let told = self.poll(place, lane, 1);
