@@ -51,8 +51,8 @@ pub fn lines_of_words_are_ascii()
         → lines_of bytes ≡ map (join_with_byte 32) lines → list_all is_ascii bytes ≡ true }
 {}
 
-/// The first faulty line of a text decides. The lines after it do not count, if all is ASCII and not too long. The lines
-/// before it, if there are any, spell a script.
+/// The first faulty line of a text decides. If all is ASCII and not too long, the lines after it do not count. The
+/// lines before it, if there are any, spell a script.
 pub fn first_faulty_lines_decide()
     ensures behind { (bytes others : List ℕ) (e : Fault) (n : ℕ) → script_of bytes ≡ Err e
         → line_of e ≡ Some n
