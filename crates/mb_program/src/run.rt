@@ -122,7 +122,7 @@ pub fn workload_of<A: Allocator + Copy + Drop>(
     })
 }
 
-/// What the workers of a run came to and its report, or the run's fault, which is `NoThread` if a thread was refused.
+/// What the workers of a run came to and the run's report, or its fault, which is `NoThread` if a thread was refused.
 /// The hub has numbers for all workers and the budget is not 0, so two faults of the workers do not come.
 pub fn report_after<A: Allocator + Copy + Drop>(
     alloc: A,

@@ -26,7 +26,7 @@ struct AllCome {
 impl Gate for AllCome {
     ghost use Rattle.std.specs.Prelude.{◌≡◌};
 
-    // It stops a worker only at its first call.
+    // The gate stops a worker only at its first call.
     ghost may_stop = { λ _ _ call. call ≡ 1 };
 
     fn enter(&self, _who: Who, call: u64) -> bool {
