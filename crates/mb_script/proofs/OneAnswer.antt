@@ -21,7 +21,7 @@ use Rattle.mb_script.proofs.ScriptBack.{script_takes}
 abbrev pub TablesAreLawful : Type 0
 TablesAreLawful = (name : TableName) (m : ℕ) → m ≤ MAX_VALUES → IsQuorumTable (table_of name m)
 
--- the history of a new world is lawful, if it has fewer cells than the number of the end mark
+-- the history of a new world is lawful, if the world has fewer cells than the number of the end mark
 abbrev pub WorldsBegin : Type 0
 WorldsBegin = (plan : Plan) → plan.claims.cells < END → IsWorldLawful plan []
 

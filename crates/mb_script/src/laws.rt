@@ -63,7 +63,7 @@ pub fn first_faulty_lines_decide()
         → (s : Script) × Spells (take n (lines_of bytes)) s }
 {}
 
-/// `NoSetup` comes before every other fault of a line, and only if there is no line or its first word is not `setup`.
+/// `NoSetup` comes before every other fault of a line, and only if there is no line or the first word is not `setup`.
 pub fn setups_come_first()
     ensures always { (bytes : List ℕ) → length bytes ≤ MAX_SCRIPT_LEN
         → list_all is_ascii bytes ≡ true
