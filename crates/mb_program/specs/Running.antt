@@ -100,7 +100,7 @@ pub record IsRunReport (o : Options) (r : ReportView) : Type 0 where
   pub lanes : (p : ℕ) → p < o.producers
       → (l : LaneView) × (slice_get r.lanes p ≡ Some l) × IsLaneOf p o.items l
   -- Each consumer has a note at each item of each lane, or these histories have at least 2^64 - 2 accesses of it, and
-  -- at most the budget times 2^64 - 2. They need not be those that the threads made, so this says nothing of the text
+  -- at most the budget times 2^64 - 2. The histories need not be those of the threads, so this says nothing of the text
   -- alone. For a run of `work` see `IsWorked`.
   pub noted : (c p : ℕ) → c < o.consumers → p < o.producers → HasNotedAll o.items o.budget c p histories r
 

@@ -33,7 +33,7 @@ offer_text offer.Full = codes "full"
 offer_text offer.Busy = codes "busy"
 offer_text offer.Closed = codes "closed"
 
--- the text of the answer to a push: the cell whose item was stored, the cell that was linked, or that there was no such
+-- the text of the answer to a push: the cell whose item was stored, the cell that was linked, or that neither was
 abbrev pub push_text : Push → List ℕ
 push_text (push.Item cell) = codes "item " ++ decimal cell
 push_text (push.Link cell) = codes "link " ++ decimal cell

@@ -37,7 +37,7 @@ fn push_offer<A: Allocator>(text: &mut String<A>, answer: Offer) -> Result<(), A
     }
 }
 
-/// Appends the answer to a push: the cell whose item was stored, the cell that was linked, or that there was no such.
+/// Appends the answer to a push: the cell whose item was stored, the cell that was linked, or that neither was.
 fn push_push<A: Allocator>(text: &mut String<A>, answer: Push) -> Result<(), AllocError>
     ensures { OnOk result (string_bytes text.new ≡ string_bytes text.old ++ push_text answer) }
 {
