@@ -43,7 +43,7 @@ const TABLES: [(&str, TableName); 3] = [
     ("middle", TableName::Middle),
 ];
 
-/// All shapes of the cells with their names. If none is named, the loops run over each. `exchange` has no pairs.
+/// All shapes of the cells with their names. Without words each loop runs over each shape. `exchange` has no pairs.
 pub const SHAPES: [(&str, Option<Shape>); 5] = [
     ("plain", Some(Shape::PLAIN)),
     (

@@ -22,7 +22,7 @@ pub struct Post {
 }
 
 impl Post {
-    /// Counts an item that a consumer took.
+    /// Counts an item that a consumer took, and its note.
     pub fn add(&mut self, item: u64) {
         self.notes = self.notes.wrapping_add(1);
         self.taken = self.taken.wrapping_add(item);
@@ -124,7 +124,7 @@ fn put_all<A: Allocator + Drop>(
     linked
 }
 
-/// Each consumer that the hub can still issue polls the lane, or takes there, until nothing more comes.
+/// Each consumer that the hub can still issue polls the lane, or takes from it, until nothing more comes.
 fn read_all<A: Allocator + Copy + Drop, R: Rng>(
     alloc: A,
     mailbox: &Mailbox<A>,

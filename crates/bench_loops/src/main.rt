@@ -1,7 +1,7 @@
 //! Mailboxes in loops, so that their instructions can be counted.
 //!
 //! With the words LOOP TABLE CONSUMERS TIMES it runs one loop, and prints its result. Without words it runs each loop
-//! once over each shape of the cells. A fifth word is their shape, a sixth their number.
+//! once over each shape of the cells. A fifth word is the shape of the cells, a sixth their number.
 #![tactic(auto)]
 
 use std::io;

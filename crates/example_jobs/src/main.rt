@@ -62,7 +62,7 @@ fn run<R: RandomSource + AllocGlobal + Clock + Print + Eprint + Threads + Sync>(
     );
     crew::take_in(&mailbox, &mut hub, crew);
 
-    // All are returned, so nobody can take a job any more. The jobs left are free to run for whoever has the report.
+    // All consumers are returned, so nobody can take a job any more. Whoever has the report may run the jobs left.
     let report = mailbox
         .gather(rt.alloc(), hub)
         .map_err(|(fault, _, _)| Error::from(fault))?;

@@ -114,7 +114,7 @@ words_of None = zeros
 words_of (Some rng) = stream_of (steps_u32 (next_word 4)) rng
 
 -- the source of random words of the consumer of this number: ChaCha8 from this seed, with the number as its stream. It
--- is `None` if a claim makes one access at most, as that is an exchange, which looks at no random word
+-- is `None` if a claim makes at most one access, as that is an exchange, which looks at no random word
 abbrev pub source_of : Layout → List ℕ → ℕ → Option ChaCha
 source_of layout seed number = if nat_eq (most_accesses layout) 1 then None
     else Some (record (of_seed seed) { stream = number })

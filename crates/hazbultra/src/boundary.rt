@@ -14,7 +14,7 @@ pub struct SetupIn {
     pub cells: u64,
     /// How many pairs each cell has: 1 to 8. With 0, `last` and no `fast` each claim is one exchange.
     pub pairs: u64,
-    /// The number of a quorum table: unary 0, bits 1, middle 2. It has no effect if each claim is one exchange.
+    /// The number of a quorum table: unary 0, bits 1, middle 2. If each claim is one exchange, all three mean the same.
     pub table: u32,
     /// Whether two ratifiers come first on each cell.
     pub fast: bool,

@@ -22,8 +22,8 @@ use crate::thing::{Thing, Zeros};
 use mb_cells::Finish;
 use mb_mailbox::{Poll, Put};
 
-/// Puts an item. The call returns `LINKED`, `FULL` if there was no cell for the item, `CLOSED` if the lane has ended,
-/// and `BAD_HANDLE` if the handle leads to no producer.
+/// Puts an item. The call returns `LINKED` if it was put, `FULL` if there was no cell for it, `CLOSED` if the lane had
+/// ended, and `BAD_HANDLE` if the handle leads to no producer.
 #[unsafe(no_mangle)]
 pub extern "C" fn hz_put(producer: &mut Handle, item: u64) -> u32
     ensures linked { result ≡ LINKED
@@ -57,8 +57,8 @@ pub extern "C" fn hz_put(producer: &mut Handle, item: u64) -> u32
     }
 }
 
-/// Ends the lane. The call returns `DONE`, `CLOSED` if the lane has ended before, and `BAD_HANDLE` if the handle leads
-/// to no producer.
+/// Ends the lane. The call returns `DONE` if it did so, `CLOSED` if the lane had ended before, and `BAD_HANDLE` if the
+/// handle leads to no producer.
 #[unsafe(no_mangle)]
 pub extern "C" fn hz_finish(producer: &mut Handle) -> u32
     ensures done { result ≡ DONE → ProducerWent (λ p q. IsEndOfLane p.producer q.producer)

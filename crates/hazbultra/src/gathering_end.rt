@@ -19,8 +19,8 @@ use mb_mailbox::GatherFault;
 use std::alloc::Global;
 use std::mem;
 
-/// Takes a producer or a consumer back. Its handle leads to nothing then. The call returns `BAD_HANDLE` if a handle
-/// leads to something else, and `OTHER_MAILBOX` if the two mailboxes have different numbers. Then nothing changes.
+/// Takes a producer or consumer back. Its handle then leads to nothing. Returns `BAD_HANDLE` if `hub` leads to no hub
+/// or `part` to neither, `OTHER_MAILBOX` if the two mailboxes have different numbers. After both nothing has changed.
 #[unsafe(no_mangle)]
 pub extern "C" fn hz_take_back(hub: &mut Handle, part: &mut Handle) -> u32
     requires { AreApart hub.old.block.thing part.old.block.thing }
@@ -141,7 +141,7 @@ pub extern "C" fn hz_gather(
     }
 }
 
-/// Returns the code of a refusal. If some were not returned, it writes how many.
+/// Returns the code of a refusal. If producers or consumers are missing, the call writes how many.
 fn tell(why: GatherFault, missing: &mut MissingOut) -> u32
     ensures missing { result ≡ MISSING
         → why ≡ Missing missing.new.producers missing.new.consumers }
@@ -161,8 +161,8 @@ fn tell(why: GatherFault, missing: &mut MissingOut) -> u32
     }
 }
 
-/// Frees what the handle leads to. The handle leads to nothing then. No clause says that the memory goes back to the
-/// allocator: the tests in C count the blocks that are out.
+/// Frees what the handle leads to, if anything. The handle then leads to nothing. No clause says that the memory goes
+/// back to the allocator: the tests in C count the blocks that are out.
 #[unsafe(no_mangle)]
 pub extern "C" fn hz_free(handle: &mut Handle)
     ensures { handle.new.block.thing ≡ None }

@@ -12,8 +12,8 @@ ghost use Rattle.hazbultra.specs.{Refusals.{plan_asked, refusal_of}, Zeros.{zero
 ghost use Rattle.hazbultra.specs.declared.handle.{Handle.{Handle}, block.Block.{Block}};
 ghost use Rattle.hazbultra.specs.declared.thing.Thing.{Thing};
 
-/// The most accesses of a claim, with the load of its link and that of its item: 3 by default, and with `FastLast` these
-/// for 1, 2, 4, 16 and 64 consumers. A poll with this budget is never spent (`unspent` of `hz_poll`).
+/// The most accesses of a claim, with the load of its link and that of its item: 3 by default, and with `FastLast` what
+/// the clauses say for 1, 2, 4, 16 and 64 consumers. A poll with this budget is never spent (`unspent` of `hz_poll`).
 pub fn whole_items_take_few_accesses()
     ensures exchange { (m : MailboxView) (p n k : ℕ) → plan_at m ≡ by_default p n k
         → most_accesses m.claims.layout + 2 ≡ 3 }

@@ -118,8 +118,8 @@ pub extern "C" fn hz_report_diary(
     }
 }
 
-/// Copies items of a lane from position `from` on, as many as there is room for: those left if `left` is true, and else
-/// those put.
+/// Copies items of a lane from position `from` on, as far as there is room, and writes how many. They are those left if
+/// `left` is true, and else those put.
 #[unsafe(no_mangle)]
 pub extern "C" fn hz_report_items(
     report: &mut Handle,
@@ -157,7 +157,7 @@ pub extern "C" fn hz_report_items(
     }
 }
 
-/// Copies notes of a diary from position `from` on, as many as there is room for.
+/// Copies notes of a diary from position `from` on, as far as there is room, and writes how many.
 #[unsafe(no_mangle)]
 pub extern "C" fn hz_report_notes(
     report: &mut Handle,

@@ -103,7 +103,7 @@ impl<A: Allocator + Drop> BoundHub<A> {
     }
 
     /// Takes a producer back, as [`Hub::take_producer`] does. If its mailbox has another number, the producer comes
-    /// back as the error. It needs that equal numbers mean one mailbox.
+    /// back as the error. The call needs that equal numbers mean one mailbox.
     pub fn take_producer(&mut self, producer: BoundProducer<A>) -> Result<(), BoundProducer<A>>
         requires { AreNamedApart self.old.id self.old.mailbox producer.id producer.mailbox }
         ensures taken { IsOk result ↔ (self.old.id ≡ producer.id) }
@@ -128,7 +128,7 @@ impl<A: Allocator + Drop> BoundHub<A> {
     }
 
     /// Takes a consumer back, as [`Hub::take_consumer`] does. If its mailbox has another number, the consumer comes
-    /// back as the error. It needs that equal numbers mean one mailbox.
+    /// back as the error. The call needs that equal numbers mean one mailbox.
     pub fn take_consumer(&mut self, consumer: BoundConsumer<A>) -> Result<(), BoundConsumer<A>>
         requires { AreNamedApart self.old.id self.old.mailbox consumer.id consumer.mailbox }
         ensures taken { IsOk result ↔ (self.old.id ≡ consumer.id) }

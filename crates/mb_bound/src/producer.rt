@@ -44,7 +44,7 @@ impl<A: Allocator + Drop> BoundProducer<A> {
         self.id
     }
 
-    /// The number of its lane, from 0 on.
+    /// The number of the producer's lane, from 0 on.
     pub fn lane(&self) -> u32
         ensures { result ≡ self.now.producer.seat.lane }
     {

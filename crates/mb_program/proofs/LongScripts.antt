@@ -23,7 +23,7 @@ pub too_long : (bytes : List ℕ) → MAX_SCRIPT_LEN < length bytes → fault_of
 unfolding script_of
 too_long bytes above = rw (lt-ltb MAX_SCRIPT_LEN (length bytes) above) refl
 
--- ---- the fault TooLong comes neither from a line nor from `ratify`
+-- ---- the fault TooLong comes neither from a line nor from the function `ratify`
 -- the fault is not TooLong
 abbrev IsOther : RatifyFault → Type 0
 IsOther e = e ≡ TooLong → ⊥
@@ -71,7 +71,7 @@ other_in_lines lines =
     (other_in_list 3 (codes "turns") third.0)
     (λ turns. for_cond IsOther (length third.1 == 0) _ _ tt (λ is. absurd (cc))))))))
 
--- `ratify` does not refuse a script for its length
+-- the function `ratify` does not refuse a script for its length
 other_refusal : (o : Option Fault) → option_map fault_from o ≡ Some TooLong → ⊥
 other_refusal None is = absurd (cc)
 other_refusal (Some refusal.BadValues) is = absurd (cc)
@@ -79,7 +79,7 @@ other_refusal (Some (refusal.BadInput place)) is = absurd (cc)
 other_refusal (Some (refusal.NoSuchProcess place)) is = absurd (cc)
 other_refusal (Some refusal.NoMemory) is = absurd (cc)
 
--- if reading has another fault than TooLong or none, the fault of what was read is not TooLong
+-- if reading has no fault, or another than TooLong, the fault of what was read is not TooLong
 fault_other : (r : Result Script RatifyFault) → For IsOther r → fault_in r ≡ Some TooLong → ⊥
 fault_other (Ok s) other is = other_refusal (refusal_of s.values s.inputs s.turns) is
 fault_other (Err e) other is = other (let same : ◌≡◌ {A = Option RatifyFault} (Some e) (Some TooLong) = is in cc)

@@ -13,7 +13,7 @@ use Rattle.mb_mailbox.specs.Worked.{AreCutByCells, AreStoppedPuts, IsStoppedPut,
 use Rattle.mb_mailbox.specs.declared.gate.Who.{Who}
 
 -- ---- what holds of all lanes holds of each
--- what is said of each producer that was stopped holds of producer p, if it was stopped
+-- what is said of each producer that was stopped holds of the producer at place p, if it was stopped
 stopped_at : (may_stop : Who → ℕ → Type 0) (cells from : ℕ) (lists : List (List ℕ))
     (lanes : List ProducerEnd) (p : ℕ) (list : List ℕ) (l : ProducerEnd)
     → AreStoppedPuts may_stop cells from lists lanes → slice_get lists p ≡ Some list → slice_get lanes p ≡ Some l
@@ -32,7 +32,7 @@ stopped_at may_stop cells from (x ∷ xs) (y ∷ ys) (suc p) list l all at there
     subst (λ (k : ℕ). l.stopped ≡ true → IsStoppedPut may_stop cells k list l) next
     (stopped_at may_stop cells (suc from) xs ys p list l all.1 at there)
 
--- what is said of each producer that put less than its list and was not stopped holds of producer p
+-- what is said of each producer that put less than its list and was not stopped holds of such a producer at place p
 cut_at : (cells from : ℕ) (lists : List (List ℕ)) (lanes : List ProducerEnd) (p : ℕ) (list : List ℕ) (l : ProducerEnd)
     → AreCutByCells cells from lists lanes → slice_get lists p ≡ Some list → slice_get lanes p ≡ Some l
     → l.stopped ≡ false → length l.put < length list → HasFoundNone cells (from + p) l.part

@@ -1,4 +1,4 @@
--- In a run each consumer has a note at each item, or has made 2^64 - 2 accesses, and at most the budget times as many.
+-- In a run each consumer has a note at each item, or has made from 2^64 - 2 to the budget times 2^64 - 2 accesses.
 use Rattle.std.proofs.Common.{◌≡◌, ◌+◌, ◌-◌, ◌*◌, ◌^◌, ◌<◌, ◌≤◌, ℕ, zero, suc, Bool, true, false, List, [], ◌∷◌, Option, Some, inl, inr, length, map, slice_get, refl, sym, ap, ◌∙◌, subst, arith}
 use Rattle.std.specs.List.{All}
 use Rattle.std.proofs.lemmas.Bool.{lt-ltb}
@@ -26,7 +26,7 @@ taken_at [] c one at = absurd (cc)
 taken_at (x ∷ xs) zero one at = ap (λ (y : ConsumerEnd). y.claimed) (same_some at)
 taken_at (x ∷ xs) (suc c) one at = taken_at xs c one at
 
--- what is said of each consumer that was stopped holds of consumer c, if it was stopped
+-- what is said of each consumer that was stopped holds of the consumer at place c, if it was stopped
 stopped_at : (may_stop : Who → ℕ → Type 0) (budget from : ℕ) (cs : List ConsumerEnd) (c : ℕ)
     (one : ConsumerEnd) → AreStoppedPolls may_stop budget from cs
     → slice_get cs c ≡ Some one → one.stopped ≡ true
@@ -43,7 +43,7 @@ stopped_at may_stop budget from (x ∷ xs) (suc c) one all at =
     subst (λ (k : ℕ). one.stopped ≡ true → IsStoppedPoll may_stop budget k (length one.reads + length one.claimed)) next
     (stopped_at may_stop budget (suc from) xs c one all.1 at)
 
--- a consumer with a note at each item has as many notes on lane p as items were put on that lane
+-- a consumer with a note at each item of the lanes from `from` on has as many on lane `from + p` as that has items
 noted_at : (from : ℕ) (lanes : List ProducerEnd) (p : ℕ) (l : ProducerEnd) (kept : ConsumerRecordView)
     → HasNoteAtEach from lanes kept → slice_get lanes p ≡ Some l
     → length (notes_on (from + p) kept.notes) ≡ length l.put
@@ -82,7 +82,7 @@ come_to_last may_stop never budget c made was =
     ]
 
 -- ---- the notes of the report
--- each consumer has a note at each item, or has made at least 2^64 - 2 accesses
+-- if the gate stops nobody, each consumer has a note at each item, or has made at least 2^64 - 2 accesses
 pub notes_told : (may_stop : Who → ℕ → Type 0) (budget : ℕ) → ((w : Who) (n : ℕ) → may_stop w n → ⊥)
     → (count : ℕ) (m : MailboxView) (h : HubView) (r : ReportView)
     (left : List ProducerEnd) (cs : List ConsumerEnd) (g : IsGathered m h r)

@@ -79,7 +79,7 @@ is_told producers count lanes consumers h left r same told puts fronts p low =
         → kept_at (map (λ l. Some (ended_list l)) left) p ≡ Some (ended_list l)
     kept_of left p l at = rw (slice_get-map (λ l. Some (ended_list l)) left p, at) refl
 
--- each lane of the report has ended and has its whole list, if a lane that has less tells that all the cells are put
+-- each lane of the report has ended and has its whole list, if one with fewer items would mean that all items are put
 pub lanes_told : (producers count lanes consumers : ℕ) (h : HubView) (left : List ProducerEnd) (r : ReportView)
     → producers ≡ lanes → IsReportIn lanes consumers h r → h.puts ≡ map (λ l. Some (ended_list l)) left
     → AllZip (λ list l. IsFront l.put list) (item_lists producers count) left
@@ -102,7 +102,7 @@ lanes_told producers count lanes consumers h left r same told puts fronts full p
       record { ended = rw (t.kept) refl; whole = put ∙ front_whole t.one.put (items_of p count) t.front long_enough },
     )
   where
-    -- each lane is told
+    -- what `IsTold` says holds of each lane
     at : (p : ℕ) → p < producers → IsTold count lanes consumers h left r p
     at = is_told producers count lanes consumers h left r same told puts fronts
 

@@ -22,7 +22,7 @@ use Rattle.mb_script.proofs.ReadBack.{table_takes}
 
 -- the laws of mb_script that reading rests on. A word as `IsWord` says is not empty, is ASCII and has no space
 pub record TextLaws : Type 0 where
-  -- if words are joined, with one space between two, the line is cut into the same words again
+  -- if one word or more are joined, with one space between two, the line is cut into the same words again
   pub cut : (w : List ℕ) (ws : List (List ℕ)) → AllByRecursion IsWord (w ∷ ws)
       → words_in_line (join_with_byte 32 (w ∷ ws)) ≡ w ∷ ws
   -- if all words are as `IsWord` says, none of them is empty
@@ -59,7 +59,7 @@ avoided : {A : Type 0} (b : Bool) (d : RatifyFault) (r : Result A RatifyFault) (
 avoided false d r y e = (refl, e)
 avoided true d r y e = absurd (cc)
 
--- `Ok x` as a result whose fault, if it had one, would be that of `ratify`
+-- `Ok x` as a result whose fault, if it had one, would be that of the command `ratify`
 abbrev done : {A : Type 0} → A → Result A RatifyFault
 done x = Ok x
 
@@ -237,7 +237,7 @@ script_takes law bytes s e =
     let b = passed (list_all is_ascii bytes) NotAscii read s a.1 in
     lines_take law (lines_of bytes) s b.1
 
--- bytes that have a script's lines are read as that script
+-- bytes that have a script's lines, and are not too many, are read as that script
 pub script_again : TextLaws → (bytes : List ℕ) (s : Script) → HasSpelling s → length bytes ≤ MAX_SCRIPT_LEN
     → lines_of bytes ≡ script_lines s → script_of bytes ≡ Ok s
 unfolding script_of

@@ -42,7 +42,7 @@ told_output sink errs writer writer' new errors errors' kind stderr printed flag
       λ no_help no_version. let both : false ≡ true = sym to_output ∙ is.1 (no_help, no_version) in absurd (cc),
     )
 
--- if memory ran out, no text was printed, and both writers are as they were
+-- if both writers are as they were, and no text was printed, as the flag says, `IsTold` holds, whatever the kind
 pub told_nobody : {W E : Type 0} (sink : IoModel W) (errs : IoModel E) (writer writer' : W)
     (errors errors' : E) (kind : ErrorKind) (flag : Bool)
     → writer' ≡ writer → errors' ≡ errors → flag ≡ false → IsTold sink errs writer writer' errors errors' kind flag

@@ -17,11 +17,11 @@ abbrev pub IsTraceOf : Script → List Entry → List (Option Out) → Type 0
 IsTraceOf s entries outputs =
     IsTrace (setup_of (table_of s.table s.values) Ratifier s.inputs) (plain_schedule s.turns) entries outputs
 
--- why `ratify` refuses the script, if it does
+-- why the function `ratify` refuses the script, if it does
 abbrev pub refused_as : Script → Option RatifyFault
 refused_as s = option_map fault_from (refusal_of s.values s.inputs s.turns)
 
--- the fault that reading found, if it found one, or else the one for which `ratify` refuses what was read
+-- the fault that reading found, if it found one, or else the one for which the function `ratify` refuses the script
 abbrev pub fault_in : Result Script RatifyFault → Option RatifyFault
 fault_in (Err e) = Some e
 fault_in (Ok s) = refused_as s
@@ -32,7 +32,7 @@ fault_of bytes = fault_in (script_of bytes)
 
 -- the bytes are a script without fault, and the text is that of its trace
 pub record IsAnswer (bytes text : List ℕ) : Type 0 where
-  -- the bytes say this script, and `ratify` does not refuse it
+  -- the bytes say this script, and the function `ratify` does not refuse it
   pub script : Script
   pub read : script_of bytes ≡ Ok script
   pub accepted : refused_as script ≡ None

@@ -88,7 +88,7 @@ IsRunApp = IsHanded run_with shape_names
 abbrev pub IsProgramApp : App → Type 0
 IsProgramApp = IsHanded program_with shape_names
 
--- the name of the command that clap finds in the words, of which the first is the program's name
+-- the name of the command that clap finds in the words, if it finds one. The first word is the program's name
 abbrev pub command_in : List Text → Option Text
 command_in words = option_map (λ found. found.0) (subcommand_of program words)
 

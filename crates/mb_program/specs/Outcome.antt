@@ -63,8 +63,8 @@ fault_status (Replay fault) = 2
 fault_status (Run (run.BadSetup why)) = 2
 fault_status (Run fault) = 3
 
--- the exit status if clap returned no choice, and its text was printed or not. Help that was asked for and could not be
--- printed counts as a failed write
+-- the exit status if clap returned no choice, and its text was printed or not. Help or a version that was asked for and
+-- could not be printed counts as a failed write
 abbrev pub refusal_status : ErrorKind → Bool → ℕ
 refusal_status DisplayHelp true = 0
 refusal_status DisplayVersion true = 0

@@ -49,8 +49,8 @@ IsPrinted sink old new text false =
     (AppendsFront (sink.bytes old) (sink.bytes new) text × (sink.failures new ≡ one_more (sink.failures old)))
     ⊎ (new ≡ old)
 
--- clap's text went to the writer for this kind, and the other writer is as it was. Help and the version go to the
--- first, any other text to the second
+-- some text went to the writer for this kind, as `IsPrinted` says, and the other writer is as it was. Help and the
+-- version go to the first, any other text to the second
 abbrev pub IsTold : {W E : Type 0} → IoModel W → IoModel E → W → W → E → E → ErrorKind → Bool → Type 0
 IsTold sink errs writer writer' errors errors' kind printed =
     ((kind ≡ DisplayHelp) ⊎ (kind ≡ DisplayVersion)
@@ -74,8 +74,8 @@ IsProgramEnd words source sink errs reader reader' writer writer' errors errors'
     ((choice : Choice) × WordsName words choice
     × WasCarriedOut choice source sink reader reader' writer writer' (ending.Failed fault))
     × ((whole : Bool) × IsPrinted errs errors errors' (fault_line fault) whole)
--- Clap refused the words, for a reason that they give, so nothing was read. Help goes to the first writer alone, a
--- refusal to the second alone. Words that clap takes and that name a command are refused only if memory ran out.
+-- Clap refused the words, as `IsRefusalOf` says, so nothing was read. Help and the version go to the first writer only,
+-- other text to the second only. Words that clap takes and that name a command are refused only if memory ran out.
 IsProgramEnd words source sink errs reader reader' writer writer' errors errors' (ending.Refused kind printed) =
     (reader' ≡ reader) × IsRefusalOf words kind
     × IsTold sink errs writer writer' errors errors' kind printed

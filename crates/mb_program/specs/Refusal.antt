@@ -1,4 +1,4 @@
--- The fault of the program for each refusal of `ratify`, and for each end of reading.
+-- The fault of the command `ratify` for each refusal of the function `ratify`, and for each end of reading.
 use Rattle.mb_deciding.specs.declared.trace.Fault.{Fault}
 use Rattle.mb_deciding.specs.declared.trace.Fault.TheVariants as ratify
 use Rattle.mb_program.specs.declared.fault.RatifyFault.{RatifyFault}
@@ -7,7 +7,7 @@ use Rattle.mb_program.specs.declared.fault.RatifyFault.TheVariants.{NoSuchProces
 use Rattle.mb_script.specs.declared.transfer.ReadEnd.{ReadEnd}
 use Rattle.mb_script.specs.declared.transfer.ReadEnd.TheVariants as end
 
--- the fault that has the name of this refusal of `ratify`
+-- the fault that has the name of this refusal of the function `ratify`
 abbrev pub fault_from : Fault → RatifyFault
 fault_from ratify.BadValues = BadValues
 fault_from (ratify.BadInput place) = BadInput place

@@ -21,7 +21,7 @@ use Rattle.mb_program.specs.declared.fault.RunFault.TheVariants.{BadSetup, NoMem
 use Rattle.mb_program.specs.declared.options.Options.{Options}
 
 -- ---- the mailbox that the options ask for
--- why the mailbox is refused, if it is. It has a cell for each item
+-- why the mailbox is refused, if it is. The mailbox has a cell for each item
 abbrev pub setup_refused : Options → Option SetupFault
 setup_refused o = setup_refusal o.producers o.consumers (o.producers * o.items) o.pairs
 
@@ -71,7 +71,7 @@ abbrev pub AreOwnReaders : Histories → Type 0
 AreOwnReaders hs = (c : ℕ) → hs.reader_of c ≡ c
 
 -- consumer c has a note at each of the `count` items of lane p. Or these histories have at least 2^64 - 2 accesses of
--- it, and no more than 2^64 - 2 polls of this budget make
+-- consumer c, and no more than 2^64 - 2 polls of this budget make
 abbrev pub HasNotedAll : ℕ → ℕ → ℕ → ℕ → Histories → ReportView → Type 0
 HasNotedAll count budget c p hs r =
     (length (notes c p r) ≡ count)
@@ -91,8 +91,8 @@ pub record IsRunReport (o : Options) (r : ReportView) : Type 0 where
   -- the report is that of the histories, and one assignment agrees with it
   pub report : IsReportOf (plan_asked o) histories r
   pub main_theorem : MainTheorem histories.pool histories.reader_of r
-  -- report and histories are those of a run with the budget and the seed that are asked for, which no gate stops. It
-  -- came to some counts
+  -- report and histories are those of a run with the budget and the seed that are asked for, which no gate stops. The
+  -- run came to these counts
   pub counts : Worked
   pub run : IsReportedRun (λ _ _. ⊥) (λ _ _. Unit {0}) (terms_asked o)
       (item_lists o.producers o.items) counts histories r
@@ -100,7 +100,7 @@ pub record IsRunReport (o : Options) (r : ReportView) : Type 0 where
   pub lanes : (p : ℕ) → p < o.producers
       → (l : LaneView) × (slice_get r.lanes p ≡ Some l) × IsLaneOf p o.items l
   -- Each consumer has a note at each item of each lane, or these histories have at least 2^64 - 2 accesses of it, and
-  -- at most the budget times 2^64 - 2. They need not be those that the threads made, so this says nothing of the text
+  -- at most the budget times 2^64 - 2. The histories need not be those of the threads, so this says nothing of the text
   -- alone. For a run of `work` see `IsWorked`.
   pub noted : (c p : ℕ) → c < o.consumers → p < o.producers → HasNotedAll o.items o.budget c p histories r
 

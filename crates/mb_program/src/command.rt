@@ -69,9 +69,9 @@ fn choice_of(matches: &ArgMatches) -> Option<Choice>
 
 /// Reads the command line, whose first word is the program's name.
 ///
-/// Clap decides which lines are refused, and the text that says so. A call for help counts as a refusal. A shape that
-/// is none of the four names is `InvalidValue`. If clap takes the line and it names a command, the line is refused only
-/// if memory runs out.
+/// Clap decides which lines are refused, and the text that says so. A call for help or the version counts as a refusal.
+/// A shape that is none of the four names is `InvalidValue`. If clap takes the line and it names a command, the line is
+/// refused only if memory runs out.
 pub fn command_of<'a, S: AsStr>(alloc: Global, words: &'a [S]) -> Result<Choice, Error>
     // The choice is the command that the words name, and clap refuses none of the words.
     ensures choice { IfOk result (λ choice. command_in (map S.text words.entry.now)
@@ -82,7 +82,7 @@ pub fn command_of<'a, S: AsStr>(alloc: Global, words: &'a [S]) -> Result<Choice,
     ensures options { IfOk result (HasToldOptions (map S.text words.entry.now)) }
     ensures budget { IfOk result HasBudget }
 
-    // A refusal has a kind that the words give: help comes only if they ask for it.
+    // A refusal is for want of memory, or of a kind that the words give. Help comes only if they ask for it.
     ensures kinds { IfErr result (λ e. IsRefusalOf (map S.text words.entry.now) (kind_of e)) }
 
     // Words that clap takes and that name a command are refused only if memory runs out. So are the two words of the

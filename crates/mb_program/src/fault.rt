@@ -34,7 +34,7 @@ pub enum RatifyFault {
     WriteFault,
 }
 
-// `?` turns the faults of these calls into faults of `ratify`.
+// `?` turns the faults of these calls into faults of the command `ratify`.
 impl From<AllocError> for RatifyFault {
     ghost from_gives = { λ _ e. e ≡ NoMemory };
 

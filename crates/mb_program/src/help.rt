@@ -1,5 +1,5 @@
 //! What the help of each command says after its options: the grammar of its script, or how to read what it prints, and
-//! an example. Also what it says of each option.
+//! an example. Also its first line, and what it says of each option.
 
 /// What the help of the whole program says at its end.
 pub(crate) const PROGRAM: &str = "\

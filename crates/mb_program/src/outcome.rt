@@ -26,8 +26,8 @@ pub enum ProgramExit {
     Done,
     /// The command failed.
     Failed(Failed),
-    /// No command was run: clap refused the words, or help was asked for. `kind` is clap's reason, and `printed` says
-    /// whether its text was printed whole.
+    /// No command was run: clap refused the words, or help or a version was asked for. `kind` is clap's reason, and
+    /// `printed` says whether its text was printed whole.
     Refused { kind: ErrorKind, printed: bool },
     /// A word of the command line is not UTF-8.
     NonUtf8Args,

@@ -21,8 +21,8 @@ use std::thread::Threads;
 
 /// Does what the words of the command line ask for, from `reader` to `writer`.
 ///
-/// The line of a fault goes to `errors`, and so does the reason why clap refuses the words. Help that was asked for
-/// goes to `writer`. `words` begin with the program's name.
+/// The line of a fault goes to `errors`, and so does the reason why clap refuses the words. Help or a version that was
+/// asked for goes to `writer`. `words` begin with the program's name.
 ///
 /// Returns how the program ends. `Refused` comes only by a kind that clap's rules give, if no command is named, or if
 /// memory runs out. Else it is `Done`, or `Failed` with the command's fault. `NonUtf8Args` and `ArgsUnavailable` never
@@ -89,7 +89,7 @@ fn end_with_fault<R: AllocGlobal, E: CountedWrite>(
     ProgramExit::Failed(failed)
 }
 
-/// Writes clap's help to `writer`, or its refusal to `errors`, if there is memory for it.
+/// Writes clap's help or version to `writer`, or its refusal to `errors`, if there is memory for it.
 fn end_with_refusal<R: AllocGlobal, O: CountedWrite, E: CountedWrite>(
     rt: &R,
     error: &clap::Error,

@@ -98,8 +98,8 @@ pub struct Workload<A: Allocator + Drop> {
     pub rngs: Vec<ChaCha8Rng, A>,
 }
 
-/// What the workers get under these options, of at most 16 producers, 64 consumers and 256 items. `run_threads` passes
-/// it to `work`.
+/// What the workers get under these options: of at most 16 producers, 64 consumers, and 256 items of each producer.
+/// `run_threads` passes it to `work`.
 pub fn workload_of<A: Allocator + Copy + Drop>(
     alloc: A,
     options: Options,
@@ -122,8 +122,8 @@ pub fn workload_of<A: Allocator + Copy + Drop>(
     })
 }
 
-/// What the workers of a run came to and the report of its mailbox, or the fault of the run. A refused thread keeps its
-/// name. The hub has numbers for all workers and the budget is not 0, so two faults of the workers do not come.
+/// What the workers of a run came to and the run's report, or its fault, which is `NoThread` if a thread was refused.
+/// The hub has numbers for all workers and the budget is not 0, so two faults of the workers do not come.
 pub fn report_after<A: Allocator + Copy + Drop>(
     alloc: A,
     worked: Result<Worked, WorkFault>,

@@ -100,7 +100,7 @@ word_kept ws i w low =
     ap (λ (l : List (Bor (List ℕ))). map (λ x. x.now) l) (take_more_set ws i w low)
     ∙ map-append (λ (x : Bor (List ℕ)). x.now) (take i ws) (w ∷ [])
 
--- the first i words of an array are i words
+-- if an array has i words or more, its first i words are i in number
 pub words_taken : (ws : List (Bor (List ℕ))) (i : ℕ) → i ≤ length ws → length (map (λ x. x.now) (take i ws)) ≡ i
 words_taken ws i low = length-map (take i ws) (λ (x : Bor (List ℕ)). x.now) ∙ length-take-le i ws low
 

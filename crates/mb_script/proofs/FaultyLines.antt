@@ -27,7 +27,7 @@ some_is x y e = cc
 pub err_is : {A : Type 0} (d e : Fault) → ◌≡◌ {A = Result A Fault} (Err d) (Err e) → d ≡ e
 err_is d e is = cc
 
--- if two faults are equal, they are about the same line
+-- if two faults, each about some line, are equal, they are about the same line
 one_line : (d e : Fault) (n m : ℕ) → line_of d ≡ Some n → d ≡ e → line_of e ≡ Some m → n ≡ m
 one_line d e n m first same second = some_is n m (sym first ∙ ap line_of same ∙ second)
 
@@ -38,7 +38,7 @@ same_head k a us [] e = absurd (cc)
 same_head k a us (b ∷ bs) e = (bs, cc, cc)
 
 -- ---- the lines after the first faulty one do not count
--- the events from one line on, if the line gives r and the lines after it give `rest`. Or the line is one too many
+-- the events from one line on, if the line gives r and those after it `rest`. If `many`, the line is one too many
 abbrev from_line : Bool → Result Event Fault → Result (List Event) Fault → Result (List Event) Fault
 from_line many r rest = cond many (Err TooManyEvents) (r >>= (λ event. rest >>= (λ events. Ok (event ∷ events))))
 
@@ -92,7 +92,7 @@ events_same plan n (suc k) m (line ∷ lines) bs e low is about count same =
     (λ few fails. events_same plan (suc n) k m lines h.0 e (below_by n few) fails about (omega (arith, count)) h.2) in
     subst (λ (t : List (List ℕ)). events_of plan n t ≡ Err e) (sym h.1) further
 
--- if a script has the fault e, and its events are replaced by others with their fault, it still has the fault e
+-- if a script with a good first line has the fault e, and its events are replaced by others with that fault, it has e
 events_step : (made : SetupLine) (r s : Result (List Event) Fault) (e : Fault)
     → (r >>= (λ es. Ok (script_with made es))) ≡ Err e
     → (r ≡ Err e → s ≡ Err e) → (s >>= (λ es. Ok (script_with made es))) ≡ Err e

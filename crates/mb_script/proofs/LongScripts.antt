@@ -48,7 +48,7 @@ other_in_lines (line ∷ lines) =
     for_bind IsOther (setup_of (words_in_line line)) _ (other_at 1 _ (at_setup (words_in_line line)))
     (λ made. for_bind IsOther (events_of made.plan 2 lines) _ (other_in_events made.plan 2 lines) (λ es. tt))
 
--- if reading has another fault than TooLong or none, the fault of what was read is not TooLong
+-- if reading has no fault, or another than TooLong, the fault of what was read is not TooLong
 fault_other : (r : Result Script Fault) → For IsOther r → fault_in r ≡ Some TooLong → ⊥
 fault_other (Ok s) other is = absurd (cc)
 fault_other (Err e) other is = other (let same : ◌≡◌ {A = Option Fault} (Some e) (Some TooLong) = is in cc)

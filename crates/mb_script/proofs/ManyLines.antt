@@ -34,7 +34,7 @@ unfolding lines_script
 lines_many z events line rest is many =
     rw (setup_again z is.sizes, events_many z 2 events line rest is.sizes is.known (omega (arith, many))) refl
 
--- a text with a line after a script with the most events has the fault TooManyEvents
+-- a text that is ASCII and not too long, with a line after a script with the most events, has the fault TooManyEvents
 pub script_many : (bytes : List ℕ) (z : Sizes) (events : List Event) (line : List ℕ)
     (rest : List (List ℕ)) → IsScript z events
     → length events ≡ MAX_EVENTS → lines_of bytes ≡ script_lines z events ++ line ∷ rest → length bytes ≤ MAX_SCRIPT_LEN

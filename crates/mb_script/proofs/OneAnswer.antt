@@ -1,4 +1,4 @@
--- A script has one answer, by the laws of tables and of worlds.
+-- A script has at most one answer, by the laws of tables and of worlds.
 use Rattle.std.proofs.Common.{◌≡◌, ℕ, ◌<◌, ◌≤◌, Bool, true, false, ◌||◌, nat_lt, List, [], ◌++◌, Option, Some, None, Ok, refl, sym, ap₂, ◌∙◌, subst, arith, if◌then◌else◌}
 use Rattle.std.proofs.lemmas.Bool.{ltb-false}
 use Rattle.mb_quorum.specs.declared.table.TableName.{TableName}
@@ -17,27 +17,27 @@ use Rattle.mb_script.specs.Vocabulary.{IsReplayText, report_text, Script, script
 use Rattle.mb_script.proofs.ScriptBack.{script_takes}
 
 -- ---- the laws of the crates below, one name for each
--- each quorum table that has a name is lawful
+-- each quorum table that has a name is lawful, if it has at most `MAX_VALUES` values
 abbrev pub TablesAreLawful : Type 0
 TablesAreLawful = (name : TableName) (m : ℕ) → m ≤ MAX_VALUES → IsQuorumTable (table_of name m)
 
--- the history of a new world is lawful
+-- the history of a new world is lawful, if the world has fewer cells than the number of the end mark
 abbrev pub WorldsBegin : Type 0
 WorldsBegin = (plan : Plan) → plan.claims.cells < END → IsWorldLawful plan []
 
--- after a lawful history, events have at most one replay: one list of answers, and one history
+-- with a lawful table, after a lawful history, events have at most one replay: one list of answers, and one history
 abbrev pub ReplaysDoNotDiffer : Type 0
 ReplaysDoNotDiffer = (plan : Plan) (es : List Event) (rs ss : List Answer) (was now other : WorldHistory)
     → IsQuorumTable plan.claims.table → IsWorldLawful plan was → IsReplay plan es rs was now
     → IsReplay plan es ss was other
     → (rs ≡ ss) × (now ≡ other)
 
--- a replay after a lawful history leads to a lawful history
+-- with a lawful table, a replay after a lawful history leads to a lawful history
 abbrev pub ReplaysAreLawful : Type 0
 ReplaysAreLawful = (plan : Plan) (es : List Event) (rs : List Answer) (was now : WorldHistory)
     → IsQuorumTable plan.claims.table → IsWorldLawful plan was → IsReplay plan es rs was now → IsWorldLawful plan now
 
--- the histories of a lawful world are sound
+-- with a lawful table, the histories of a lawful world are sound
 abbrev pub WorldsAreSound : Type 0
 WorldsAreSound = (plan : Plan) (h : WorldHistory) → IsQuorumTable plan.claims.table → IsWorldLawful plan h
     → AreSound plan (histories_of h)
@@ -97,7 +97,7 @@ cells_few bytes s read =
     subst (λ (t : Script). t.plan.claims.cells < END) (sym spelled.3)
     (let below : z.cells < END = omega (arith, few) in below)
 
--- ---- one text, and one answer
+-- ---- at most one text, and at most one answer
 -- the replay of events in a new world has at most one text
 pub one_text : (plan : Plan) (es : List Event) (t u : List ℕ) → ReplaysDoNotDiffer → ReplaysAreLawful → WorldsAreSound
     → ReportsDoNotDiffer → IsQuorumTable plan.claims.table → IsWorldLawful plan [] → IsReplayText plan es t

@@ -17,7 +17,7 @@ use Rattle.mb_script.specs.ReportText.{report_text}
 use Rattle.mb_script.specs.Transcribed.{IsTranscribed}
 use Rattle.mb_script.specs.Transcript.{entry_text, transcript_text}
 
--- if one more event has an answer after a replay, the replay goes on to the history with that event's access
+-- if one more event has an answer after a replay, the replay goes on to the history with that event's access, if any
 pub IsReplay-more : (plan : Plan) (e : Event) (r : Answer) (a : Option WorldAccess) (es : List Event) (rs : List Answer)
     (was now : WorldHistory) → IsReplay plan es rs was now → HasAnswer plan e r a now
     → IsReplay plan (es ++ e ∷ []) (rs ++ r ∷ []) was (with_access a now)

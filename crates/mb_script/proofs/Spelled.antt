@@ -16,7 +16,7 @@ use Rattle.std.proofs.lemmas.List.Elements.{All-from_recursion}
 use Rattle.mb_script.specs.Text.{IsWord, IsWordLine, lines_of, words_in_line, has_empty, is_numeral, number_of, numbers_of}
 use Rattle.mb_script.proofs.Numerals.{own}
 
--- if words are joined, with one space between two, the line is cut into the same words again
+-- if one word or more are joined, with one space between two, the line is cut into the same words again
 pub words_join : (w : List ℕ) (ws : List (List ℕ)) → AllByRecursion IsWord (w ∷ ws)
     → words_in_line (join_with_byte 32 (w ∷ ws)) ≡ w ∷ ws
 words_join w [] are = slice_split_none (λ b. nat_eq b 32) w (All-from_recursion _ w are.0.0)

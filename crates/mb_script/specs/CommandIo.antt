@@ -31,7 +31,8 @@ meter bytes failures = record { bytes = bytes; failures = failures }
 abbrev pub LiesIn : {F : Type 0} → Command F → F → Type 0
 LiesIn command e = (e ≢ command.no_memory) × (e ≢ command.read_fault) × (e ≢ command.write_fault)
 
--- what one call of a command did: its result, its reader and writer before it, and those after it (reader', writer')
+-- what one call of a command did: its result, its reader and writer before it, and those after it (reader', writer').
+-- If the reader's bytes are not known, what is said of them holds of some bytes
 pub record IsCommandIo {F X R W : Type 0} (command : Command F) (source : IoModel R) (sink : IoModel W)
     (reader reader' : R) (writer writer' : W) (result : Result X F) : Type 0 where
   -- if the call did what was asked, the reader had a script, and the answer to it was written and nothing else
@@ -45,13 +46,13 @@ pub record IsCommandIo {F X R W : Type 0} (command : Command F) (source : IoMode
   pub read_worked : result ≢ Err command.read_fault → source.failures reader' ≡ source.failures reader
   pub write_failed : result ≡ Err command.write_fault → sink.failures writer' ≡ one_more (sink.failures writer)
   pub write_worked : result ≢ Err command.write_fault → sink.failures writer' ≡ sink.failures writer
-  -- after a failed write a prefix of the text was written, after any other fault nothing
+  -- after a failed write a prefix of the text was written, after any other fault nothing was
   pub front : result ≡ Err command.write_fault →
       (bytes : List ℕ) × (text : List ℕ) × Had (source.bytes reader) bytes × command.IsAnswer bytes text
       × AppendsFront (sink.bytes writer) (sink.bytes writer') text
   pub untouched : IfErr result (λ e. e ≢ command.write_fault → writer' ≡ writer)
-  -- All was read, unless the script is too long, memory ran out or a read failed. Of a script that is too long one byte
-  -- past the limit was read. Before a failed read no more than the limit was read.
+  -- All was read, unless the script is too long, memory ran out or a read failed. Of a script that is too long just one
+  -- byte past the limit was read, and never more. Before a failed read no more than the limit was read.
   pub whole : result ≢ Err command.too_long → result ≢ Err command.no_memory → result ≢ Err command.read_fault →
       IsAtEnd (source.bytes reader')
   pub too_long : result ≡ Err command.too_long →

@@ -25,7 +25,7 @@ abbrev pub first_of : List (List ℕ) → Option (List ℕ)
 first_of [] = None
 first_of (word ∷ words) = Some word
 
--- the first word of the first of these lines, if there is a line. If it is not `setup`, the fault of these is `NoSetup`
+-- the first word of the first of these lines, if there is a line. Unless it is `setup`, the lines have fault `NoSetup`
 abbrev pub first_word_in : List (List ℕ) → Option (List ℕ)
 first_word_in [] = None
 first_word_in (line ∷ lines) = first_of (words_in_line line)

@@ -8,8 +8,7 @@ use Rattle.mb_claim.specs.Rows.{plain}
 abbrev pub shape_with : Bool → Bool → Shape
 shape_with fast last = record { fast = fast; last = last }
 
--- the words of a shape with a fast path or without, and with a last object or without: none if it has neither, and else
--- one
+-- the words of a shape: none if it has neither a fast path nor a last object, and else one
 abbrev pub words_with : Bool → Bool → List (List ℕ)
 words_with false false = []
 words_with true false = codes "fast" ∷ []

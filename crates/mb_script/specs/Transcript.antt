@@ -33,19 +33,19 @@ offer_text offer.Full = codes "full"
 offer_text offer.Busy = codes "busy"
 offer_text offer.Closed = codes "closed"
 
--- the text of the answer to a push: the cell whose item was stored, or that was linked
+-- the text of the answer to a push: the cell whose item was stored, the cell that was linked, or that neither was
 abbrev pub push_text : Push → List ℕ
 push_text (push.Item cell) = codes "item " ++ decimal cell
 push_text (push.Link cell) = codes "link " ++ decimal cell
 push_text push.Idle = codes "idle"
 
--- the text of the answer to a finish: whether the lane has ended, or why not
+-- the text of the answer to a finish: the end mark was stored, an item is not linked yet, or the lane had ended before
 abbrev pub finish_text : Finish → List ℕ
 finish_text finish.Ended = codes "ended"
 finish_text finish.Busy = codes "busy"
 finish_text finish.Closed = codes "closed"
 
--- the text of the answer to a look at a link: it leads to no cell yet, to this cell, or is the end mark
+-- the text of the answer to a look: the head or link leads to no cell yet, leads to this cell, or is the end mark
 abbrev pub look_text : Look → List ℕ
 look_text look.Nothing = codes "nothing"
 look_text (look.Cell cell) = codes "found " ++ decimal cell
@@ -75,7 +75,7 @@ answer_text (Took cell item) = codes "took " ++ decimal item
 abbrev pub entry_text : Event → Answer → List ℕ
 entry_text e r = event_text e ++ codes " " ++ answer_text r ++ codes "\n"
 
--- a line for each event with its answer, in their order
+-- a line for each event with its answer, in their order, up to the end of the shorter list
 abbrev pub transcript_text : List Event → List Answer → List ℕ
 transcript_text [] rs = []
 transcript_text (e ∷ es) [] = []

@@ -23,7 +23,7 @@ pub trait CountedRead {
     // How many bytes the reads gave, whether these are known or not. The count stops at 2^64 - 1.
     ghost given: { Self → ℕ };
 
-    /// Reads some bytes, at most the buffer's length. It reads none only at the end, or if the buffer has no room.
+    /// Reads some bytes, at most the buffer's length. It gives `Ok(0)` only at the end, or if the buffer has no room.
     fn read(&mut self, buf: &mut [u8]) -> io::Result<usize>
         ensures bound { ReadsAtMost result buf.new }
         ensures bytes { ReadConsumes (left self.old) (left self.new) result buf.new }

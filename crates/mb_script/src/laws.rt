@@ -21,8 +21,8 @@ use mb_quorum::laws::named_tables_are_lawful;
 use mb_world::laws::{histories_have_one_report, replays_do_not_differ, worlds_are_sound};
 use mb_world::steps::history_extends;
 
-/// If words are joined, with one space between two, the line is cut into the same words. If the words of a line are
-/// joined so, they are that line.
+/// If one word or more are joined, with one space between two, the line is cut into the same words. If the words of a
+/// line are joined so, they are that line.
 pub fn words_are_cut_as_spelled()
     ensures cut { (w : List ℕ) (ws : List (List ℕ)) → AllByRecursion IsWord (w ∷ ws)
         → words_in_line (join_with_byte 32 (w ∷ ws)) ≡ w ∷ ws }
@@ -51,8 +51,8 @@ pub fn lines_of_words_are_ascii()
         → lines_of bytes ≡ map (join_with_byte 32) lines → list_all is_ascii bytes ≡ true }
 {}
 
-/// The first faulty line of a script decides: the lines after it do not count. The lines before it, if there are any,
-/// spell a script.
+/// The first faulty line of a text decides. If all is ASCII and not too long, the lines after it do not count. The
+/// lines before it, if there are any, spell a script.
 pub fn first_faulty_lines_decide()
     ensures behind { (bytes others : List ℕ) (e : Fault) (n : ℕ) → script_of bytes ≡ Err e
         → line_of e ≡ Some n
@@ -63,7 +63,7 @@ pub fn first_faulty_lines_decide()
         → (s : Script) × Spells (take n (lines_of bytes)) s }
 {}
 
-/// `NoSetup` comes before every other fault of the first line, and only if its first word is not `setup`.
+/// `NoSetup` comes before every other fault of a line, and only if there is no line or the first word is not `setup`.
 pub fn setups_come_first()
     ensures always { (bytes : List ℕ) → length bytes ≤ MAX_SCRIPT_LEN
         → list_all is_ascii bytes ≡ true
@@ -72,7 +72,7 @@ pub fn setups_come_first()
         → first_word_in (lines_of bytes) ≢ Some (codes "setup") }
 {}
 
-/// A line after a script with the most events that a script may have is one too many, whatever it holds.
+/// In a text that is ASCII and not too long, a line after a script with the most events is too many, whatever it holds.
 pub fn further_lines_are_too_many()
     ensures { (bytes : List ℕ) (z : Sizes) (events : List Event)
         → (line : List ℕ) (rest : List (List ℕ))

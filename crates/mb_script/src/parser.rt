@@ -163,7 +163,7 @@ fn event_at(setup: &Setup, n: usize, line: &str) -> Result<Event, Fault>
     place(setup, n, event)
 }
 
-/// The events of the lines after the first, or the first fault there.
+/// The events of the lines after the first, or the first fault of these lines.
 fn events<A: Allocator>(alloc: A, setup: &Setup, text: &str) -> Result<Vec<Event, A>, Fault>
     ensures { Gives (λ v. v.items) result (events_of (plan_in setup.now) 2 (lines_of text.now)) }
 {
@@ -179,7 +179,7 @@ fn events<A: Allocator>(alloc: A, setup: &Setup, text: &str) -> Result<Vec<Event
     Ok(events)
 }
 
-/// The script that the lines of the text say, or their first fault: that there is no line, or that of a faulty line.
+/// The script that the lines of the text say, or their first fault: there is no line, or some line is faulty.
 #[tactic(auto, unfolding(crate::specs::Scripts::lines_script))]
 fn read_lines<A: Allocator>(alloc: A, text: &str) -> Result<Script<A>, Fault>
     ensures { Gives (λ s. view s) result (lines_script (lines_of text.now)) }

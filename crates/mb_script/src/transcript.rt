@@ -37,7 +37,7 @@ fn push_offer<A: Allocator>(text: &mut String<A>, answer: Offer) -> Result<(), A
     }
 }
 
-/// Appends the answer to a push: the cell whose item was stored, or that was linked.
+/// Appends the answer to a push: the cell whose item was stored, the cell that was linked, or that neither was.
 fn push_push<A: Allocator>(text: &mut String<A>, answer: Push) -> Result<(), AllocError>
     ensures { OnOk result (string_bytes text.new ≡ string_bytes text.old ++ push_text answer) }
 {
@@ -48,7 +48,7 @@ fn push_push<A: Allocator>(text: &mut String<A>, answer: Push) -> Result<(), All
     }
 }
 
-/// Appends the answer to a finish: whether the lane has ended, or why not.
+/// Appends the answer to a finish: the end mark was stored, an item is not linked yet, or the lane had ended before.
 fn push_finish<A: Allocator>(text: &mut String<A>, answer: Finish) -> Result<(), AllocError>
     ensures { OnOk result (string_bytes text.new ≡ string_bytes text.old ++ finish_text answer) }
 {

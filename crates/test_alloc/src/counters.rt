@@ -20,7 +20,7 @@ pub(crate) struct Counters {
     refuse: Refuse,
     /// How many requests there were.
     asked: AtomicU64,
-    /// How many blocks are out.
+    /// How many blocks are out: granted, and not given back.
     out: AtomicU64,
 }
 

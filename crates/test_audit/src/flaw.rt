@@ -11,9 +11,9 @@ pub enum Flaw {
     TooManyNotes,
     /// Two consumers took one item.
     TwoTakers,
-    /// A consumer took a value other than the item that was put there.
+    /// A consumer's note says that it took another value than the item to which the note belongs.
     OtherItem,
-    /// A loser names itself, a consumer that did not compete, not the taker, or another winner than another loser does.
+    /// A loser names itself, one that did not compete, one that is not the taker, or another winner than another loser.
     OtherWinner,
     /// A consumer is undecided, though nobody else competed for the item.
     UndecidedAlone,

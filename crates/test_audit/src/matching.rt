@@ -91,7 +91,7 @@ fn with_meeting(
     Ok(met)
 }
 
-/// Whether the consumer that the losers name can be the winner: if it competed, and nobody else took the item.
+/// Whether the consumer that the losers name can be the winner: whether it competed, and nobody else took the item.
 fn may_have_won<A: Allocator + Drop>(
     report: &Report<A>,
     lane: usize,

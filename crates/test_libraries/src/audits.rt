@@ -80,7 +80,7 @@ static WINNERS: [(bool, [&[Note]; 3], Option<Flaw>); 11] = [
     (true, [&[Lost(3)], &[], &[]], OTHER_WINNER),
     // The next case breaks the rule that losers name the consumer that took the item.
     (false, [&[Took(5)], &[Lost(2)], &[Undecided]], OTHER_WINNER),
-    // The next breaks the rule that a consumer is not undecided if nobody else competed, and the one after it keeps it.
+    // The next breaks the rule that a consumer is not undecided if nobody else competed. The one after keeps the rule.
     (true, [&[], &[], &[Undecided]], Some(Flaw::UndecidedAlone)),
     (true, [&[], &[Undecided], &[Undecided]], None),
 ];

@@ -124,7 +124,7 @@ fn is_served<'a>(rt: &impl Abort, alloc: Alloc<'a>, ample: Alloc<'a>, call: Trie
 /// No call here makes this many allocations.
 const MANY: u64 = 100;
 
-/// The calls, each with the fewest and the most allocations that it may make. The lines before it name the fewest.
+/// The calls, each with the fewest and the most allocations that it may make. The comment above it names the fewest.
 static CALLS: [(Tried, u64, u64); 10] = [
     // A list for the processes, one for the entries, and one for the outputs.
     (Tried::Ratify, 3, MANY),
@@ -161,8 +161,8 @@ static CALLS: [(Tried, u64, u64); 10] = [
     ),
 ];
 
-// An allocator refuses one request of a call, or all from one on, and the call returns that fault. With memory it
-// returns what it should.
+// An allocator refuses one request of a call, or all from one on, and the call says that memory ran out. With memory
+// the call returns what it should.
 #[test]
 fn each_growth_of_each_call_refused(rt: HostRuntime) -> Result<(), Fail> {
     let ample = FaultyHeap::new(rt.alloc(), Refuse::Never);

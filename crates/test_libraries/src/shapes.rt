@@ -58,7 +58,7 @@ fn words_of_both_and_three_pairs(rt: HostRuntime) {
     );
 }
 
-// A pair has four words and at most nine accesses, a fast path six and eight, a last object one and one.
+// For two consumers a pair has four words and at most nine accesses, a fast path six and eight, a last object one each.
 #[test]
 fn words_and_most_accesses_of_each_shape(rt: HostRuntime) {
     let mut layout = one_pair(&rt, 2);
@@ -138,7 +138,7 @@ fn a_conciliator_comes_after_the_fast_path(rt: HostRuntime) {
     plays(&rt, &layout, &steps, (14, &entries), &WON_AND_LOST);
 }
 
-// With pairs alone both stay undecided after the first fourteen of these steps.
+// With pairs alone both claims are undecided after the first fourteen of these steps.
 #[test]
 fn a_last_object_decides(rt: HostRuntime) {
     let layout = one_pair(&rt, 2).shaped(Shape::LAST);

@@ -49,7 +49,7 @@ fn accesses(layout: &Layout, consumer: u32, seed: u64) -> u64
 }
 
 /// The most accesses of claims of the first and of the last consumer of a layout, on words that are corrupted in a
-/// hundred ways. With it is returned the most that the layout allows.
+/// hundred ways. The second number is the most that the layout allows.
 fn most_accesses(layout: &Layout) -> (u64, u64) {
     let mut most = 0;
     for seed in 0..100 {

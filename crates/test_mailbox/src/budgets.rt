@@ -1,5 +1,5 @@
-//! Random mailboxes that are played twice with the same random words: by polls and takes of any budget, and by as many
-//! polls of budget 1. Both have the same results and reports.
+//! Random mailboxes that are played twice with the same random words: by polls and takes of any budget n, and by up to
+//! n polls of budget 1 for each of these. Both ways have the same results and reports.
 
 use crate::compare::{same, same_at};
 use crate::trial::Trial;
@@ -35,7 +35,7 @@ struct Play<A: Allocator + Drop> {
 }
 
 impl<A: Allocator + Copy + Drop> Play<A> {
-    /// A mailbox of this setup with two producers and two consumers, or one if it has no more.
+    /// A mailbox of this setup with two producers and two consumers, or one of a kind if the setup has just one.
     fn new(rt: &impl Abort, alloc: A, setup: Setup, seed: u64) -> Play<A> {
         let mut trial = Trial::new(alloc, setup).expect(rt, "no mailbox");
         let _ = trial.producer(alloc);
@@ -53,7 +53,7 @@ impl<A: Allocator + Copy + Drop> Play<A> {
         self.trial.poll(place, lane, budget, &mut self.words)
     }
 
-    /// Makes `budget` polls of budget 1, `ONES` at most, and none after one that is not spent. Returns the last result.
+    /// Makes `budget` polls of budget 1, but 1 to `ONES`, and none after one not spent. Returns the last result.
     fn poll_by_ones(&mut self, place: usize, lane: u64, budget: u64) -> Option<Poll> {
         for _ in 1..budget.min(ONES) {
             let told = self.poll(place, lane, 1);
@@ -124,8 +124,8 @@ fn any_budget(dice: &mut ChaCha8Rng) -> u64 {
     }
 }
 
-/// Makes a random poll or take of one mailbox, and as many polls of budget 1 of the other. Checks that the results are
-/// the same.
+/// Makes a random poll or take of one mailbox, with budget n, and up to n polls of budget 1 of the other. Checks that
+/// the results are the same.
 fn poll_both<A: Allocator + Copy + Drop>(
     rt: &impl Abort,
     dice: &mut ChaCha8Rng,

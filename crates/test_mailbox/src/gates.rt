@@ -14,7 +14,7 @@ use std::thread::{Threads, yield_now};
 /// The most looks of a worker that waits at a gate. So no worker waits for ever.
 pub(crate) const TURNS: u64 = 1_000_000_000;
 
-/// A gate at which each worker waits, at its first call, until `workers` have come. After `TURNS` looks it is stopped.
+/// A gate at which each worker waits, at its first call, until `workers` have come, or is stopped after `TURNS` looks.
 #[derive(Drop)]
 struct AllCome {
     /// How many workers have come.
@@ -26,7 +26,7 @@ struct AllCome {
 impl Gate for AllCome {
     ghost use Rattle.std.specs.Prelude.{◌≡◌};
 
-    // It stops a worker only at its first call.
+    // The gate stops a worker only at its first call.
     ghost may_stop = { λ _ _ call. call ≡ 1 };
 
     fn enter(&self, _who: Who, call: u64) -> bool {
@@ -154,8 +154,8 @@ fn a_put_that_finds_no_cell_is_told_of(rt: HostRuntime) {
     same(&rt, &(flaws, gate.times[0].load(Ordering::SeqCst)), &(0, 4));
 }
 
-/// A gate that lets a consumer in for three calls, once four puts were made. If `TURNS` looks find fewer, it does not
-/// let it in.
+/// A gate that lets a consumer in for three calls, once four puts were made. If `TURNS` looks find fewer puts, the gate
+/// does not let the consumer in.
 #[derive(Drop)]
 struct ThreeCalls {
     /// How many puts were made.

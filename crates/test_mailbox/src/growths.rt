@@ -125,7 +125,7 @@ diary 1 1 begun
 ",
 );
 
-/// Each call with its name, and the least number of its allocations. The line before it names them.
+/// Each call with its name, and the least number of its allocations. The comment above it names them.
 const CALLS: &[(&str, Call, u64)] = &[
     // Two lists of what is returned, the words of the cells, zeros for those of the claims, and the claims' words.
     ("new", Call::New, 5),
@@ -149,8 +149,8 @@ const CALLS: &[(&str, Call, u64)] = &[
     ("round", Call::Round, 17),
 ];
 
-/// Checks that the call is refused if any of its allocations is, keeps no memory, and is then served. It makes this many
-/// allocations or more.
+/// Checks that the call is refused if any of its allocations is, keeps no memory, and is then served. Checks that it
+/// makes this many allocations or more.
 fn is_refused<R: Abort + AllocGlobal + Threads + Wait + Sync>(
     rt: &R,
     name: &str,

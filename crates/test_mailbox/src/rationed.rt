@@ -15,9 +15,9 @@ fn has_lane<'r>(trial: &mut Trial<Alloc<'r>>, ample: Alloc<'r>) -> bool {
     trial.producer(ample).is_ok() && trial.take_producer(0)
 }
 
-/// Workers over the first allocator put these lists, and `consumers` others poll them to their ends. The only possible
-/// error is that memory ran out. Their lists and sources are over the second allocator. Returns whether the work was
-/// done.
+/// Workers over the first allocator put the items of these lists, and `consumers` others poll the lanes to their ends.
+/// The only possible error is that memory ran out. The lists and sources are over the second allocator. Returns whether
+/// the work was done.
 fn is_done<'r, R: Abort + Threads + Wait + Sync>(
     rt: &R,
     trial: &mut Trial<Alloc<'r>>,

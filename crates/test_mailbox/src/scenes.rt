@@ -22,9 +22,9 @@ type Answered<'a> = (&'a str, Option<u64>);
 /// | `producer`, `consumer` | the hub issues one |
 /// | `put PLACE ITEM`, `finish PLACE` | the producer at position PLACE of the trial |
 /// | `poll PLACE LANE BUDGET`, `take PLACE LANE MOST` | the consumer at position PLACE of the trial |
-/// | `spend PLACE BUDGET TIMES` | its polls of lane 0, TIMES in all: how many are spent |
+/// | `spend PLACE BUDGET TIMES` | TIMES polls of lane 0 by the consumer at position PLACE: how many are spent |
 /// | `drawn` | how many words the polls of these lines have drawn, all of them 0 |
-/// | `take_producer PLACE` | the hub takes that producer back |
+/// | `take_producer PLACE` | the hub takes back the producer at position PLACE |
 pub(crate) fn play<A: Allocator + Copy + Drop>(
     rt: &impl Abort,
     trial: &mut Trial<A>,
@@ -108,7 +108,7 @@ fn make<'a, A: Allocator + Copy + Drop>(
     }
 }
 
-/// The word for the result of a hub that was asked for a producer or a consumer. Those below are for other calls.
+/// The word for the result of a hub that was asked for a producer or consumer. The next functions are for other calls.
 fn given<'a>(told: Result<(), HubFault>) -> Answered<'a> {
     let word = match told {
         Ok(()) => "given",

@@ -45,7 +45,7 @@ fn push_turns(script: &mut String) -> Result<(), AllocError> {
     script.push_str("\n")
 }
 
-// Appends what is written for that script. Each process makes three accesses, and none in its other turns.
+// Appends what is written for the script of `push_turns`. Each process makes three accesses, and none in later turns.
 fn push_answers(want: &mut String) -> Result<(), AllocError> {
     for answer in [" store q0 1\n", " load p 0\n", " store p 1 out 1 0\n"] {
         push_each(want, "", answer)?;
@@ -84,7 +84,7 @@ fn a_script_is_read(rt: HostRuntime) {
     );
 }
 
-/// If a script has several faults, the first in the order of the checks is returned. Nothing is written.
+/// A case has a script with several faults, and the first by the order of the checks, which is returned.
 const FIRST_FAULTS: &[(&str, RatifyFault)] = &[
     (
         "ratify unary 2\ninput\nturns \u{80}\n",

@@ -1,5 +1,5 @@
-//! Each allocation of a call is refused. The call then runs out of memory, keeps none and writes nothing. If
-//! none is refused, the call is served.
+//! Each allocation of a call is refused. The call then runs out of memory, keeps no block and writes nothing. If
+//! no allocation is refused, the call is served.
 
 use crate::compare::same;
 use crate::examples::claims::{ITEM_TAKEN, ONE_LOSES};
@@ -89,7 +89,7 @@ const BAD_PRODUCERS: Failed = Failed::Replay(Fault::BadSetup(1, SetupFault::BadP
 
 const BAD_CELLS: Failed = Failed::Run(RunFault::BadSetup(SetupFault::BadCells));
 
-/// Each call with its name, and the least number of its allocations. The lines before it name them.
+/// Each call with its name, and the least number of its allocations. The comment above it names them.
 const CALLS: &[(&str, Call, u64)] = &[
     // The script's bytes, the inputs, the turns, the ratifier's processes, entries and outputs, and the text.
     ("ratify", Call::Ratify(LATE_INPUT), 7),

@@ -43,7 +43,7 @@ pub(crate) fn reported<
 }
 
 /// A case has the producers, the consumers, the items of each producer, the pairs of each cell, the budget, the seed.
-/// Then comes what is written, or none for what the example with two items writes. None of these reports depends on the
+/// Then comes what is written, or `None` for what the example with two items writes. No report here depends on the
 /// order of the threads.
 const REPORTS: &[(u64, u64, u64, u64, u64, u64, Option<&str>)] = &[
     (1, 1, 2, 1, 64, 0, None),
@@ -158,7 +158,7 @@ fn setups_are_refused(rt: HostRuntime) {
 }
 
 /// One writer takes all bytes, one takes 10 and then fails, one takes 10 and then none, and one takes none. A case
-/// has the room, whether the writer then fails, the result, and what is written, or none for all of the report.
+/// has the room, whether the writer then fails, the result, and what is written, or `None` for the whole report.
 const WRITERS: &[(usize, bool, Result<(), RunFault>, Option<&str>)] = &[
     (1000, false, Ok(()), None),
     (10, true, Err(RunFault::WriteFault), Some("lane 0 end")),
@@ -182,8 +182,8 @@ fn writers_fail(rt: HostRuntime) {
     }
 }
 
-/// The first block of ChaCha with 8 rounds, a key of zeros and stream 0 begins with the bytes 3e 00 ef 2f 89 5f 40 d6. A
-/// small program that gives these words gives the others, too.
+/// The first block of ChaCha with 8 rounds, a key of zeros and stream 0 begins with the bytes 3e 00 ef 2f 89 5f 40 d6.
+/// A small program that gives these bytes as the first word gives the other words, too.
 const WORDS: &[(u64, u32, u64)] = &[
     (0, 0, 0xd640_5f89_2fef_003e),
     (0, 1, 0xca06_8379_b34b_8f2b),

@@ -1,6 +1,6 @@
 //! Runs workers on one mailbox after the other, and audits the report of each.
 //!
-//! With the words SEED RUNS SECONDS it makes RUNS runs, and begins none after SECONDS seconds. The plan of a run is
+//! With the words SEED RUNS SECONDS it makes up to RUNS runs, and begins none after SECONDS seconds. A run's plan is
 //! drawn from the seed and the run's number. So each run can be made again, except for the order of its threads. The
 //! counts of the runs go to standard error, since they depend on that order.
 #![tactic(auto)]
@@ -27,7 +27,7 @@ use totals::Totals;
 /// The program's status if a run failed.
 const FLAW: u8 = 1;
 
-/// The program's status if the command line has no such numbers.
+/// The program's status if the words of the command line are not three numbers.
 const REFUSED: u8 = 2;
 
 /// The numbers of the command line.

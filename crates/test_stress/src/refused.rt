@@ -27,7 +27,7 @@ fn count_left(
     Ok(most)
 }
 
-/// How many workers have done something: put an item, begun a claim or noted one.
+/// How many workers have done something: put an item, begun a claim or noted an item.
 fn count_busy(report: &Report<Global>) -> u64 {
     let mut busy = 0u64;
     for lane in &report.lanes {

@@ -58,7 +58,7 @@ fn lacking(plan: &Plan, report: &Report<Global>) -> Result<u64, Fault> {
     Ok(lacking)
 }
 
-/// Whether each consumer has a note on each item of each lane.
+/// Whether each consumer has a note on each item of each lane, and no claim under way.
 fn all_is_met(report: &Report<Global>) -> bool {
     for diary in &report.diaries {
         let Some(lane) = report.lanes.get(diary.lane as usize) else {

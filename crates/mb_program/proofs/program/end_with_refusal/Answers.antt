@@ -1,4 +1,4 @@
--- Proof of `end_with_refusal`: it writes clap's help to `writer`, or its refusal to `errors`, if there is memory.
+-- Proof of `end_with_refusal`: it writes clap's help or version to `writer`, or its refusal to `errors`, if it can.
 use Rattle.std.proofs.Common.{ap}
 use Rattle.mb_script.specs.Vocabulary.{meter}
 use Rattle.mb_program.specs.declared.outcome.ProgramExit.TheVariants as ending

@@ -1,5 +1,5 @@
--- Proof of `laws::setups_come_first`: `NoSetup` comes before every other fault of the first line, and only if its first
--- word is not `setup`.
+-- Proof of `laws::setups_come_first`: `NoSetup` comes before every other fault of a line, and only if there is no line
+-- or the first word is not `setup`.
 use Rattle.mb_script.proofs.FirstWords.{no_setup_always, no_setup_told}
 use Rattle.mb_script.proofs.laws.setups_come_first.Goals as goal
 

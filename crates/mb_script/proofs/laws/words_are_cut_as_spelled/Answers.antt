@@ -1,5 +1,5 @@
--- Proof of `laws::words_are_cut_as_spelled`: if words are joined, with one space between two, the line is cut into the
--- same words.
+-- Proof of `laws::words_are_cut_as_spelled`: if one word or more are joined, with one space between two, the line is
+-- cut into the same words.
 use Rattle.std.proofs.lemmas.List.Splits.{join_with_byte-slice_split}
 use Rattle.mb_script.proofs.Spelled.{none_empty, words_join}
 use Rattle.mb_script.proofs.laws.words_are_cut_as_spelled.Goals as goal

@@ -1,4 +1,4 @@
--- Proof of `events`, which returns the events of the lines after the first, or the first fault there.
+-- Proof of `events`, which returns the events of the lines after the first, or the first fault of these lines.
 use Rattle.std.proofs.Common.{rules, arith, ◌≡◌, [], ◌∷◌, ◌++◌, ◌≤◌, ◌+◌, suc, length, sym, ◌∙◌, length-append}
 use Rattle.std.specs.Vec.{vec_len}
 use Rattle.mb_world.specs.Setups.{plan_in}

@@ -1,4 +1,4 @@
--- Loop invariants of `events`, which returns the events of the lines after the first, or the first fault there.
+-- Loop invariants of `events`, which returns the events of the lines after the first, or the first fault of these.
 use Rattle.std.proofs.Common.{◌≡◌, ◌+◌, ◌≤◌, length}
 use denote.Text.{Utf8}
 use denote.Shadow.{shadow}
