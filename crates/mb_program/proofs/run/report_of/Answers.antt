@@ -19,4 +19,3 @@ report_after-requires-clause-budget g c =
     let same = c.in_ok-lists.ensures.budget in
     let some = c.requires.budget in
     omega (arith, none, same, some)
-
