@@ -62,6 +62,13 @@ from_err : {X F : Type 0} (P : Result X F → Type 0) (r : Result X F) (e : F) �
 from_err P (Ok x) e is here = absurd is
 from_err P (Err f) e is here = subst (λ f. P (Err f)) (sym is) here
 
+-- a result that is this fault, which comes after the setup was made, is no refusal of it
+pub refuses_by : {Y : Type 0} (o : Options) (s : Setup) (e : RunFault) (r : Result Y RunFault)
+    → MatchOption (setup_refused o) (IsOk {E = SetupFault} (Ok s))
+    (λ why. ◌≡◌ {A = Result Setup SetupFault} (Ok s) (Err why))
+    → IsErrAnd r (λ f. f ≡ e) → ((why : SetupFault) → e ≢ BadSetup why) → Refuses o r
+refuses_by {Y} o s e r made is other = from_err (Refuses {Y = Y} o) r e is (fault_behind {Y = Y} o s e made other)
+
 -- `IsRun` holds of a run that has no report because of a fault
 pub ends_without_report : {X Y W : Type 0} (o : Options) (sink : IoModel W) (w : W)
     (r : Result X RunFault) (e : RunFault)

@@ -1,6 +1,7 @@
 -- The report of a run, from what its workers left to the hub.
 use Rattle.std.proofs.Common.{◌≡◌, ◌+◌, ◌*◌, ◌++◌, ◌<◌, ◌≤◌, ℕ, zero, suc, List, [], ◌∷◌, Option, Some, None, inl, inr, length, map, slice_get, false, refl, sym, ap, ◌∙◌, subst, arith}
-use Rattle.std.proofs.Common.{IsSomeAnd, MatchOption, All}
+use Rattle.std.proofs.Common.{IsSomeAnd, MatchOption, All, Result, Ok, Err}
+use Rattle.std.specs.Prelude.{Bool, IfOk, IsOk, true}
 use Rattle.std.specs.List.{AllZip, range_with_len}
 use Rattle.std.proofs.lemmas.List.FromFn.{length-map-range_with_len}
 use Rattle.std.proofs.lemmas.Option.{slice_get-map, slice_get_within}
@@ -9,7 +10,8 @@ use Rattle.mb_world.specs.Vocabulary.{LaneView, ReportView, MainTheorem, consume
 use Rattle.mb_world.specs.Imports.{PoolSize}
 use Rattle.mb_mailbox.specs.Vocabulary.{CellsName, consumer_count, HubView, IsHubOf, MailboxView, plan_at, IsFront, AreCutByCells, AreStoppedPolls, AreStoppedPuts, HasNoteAtEach, IsWorked}
 use Rattle.mb_mailbox.specs.Vocabulary.{ProducerEnd, ended_list}
-use Rattle.mb_mailbox.specs.Gathering.{FullTakesAll, IsGathered, IsReportIn, kept_at, lane_in, put_count}
+use Rattle.mb_mailbox.specs.Gathering.{FullTakesAll, IsGathered, IsReportIn, count_missing, kept_at, lane_in, put_count}
+use Rattle.mb_mailbox.specs.declared.gather.GatherFault.{GatherFault, TheVariants.Missing, TheVariants.NoMemory}
 use Rattle.mb_mailbox.specs.declared.{gate.Who.Who, crew.Worked.Worked}
 use Rattle.mb_mailbox.specs.Hubs.{hub_empty}
 use Rattle.mb_mailbox.specs.ReportedRuns.{IsReportedRun}
@@ -17,6 +19,11 @@ use Rattle.mb_mailbox.specs.Worked.{AsksTooMany}
 use Rattle.mb_program.specs.Vocabulary.{AreFew, HasNotedAll, IsLaneOf, IsRunReport, item_lists, items_of, plan_asked, terms_asked, Options}
 use Rattle.mb_program.proofs.RunLanes.{found_none, front_whole, front_within, sum_short}
 use Rattle.mb_program.proofs.RunNotes.{notes_told, same_some}
+
+-- if each entry of a list is there, none is missing
+pub none_missing : {X Y : Type 0} (f : X → Y) (xs : List X) → count_missing (map (λ x. Some (f x)) xs) ≡ 0
+none_missing f [] = refl
+none_missing f (x ∷ xs) = none_missing f xs
 
 -- the value at place p of a list made of numbers
 pub place_of : {X : Type 0} (f : ℕ → X) (a n p : ℕ) → p < n
@@ -249,6 +256,28 @@ run_report {budget} may_stop never o m old h r lists n w few asked plan size emp
         let is = same_some (sym lane.1 ∙ t.told) in
         let long : length (items_of p o.items) ≡ o.items = length-map-range_with_len (λ i. 1000 * p + i) 0 o.items in
         (t.one, t.there, ap length (sym (ap (λ (v : LaneView). v.put) is ∙ put) ∙ lane.2.whole) ∙ long)
+
+-- what follows from the value of a result follows from the result, if it is `Ok`
+pub ok_value : {X E : Type 0} (P : X → Type 0) (Q : Type 0) (r : Result X E) → IsOk r → IfOk r P
+    → ((x : X) → P x → Q) → Q
+ok_value P Q (Ok x) ok holds f = f x holds
+ok_value P Q (Err e) ok holds f = let both : ◌≡◌ {A = Bool} false true = ok in absurd (cc)
+
+-- after a run all that the hub issued was returned
+pub nothing_missing : {may_stop : Who → ℕ → Type 0} {budget : ℕ} (m : MailboxView) (old h : HubView)
+    (lists : List (List ℕ)) (n : ℕ) (w : Worked)
+    → old ≡ hub_empty m → IsWorked may_stop budget lists n w old h → count_missing h.puts + count_missing h.records ≡ 0
+nothing_missing m old h lists n w empty worked =
+    let puts = worked.run.puts ∙ ap (λ (g : HubView). g.puts ++ map (λ l. Some (ended_list l)) worked.lanes) empty in
+    let records = worked.run.records ∙
+    ap (λ (g : HubView). g.records ++ map (λ c. Some c.kept) worked.consumers) empty in
+    let no_put = ap count_missing puts ∙ none_missing ended_list worked.lanes in
+    let no_record = ap count_missing records ∙ none_missing (λ c. c.kept) worked.consumers in
+    omega (arith, no_put, no_record)
+
+-- a gathering that fails for what is missing does not fail for memory
+pub not_missing : (f : GatherFault) (a b : ℕ) → f ≡ Missing a b → f ≡ NoMemory → ⊥
+not_missing f a b e g = let both : Missing a b ≡ NoMemory = sym e ∙ g in cc
 
 -- ---- what a run's workers cannot come to
 -- a new hub has as many numbers as the options ask for, so a run does not ask for too many

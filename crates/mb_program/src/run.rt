@@ -1,9 +1,9 @@
 //! The command `run`: producers and consumers in threads, and the report of what they did.
-ghost use Rattle.std.specs.Prelude.{◌≡◌, ◌≢◌, ◌≤◌, ◌↔◌, Err, IfErr, IfOk, IsOk, MatchOption, Ok, OnOk, Some, map, vec_len};
+ghost use Rattle.std.specs.Prelude.{◌≡◌, ◌≢◌, ◌≤◌, ◌+◌, ◌↔◌, Err, IfErr, IfOk, IsOk, MatchOption, Ok, OnOk, Some, map, vec_len};
 ghost use Rattle.std.specs.List.{range_with_len};
 ghost use Rattle.mb_script.specs.Vocabulary.{meter};
 ghost use Rattle.mb_world.specs.Setups.{plan_in};
-ghost use Rattle.mb_mailbox.specs.Gathering.{FullTakesAll, IsGathered, IsReportIn};
+ghost use Rattle.mb_mailbox.specs.Gathering.{FullTakesAll, IsGathered, IsReportIn, count_missing};
 ghost use Rattle.mb_mailbox.specs.Vocabulary.{IsHubOf, consumer_count, lists_in};
 ghost use Rattle.mb_mailbox.specs.declared.crew.WorkFault.TheVariants as work;
 ghost use Rattle.mb_program.specs.declared.fault.RunFault.TheVariants.{BadSetup, WriteFault};
@@ -12,7 +12,7 @@ ghost use Rattle.mb_program.specs.Vocabulary.{AreFew, IsRun, IsRunReport, fault_
 use crate::fault::{NoMemory, RunFault};
 use crate::options::Options;
 use crate::source::source_of;
-use mb_mailbox::{Hub, Mailbox, OpenGate, WorkFault, Worked, work};
+use mb_mailbox::{GatherFault, Hub, Mailbox, OpenGate, WorkFault, Worked, work};
 use mb_quorum::TableName;
 use mb_script::{CountedWrite, report_text, write_all};
 use mb_world::{Report, Setup, SetupFault};
@@ -133,6 +133,7 @@ pub fn report_after<A: Allocator + Copy + Drop>(
     requires belongs { IsHubOf mailbox hub }
     requires numbers { worked ≢ Err work.AllGiven }
     requires budget { worked ≢ Err work.BadBudget }
+    requires all { IsOk worked → count_missing hub.puts + count_missing hub.records ≡ 0 }
     ensures worked { IfOk result (λ o. worked ≡ Ok o.0) }
     ensures fault { IfErr result (λ e. e ≡ fault_after worked) }
     ensures refusal { (why : SetupFault) → result ≢ Err (BadSetup why) }
@@ -145,7 +146,8 @@ pub fn report_after<A: Allocator + Copy + Drop>(
     match worked {
         Ok(worked) => match mailbox.gather(alloc, hub) {
             Ok(report) => Ok((worked, report)),
-            Err(_) => Err(RunFault::NoMemory),
+            Err((GatherFault::NoMemory, _, _)) => Err(RunFault::NoMemory),
+            Err((GatherFault::Missing(_, _), _, _)) => unreachable!(),
         },
         Err(WorkFault::NoMemory) => Err(RunFault::NoMemory),
         Err(WorkFault::NoThread) => Err(RunFault::NoThread),
