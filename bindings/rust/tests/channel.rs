@@ -163,6 +163,13 @@ fn what_is_left_is_dropped_once_with_the_last_receiver() {
     assert_eq!(drops.load(SeqCst), 20);
     drop(sender);
     assert_eq!(drops.load(SeqCst), 20);
+
+    let (sender, first) = Builder::new().cells(32).build();
+    let second = first.clone();
+    (0..5).for_each(|_| sender.send(Counted(Arc::clone(&drops))).unwrap());
+    drop((second.recv(), first.recv()));
+    drop((first, second));
+    assert_eq!(drops.load(SeqCst), 25);
 }
 
 #[test]

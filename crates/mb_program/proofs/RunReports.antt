@@ -6,7 +6,7 @@ use Rattle.std.specs.List.{AllZip, range_with_len}
 use Rattle.std.proofs.lemmas.List.FromFn.{length-map-range_with_len}
 use Rattle.std.proofs.lemmas.Option.{slice_get-map, slice_get_within}
 use Rattle.std.proofs.lemmas.Slice.Zip.{AllZip-left}
-use Rattle.mb_world.specs.Vocabulary.{LaneView, ReportView, MainTheorem, consumers_of, size_of, IsReportOf, AreSound}
+use Rattle.mb_world.specs.Vocabulary.{LaneView, ReportView, consumers_of, size_of, IsReportOf, AreSound}
 use Rattle.mb_world.specs.Imports.{PoolSize}
 use Rattle.mb_mailbox.specs.Vocabulary.{CellsName, consumer_count, HubView, IsHubOf, MailboxView, plan_at, IsFront, AreCutByCells, AreStoppedPolls, AreStoppedPuts, HasNoteAtEach, IsWorked}
 use Rattle.mb_mailbox.specs.Vocabulary.{ProducerEnd, ended_list}

@@ -220,11 +220,16 @@ impl<T> Drop for Segment<T> {
             match self.audit.take() {
                 Some((ledger, logs)) => {
                     let logs = logs.into_inner().unwrap_or_default();
-                    ledger.close(mailbox, &logs, left.collect());
+                    // (not by `collect`, which would keep the memory of all slots)
+                    let mut kept = Vec::new();
+                    kept.extend(left);
+                    ledger.close(mailbox, &logs, kept);
                 }
                 None => left.for_each(|value| {
-                    let dropped = catch_unwind(AssertUnwindSafe(|| drop(value)));
-                    panic = panic.take().or(dropped.err());
+                    if let Err(why) = catch_unwind(AssertUnwindSafe(|| drop(value))) {
+                        // (the drop of what an earlier one said may panic, too)
+                        std::mem::forget(panic.replace(why));
+                    }
                 }),
             }
         }

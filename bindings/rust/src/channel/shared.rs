@@ -154,9 +154,11 @@ impl<T> Shared<T> {
         lock(&self.ends).receivers[place] -= 1;
         if self.receivers.fetch_sub(1, SeqCst) == 1 {
             self.full.wake_all();
-            // Nobody holds a lock while a value is dropped, which may have an end of this channel.
-            self.chains.iter().for_each(|it| drop(it.0.close()));
-            self.seats().map(Seat::clear).for_each(drop);
+            // Nobody holds a lock while a value is dropped, which may have an end of this channel. The drop of one may
+            // panic, so all is closed before.
+            let closed = self.chains.each_ref().map(|it| it.0.close());
+            let left: Vec<_> = self.seats().map(Seat::clear).collect();
+            drop((closed, left));
         }
     }
 

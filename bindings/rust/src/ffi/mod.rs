@@ -3,7 +3,8 @@
 //! `bindings/c/hazbultra.h` says what a caller owes. Each comment `SAFETY: the rules of calls` below means this:
 //!
 //! 1. A [`Handle`](handle::Handle) begins empty, has private fields and no `Clone`. So only calls of the archive write it.
-//! 2. Pointers are made of references to values of the declared types. Two `&mut` never lead to the same value.
+//! 2. Pointers are made of references to values of the declared types. Two `&mut` never lead to the same value. No code
+//!    of the crate moves the `part` of a producer or consumer.
 //! 3. Each call takes the handle by `&mut`. So it is in one call at a time. A `&mut` reaches another thread only by
 //!    what makes the earlier call happen before: a lock, a join, a channel, the count of an `Arc`.
 //! 4. The header asks for a number that no other mailbox of the process was given, also none of another copy of the
@@ -31,7 +32,7 @@
 //! A word is an item of a place in a lane. Two places may hold equal words: a box that was taken and freed leaves its
 //! address to a later one, and boxes of no bytes share an address. Then each of the two is a value of its own.
 //!
-//! What a producer wrote to a box before its put is seen by whoever takes it, since both access the shared words in the one
+//! What a producer wrote to a box or a slot before its put is seen by whoever takes it, since both access the shared words in the one
 //! order of all `SeqCst` accesses.
 mod calls;
 mod carrier;

@@ -41,7 +41,8 @@ pub(crate) struct Emptier<T> {
 }
 
 impl<T> Slots<T> {
-    /// The filler of so many slots, for so many emptiers. It is `None` if there is not enough memory.
+    /// The filler of so many slots, for so many emptiers, as many as a mailbox may have. It is `None` if there is not enough
+    /// memory.
     pub(crate) fn filler(cells: usize, consumers: usize) -> Option<Filler<T>> {
         let mut all = Vec::new();
         all.try_reserve_exact(cells).ok()?;
@@ -61,7 +62,7 @@ impl<T> Slots<T> {
         })
     }
 
-    /// A further emptier. It is `None` if there is not enough memory.
+    /// A further emptier, of so many at most. It is `None` if there is not enough memory.
     pub(crate) fn emptier(self: &Arc<Self>) -> Option<Emptier<T>> {
         Some(Emptier {
             consumer: self.mailbox.consumer().ok()?,
