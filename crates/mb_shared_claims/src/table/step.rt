@@ -1,12 +1,14 @@
 //! One step of a claim on the words of a table.
 ghost use Rattle.std.specs.Prelude.{ℕ, ◌≡◌, ◌+◌, ◌<◌, ◌≤◌, ◌^◌};
-ghost use Rattle.mb_claim.specs.Vocabulary.{stage_for};
-ghost use Rattle.mb_claim.specs.declared.access.Stage.TheVariants.{Won};
+ghost use Rattle.mb_claim.specs.declared.access.Stage.TheVariants.{Won, Lost};
 
 use crate::rule::{AccessSpec, MakeAccess};
 use crate::seat::ClaimSeat;
 use crate::table::SharedClaims;
-use mb_claim::laws::{last_objects_decide_claims, layouts_are_sound, prefixes_have_one_stage};
+use mb_claim::laws::{
+    last_objects_decide_claims, layouts_are_sound, objects_have_lawful_histories,
+    older_histories_are_lawful, prefixes_have_one_stage,
+};
 use mb_claim::steps::{accesses_lengthen_one_part, addresses_are_apart, claims_make_steps};
 use mb_claim::{Claim, ClaimOp, Stage};
 use mb_deciding::{Memory, Op};
@@ -62,10 +64,12 @@ impl<A: Allocator + Drop> SharedClaims<A> {
     }
 
     /// Makes the only access of a new claim of the seat's consumer on a cell, if each cell has a last object alone.
-    /// Returns how the claim ended: won or lost. The random word of the access counts for nothing.
+    /// Returns how the claim ended: won or lost. The random word of the access counts for nothing. The caller passes
+    /// the number of the seat's consumer, which it can keep in a register.
     #[inline(always)]
-    pub fn exchange(&self, seat: &mut ClaimSeat, cell: u32, word: u64) -> Stage
+    pub fn exchange(&self, seat: &mut ClaimSeat, consumer: u32, cell: u32, word: u64) -> Stage
         requires table { seat.old.table ≡ name_of self.now }
+        requires consumer { consumer ≡ seat.old.consumer }
         requires cell { cell < self.now.cells }
         requires alone { kinds_of self.now.layout ≡ LastObject ∷ [] }
 
@@ -86,9 +90,12 @@ impl<A: Allocator + Drop> SharedClaims<A> {
         claims_make_steps();
         accesses_lengthen_one_part();
         layouts_are_sound();
+        objects_have_lawful_histories();
+        older_histories_are_lawful();
         prefixes_have_one_stage();
+        // The call is for its contract alone: the number is one of the table's consumers.
+        seat.consumer();
         let layout = &self.size.layout;
-        let consumer = seat.consumer();
         let mut claim = Claim::alone(layout, consumer);
         let next = claim.next(layout);
 
@@ -97,7 +104,7 @@ impl<A: Allocator + Drop> SharedClaims<A> {
 
         // Only the contract names the claim. What was found determines its stage.
         claim.after(layout, found, word);
-        stage_found(consumer, found)
+        stage_found(found)
     }
 
     /// Makes an access of a claim that may come next. Returns the value that a load or an exchange found, and any value
@@ -178,14 +185,14 @@ impl<A: Allocator + Drop> SharedClaims<A> {
     }
 }
 
-/// How a consumer's claim that is one exchange ends, if the exchange found this value.
+/// How a claim that is one exchange ends, if the exchange found this value. It never finds its own consumer's number.
 #[inline(always)]
-fn stage_found(consumer: u32, found: u64) -> Stage
+fn stage_found(found: u64) -> Stage
     requires { found ≤ 2 ^ 8 }
     ensures empty { found ≡ 0 → result ≡ Won }
-    ensures other { (w : ℕ) → found ≡ w + 1 → result ≡ stage_for consumer w }
+    ensures other { (w : ℕ) → found ≡ w + 1 → result ≡ Lost w }
 {
-    if found == 0 || found == u64::from(consumer) + 1 {
+    if found == 0 {
         return Stage::Won;
     }
     // The cast tells the compiler that the number has eight bits, and so which kind of note a caller makes of it.
