@@ -1,5 +1,5 @@
 -- Which accesses a seat's calls can make, and what they find. The laws of `mb_cells` come in as premises.
-use Rattle.std.proofs.Common.{[], ap, arith, inl, subst, sym, true, ℕ, ◌++◌, ◌+◌, ◌-◌, ◌<◌, ◌∙◌, ◌∷◌, ◌≡◌, ◌≢◌}
+use Rattle.std.proofs.Common.{[], ap, inl, subst, sym, true, ℕ, ◌++◌, ◌+◌, ◌<◌, ◌∙◌, ◌∷◌, ◌≡◌, ◌≢◌}
 use Rattle.std.specs.Prelude.{None, Some, slice_get}
 use Rattle.std.proofs.lemmas.Bool.{eqb-true}
 use Rattle.mb_cells.proofs.ReaderParts.{cell-of_true}
@@ -118,18 +118,17 @@ pub gift : (at : Cursor) (v k : ℕ) → v ≡ k + 1 → v ≢ END → IsGift k 
 gift (cursor.Head p) v k is some = (is, some)
 gift (cursor.Past j) v k is some = (is, some)
 
--- a look whose load finds neither 0 nor the end mark finds a cell of the pool
-pub cell_within : CellLaws → (size : PoolSize) (r : ℕ) (known : PartList) (done : History) (at : Cursor) (v : ℕ)
-    → IsAccessAfter size known (access_by (Reader r) (word_of at) (Load v)) done → v ≢ 0 → v ≢ END
-    → v - 1 < size.cells
-cell_within laws size r known done at v after some no_end =
+-- a look whose load finds k + 1, which is not the end mark, finds a cell of the pool
+pub cell_within : CellLaws → (size : PoolSize) (r : ℕ) (known : PartList) (done : History) (at : Cursor) (v k : ℕ)
+    → IsAccessAfter size known (access_by (Reader r) (word_of at) (Load v)) done → v ≡ k + 1 → v ≢ END
+    → k < size.cells
+cell_within laws size r known done at v k after is no_end =
     let a = access_by (Reader r) (word_of at) (Load v) in
     let h = a ∷ after.older in
-    let one : v ≡ v - 1 + 1 = omega arith in
-    let gave : Gave (v - 1) (part (Reader r) h) =
-    subst (λ l. Gave (v - 1) l) (sym (laws.own after.older a)) (inl (gift at v (v - 1) one no_end)) in
-    let there = laws.put size h r (v - 1) after.lawful gave in
-    (laws.within size h there.0 (v - 1) after.lawful there.1).1
+    let gave : Gave k (part (Reader r) h) =
+    subst (λ l. Gave k l) (sym (laws.own after.older a)) (inl (gift at v k is no_end)) in
+    let there = laws.put size h r k after.lawful gave in
+    (laws.within size h there.0 k after.lawful there.1).1
 
 -- the laws of `mb_cells` by which a load on a lane whose part is known finds what that part left there
 pub record KnownLaws : Type 0 where

@@ -139,6 +139,14 @@ impl<A: Allocator + Drop> SharedCells<A> {
     ghost use Rattle.mb_cells.specs.Vocabulary.{History};
     ghost use Rattle.mb_shared_cells.specs.{IsRollOf};
 
+    /// How many lanes and cells the table has.
+    #[inline(always)]
+    pub fn size(&self) -> PoolSize
+        ensures { result ≡ self.now.size }
+    {
+        self.size
+    }
+
     /// Ends the table. All parts that the hub has taken back are those of one lawful history.
     pub fn close(self, hub: CellHub)
         requires { hub.table ≡ self }

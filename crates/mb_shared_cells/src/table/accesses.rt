@@ -12,15 +12,14 @@ use std::alloc::Allocator;
 
 impl<A: Allocator + Drop> SharedCells<A> {
     ghost use Rattle.std.specs.Prelude.{◌≡◌, ◌<◌, ◌^◌};
-    ghost use Rattle.mb_cells.specs.Vocabulary.{IsPoolWord, address_of};
+    ghost use Rattle.mb_cells.specs.Vocabulary.{address_of};
     ghost use Rattle.mb_cells.specs.declared.access.PoolAct.TheVariants.{FetchAdd, Load, Store};
     ghost use Rattle.mb_cells.specs.declared.access.Word.TheVariants.{Counter};
     ghost use Rattle.mb_shared_cells.specs.Seats.{CanFetch, CanLoad, CanStore};
     ghost use Rattle.mb_shared_cells.specs.Views.{MakesAccess};
 
     /// The address of a word in the table.
-    fn address(&self, word: Word) -> usize
-        requires { IsPoolWord self.now.size word }
+    pub(super) fn address(&self, word: Word) -> usize
         ensures { result ≡ address_of self.now.size word }
     {
         let heads = 1;
@@ -34,20 +33,27 @@ impl<A: Allocator + Drop> SharedCells<A> {
         }
     }
 
-    /// Loads a word with a reader's seat.
-    pub(super) fn load<W: AccessSpec>(&self, seat: &mut Seat<(), View>, word: Word) -> u64
+    /// Loads a word, whose address this is, with a reader's seat.
+    pub(super) fn load<W: AccessSpec>(
+        &self,
+        seat: &mut Seat<(), View>,
+        word: Word,
+        address: usize,
+    ) -> u64
         requires picked { (W.word ≡ word) × (W.act ≡ (λ n. Load n)) }
         requires table { seat.old.table_id ≡ self.now.id }
+        requires address { address ≡ address_of self.now.size word }
         requires can { CanLoad self.now.size word seat.old.me }
         ensures table { seat.new.table_id ≡ seat.old.table_id }
         ensures makes { MakesAccess word (Load result) seat.old.me seat.new.me }
         ensures few { self.now.size.cells < 2 ^ 32 }
     {
+        // Only the contract names the word.
+        let _ = word;
         accesses_lengthen_one_part();
         addresses_are_apart();
         history_extends();
         words_follow_steps();
-        let address = self.address(word);
         self.table.shared.load::<MakeAccess<W>>(seat, address)
     }
 

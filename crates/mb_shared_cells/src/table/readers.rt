@@ -1,18 +1,68 @@
 //! What a reader does with its seat.
+ghost use Rattle.std.specs.Prelude.{◌≡◌};
+ghost use Rattle.mb_cells.specs.Vocabulary.{address_of, word_of};
+ghost use Rattle.mb_cells.specs.declared.size.PoolSize.{PoolSize};
+
 use super::{ReaderSeat, SharedCells};
-use mb_cells::laws::{cells_stand_once, loads_tell_what_stays, parts_tell_lanes};
+use mb_cells::laws::{cells_stand_once, loads_tell_what_stays, looks_tell_links, parts_tell_lanes};
 use mb_cells::steps::{accesses_lengthen_one_part, accesses_stay_within, history_extends};
 use mb_cells::{Cursor, END, Look, Word};
 use std::alloc::Allocator;
 use std::marker::Brand;
 
+/// The address of the link at the cursor, in a table of this many lanes.
+#[inline(always)]
+fn link_address(lanes: u32, cursor: Cursor) -> usize
+    ensures { (size : PoolSize) → size.lanes ≡ lanes → result ≡ address_of size (word_of cursor) }
+{
+    match cursor {
+        Cursor::Head(p) => 1 + p as usize,
+        Cursor::Past(k) => 1 + lanes as usize + k as usize,
+    }
+}
+
 impl<A: Allocator + Drop> SharedCells<A> {
-    ghost use Rattle.std.specs.Prelude.{◌≡◌, ◌<◌, ℕ, Some, slice_get, true};
+    ghost use Rattle.std.specs.Prelude.{◌≡◌, ◌<◌, ◌^◌, ℕ, Some, slice_get, true};
     ghost use Rattle.mb_cells.specs.Vocabulary.{Gave, History, MayRead, is_of_lane, linked_cells, look_after};
-    ghost use Rattle.mb_cells.specs.Vocabulary.{value_in, word_of};
+    ghost use Rattle.mb_cells.specs.Vocabulary.{look_of, value_in, word_of};
     ghost use Rattle.mb_cells.specs.declared.access.Word.TheVariants.{Item};
     ghost use Rattle.mb_cells.specs.declared.answer.Look.TheVariants as look;
     ghost use Rattle.mb_shared_cells.specs.{ItemMakes, LookMakes};
+
+    /// The link at the cursor, by one load: 0 if nothing comes yet, `END` if the lane has ended, else one more than the
+    /// number of the next cell. A reader may load the head of each lane, and the link of each cell that it met. The
+    /// caller passes the number of lanes, which it can keep in a register.
+    #[inline(always)]
+    pub fn link(&self, seat: &mut ReaderSeat, cursor: Cursor, lanes: u32) -> u64
+        requires table { seat.old.table ≡ self.now }
+        requires lanes { lanes ≡ self.now.size.lanes }
+        requires may { MayRead self.now.size.lanes (word_of cursor) seat.old.part }
+        ensures makes { LookMakes seat.old cursor (look_of result) seat.new }
+        ensures table { seat.new.table ≡ self.now }
+        ensures reader { seat.new.reader ≡ seat.old.reader }
+        ensures known_lanes { seat.new.known ≡ seat.old.known }
+
+        // What was met stays met. A cell that is found is met too, and is one of the table's. Its number fits a `u32`.
+        ensures met { (k : ℕ) → Gave k seat.old.part → Gave k seat.new.part }
+        ensures gave { (k : ℕ) → look_of result ≡ look.Cell k → Gave k seat.new.part }
+        ensures within { (k : ℕ) → look_of result ≡ look.Cell k → k < self.now.size.cells }
+        ensures few { self.now.size.cells < 2 ^ 32 }
+
+        // On a lane that was returned before the reader was issued, the link says what that lane's producer left.
+        ensures known { (p : ℕ) (theirs : History) → slice_get seat.old.known p ≡ Some (Some theirs)
+            → is_of_lane p (linked_cells p theirs) (word_of cursor) ≡ true
+            → look_of result ≡ look_after cursor theirs }
+    {
+        accesses_lengthen_one_part();
+        accesses_stay_within();
+        cells_stand_once();
+        loads_tell_what_stays();
+        looks_tell_links();
+        history_extends();
+        parts_tell_lanes();
+        let address = link_address(lanes, cursor);
+        self.load::<Brand>(&mut seat.seat, cursor.word(), address)
+    }
 
     /// What comes after the cursor, by one load: nothing yet, a cell, or the end mark. A reader may look at the head of
     /// each lane, and past each cell that it met.
@@ -34,13 +84,7 @@ impl<A: Allocator + Drop> SharedCells<A> {
             → is_of_lane p (linked_cells p theirs) (word_of cursor) ≡ true
             → result ≡ look_after cursor theirs }
     {
-        accesses_lengthen_one_part();
-        accesses_stay_within();
-        cells_stand_once();
-        loads_tell_what_stays();
-        history_extends();
-        parts_tell_lanes();
-        let link = self.load::<Brand>(&mut seat.seat, cursor.word());
+        let link = self.link(seat, cursor, self.size.lanes);
         if link == 0 {
             Look::Nothing
         } else if link == END {
@@ -69,6 +113,7 @@ impl<A: Allocator + Drop> SharedCells<A> {
         accesses_stay_within();
         history_extends();
         parts_tell_lanes();
-        self.load::<Brand>(&mut seat.seat, Word::Item(k))
+        let word = Word::Item(k);
+        self.load::<Brand>(&mut seat.seat, word, self.address(word))
     }
 }

@@ -8,10 +8,6 @@ use Rattle.mb_shared_cells.proofs.AccessMoves.{AccessLaws, access_asked}
 use Rattle.mb_shared_cells.proofs.NextAccesses.{load_goes, pool_word}
 use Rattle.mb_shared_cells.proofs.table.SharedCells.load.Goals as goal
 
--- the word is one of the pool's
-pub address-address-requires : goal.address-address-requires
-address-address-requires g c = pool_word c.args.self.now.size c.args.word c.requires.can.within
-
 -- the word has its address in the table, and the load may follow whatever others did
 pub load-requires : goal.load-requires
 load-requires g c =
@@ -27,7 +23,7 @@ load-requires g c =
     } in
     let word = pool_word size c.args.word can.within in
     let low = laws.within size c.args.word word in
-    let there = c.address-address.ensures ∙ ap (λ k. address_of k c.args.word) (sym same) in
+    let there = c.requires.address ∙ ap (λ k. address_of k c.args.word) (sym same) in
     let wide = c.self.invariant.1 in (
       c.requires.table ∙ sym (ap (λ v. v.id) c.self.view_is),
       omega (arith, low, there, wide),

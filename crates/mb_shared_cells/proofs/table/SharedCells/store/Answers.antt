@@ -8,10 +8,6 @@ use Rattle.mb_shared_cells.proofs.AccessMoves.{AccessLaws, store_asked}
 use Rattle.mb_shared_cells.proofs.NextAccesses.{pool_word, store_goes}
 use Rattle.mb_shared_cells.proofs.table.SharedCells.store.Goals as goal
 
--- the word is one of the pool's
-pub address-address-requires : goal.address-address-requires
-address-address-requires g c = pool_word c.args.self.now.size c.args.word c.requires.can.within
-
 -- the word has its address in the table, and the store may follow whatever others did
 pub store-requires : goal.store-requires
 store-requires g c =
