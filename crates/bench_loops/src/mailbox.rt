@@ -4,7 +4,7 @@ ghost use Rattle.mb_mailbox.specs.Consumers.{IsConsumerOf};
 ghost use Rattle.mb_mailbox.specs.Hubs.{IsHubOf};
 ghost use Rattle.mb_mailbox.specs.Producers.{IsProducerOf};
 
-use crate::choice::{Choice, Loop};
+use crate::choice::Choice;
 use mb_mailbox::{Consumer, Hub, HubFault, Mailbox, Poll, Producer, Put};
 use rand_core::Rng;
 use std::alloc::{AllocError, Allocator};
@@ -58,8 +58,9 @@ pub fn puts<A: Allocator + Copy + Drop>(
 }
 
 /// Makes and fills `choice.times` mailboxes, one after the other. Each consumer reads each mailbox to its end, by takes
-/// or by polls, as the choice says.
-pub fn mailboxes<A: Allocator + Copy + Drop, R: Rng>(
+/// or by polls.
+// A constant says which, so that a loop of polls has nothing of a take in it.
+pub fn mailboxes<A: Allocator + Copy + Drop, R: Rng, const BY_TAKES: bool>(
     alloc: A,
     choice: &Choice,
     rng: &mut R,
@@ -68,7 +69,7 @@ pub fn mailboxes<A: Allocator + Copy + Drop, R: Rng>(
     for time in 0..choice.times {
         let (mailbox, mut hub) = Mailbox::new(alloc, choice.setup.copy())?;
         let put = fill(alloc, &mailbox, &mut hub, choice.setup.cells(), time, true);
-        let read = read_all(alloc, &mailbox, &mut hub, choice.what, rng, &mut post);
+        let read = read_all::<A, R, BY_TAKES>(alloc, &mailbox, &mut hub, rng, &mut post);
         drop(mailbox);
         drop(hub);
         post.items = post.items.wrapping_add(put?);
@@ -125,11 +126,10 @@ fn put_all<A: Allocator + Drop>(
 }
 
 /// Each consumer that the hub can still issue polls the lane, or takes from it, until nothing more comes.
-fn read_all<A: Allocator + Copy + Drop, R: Rng>(
+fn read_all<A: Allocator + Copy + Drop, R: Rng, const BY_TAKES: bool>(
     alloc: A,
     mailbox: &Mailbox<A>,
     hub: &mut Hub<A>,
-    what: Loop,
     rng: &mut R,
     post: &mut Post,
 ) -> Result<(), AllocError>
@@ -137,10 +137,13 @@ fn read_all<A: Allocator + Copy + Drop, R: Rng>(
 {
     for _ in 0..u64::MAX {
         match hub.consumer(alloc, mailbox) {
-            Ok(mut consumer) => match what {
-                Loop::Taken => take(mailbox, &mut consumer, rng, post),
-                _ => read(mailbox, &mut consumer, rng, post),
-            },
+            Ok(mut consumer) => {
+                if BY_TAKES {
+                    take(mailbox, &mut consumer, rng, post)
+                } else {
+                    read(mailbox, &mut consumer, rng, post)
+                }
+            }
             Err(HubFault::AllGiven) => break,
             Err(HubFault::NoMemory) => return Err(AllocError),
         }

@@ -33,10 +33,13 @@ fn done<A: Allocator + Copy + Drop>(alloc: A, choice: &Choice) -> Result<Post, A
     match choice.what {
         Loop::Mailboxes => puts(alloc, choice, 0),
         Loop::Puts => puts(alloc, choice, choice.setup.cells()),
-        Loop::Mailbox => mailboxes(alloc, choice, &mut Source::new()),
-        Loop::Taken => mailboxes(alloc, choice, &mut Zeros),
+        Loop::Mailbox => mailboxes::<A, Source, false>(alloc, choice, &mut Source::new()),
+        Loop::Taken => mailboxes::<A, Zeros, true>(alloc, choice, &mut Zeros),
         Loop::Passed => passed(alloc, choice, &mut Zeros),
-        Loop::Chacha => mailboxes(alloc, choice, &mut ChaCha8Rng::from_seed([0; 32])),
+        Loop::Chacha => {
+            let mut source = ChaCha8Rng::from_seed([0; 32]);
+            mailboxes::<A, ChaCha8Rng, false>(alloc, choice, &mut source)
+        }
         Loop::Relay => relay(alloc, choice, &mut ChaCha8Rng::from_seed([1; 32])),
     }
 }

@@ -1,5 +1,5 @@
 -- Takes: polls one after another, past the items that are lost.
-use Rattle.std.proofs.Common.{◌≡◌, ◌≢◌, ◌+◌, ◌<◌, ◌≤◌, ℕ, List, [], ◌∷◌, ◌++◌, ap, arith, length, subst, sym, ◌∙◌}
+use Rattle.std.proofs.Common.{◌≡◌, ◌≢◌, ◌+◌, ◌-◌, ◌*◌, ◌<◌, ◌≤◌, ℕ, List, [], ◌∷◌, ◌++◌, ap, arith, length, subst, sym, ◌∙◌}
 use Rattle.std.specs.Prelude.{Some}
 use Rattle.mb_mailbox.specs.Imports.{Cursor, ReaderSeatView, Stream, WorldHistory}
 use Rattle.mb_mailbox.specs.Consumers.{ConsumerView, IsConsumer, IsConsumerOf}
@@ -108,6 +108,10 @@ take_by p most left winners answer s t u start mid new was rest one over tells =
 )
 
 -- ---- items passed while a variable has the cursor
+-- what is left of a budget of `most` with which so many items may be lost, after all but `more` of them
+abbrev pub rest_of : ℕ → ℕ → ℕ → ℕ
+rest_of most losses more = more * 2 + (most - losses * 2)
+
 -- a consumer with these fields, but with the cursor `at` on lane p, has passed items of lane p. Its own field for the
 -- place there may be out of date. `left` is what is left of `most`
 pub record HasPassedTo {Z : Type 0} (m : MailboxView) (p most : ℕ) (s t : Stream) (start : ConsumerView) (at : Cursor)

@@ -23,13 +23,15 @@ use rand_core::Rng;
 use std::alloc::Allocator;
 
 /// Makes the exchange of a new claim, and loads the item if the claim is won. It adds the note. The consumer is past
-/// the cell then, but `places` is not changed, so its place on the lane is out of date.
+/// the cell then, but `places` is not changed, so its place on the lane is out of date. The caller passes the
+/// consumer's number, which it can keep in a register.
 #[inline(always)]
 fn settle<A: Allocator + Drop, B: Allocator + Drop, R: Rng>(
     fields: &mut ConsumerFields<A>,
     mailbox: &Mailbox<B>,
     lane: u32,
     cell: u32,
+    number: u32,
     rng: &mut R,
 ) -> Poll
     requires held { IsBeforeObject mailbox.now.claims.layout lane cell 0 fields.old.seat.consumer
@@ -37,6 +39,7 @@ fn settle<A: Allocator + Drop, B: Allocator + Drop, R: Rng>(
     requires belongs { IsConsumerOf mailbox.now (with_fields fields.old) }
     requires wide { HasAllRoom fields.old.reader.table.size.cells fields.old.notes }
     requires alone { kinds_of mailbox.now.claims.layout ≡ LastObject ∷ [] }
+    requires number { number ≡ fields.old.seat.consumer }
     ensures pursued { (from : ConsumerView) (n left : ℕ) (t : Stream) (claim : Claim)
         → IsStanding mailbox.now.claims.layout fields.old.seat.consumer 0 fields.old.seat.consumer
         claim
@@ -46,6 +49,7 @@ fn settle<A: Allocator + Drop, B: Allocator + Drop, R: Rng>(
         (at_link lane (Past cell) (with_fields fields.new)) }
     ensures wide { HasAllRoom fields.new.reader.table.size.cells fields.new.notes }
     ensures places { fields.new.places.items ≡ fields.old.places.items }
+    ensures number { number ≡ fields.new.seat.consumer }
     ensures ends { (result ≢ poll.Spent) × (result ≢ poll.Undecided) }
 {
     consumers_move_on();
@@ -53,7 +57,7 @@ fn settle<A: Allocator + Drop, B: Allocator + Drop, R: Rng>(
     fields.reader.has_history();
     let stage = mailbox
         .claims
-        .exchange(&mut fields.seat, cell, rng.next_u64());
+        .exchange(&mut fields.seat, number, cell, rng.next_u64());
     match stage {
         Stage::Lost(winner) => {
             fields.notes.push(lane, Note::Lost(winner));
@@ -69,6 +73,7 @@ fn settle<A: Allocator + Drop, B: Allocator + Drop, R: Rng>(
 
 /// Goes on past items that the consumer loses, from this cursor on, as long as the most accesses for an item, three,
 /// are left. If a poll's answer is no loss, returns that answer. The place on the lane is up to date again at the end.
+// After an atomic step the compiler reads memory anew, so what the loop needs of the mailbox stands in variables.
 #[inline(always)]
 pub(super) fn pass<A: Allocator + Drop, B: Allocator + Drop, R: Rng>(
     fields: &mut ConsumerFields<A>,
@@ -103,22 +108,26 @@ pub(super) fn pass<A: Allocator + Drop, B: Allocator + Drop, R: Rng>(
     ensures belongs { IsConsumerOf mailbox.now (with_fields fields.new) }
     ensures wide { HasAllRoom fields.new.reader.table.size.cells fields.new.notes }
 {
+    let size = mailbox.cells.size();
+    let number = fields.seat.consumer();
+    // Each loss takes two accesses, and one is kept for an item.
+    let most = left.saturating_sub(1) / 2;
+    let mut more = most;
     let mut at = first;
-    let mut rest = *left;
-    'items: while rest >= 3 {
-        let cell = match meet(fields, mailbox, lane, at) {
+    'items: while more != 0 {
+        let cell = match meet(fields, mailbox, lane, at, size) {
             Look::Cell(cell) => cell,
             Look::Nothing => return Some(stop(fields, lane, at, Poll::Nothing)),
             Look::Ended => return Some(stop(fields, lane, at, Poll::Ended)),
         };
         at = Cursor::past(cell);
-        match settle(fields, mailbox, lane, cell, rng) {
-            Poll::Lost(_) => rest -= 2,
+        match settle(fields, mailbox, lane, cell, number, rng) {
+            Poll::Lost(_) => more -= 1,
             answer => return Some(stop(fields, lane, at, answer)),
         }
     }
     stand(&mut fields.places, lane as usize, at);
-    *left = rest;
+    *left -= 2 * most;
     None
 }
 

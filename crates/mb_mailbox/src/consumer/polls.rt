@@ -51,7 +51,7 @@ impl<A: Allocator + Drop> Consumer<A> {
     {
         let mut left = budget;
         match self.lane_of(mailbox, lane) {
-            Some(lane) => self.poll_rest(mailbox, lane, &mut left, rng),
+            Some(lane) => self.poll_rest::<B, R, false>(mailbox, lane, &mut left, rng),
             None => Poll::NoLane,
         }
     }
@@ -77,8 +77,9 @@ impl<A: Allocator + Drop> Consumer<A> {
 
     /// A poll of a lane that there is, with the clauses of [`Consumer::poll`]. Its budget is `left`. Afterwards `left`
     /// is what the poll did not use.
+    // `IN_TAKE` gives polls and takes code of their own. What one caller calls can be inlined into it.
     #[inline(always)]
-    pub(super) fn poll_rest<B: Allocator + Drop, R: Rng>(
+    pub(super) fn poll_rest<B: Allocator + Drop, R: Rng, const IN_TAKE: bool>(
         &mut self,
         mailbox: &Mailbox<B>,
         lane: u32,
@@ -110,11 +111,7 @@ impl<A: Allocator + Drop> Consumer<A> {
             Place::Before(at) => at,
             Place::At { cell, claim } => {
                 let _ = (cell, claim);
-                // A copy goes in, so that `left` itself can stay in a register.
-                let mut held = *left;
-                let answer = run_held(fields, mailbox, lane, &mut held, rng);
-                *left = held;
-                return answer;
+                return run_held(fields, mailbox, lane, left, rng);
             }
         };
         *left -= 1;
@@ -126,6 +123,6 @@ impl<A: Allocator + Drop> Consumer<A> {
 
         // The contract of `ClaimSeat::consumer` says that the number is one of the mailbox's. So a claim may begin.
         fields.seat.consumer();
-        run_new(fields, mailbox, lane, cell, left, rng)
+        run_new::<A, B, R, IN_TAKE>(fields, mailbox, lane, cell, left, rng)
     }
 }

@@ -23,8 +23,7 @@ use std::alloc::Allocator;
 /// Goes on by steps with the claim that the consumer holds on this lane: to the claim's end and, if it is won, the load
 /// of the item, or until it has made the accesses that are left. It takes the consumer's fields, not the consumer. The
 /// claim is changed where `places` has it.
-// It is never inlined, so that the rest of a poll is short enough to be inlined.
-#[inline(never)]
+#[inline(always)]
 pub(super) fn run_held<A: Allocator + Drop, B: Allocator + Drop, R: Rng>(
     fields: &mut ConsumerFields<A>,
     mailbox: &Mailbox<B>,
@@ -100,7 +99,7 @@ pub(super) fn run_held<A: Allocator + Drop, B: Allocator + Drop, R: Rng>(
 /// as the budget is enough for them. [`run_rest`] makes the other accesses. With no budget left the claim is only set
 /// in `places`, which costs less here than in [`run_rest`].
 #[inline(always)]
-pub(super) fn run_new<A: Allocator + Drop, B: Allocator + Drop, R: Rng>(
+pub(super) fn run_new<A: Allocator + Drop, B: Allocator + Drop, R: Rng, const IN_TAKE: bool>(
     fields: &mut ConsumerFields<A>,
     mailbox: &Mailbox<B>,
     lane: u32,
@@ -200,8 +199,5 @@ fn run_rest<A: Allocator + Drop, B: Allocator + Drop, R: Rng>(
     let layout = mailbox.claims.layout();
     let claim = Claim::standing(layout, consumer, end.object, end.value);
     stay(&mut fields.places, lane as usize, cell, claim);
-    let mut left = end.left;
-    let answer = run_held(fields, mailbox, lane, &mut left, rng);
-    end.left = left;
-    answer
+    run_held(fields, mailbox, lane, &mut end.left, rng)
 }

@@ -24,6 +24,7 @@ impl<A: Allocator + Drop> Consumer<A> {
     ///
     /// An item that is lost takes one access for its link and at most [`max_steps`](mb_claim::Layout::max_steps) for
     /// its claim. An item that is taken takes one more.
+    #[inline(always)]
     pub fn take<B: Allocator + Drop, R: Rng>(
         &mut self,
         mailbox: &Mailbox<B>,
@@ -86,7 +87,7 @@ impl<A: Allocator + Drop> Consumer<A> {
         ensures told { AnswerTells lane (outcome result) self.old self.new }
         ensures belongs { IsConsumerOf mailbox.now self.new }
     {
-        self.poll_rest(mailbox, lane, left, rng)
+        self.poll_rest::<B, R, true>(mailbox, lane, left, rng)
     }
 
     /// Goes past items that it loses, if each cell has a last object alone and no claim is held on the lane. Stops if

@@ -20,20 +20,20 @@ use Rattle.mb_mailbox.proofs.consumer.Consumer.poll_rest.{Given.Over, Goals.Afte
 use Rattle.mb_mailbox.proofs.consumer.Consumer.poll_rest.Goals as goal
 
 -- a poll of a consumer that holds a claim on the lane: `run_held` goes on with it
-module _ (g : Over) (c : goal.After-run_held-answer g) where
+module _ (g : Over) (c : goal.After-run_held g) where
   -- `at_claim` is the consumer before the poll, and `past_claim` after it
   abbrev at_claim : ConsumerView
   at_claim = with_fields c.self.inside.fields
 
   abbrev past_claim : ConsumerView
-  past_claim = with_fields c.run_held-answer.new.fields
+  past_claim = with_fields c.run_held.new.fields
 
   -- after no access `IsPursuit` holds: the whole poll goes on with the claim
-  goes_on : IsPursuit c.args.lane 0 c.args.left.now c.run_held-answer.new.left c.run_held-answer.result
+  goes_on : IsPursuit c.args.lane 0 c.args.left.now c.run_held.new.left c.run_held.result
       (g.R.Rng.stream c.args.rng.now)
-      (g.R.Rng.stream c.run_held-answer.new.rng) at_claim past_claim
+      (g.R.Rng.stream c.run_held.new.rng) at_claim past_claim
   goes_on =
-      c.run_held-answer.ensures.pursued at_claim 0 (g.R.Rng.stream c.args.rng.now)
+      c.run_held.ensures.pursued at_claim 0 (g.R.Rng.stream c.args.rng.now)
       (no_steps c.args.lane (g.R.Rng.stream c.args.rng.now) at_claim)
 
 -- a poll of a consumer that stands before a link, after its load of that link
@@ -107,35 +107,35 @@ module _ (g : Over) (c : goal.After-run_new g) where
 
 -- The clauses in `At` are of a poll that goes on with a held claim. Those in `Nothing` and `Ended` are of a link that
 -- leads to no cell. The others are of a new claim
-pub run_held-answer-requires-clause-held : goal.run_held-answer-requires-clause-held
-run_held-answer-requires-clause-held g c = record {
+pub run_held-requires-clause-held : goal.run_held-requires-clause-held
+run_held-requires-clause-held g c = record {
   cell = c.in-At.cell;
   claim = c.in-At.claim;
   place = c.place_at.ensures ∙ ap (λ (z : Place). Some z) c.in-At.is;
 }
 
 pub invariant_of-self : goal.invariant_of-self
-invariant_of-self g c = ((goes_on g c).is, c.run_held-answer.ensures.wide)
+invariant_of-self g c = ((goes_on g c).is, c.run_held.ensures.wide)
 
 pub returns-in-At-clause-polled : goal.returns-in-At-clause-polled
 returns-in-At-clause-polled g c =
     let sum : c.args.left.now + 0 ≡ c.args.left.now = omega arith in
-    subst (λ o. IsPollOf c.args.lane c.args.left.now c.run_held-answer.result
-    (g.R.Rng.stream c.args.rng.now) (g.R.Rng.stream c.run_held-answer.new.rng) o (past_claim g c)) c.self.view_is
-    (poll_by c.args.lane 0 c.args.left.now c.run_held-answer.new.left c.args.left.now c.run_held-answer.result
-    (g.R.Rng.stream c.args.rng.now) (g.R.Rng.stream c.run_held-answer.new.rng) (at_claim g c) (past_claim g c) sum
+    subst (λ o. IsPollOf c.args.lane c.args.left.now c.run_held.result
+    (g.R.Rng.stream c.args.rng.now) (g.R.Rng.stream c.run_held.new.rng) o (past_claim g c)) c.self.view_is
+    (poll_by c.args.lane 0 c.args.left.now c.run_held.new.left c.args.left.now c.run_held.result
+    (g.R.Rng.stream c.args.rng.now) (g.R.Rng.stream c.run_held.new.rng) (at_claim g c) (past_claim g c) sum
     (goes_on g c))
 
 pub returns-in-At-clause-told : goal.returns-in-At-clause-told
 returns-in-At-clause-told g c =
-    pursuit_tells c.args.lane 0 c.args.left.now c.run_held-answer.new.left c.run_held-answer.result
+    pursuit_tells c.args.lane 0 c.args.left.now c.run_held.new.left c.run_held.result
     (g.R.Rng.stream c.args.rng.now)
-    (g.R.Rng.stream c.run_held-answer.new.rng) (at_claim g c) c.args.self.now (past_claim g c) (goes_on g c)
+    (g.R.Rng.stream c.run_held.new.rng) (at_claim g c) c.args.self.now (past_claim g c) (goes_on g c)
 
 pub returns-in-At-clause-belongs : goal.returns-in-At-clause-belongs
 returns-in-At-clause-belongs g c =
-    still_of c.args.mailbox.now c.args.lane 0 c.args.left.now c.run_held-answer.new.left c.run_held-answer.result
-    (g.R.Rng.stream c.args.rng.now) (g.R.Rng.stream c.run_held-answer.new.rng)
+    still_of c.args.mailbox.now c.args.lane 0 c.args.left.now c.run_held.new.left c.run_held.result
+    (g.R.Rng.stream c.args.rng.now) (g.R.Rng.stream c.run_held.new.rng)
     (at_claim g c) (past_claim g c) (goes_on g c)
     (subst (λ o. IsConsumerOf c.args.mailbox.now o) (sym c.self.view_is) c.requires.belongs)
 
@@ -249,12 +249,12 @@ returns-clause-belongs g c =
 
 pub returns-in-At-clause-unspent : goal.returns-in-At-clause-unspent
 returns-in-At-clause-unspent g c = λ more spent.
-    let few = c.run_held-answer.ensures.few c.in-At.cell c.in-At.claim
+    let few = c.run_held.ensures.few c.in-At.cell c.in-At.claim
     (c.place_at.ensures ∙ ap (λ (z : Place). Some z) c.in-At.is) spent
     in absurd (omega (arith, more, few))
 
 pub returns-in-At-clause-decided : goal.returns-in-At-clause-decided
-returns-in-At-clause-decided g c = c.run_held-answer.ensures.decided
+returns-in-At-clause-decided g c = c.run_held.ensures.decided
 
 pub returns-clause-unspent : goal.returns-clause-unspent
 returns-clause-unspent g c = λ more spent.
@@ -267,16 +267,16 @@ returns-clause-decided g c = c.run_new.ensures.decided
 pub returns-in-At-clause-left : goal.returns-in-At-clause-left
 returns-in-At-clause-left g c =
     let sum : c.args.left.now + 0 ≡ c.args.left.now = omega arith in
-    let left = left_by c.args.lane 0 c.args.left.now c.run_held-answer.new.left c.args.left.now c.run_held-answer.result
-    (g.R.Rng.stream c.args.rng.now) (g.R.Rng.stream c.run_held-answer.new.rng) (at_claim g c) (past_claim g c) sum
+    let left = left_by c.args.lane 0 c.args.left.now c.run_held.new.left c.args.left.now c.run_held.result
+    (g.R.Rng.stream c.args.rng.now) (g.R.Rng.stream c.run_held.new.rng) (at_claim g c) (past_claim g c) sum
     (goes_on g c) in
     left ∙ ap (λ s. accesses_made s + c.args.left.now) c.self.view_is
 
 pub returns-in-At-clause-some : goal.returns-in-At-clause-some
 returns-in-At-clause-some g c =
-    not_no_lane c.args.lane 0 c.args.left.now c.run_held-answer.new.left c.run_held-answer.result
+    not_no_lane c.args.lane 0 c.args.left.now c.run_held.new.left c.run_held.result
     (g.R.Rng.stream c.args.rng.now)
-    (g.R.Rng.stream c.run_held-answer.new.rng) (at_claim g c) (past_claim g c) (goes_on g c)
+    (g.R.Rng.stream c.run_held.new.rng) (at_claim g c) (past_claim g c) (goes_on g c)
 
 pub returns-in-Nothing-clause-left : goal.returns-in-Nothing-clause-left
 returns-in-Nothing-clause-left g c =

@@ -1,10 +1,10 @@
 -- Proof of `pass`: goes on past items that the consumer loses, with the cursor in a variable.
-use Rattle.std.proofs.Common.{◌≡◌, ◌≢◌, ◌∙◌, ◌+◌, ◌-◌, ◌<◌, ◌≤◌, ℕ, List, [], ◌∷◌, ap, arith, length, refl, subst, sym}
+use Rattle.std.proofs.Common.{◌≡◌, ◌≢◌, ◌∙◌, ◌+◌, ◌-◌, ◌/◌, ◌<◌, ◌≤◌, ℕ, List, [], ◌∷◌, ap, arith, length, refl, subst, sym}
 use Rattle.std.specs.Prelude.{None, Option, Some, slice_set}
 use Rattle.mb_cells.specs.declared.cursor.Cursor.TheVariants.{Past}
 use Rattle.mb_mailbox.specs.declared.consumer.Poll.TheVariants as poll
 use Rattle.mb_world.specs.declared.place.Place.{Place, TheVariants.At, TheVariants.Before}
-use Rattle.mb_mailbox.specs.Imports.{CellsName, Cursor, ReaderSeatView, Stream}
+use Rattle.mb_mailbox.specs.Imports.{CellsName, Cursor, ReaderSeatView, SeatView, Stream}
 use Rattle.mb_mailbox.specs.ConsumerStep.{link_answer}
 use Rattle.mb_mailbox.specs.ConsumerWords.{AnswerTells, AreSteps, ConsumerView, IsConsumer, IsConsumerOf, IsPursuit, Poll, at_link, claim_takes, with_fields}
 use Rattle.mb_mailbox.specs.Jobs.{accesses_made}
@@ -14,7 +14,7 @@ use Rattle.mb_mailbox.specs.Takes.{IsPollOfRest, IsTakeOf}
 use Rattle.mb_mailbox.proofs.Ending.{left_by, poll_by, pursuit_tells, still_of}
 use Rattle.mb_mailbox.proofs.Lists.{set_same}
 use Rattle.mb_mailbox.proofs.Polls.{poll_of}
-use Rattle.mb_mailbox.proofs.Takes.{HasPassedTo, take_by}
+use Rattle.mb_mailbox.proofs.Takes.{HasPassedTo, rest_of, take_by}
 use Rattle.mb_mailbox.proofs.consumer.passing.pass.{Given.Over, Goals.After-meet, Goals.After-settle}
 use Rattle.mb_mailbox.proofs.consumer.passing.pass.Goals as goal
 
@@ -24,15 +24,18 @@ items-init g c =
     let same : at_link c.args.lane c.args.first s ≡ s =
     ap (λ (ps : List Place). record s { places = ps }) (set_same s.places c.args.lane (Before c.args.first)
     c.requires.place) in
+    let low = c.saturating_sub-most.ensures in
+    let most = c.saturating_sub-most.result / 2 in
+    let all : rest_of c.args.left.now most most ≡ c.args.left.now = omega (arith, low) in (
     record {
       winners = [];
       passed = (refl, same);
-      rest = refl;
+      rest = ap (λ n. accesses_made s + n) all;
       is = subst IsConsumer (sym same) c.requires.is;
       belongs = c.requires.belongs;
       wide = c.requires.wide;
       lane = c.requires.lane;
-    }
+    }, omega arith, c.consumer-number.ensures.exact)
 
 -- if the table and the notes are the same, there still is room for a note on each cell
 wide_still : (m : MailboxView) (was now : ReaderSeatView) (old new : NotesView) → was.table ≡
@@ -52,8 +55,20 @@ takes_few poll.Ended = (omega arith, omega arith)
 takes_few poll.Spent = (omega arith, omega arith)
 takes_few poll.NoLane = (omega arith, omega arith)
 
+-- if losses are allowed, what is left of the budget is enough for the most accesses for an item
+enough : (left most more : ℕ) → most ≡ (left - 1) / 2 → more ≤ most → more ≢ 0 → 3 ≤ rest_of left most more
+enough left most more half low some = omega (arith, half, low, some)
+
 -- after the load of a link
 module _ (g : Over) (c : After-meet g) where
+  -- what is left of the budget
+  abbrev rest : ℕ
+  rest = rest_of c.args.left.now (c.saturating_sub-most.result / 2) c.items.more
+
+  room : 3 ≤ rest
+  room = enough c.args.left.now (c.saturating_sub-most.result / 2) c.items.more
+      (ap (λ n. n / 2) c.saturating_sub-most.ensures) c.items.invariant.1 c.items-test.true
+
   -- `waiting` is the consumer at the cursor before the load, and `met` has the fields after it
   abbrev waiting : ConsumerView
   waiting = at_link c.args.lane c.items.at (with_fields c.items.fields)
@@ -73,15 +88,15 @@ module _ (g : Over) (c : After-meet g) where
       × AnswerTells c.args.lane (outcome answer) (with_fields c.args.fields.now) new
   look_ends answer new same some over is told =
       let p = c.args.lane in
-      let inv = c.items.invariant in
+      let inv = c.items.invariant.0 in
       let steps = subst (λ (z : Option Poll × ConsumerView). AreSteps p 1 z.0 words words waiting z.1)
       (λ i. (sym same i, sym is i)) (c.meet.ensures.looks (slice_set c.meet.new.fields.places.items p
       (Before c.items.at)) words) in
       let tells = subst (λ (z : Option Poll × ConsumerView). AnswerTells p z.0 waiting z.1)
       (λ i. (sym same i, sym is i)) (c.meet.ensures.waits told).1 in
-      take_by p c.args.left.now c.items.rest inv.winners answer (g.R.Rng.stream c.args.rng.now) words words
+      take_by p c.args.left.now rest inv.winners answer (g.R.Rng.stream c.args.rng.now) words words
       (with_fields c.args.fields.now) waiting new inv.passed inv.rest
-      (poll_of p 1 c.items.rest answer words words waiting new steps (omega (arith, c.items-test.true))
+      (poll_of p 1 rest answer words words waiting new steps (omega (arith, room))
       (λ e. absurd (some e))) over tells
 
   -- if the load comes to an answer, `IsConsumer` and `IsConsumerOf` still hold of the consumer
@@ -95,6 +110,13 @@ module _ (g : Over) (c : After-meet g) where
 
 -- after `settle`, which makes the accesses of the new claim
 module _ (g : Over) (c : After-settle g) where
+  abbrev before : ℕ
+  before = rest_of c.args.left.now (c.saturating_sub-most.result / 2) c.items.more
+
+  some : 3 ≤ before
+  some = enough c.args.left.now (c.saturating_sub-most.result / 2) c.items.more
+      (ap (λ n. n / 2) c.saturating_sub-most.ensures) c.items.invariant.1 c.items-test.true
+
   abbrev from : ConsumerView
   from = at_link c.args.lane c.items.at (with_fields c.items.fields)
 
@@ -118,26 +140,26 @@ module _ (g : Over) (c : After-settle g) where
       (c.in-Cell.ensures.looks (slice_set c.meet.new.fields.places.items c.args.lane (At c.in-Cell.cell held.claim)) t)
 
   -- the load of the link and the claim make a poll whose budget is `rest`, and which leaves `left` of it
-  polled : (left : ℕ) → claim_takes c.settle.result + left + 1 ≡ c.items.rest
-      → IsPollOf c.args.lane c.items.rest c.settle.result t u from past
-      × (accesses_made past + left ≡ accesses_made from + c.items.rest)
+  polled : (left : ℕ) → claim_takes c.settle.result + left + 1 ≡ before
+      → IsPollOf c.args.lane before c.settle.result t u from past
+      × (accesses_made past + left ≡ accesses_made from + before)
   polled left sum =
       let most = claim_takes c.settle.result + left in (
-        poll_by c.args.lane 1 most left c.items.rest c.settle.result t u from past sum (pursued left),
-        left_by c.args.lane 1 most left c.items.rest c.settle.result t u from past sum (pursued left),
+        poll_by c.args.lane 1 most left before c.settle.result t u from past sum (pursued left),
+        left_by c.args.lane 1 most left before c.settle.result t u from past sum (pursued left),
       )
 
   -- the consumer is still one of the mailbox's
   still : IsConsumerOf c.args.mailbox.now past
   still =
-      let inv = c.items.invariant in
+      let inv = c.items.invariant.0 in
       still_of c.args.mailbox.now c.args.lane 1 (claim_takes c.settle.result + 0) 0 c.settle.result t u from past
       (pursued 0) (record { cells = inv.belongs.cells; claims = inv.belongs.claims })
 
   -- the lane still has a place
   lanes : c.args.lane < length c.settle.new.fields.places.items
   lanes = subst (λ (ps : List Place). c.args.lane < length ps)
-      (sym (c.settle.ensures.places ∙ c.meet.ensures.places)) c.items.invariant.lane
+      (sym (c.settle.ensures.places ∙ c.meet.ensures.places)) c.items.invariant.0.lane
 
   -- if the claim is not lost, the polls make a take with its answer, and `AnswerTells` holds of that answer
   claim_ends : (answer : Poll) (new : ConsumerView) → answer ≡ c.settle.result
@@ -148,30 +170,32 @@ module _ (g : Over) (c : After-settle g) where
   claim_ends answer new same over is =
       let p = c.args.lane in
       let x = c.settle.result in
-      let inv = c.items.invariant in
+      let inv = c.items.invariant.0 in
       let few = takes_few x in
-      let left = c.items.rest - 1 - claim_takes x in
-      let sum : claim_takes x + left + 1 ≡ c.items.rest = omega (arith, few, c.items-test.true) in
+      let left = before - 1 - claim_takes x in
+      let sum : claim_takes x + left + 1 ≡ before = omega (arith, few, some) in
       subst (λ (z : Poll × ConsumerView).
       IsTakeOf p c.args.left.now z.0 (g.R.Rng.stream c.args.rng.now) u (with_fields c.args.fields.now) z.1
       × AnswerTells p (outcome z.0) (with_fields c.args.fields.now) z.1) (λ i. (sym same i, sym is i))
-      (take_by p c.args.left.now c.items.rest inv.winners x (g.R.Rng.stream c.args.rng.now) t u
+      (take_by p c.args.left.now before inv.winners x (g.R.Rng.stream c.args.rng.now) t u
       (with_fields c.args.fields.now) from past inv.passed inv.rest (polled left sum).0 over
       (pursuit_tells p 1 (claim_takes x + left) left x t u from from past (pursued left)))
 
 pub meet-requires : goal.meet-requires
 meet-requires g c =
-    let inv = c.items.invariant in record { is = inv.is; lane = inv.lane; belongs = inv.belongs }
+    let inv = c.items.invariant.0 in record { is = inv.is; lane = inv.lane; belongs = inv.belongs;
+      size = c.size-size.ensures ∙ ap (λ (v : MailboxView). v.cells.size) c.mailbox.view_is }
 
 pub settle-requires : goal.settle-requires
 settle-requires g c =
-    let inv = c.items.invariant in
+    let inv = c.items.invariant.0 in
     record {
       held = c.in-Cell.ensures.finds c.in-Cell.cell refl;
       belongs = c.in-Cell.ensures.belongs;
       wide = wide_still c.args.mailbox.now c.items.fields.reader c.meet.new.fields.reader c.items.fields.notes
           c.meet.new.fields.notes inv.belongs.cells c.meet.ensures.belongs.cells c.meet.ensures.notes inv.wide;
       alone = c.requires.alone;
+      number = c.items.invariant.2 ∙ sym (ap (λ (v : SeatView). v.consumer) c.meet.ensures.seat);
     }
 
 pub items-smaller : goal.items-smaller
@@ -181,22 +205,26 @@ pub items-preserved : goal.items-preserved
 items-preserved g c =
     let at = (goal.at.items-preserved g c).After-settle in
     let p = c.args.lane in
-    let inv = c.items.invariant in
+    let inv = c.items.invariant.0 in
     let w = c.in-Lost.field-0 in
     let lost : c.settle.result ≡ poll.Lost w = c.in-Lost.is in
     let takes : claim_takes c.settle.result ≡ 1 = ap claim_takes lost in
-    let sum : claim_takes c.settle.result + (c.items.rest - 2) + 1 ≡ c.items.rest =
-    omega (arith, takes, c.items-test.true) in
-    let one = polled g at (c.items.rest - 2) sum in
+    let budget = c.args.left.now in
+    let most = c.saturating_sub-most.result / 2 in
+    let few = some g at in
+    let sum : claim_takes c.settle.result + (before g at - 2) + 1 ≡ before g at = omega (arith, takes, few) in
+    let one = polled g at (before g at - 2) sum in
+    let goes : before g at - 2 ≡ rest_of budget most (c.items.more - 1) = omega (arith, c.items-test.true) in
+    let fewer = c.items.invariant.1 in
     let last : IsPollOfRest p c.args.left.now (poll.Lost w) (t g at) (u g at) (with_fields c.args.fields.now)
     (from g at) (past g at) =
     record {
-      left = c.items.rest;
+      left = before g at;
       rest = inv.rest;
-      poll = subst (λ x. IsPollOf p c.items.rest x (t g at) (u g at) (from g at) (past g at)) lost one.0;
+      poll = subst (λ x. IsPollOf p (before g at) x (t g at) (u g at) (from g at) (past g at)) lost one.0;
     } in
-    subst (λ (z : Cursor). HasPassedTo c.args.mailbox.now p c.args.left.now (g.R.Rng.stream c.args.rng.now) (u g at)
-    (with_fields c.args.fields.now) z c.settle.new.fields (c.items.rest - 2)) (sym c.past-at.ensures)
+    (subst (λ (z : Cursor × ℕ). HasPassedTo c.args.mailbox.now p budget (g.R.Rng.stream c.args.rng.now) (u g at)
+    (with_fields c.args.fields.now) z.0 c.settle.new.fields z.1) (λ i. (sym c.past-at.ensures i, goes i))
     (record {
       winners = w ∷ inv.winners;
       passed = (t g at, from g at, inv.passed, last);
@@ -205,16 +233,16 @@ items-preserved g c =
       belongs = record { cells = (still g at).cells; claims = (still g at).claims };
       wide = c.settle.ensures.wide;
       lane = lanes g at;
-    })
+    }), omega (arith, fewer), c.settle.ensures.number)
 
 -- ---- `stop` needs that the lane has a place
 pub stop-requires : goal.stop-requires
 stop-requires g c =
-    subst (λ (ps : List Place). c.args.lane < length ps) (sym c.meet.ensures.places) c.items.invariant.lane
+    subst (λ (ps : List Place). c.args.lane < length ps) (sym c.meet.ensures.places) c.items.invariant.0.lane
 
 pub stop-requires-in-Ended : goal.stop-requires-in-Ended
 stop-requires-in-Ended g c =
-    subst (λ (ps : List Place). c.args.lane < length ps) (sym c.meet.ensures.places) c.items.invariant.lane
+    subst (λ (ps : List Place). c.args.lane < length ps) (sym c.meet.ensures.places) c.items.invariant.0.lane
 
 pub returns-in-Nothing-clause-taken : goal.returns-in-Nothing-clause-taken
 returns-in-Nothing-clause-taken g c =
@@ -270,4 +298,4 @@ returns-in_default g c =
     }
 
 pub stand-requires : goal.stand-requires
-stand-requires g c = c.items.invariant.lane
+stand-requires g c = c.items.invariant.0.lane

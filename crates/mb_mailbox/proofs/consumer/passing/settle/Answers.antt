@@ -5,7 +5,7 @@ use Rattle.mb_claim.specs.declared.access.Stage.TheVariants as stage
 use Rattle.mb_cells.specs.declared.cursor.Cursor.TheVariants.{Past}
 use Rattle.mb_mailbox.specs.declared.consumer.Poll.TheVariants as poll
 use Rattle.mb_world.specs.declared.place.Place.{Place, TheVariants.At, TheVariants.Before}
-use Rattle.mb_mailbox.specs.Imports.{AreSeatSteps, CellsName, Claim, Gave, IsClaimIn, IsStanding, Lost, ReaderSeatView, Stream, TableSize, Took}
+use Rattle.mb_mailbox.specs.Imports.{AreSeatSteps, CellsName, Claim, Gave, IsClaimIn, IsStanding, Lost, ReaderSeatView, SeatView, Stream, TableSize, Took}
 use Rattle.mb_mailbox.specs.Imports.{kinds_of, name_of, part_on}
 use Rattle.mb_deciding.specs.declared.object.Kind.TheVariants.{LastObject}
 use Rattle.std.proofs.Common.{[], ◌∷◌}
@@ -149,6 +149,7 @@ exchange-stage-requires g c =
       cell = subst (λ n. c.args.cell < n) cells low;
       alone = subst (λ (y : MailboxView). kinds_of y.claims.layout ≡ LastObject ∷ []) (sym c.mailbox.view_is)
           c.requires.alone;
+      consumer = c.requires.number;
       fresh = standing_fresh c.args.mailbox.now.claims.layout c.args.fields.now.seat.consumer
           c.args.fields.now.seat.consumer (claim g at) c.requires.held.standing
           (part_on c.args.fields.now.seat.consumer c.args.cell c.args.fields.now.seat.part) (begun g at);
@@ -174,6 +175,8 @@ returns-in-Lost g c =
       wide = room_stays c.args.lane c.args.fields.now.reader.table.size.cells (Some (Lost w))
           c.args.fields.now.notes c.push.new.self c.push.ensures c.requires.wide;
       places = refl;
+      number = c.requires.number
+          ∙ sym (ap (λ (v : SeatView). v.consumer) c.exchange-stage.ensures.step.6.adds);
       ends = ((λ e. cc), (λ e. cc));
     }
 
@@ -209,5 +212,7 @@ returns-in_default g c =
           (room_stays c.args.lane c.args.fields.now.reader.table.size.cells (Some (Took c.item-item.result))
           c.args.fields.now.notes c.push-in_default.new.self c.push-in_default.ensures c.requires.wide);
       places = refl;
+      number = c.requires.number
+          ∙ sym (ap (λ (v : SeatView). v.consumer) c.exchange-stage.ensures.step.6.adds);
       ends = ((λ x. cc), (λ x. cc));
     }

@@ -95,14 +95,14 @@ module _ (g : Over) (c : After-stay g) (claim_is : c.requires.held.claim ≡ c.s
       ap (λ ps. slice_get ps c.args.lane) c.stay.ensures
       ∙ set_here c.args.fields.now.places.items c.args.lane (At c.args.cell c.standing-claim.result) there is
 
-pub run_held-answer-requires-clause-is : goal.run_held-answer-requires-clause-is
-run_held-answer-requires-clause-is g c =
-    let at = goal.at.run_held-answer-requires-clause-is g c in
+pub run_held-requires-clause-is : goal.run_held-requires-clause-is
+run_held-requires-clause-is g c =
+    let at = goal.at.run_held-requires-clause-is g c in
     subst IsConsumer (held_is g at.After-stay (claim_is g at.After-standing-claim)) c.requires.held.is
 
-pub run_held-answer-requires-clause-held : goal.run_held-answer-requires-clause-held
-run_held-answer-requires-clause-held g c =
-    let at = goal.at.run_held-answer-requires-clause-held g c in
+pub run_held-requires-clause-held : goal.run_held-requires-clause-held
+run_held-requires-clause-held g c =
+    let at = goal.at.run_held-requires-clause-held g c in
     let some = get_some c.args.fields.now.places.items c.args.lane c.requires.held.lane in
     record {
       cell = c.args.cell;
@@ -110,16 +110,16 @@ run_held-answer-requires-clause-held g c =
       place = place_is g at.After-stay (claim_is g at.After-standing-claim) some.0 some.1;
     }
 
-pub run_held-answer-requires-clause-lane : goal.run_held-answer-requires-clause-lane
-run_held-answer-requires-clause-lane g c =
+pub run_held-requires-clause-lane : goal.run_held-requires-clause-lane
+run_held-requires-clause-lane g c =
     subst (λ n. c.args.lane < n) (sym (ap (λ (ps : List Place). length ps) c.stay.ensures
     ∙ length-set c.args.fields.now.places.items c.args.lane (At c.args.cell c.standing-claim.result)))
     c.requires.held.lane
 
 -- the claim goes on, so it is not won, and `run_held` needs no budget
-pub run_held-answer-requires-clause-won : goal.run_held-answer-requires-clause-won
-run_held-answer-requires-clause-won g c k claim there won =
-    let at = goal.at.run_held-answer-requires-clause-won g c in
+pub run_held-requires-clause-won : goal.run_held-requires-clause-won
+run_held-requires-clause-won g c k claim there won =
+    let at = goal.at.run_held-requires-clause-won g c in
     let f = c.args.fields.now in
     let m = c.args.mailbox.now in
     let some = get_some f.places.items c.args.lane c.requires.held.lane in
@@ -136,7 +136,7 @@ returns-clause-pursued g c from n t claim is so =
     let f = c.args.fields.now in
     let same = standing_same c.args.mailbox.now.claims.layout f.seat.consumer c.args.end.now.object c.args.end.now.value
     claim is c.requires.held.claim c.requires.held.standing in
-    c.run_held-answer.ensures.pursued from n t
+    c.run_held.ensures.pursued from n t
     (subst (λ z. AreSteps c.args.lane n None t (g.R.Rng.stream c.args.rng.now) from z)
     (held_is g at.After-stay (claim_is g at.After-standing-claim))
     (subst (λ z. AreSteps c.args.lane n None t (g.R.Rng.stream c.args.rng.now) from
@@ -146,5 +146,5 @@ pub returns-clause-few : goal.returns-clause-few
 returns-clause-few g c spent =
     let at = goal.at.returns-clause-few g c in
     let some = get_some c.args.fields.now.places.items c.args.lane c.requires.held.lane in
-    c.run_held-answer.ensures.few c.args.cell c.standing-claim.result
+    c.run_held.ensures.few c.args.cell c.standing-claim.result
     (place_is g at.After-stay (claim_is g at.After-standing-claim) some.0 some.1) spent
