@@ -11,12 +11,12 @@ ghost use Rattle.mb_mailbox.specs.{Jobs.{accesses_made}, Steps.{outcome}, Takes.
 ghost use Rattle.mb_mailbox.specs.declared.consumer.Poll.TheVariants as poll;
 ghost use Rattle.mb_world.specs.declared.place.Place.TheVariants.{Before};
 
-use super::meeting::meet;
+use super::meeting::{answer_at, meet};
 use super::moves::{consumers_move_on, places_tell_steps};
 use super::places::stand;
 use super::{ConsumerFields, Poll};
 use crate::mailbox::Mailbox;
-use mb_cells::{Cursor, Look};
+use mb_cells::Cursor;
 use mb_claim::Stage;
 use mb_world::Note;
 use rand_core::Rng;
@@ -115,11 +115,13 @@ pub(super) fn pass<A: Allocator + Drop, B: Allocator + Drop, R: Rng>(
     let mut more = most;
     let mut at = first;
     'items: while more != 0 {
-        let cell = match meet(fields, mailbox, lane, at, size) {
-            Look::Cell(cell) => cell,
-            Look::Nothing => return Some(stop(fields, lane, at, Poll::Nothing)),
-            Look::Ended => return Some(stop(fields, lane, at, Poll::Ended)),
-        };
+        let link = meet(fields, mailbox, lane, at, size.lanes);
+        // One comparison tells whether the link leads to a cell.
+        let cell = link.wrapping_sub(1);
+        if cell >= u64::from(size.cells) {
+            return Some(stop(fields, lane, at, answer_at(link)));
+        }
+        let cell = cell as u32;
         at = Cursor::past(cell);
         match settle(fields, mailbox, lane, cell, number, rng) {
             Poll::Lost(_) => more -= 1,

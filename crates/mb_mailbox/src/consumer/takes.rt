@@ -61,8 +61,10 @@ impl<A: Allocator + Drop> Consumer<A> {
             if let Some(answer) = self.pass_lost(mailbox, lane, &mut left, rng) {
                 return answer;
             }
-            match self.poll_apart(mailbox, lane, &mut left, rng) {
-                Poll::Lost(_) => {}
+            // A copy goes in, so that `left` itself can stay in a register.
+            let mut rest = left;
+            match self.poll_apart(mailbox, lane, &mut rest, rng) {
+                Poll::Lost(_) => left = rest,
                 answer => return answer,
             }
         }

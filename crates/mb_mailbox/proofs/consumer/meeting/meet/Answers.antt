@@ -1,6 +1,7 @@
 -- Proof of `meet`: loads the link at a cursor before which the consumer stands.
 use Rattle.std.proofs.Common.{[], ◌≡◌, ◌≢◌, ◌∙◌, ◌+◌, ◌<◌, ℕ, ap, refl, subst, sym}
 use Rattle.std.specs.Prelude.{None, Some, slice_set}
+use Rattle.mb_cells.specs.Vocabulary.{look_of}
 use Rattle.mb_shared_cells.specs.Vocabulary.{LookMakes}
 use Rattle.mb_world.specs.declared.place.Place.{TheVariants.At, TheVariants.Before}
 use Rattle.mb_mailbox.specs.Imports.{END, IsAccessAfter, IsClaimIn, Look, MayRead, PoolSize, TableSize, consumer_count, load, word_of}
@@ -13,7 +14,7 @@ use Rattle.mb_mailbox.proofs.Lists.{get_some, set_here, set_same, set_twice, som
 use Rattle.mb_mailbox.proofs.Made.{at_views, cells_size, claims_size, known_in, look_made, moved_has}
 use Rattle.mb_mailbox.proofs.Meeting.{look_tells, no_cell, quiet}
 use Rattle.mb_mailbox.proofs.Polls.{history_extends}
-use Rattle.mb_mailbox.proofs.consumer.meeting.meet.{Given.Over, Goals.After-consumer, Goals.After-has_history, Goals.After-look_below}
+use Rattle.mb_mailbox.proofs.consumer.meeting.meet.{Given.Over, Goals.After-consumer, Goals.After-has_history}
 use Rattle.mb_mailbox.proofs.consumer.meeting.meet.Goals as goal
 
 module _ (g : Over) (c : After-has_history g) where
@@ -26,17 +27,9 @@ module _ (g : Over) (c : After-has_history g) where
       let there = get_some c.args.fields.now.places.items c.args.lane c.requires.lane in
       set_here c.args.fields.now.places.items c.args.lane (Before c.args.at) there.0 there.1
 
--- after the load
-module _ (g : Over) (c : After-look_below g) where
-  -- the load is one of the look that `meet` returns
-  made_by : LookMakes c.args.fields.now.reader c.args.at c.look_below.result c.link-link.new.seat
-  made_by =
-      subst (λ (l : Look). LookMakes c.args.fields.now.reader c.args.at l c.link-link.new.seat)
-      (sym c.look_below.ensures) c.link-link.ensures.makes
-
-pub link-link-requires-clause-may : goal.link-link-requires-clause-may
-link-link-requires-clause-may g c =
-    let at = (goal.at.link-link-requires-clause-may g c).After-has_history in
+pub link-requires-clause-may : goal.link-requires-clause-may
+link-requires-clause-may g c =
+    let at = (goal.at.link-requires-clause-may g c).After-has_history in
     let f = with_fields c.args.fields.now in
     let size : f.reader.table.size ≡ c.mailbox.inside.cells.size =
     cells_size c.args.mailbox.now f f refl c.requires.belongs
@@ -49,30 +42,29 @@ pub returns-clause-looks : goal.returns-clause-looks
 returns-clause-looks g c places t =
     let at = (goal.at.returns-clause-looks g c).After-has_history in
     let s = seen g at in
-    history_extends c.args.lane (link_answer c.look_below.result) t t s
-    (at_views c.link-link.new.seat s.seat places s.notes)
-    (look_made s s c.args.lane c.args.at c.link-link.new.seat places c.look_below.result
-    (link_answer c.look_below.result) refl
-    (made_by g (goal.at.returns-clause-looks g c).After-look_below) refl (quiet c.look_below.result)
+    history_extends c.args.lane (link_answer (look_of c.link.result)) t t s
+    (at_views c.link.new.seat s.seat places s.notes)
+    (look_made s s c.args.lane c.args.at c.link.new.seat places (look_of c.link.result)
+    (link_answer (look_of c.link.result)) refl c.link.ensures.makes refl (quiet (look_of c.link.result))
     (λ v. c.places_tell_steps.ensures.looks s c.args.lane v c.args.at c.requires.is (place_is g at)) t)
 
 pub returns-clause-waits : goal.returns-clause-waits
 returns-clause-waits g c some =
     let at = (goal.at.returns-clause-waits g c).After-has_history in
     let s = seen g at in
-    let m = made_by g (goal.at.returns-clause-waits g c).After-look_below in
+    let m = c.link.ensures.makes in
     let none = no_cell c.looks_tell_links.ensures.nothing c.looks_tell_links.ensures.ended
-    c.look_below.result m.0 m.1 some in (
+    (look_of c.link.result) m.0 m.1 some in (
       moved_has IsConsumer s c.args.lane (Before c.args.at) None (reads_with_link s c.args.at m.0) s.seat.part
-          c.link-link.new.seat s.seat s.places s.notes
+          c.link.new.seat s.seat s.places s.notes
           (c.consumers_move_on.ensures.waits s c.args.lane m.0 c.args.at c.requires.is c.has_history.ensures
           (place_is g at) none) m.2.1 refl (sym (set_same s.places c.args.lane (Before c.args.at)
           (place_is g at))) refl,
-      look_tells c.args.lane c.args.at s (record s { reader = c.link-link.new.seat }) c.link-link.new.seat
-          (c.answers_tell_lanes.ensures.nothing s c.args.lane c.args.at c.link-link.new.seat c.requires.is
+      look_tells c.args.lane c.args.at s (record s { reader = c.link.new.seat }) c.link.new.seat
+          (c.answers_tell_lanes.ensures.nothing s c.args.lane c.args.at c.link.new.seat c.requires.is
           c.has_history.ensures (place_is g at))
-          (c.answers_tell_lanes.ensures.ended s c.args.lane c.args.at c.link-link.new.seat c.requires.is
-          c.has_history.ensures (place_is g at)) c.look_below.result m some,
+          (c.answers_tell_lanes.ensures.ended s c.args.lane c.args.at c.link.new.seat c.requires.is
+          c.has_history.ensures (place_is g at)) (look_of c.link.result) m some,
     )
 
 pub returns-clause-finds : goal.returns-clause-finds
@@ -86,8 +78,7 @@ returns-clause-finds g c k found =
     known_in c.args.mailbox.now f f refl c.requires.belongs c.consumer.result c.consumer.ensures.exact
     c.consumer.ensures.known in
     let new = c.claims_begin_objects.ensures.new layout d known in
-    let m = subst (λ (l : Look). LookMakes s.reader c.args.at l c.link-link.new.seat) found
-    (made_by g (goal.at.returns-clause-finds g c).After-look_below) in
+    let m = subst (λ (l : Look). LookMakes s.reader c.args.at l c.link.new.seat) found c.link.ensures.makes in
     let is = c.looks_tell_links.ensures.cell m.0 k (sym m.1) in
     let real : k + 1 ≢ END = λ z. is.1 (is.0 ∙ z) in
     let comes = subst (λ n. IsAccessAfter s.reader.table.size s.reader.known
@@ -99,14 +90,21 @@ returns-clause-finds g c k found =
     let done = c.consumers_move_on.ensures.finds s c.args.lane k c.args.at new.0
     c.requires.is c.has_history.ensures (place_is g at) real comes
     (standing_own layout d 0 d new.0 new.1) (standing_going layout d 0 d new.0 new.1) turns in
-    let there : c.link-link.new.seat ≡ record s.reader { part = reads_with_link s c.args.at (k + 1) } =
+    let there : c.link.new.seat ≡ record s.reader { part = reads_with_link s c.args.at (k + 1) } =
     m.2.1 ∙ ap (λ (n : ℕ). record s.reader { part = reads_with_link s c.args.at n }) is.0 in
     record {
       lane = c.requires.lane;
       claim = new.0;
       standing = new.1;
       is = moved_has IsConsumer s c.args.lane (At k new.0) None (reads_with_link s c.args.at (k + 1))
-          s.seat.part c.link-link.new.seat s.seat
+          s.seat.part c.link.new.seat s.seat
           (slice_set f.places c.args.lane (At k new.0)) s.notes done there refl
           (sym (set_twice f.places c.args.lane (Before c.args.at) (At k new.0))) refl;
     }
+
+pub returns-clause-within : goal.returns-clause-within
+returns-clause-within g c k e = (
+  (c.looks_tell_links.ensures.cell c.link.result k e).0,
+  subst (λ (z : PoolSize). k < z.cells) (ap (λ (v : MailboxView). v.cells.size) c.mailbox.view_is)
+      (c.link.ensures.within k e),
+)

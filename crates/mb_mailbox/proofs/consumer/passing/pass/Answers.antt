@@ -1,21 +1,23 @@
 -- Proof of `pass`: goes on past items that the consumer loses, with the cursor in a variable.
-use Rattle.std.proofs.Common.{◌≡◌, ◌≢◌, ◌∙◌, ◌+◌, ◌-◌, ◌/◌, ◌<◌, ◌≤◌, ℕ, List, [], ◌∷◌, ap, arith, length, refl, subst, sym}
+use Rattle.std.proofs.Common.{◌≡◌, ◌≢◌, ◌∙◌, ◌+◌, ◌-◌, ◌/◌, ◌%◌, ◌<◌, ◌≤◌, ℕ, List, [], ◌∷◌, ap, arith, length, ne_eqb, refl, subst, sym}
 use Rattle.std.specs.Prelude.{None, Option, Some, slice_set}
+use Rattle.mb_cells.specs.Vocabulary.{look_of}
+use Rattle.mb_cells.specs.declared.answer.Look.TheVariants as look
 use Rattle.mb_cells.specs.declared.cursor.Cursor.TheVariants.{Past}
 use Rattle.mb_mailbox.specs.declared.consumer.Poll.TheVariants as poll
 use Rattle.mb_world.specs.declared.place.Place.{Place, TheVariants.At, TheVariants.Before}
-use Rattle.mb_mailbox.specs.Imports.{CellsName, Cursor, ReaderSeatView, SeatView, Stream}
+use Rattle.mb_mailbox.specs.Imports.{CellsName, Cursor, END, Look, PoolSize, ReaderSeatView, SeatView, Stream}
 use Rattle.mb_mailbox.specs.ConsumerStep.{link_answer}
-use Rattle.mb_mailbox.specs.ConsumerWords.{AnswerTells, AreSteps, ConsumerView, IsConsumer, IsConsumerOf, IsPursuit, Poll, at_link, claim_takes, with_fields}
+use Rattle.mb_mailbox.specs.ConsumerWords.{AnswerTells, AreSteps, ConsumerView, IsConsumer, IsConsumerOf, IsPursuit, Poll, at_link, claim_takes, holding, with_fields}
 use Rattle.mb_mailbox.specs.Jobs.{accesses_made}
 use Rattle.mb_mailbox.specs.{LaneNotes.NotesView, Mailboxes.MailboxView, NoteLists.HasAllRoom}
 use Rattle.mb_mailbox.specs.{Pursuits.IsOfClaim, Steps.{IsPollOf, outcome}}
 use Rattle.mb_mailbox.specs.Takes.{IsPollOfRest, IsTakeOf}
 use Rattle.mb_mailbox.proofs.Ending.{left_by, poll_by, pursuit_tells, still_of}
-use Rattle.mb_mailbox.proofs.Lists.{set_same}
+use Rattle.mb_mailbox.proofs.Lists.{set_same, some_same}
 use Rattle.mb_mailbox.proofs.Polls.{poll_of}
 use Rattle.mb_mailbox.proofs.Takes.{HasPassedTo, rest_of, take_by}
-use Rattle.mb_mailbox.proofs.consumer.passing.pass.{Given.Over, Goals.After-meet, Goals.After-settle}
+use Rattle.mb_mailbox.proofs.consumer.passing.pass.{Given.Over, Goals.After-meet-link, Goals.After-settle}
 use Rattle.mb_mailbox.proofs.consumer.passing.pass.Goals as goal
 
 pub items-init : goal.items-init
@@ -27,15 +29,18 @@ items-init g c =
     let low = c.saturating_sub-most.ensures in
     let most = c.saturating_sub-most.result / 2 in
     let all : rest_of c.args.left.now most most ≡ c.args.left.now = omega (arith, low) in (
-    record {
-      winners = [];
-      passed = (refl, same);
-      rest = ap (λ n. accesses_made s + n) all;
-      is = subst IsConsumer (sym same) c.requires.is;
-      belongs = c.requires.belongs;
-      wide = c.requires.wide;
-      lane = c.requires.lane;
-    }, omega arith, c.consumer-number.ensures.exact)
+      record {
+        winners = [];
+        passed = (refl, same);
+        rest = ap (λ n. accesses_made s + n) all;
+        is = subst IsConsumer (sym same) c.requires.is;
+        belongs = c.requires.belongs;
+        wide = c.requires.wide;
+        lane = c.requires.lane;
+      },
+      omega arith,
+      c.consumer-number.ensures.exact,
+    )
 
 -- if the table and the notes are the same, there still is room for a note on each cell
 wide_still : (m : MailboxView) (was now : ReaderSeatView) (old new : NotesView) → was.table ≡
@@ -59,8 +64,33 @@ takes_few poll.NoLane = (omega arith, omega arith)
 enough : (left most more : ℕ) → most ≡ (left - 1) / 2 → more ≤ most → more ≢ 0 → 3 ≤ rest_of left most more
 enough left most more half low some = omega (arith, half, low, some)
 
+-- what `link.wrapping_sub(1)` is
+abbrev less_one : ℕ → ℕ
+less_one link = (link + 18446744073709551615) % 18446744073709551616
+
+-- a link that is one more than a number below that of the cells leads to the cell of that number
+cell_here : (size here : PoolSize) (link bound : ℕ) → bound ≡ size.cells → size ≡ here → link < 18446744073709551616
+    → less_one link < bound → here.cells < 4294967296 → look_of link ≡ look.Cell (less_one link)
+cell_here size here link bound is same wide low few =
+    let cells = ap (λ (z : PoolSize). z.cells) same in
+    let some : link ≢ 0 = λ (e : link ≡ 0). absurd (omega (arith, e, low, is, cells, few)) in
+    let real : link ≢ END = λ (e : link ≡ END). absurd (omega (arith, e, low, is, cells, few)) in
+    let one : link - 1 ≡ less_one link = omega (arith, some, wide) in
+    subst (λ n. look_of link ≡ look.Cell n) one (rw (ne_eqb link 0 some, ne_eqb link END real) refl)
+
+-- the answer of a link that leads to no cell is an outcome, and no loss
+idle : (l : Look) (x : Poll) → link_answer l ≡ Some x
+    → (outcome x ≡ link_answer l) × (x ≢ poll.Spent) × ((w : ℕ) → x ≢ poll.Lost w) × (None ≢ Some x)
+idle look.Nothing x e = subst (λ y. (outcome y ≡ Some poll.Nothing) × (y ≢ poll.Spent)
+    × ((w : ℕ) → y ≢ poll.Lost w) × (None ≢ Some y)) (some_same poll.Nothing x e)
+    (refl, (λ f. cc), (λ w f. cc), (λ f. cc))
+idle look.Ended x e = subst (λ y. (outcome y ≡ Some poll.Ended) × (y ≢ poll.Spent)
+    × ((w : ℕ) → y ≢ poll.Lost w) × (None ≢ Some y)) (some_same poll.Ended x e)
+    (refl, (λ f. cc), (λ w f. cc), (λ f. cc))
+idle (look.Cell k) x e = absurd (cc)
+
 -- after the load of a link
-module _ (g : Over) (c : After-meet g) where
+module _ (g : Over) (c : After-meet-link g) where
   -- what is left of the budget
   abbrev rest : ℕ
   rest = rest_of c.args.left.now (c.saturating_sub-most.result / 2) c.items.more
@@ -74,15 +104,15 @@ module _ (g : Over) (c : After-meet g) where
   waiting = at_link c.args.lane c.items.at (with_fields c.items.fields)
 
   abbrev met : ConsumerView
-  met = with_fields c.meet.new.fields
+  met = with_fields c.meet-link.new.fields
 
   abbrev words : Stream
   words = g.R.Rng.stream c.items.rng
 
   -- if the load comes to an answer, which is no loss, the polls so far and this load make a take
-  look_ends : (answer : Poll) (new : ConsumerView) → outcome answer ≡ link_answer c.meet.result
+  look_ends : (answer : Poll) (new : ConsumerView) → outcome answer ≡ link_answer (look_of c.meet-link.result)
       → answer ≢ poll.Spent → ((w : ℕ) → answer ≢ poll.Lost w)
-      → new ≡ at_link c.args.lane c.items.at met → link_answer c.meet.result ≢ None
+      → new ≡ at_link c.args.lane c.items.at met → link_answer (look_of c.meet-link.result) ≢ None
       → IsTakeOf c.args.lane c.args.left.now answer (g.R.Rng.stream c.args.rng.now) words
       (with_fields c.args.fields.now) new
       × AnswerTells c.args.lane (outcome answer) (with_fields c.args.fields.now) new
@@ -90,22 +120,22 @@ module _ (g : Over) (c : After-meet g) where
       let p = c.args.lane in
       let inv = c.items.invariant.0 in
       let steps = subst (λ (z : Option Poll × ConsumerView). AreSteps p 1 z.0 words words waiting z.1)
-      (λ i. (sym same i, sym is i)) (c.meet.ensures.looks (slice_set c.meet.new.fields.places.items p
+      (λ i. (sym same i, sym is i)) (c.meet-link.ensures.looks (slice_set c.meet-link.new.fields.places.items p
       (Before c.items.at)) words) in
       let tells = subst (λ (z : Option Poll × ConsumerView). AnswerTells p z.0 waiting z.1)
-      (λ i. (sym same i, sym is i)) (c.meet.ensures.waits told).1 in
+      (λ i. (sym same i, sym is i)) (c.meet-link.ensures.waits told).1 in
       take_by p c.args.left.now rest inv.winners answer (g.R.Rng.stream c.args.rng.now) words words
       (with_fields c.args.fields.now) waiting new inv.passed inv.rest
       (poll_of p 1 rest answer words words waiting new steps (omega (arith, room))
       (λ e. absurd (some e))) over tells
 
   -- if the load comes to an answer, `IsConsumer` and `IsConsumerOf` still hold of the consumer
-  look_keeps : (new : ConsumerView) → new ≡ at_link c.args.lane c.items.at met → link_answer c.meet.result ≢ None
-      → IsConsumer new × IsConsumerOf c.args.mailbox.now new
+  look_keeps : (new : ConsumerView) → new ≡ at_link c.args.lane c.items.at met
+      → link_answer (look_of c.meet-link.result) ≢ None → IsConsumer new × IsConsumerOf c.args.mailbox.now new
   look_keeps new is told = (
-    subst IsConsumer (sym is) (c.meet.ensures.waits told).0,
+    subst IsConsumer (sym is) (c.meet-link.ensures.waits told).0,
     subst (λ z. IsConsumerOf c.args.mailbox.now z) (sym is)
-        (record { cells = c.meet.ensures.belongs.cells; claims = c.meet.ensures.belongs.claims }),
+        (record { cells = c.meet-link.ensures.belongs.cells; claims = c.meet-link.ensures.belongs.claims }),
   )
 
 -- after `settle`, which makes the accesses of the new claim
@@ -122,7 +152,7 @@ module _ (g : Over) (c : After-settle g) where
 
   -- the consumer past the cell
   abbrev past : ConsumerView
-  past = at_link c.args.lane (Past c.in-Cell.cell) (with_fields c.settle.new.fields)
+  past = at_link c.args.lane (Past (less_one c.meet-link.result)) (with_fields c.settle.new.fields)
 
   -- `t` and `u` are the source before the claim and after it
   abbrev t : Stream
@@ -131,13 +161,23 @@ module _ (g : Over) (c : After-settle g) where
   abbrev u : Stream
   u = g.R.Rng.stream c.settle.new.rng
 
+  -- the link leads to the cell
+  found : look_of c.meet-link.result ≡ look.Cell (less_one c.meet-link.result)
+  found =
+      cell_here c.size-size.result c.args.mailbox.now.cells.size c.meet-link.result c.from.result c.from.ensures
+      (c.size-size.ensures ∙ ap (λ (v : MailboxView). v.cells.size) c.mailbox.view_is) (omega arith)
+      c.if-cell-from.false c.meet-link.ensures.few
+
   -- after one access, the load of the link, `IsPursuit` holds of the claim, whatever is left
   pursued : (left : ℕ)
       → IsPursuit c.args.lane 1 (claim_takes c.settle.result + left) left c.settle.result t u from past
   pursued left =
-      let held = c.in-Cell.ensures.finds c.in-Cell.cell refl in
+      let held = c.meet-link.ensures.finds (less_one c.meet-link.result) found in
       c.settle.ensures.pursued from 1 left t held.claim held.standing
-      (c.in-Cell.ensures.looks (slice_set c.meet.new.fields.places.items c.args.lane (At c.in-Cell.cell held.claim)) t)
+      (subst (λ (l : Look). AreSteps c.args.lane 1 (link_answer l) t t from
+      (holding c.args.lane (less_one c.meet-link.result) held.claim (with_fields c.meet-link.new.fields))) found
+      (c.meet-link.ensures.looks (slice_set c.meet-link.new.fields.places.items c.args.lane
+      (At (less_one c.meet-link.result) held.claim)) t))
 
   -- the load of the link and the claim make a poll whose budget is `rest`, and which leaves `left` of it
   polled : (left : ℕ) → claim_takes c.settle.result + left + 1 ≡ before
@@ -159,7 +199,7 @@ module _ (g : Over) (c : After-settle g) where
   -- the lane still has a place
   lanes : c.args.lane < length c.settle.new.fields.places.items
   lanes = subst (λ (ps : List Place). c.args.lane < length ps)
-      (sym (c.settle.ensures.places ∙ c.meet.ensures.places)) c.items.invariant.0.lane
+      (sym (c.settle.ensures.places ∙ c.meet-link.ensures.places)) c.items.invariant.0.lane
 
   -- if the claim is not lost, the polls make a take with its answer, and `AnswerTells` holds of that answer
   claim_ends : (answer : Poll) (new : ConsumerView) → answer ≡ c.settle.result
@@ -181,21 +221,30 @@ module _ (g : Over) (c : After-settle g) where
       (with_fields c.args.fields.now) from past inv.passed inv.rest (polled left sum).0 over
       (pursuit_tells p 1 (claim_takes x + left) left x t u from from past (pursued left)))
 
-pub meet-requires : goal.meet-requires
-meet-requires g c =
-    let inv = c.items.invariant.0 in record { is = inv.is; lane = inv.lane; belongs = inv.belongs;
-      size = c.size-size.ensures ∙ ap (λ (v : MailboxView). v.cells.size) c.mailbox.view_is }
+pub meet-link-requires : goal.meet-link-requires
+meet-link-requires g c =
+    let inv = c.items.invariant.0 in record {
+      is = inv.is;
+      lane = inv.lane;
+      belongs = inv.belongs;
+      lanes = ap (λ (z : PoolSize). z.lanes)
+          (c.size-size.ensures ∙ ap (λ (v : MailboxView). v.cells.size) c.mailbox.view_is);
+    }
 
 pub settle-requires : goal.settle-requires
 settle-requires g c =
     let inv = c.items.invariant.0 in
     record {
-      held = c.in-Cell.ensures.finds c.in-Cell.cell refl;
-      belongs = c.in-Cell.ensures.belongs;
-      wide = wide_still c.args.mailbox.now c.items.fields.reader c.meet.new.fields.reader c.items.fields.notes
-          c.meet.new.fields.notes inv.belongs.cells c.meet.ensures.belongs.cells c.meet.ensures.notes inv.wide;
+      held = c.meet-link.ensures.finds (less_one c.meet-link.result)
+          (cell_here c.size-size.result c.args.mailbox.now.cells.size c.meet-link.result c.from.result c.from.ensures
+          (c.size-size.ensures ∙ ap (λ (v : MailboxView). v.cells.size) c.mailbox.view_is) (omega arith)
+          c.if-cell-from.false c.meet-link.ensures.few);
+      belongs = c.meet-link.ensures.belongs;
+      wide = wide_still c.args.mailbox.now c.items.fields.reader c.meet-link.new.fields.reader c.items.fields.notes
+          c.meet-link.new.fields.notes inv.belongs.cells c.meet-link.ensures.belongs.cells c.meet-link.ensures.notes
+          inv.wide;
       alone = c.requires.alone;
-      number = c.items.invariant.2 ∙ sym (ap (λ (v : SeatView). v.consumer) c.meet.ensures.seat);
+      number = c.items.invariant.2 ∙ sym (ap (λ (v : SeatView). v.consumer) c.meet-link.ensures.seat);
     }
 
 pub items-smaller : goal.items-smaller
@@ -222,55 +271,51 @@ items-preserved g c =
       left = before g at;
       rest = inv.rest;
       poll = subst (λ x. IsPollOf p (before g at) x (t g at) (u g at) (from g at) (past g at)) lost one.0;
-    } in
-    (subst (λ (z : Cursor × ℕ). HasPassedTo c.args.mailbox.now p budget (g.R.Rng.stream c.args.rng.now) (u g at)
-    (with_fields c.args.fields.now) z.0 c.settle.new.fields z.1) (λ i. (sym c.past-at.ensures i, goes i))
-    (record {
-      winners = w ∷ inv.winners;
-      passed = (t g at, from g at, inv.passed, last);
-      rest = let more = one.1 in let rest = inv.rest in omega (arith, more, rest);
-      is = (pursued g at 0).is;
-      belongs = record { cells = (still g at).cells; claims = (still g at).claims };
-      wide = c.settle.ensures.wide;
-      lane = lanes g at;
-    }), omega (arith, fewer), c.settle.ensures.number)
+    } in (
+      subst (λ (z : Cursor × ℕ). HasPassedTo c.args.mailbox.now p budget (g.R.Rng.stream c.args.rng.now) (u g at)
+          (with_fields c.args.fields.now) z.0 c.settle.new.fields z.1) (λ i. (sym c.past-at.ensures i, goes i))
+          (record {
+            winners = w ∷ inv.winners;
+            passed = (t g at, from g at, inv.passed, last);
+            rest = let more = one.1 in let rest = inv.rest in omega (arith, more, rest);
+            is = (pursued g at 0).is;
+            belongs = record { cells = (still g at).cells; claims = (still g at).claims };
+            wide = c.settle.ensures.wide;
+            lane = lanes g at;
+          }),
+      omega (arith, fewer),
+      c.settle.ensures.number,
+    )
 
 -- ---- `stop` needs that the lane has a place
 pub stop-requires : goal.stop-requires
 stop-requires g c =
-    subst (λ (ps : List Place). c.args.lane < length ps) (sym c.meet.ensures.places) c.items.invariant.0.lane
+    subst (λ (ps : List Place). c.args.lane < length ps) (sym c.meet-link.ensures.places) c.items.invariant.0.lane
 
-pub stop-requires-in-Ended : goal.stop-requires-in-Ended
-stop-requires-in-Ended g c =
-    subst (λ (ps : List Place). c.args.lane < length ps) (sym c.meet.ensures.places) c.items.invariant.0.lane
+-- the link leads to no cell, since it would be one of the table's
+pub answer_at-requires : goal.answer_at-requires
+answer_at-requires g c k e =
+    let low = c.meet-link.ensures.within k e in
+    let from = c.from.ensures in
+    let cells = ap (λ (z : PoolSize). z.cells)
+    (c.size-size.ensures ∙ ap (λ (v : MailboxView). v.cells.size) c.mailbox.view_is) in
+    let high = c.if-cell-from.true in
+    let few = c.meet-link.ensures.few in
+    absurd (omega (arith, low, from, cells, high, few))
 
-pub returns-in-Nothing-clause-taken : goal.returns-in-Nothing-clause-taken
-returns-in-Nothing-clause-taken g c =
-    let at = (goal.at.returns-in-Nothing-clause-taken g c).After-meet in
-    let found : link_answer c.meet.result ≡ Some poll.Nothing = ap link_answer c.in-Nothing.is in
-    let same = c.stop.ensures.answer in
-    look_ends g at c.stop.result (with_fields c.stop.new.fields) (ap outcome same ∙ sym found) (λ e. cc) (λ w e. cc)
-    c.stop.ensures.view (λ e. cc)
+pub returns-then-cell-from-clause-taken : goal.returns-then-cell-from-clause-taken
+returns-then-cell-from-clause-taken g c =
+    let at = (goal.at.returns-then-cell-from-clause-taken g c).After-meet-link in
+    let is = idle (look_of c.meet-link.result) c.answer_at.result c.answer_at.ensures in
+    look_ends g at c.stop.result (with_fields c.stop.new.fields) (ap outcome c.stop.ensures.answer ∙ is.0)
+    (λ e. is.1 (sym c.stop.ensures.answer ∙ e)) (λ w e. is.2 w (sym c.stop.ensures.answer ∙ e)) c.stop.ensures.view
+    (λ e. is.3 (sym e ∙ c.answer_at.ensures))
 
-pub returns-in-Nothing-clause-is : goal.returns-in-Nothing-clause-is
-returns-in-Nothing-clause-is g c =
-    let at = (goal.at.returns-in-Nothing-clause-is g c).After-meet in
-    let found : link_answer c.meet.result ≡ Some poll.Nothing = ap link_answer c.in-Nothing.is in
-    (look_keeps g at (with_fields c.stop.new.fields) c.stop.ensures.view (λ e. cc)).0
-
-pub returns-in-Ended-clause-taken : goal.returns-in-Ended-clause-taken
-returns-in-Ended-clause-taken g c =
-    let at = (goal.at.returns-in-Ended-clause-taken g c).After-meet in
-    let found : link_answer c.meet.result ≡ Some poll.Ended = ap link_answer c.in-Ended.is in
-    let same = c.stop-in-Ended.ensures.answer in
-    look_ends g at c.stop-in-Ended.result (with_fields c.stop-in-Ended.new.fields) (ap outcome same ∙ sym found)
-    (λ e. cc) (λ w e. cc) c.stop-in-Ended.ensures.view (λ e. cc)
-
-pub returns-in-Ended-clause-is : goal.returns-in-Ended-clause-is
-returns-in-Ended-clause-is g c =
-    let at = (goal.at.returns-in-Ended-clause-is g c).After-meet in
-    let found : link_answer c.meet.result ≡ Some poll.Ended = ap link_answer c.in-Ended.is in
-    (look_keeps g at (with_fields c.stop-in-Ended.new.fields) c.stop-in-Ended.ensures.view (λ e. cc)).0
+pub returns-then-cell-from-clause-is : goal.returns-then-cell-from-clause-is
+returns-then-cell-from-clause-is g c =
+    let at = (goal.at.returns-then-cell-from-clause-is g c).After-meet-link in
+    let is = idle (look_of c.meet-link.result) c.answer_at.result c.answer_at.ensures in
+    (look_keeps g at (with_fields c.stop.new.fields) c.stop.ensures.view (λ e. is.3 (sym e ∙ c.answer_at.ensures))).0
 
 pub returns-in_default : goal.returns-in_default
 returns-in_default g c =
