@@ -8,10 +8,10 @@ use Rattle.std.proofs.lemmas.List.Sums.{sum_by-cons}
 use Rattle.mb_world.specs.Theorem.{DiaryView}
 use Rattle.mb_mailbox.specs.Filling.{AreEmptyDiaries, with_notes}
 use Rattle.mb_mailbox.specs.Imports.{Lost, Note}
-use Rattle.mb_mailbox.specs.LaneNotes.{AreFiled, AreLosses, Noted, all_told, by_lane, noted, on_lane, on_lanes, told, word_at, words_among, words_in}
+use Rattle.mb_mailbox.specs.LaneNotes.{AreFiled, AreLosses, AreMarked, Noted, all_told, by_lane, noted, on_lane, on_lanes, told, word_at, words_among, words_in}
 use Rattle.mb_mailbox.specs.Steps.{notes_on, with_note}
-use Rattle.mb_mailbox.specs.declared.notes.Mark.{Mark}
-use Rattle.mb_mailbox.specs.declared.notes.Mark.TheVariants as mark
+use Rattle.mb_mailbox.specs.declared.notes.marks.Mark.{Mark}
+use Rattle.mb_mailbox.specs.declared.notes.marks.Mark.TheVariants as mark
 use Rattle.mb_mailbox.proofs.Lists.{map_get, map_set, set_here, set_same, set_twice, some_same}
 use Rattle.mb_mailbox.proofs.Marked.{among_end, among_losses, few_words, told_last, told_length, told_losses}
 
@@ -23,6 +23,14 @@ lanes_count p (suc n) xs = ap suc (lanes_count (suc p) n xs)
 
 pub lanes_counted : (n : ℕ) (xs : List Noted) → length (by_lane n xs) ≡ n
 lanes_counted n xs = lanes_count 0 n xs
+
+-- a lane of marked notes is one of at most 16
+pub lane_low : (p lanes : ℕ) (ms : List Mark) (ws : List ℕ) (ls : List (List Note)) → AreMarked lanes ms ws
+    → by_lane lanes (all_told ms ws) ≡ ls → p < length ls → p < 16
+lane_low p lanes ms ws ls are is low =
+    let count = ap length (sym is) ∙ lanes_counted lanes (all_told ms ws) in
+    let few = are.few in
+    omega (arith, low, count, few)
 
 -- ---- an empty list, cut by lane
 -- cut by lane, the empty list becomes an empty list for each lane

@@ -5,8 +5,8 @@ use Rattle.std.specs.Prelude.{Option, Some, None}
 use Rattle.std.specs.Option.{option_map_or}
 use Rattle.mb_mailbox.specs.Imports.{Lost}
 use Rattle.mb_mailbox.specs.LaneNotes.{Noted, all_told, noted, told, told_from, word_at, words_among, words_in}
-use Rattle.mb_mailbox.specs.declared.notes.Mark.{Mark}
-use Rattle.mb_mailbox.specs.declared.notes.Mark.TheVariants as mark
+use Rattle.mb_mailbox.specs.declared.notes.marks.Mark.{Mark}
+use Rattle.mb_mailbox.specs.declared.notes.marks.Mark.TheVariants as mark
 
 -- ---- how many notes, marks and words there are
 -- there are as many notes as marks
@@ -29,6 +29,13 @@ few_words (m ∷ ms) = let one = one_word m in let rest = few_words ms in omega 
 pub among_end : (ms : List Mark) (m : Mark) → words_among (ms ++ m ∷ []) ≡ words_among ms + words_in m
 among_end [] m = omega arith
 among_end (x ∷ ms) m = let rest = among_end ms m in omega (arith, rest)
+
+-- a mark's word does not change the lane of its note
+pub told_lane : (m : Mark) (w : ℕ) → (told m 0).lane ≡ (told m w).lane
+told_lane (mark.Took p) w = refl
+told_lane (mark.Lost p v) w = refl
+told_lane (mark.LostFar p) w = refl
+told_lane (mark.Undecided p) w = refl
 
 -- ---- a mark at the end
 -- a mark at the end adds one note at the end. The note's word is the first after the words of the marks before

@@ -1,12 +1,12 @@
 -- The notes of a consumer in the order of time. Each is stored as a mark, which has its lane, and for some marks a
 -- word more. Then the same notes lane by lane, and diaries filled from marks.
-use Rattle.std.specs.Prelude.{ℕ, zero, suc, ◌≡◌, ◌+◌, ◌^◌, ◌≤◌, List, [], ◌∷◌, ◌++◌, if◌then◌else◌, length, map, nat_eq, nat_lt, slice_get, sum_by, take}
+use Rattle.std.specs.Prelude.{ℕ, zero, suc, ◌≡◌, ◌+◌, ◌-◌, ◌^◌, ◌≤◌, List, [], ◌∷◌, ◌++◌, if◌then◌else◌, length, map, nat_eq, nat_lt, slice_get, sum_by, take}
 use Rattle.std.specs.Option.{option_map_or}
 use Rattle.mb_world.specs.Theorem.{DiaryView}
 use Rattle.mb_mailbox.specs.Imports.{Note}
 use Rattle.mb_mailbox.specs.Imports.{Took, Lost, Undecided}
-use Rattle.mb_mailbox.specs.declared.notes.Mark.{Mark}
-use Rattle.mb_mailbox.specs.declared.notes.Mark.TheVariants as mark
+use Rattle.mb_mailbox.specs.declared.notes.marks.Mark.{Mark}
+use Rattle.mb_mailbox.specs.declared.notes.marks.Mark.TheVariants as mark
 
 -- what proofs see of a consumer's notes: those on each lane, and how many there is room for on all lanes together
 pub record NotesView : Type 0 where
@@ -55,6 +55,14 @@ told (mark.Took p) x = noted p (Took x)
 told (mark.Lost p w) x = noted p (Lost w)
 told (mark.LostFar p) x = noted p (Lost (if nat_lt x (2 ^ 32) then x else 0))
 told (mark.Undecided p) x = noted p Undecided
+
+-- the mark that these two bytes stand for: 16 times its kind, and its lane, in the first, and the winner in the other
+abbrev pub unpacked : ℕ → ℕ → Mark
+unpacked h w =
+    if nat_lt h 16 then mark.Took h
+    else if nat_lt h 32 then mark.Lost (h - 16) w
+    else if nat_lt h 48 then mark.LostFar (h - 32)
+    else mark.Undecided (h - 48)
 
 -- the word at a place, or 0 past the last
 abbrev pub word_at : List ℕ → ℕ → ℕ

@@ -1,56 +1,20 @@
-//! The notes of a consumer on all lanes, in the order of time. Each has a mark of three bytes. A second list has a word
+//! The notes of a consumer on all lanes, in the order of time. Each has a mark of two bytes. A second list has a word
 //! for each note that needs one: the item of a `Took` note, or a winner's number above 255. Both lists have room from
 //! the beginning for one note on each cell of the mailbox, and a consumer never has more notes.
+mod marks;
+
 ghost use Rattle.std.specs.Prelude.{◌≡◌, ◌+◌, ◌^◌, ◌<◌, ◌≤◌, ◌++◌, ◌∷◌, ℕ, List, [], IfOk, Some, length, map, take, vec_capacity, vec_len};
 ghost use Rattle.std.specs.Option.{option_map_or};
-ghost use Rattle.mb_mailbox.specs.LaneNotes.{AreFiled, AreLosses, noted, told, word_at, words_among, words_in};
+ghost use Rattle.mb_mailbox.specs.LaneNotes.{AreFiled, AreLosses, told, word_at, words_among, words_in};
 ghost use Rattle.mb_mailbox.specs.Filling.{with_notes};
 ghost use Rattle.mb_mailbox.specs.Steps.{with_note};
 
+use crate::notes::marks::{Mark, PackedMark, marked};
 use crate::spare::trim;
 use mb_cells::NoMemory;
 use mb_world::{Diary, Note};
 use std::alloc::Allocator;
 use std::marker::Model;
-
-/// The kind of a note and its lane. For some kinds the list of words has a word, too.
-#[derive(Clone, Copy)]
-pub(crate) enum Mark {
-    /// The item is the next of the words.
-    Took { lane: u8 },
-    Lost { lane: u8, to: u8 },
-    /// The winner's number is the next of the words, since it has more than eight bits.
-    LostFar { lane: u8 },
-    Undecided { lane: u8 },
-}
-
-const _: () = prove!(size_of::<Mark>() == 3);
-
-/// The mark of a note on this lane, and its word if it needs one.
-#[inline(always)]
-fn marked(lane: u8, note: Note) -> (Mark, Option<u64>)
-    ensures word { words_in result.0 ≡ option_map_or (λ w. 1) result.1 0 }
-    ensures told { told result.0 (option_map_or (λ w. w) result.1 0) ≡ noted lane note }
-{
-    match note {
-        Note::Took(item) => (Mark::Took { lane }, Some(item)),
-        Note::Lost(to) if to < 256 => (Mark::Lost { lane, to: to as u8 }, None),
-        Note::Lost(to) => (Mark::LostFar { lane }, Some(to as u64)),
-        Note::Undecided => (Mark::Undecided { lane }, None),
-    }
-}
-
-impl Mark {
-    /// The lane of the note.
-    fn lane(self) -> u8 {
-        match self {
-            Mark::Took { lane } => lane,
-            Mark::Lost { lane, to: _ } => lane,
-            Mark::LostFar { lane } => lane,
-            Mark::Undecided { lane } => lane,
-        }
-    }
-}
 
 /// How many marks ahead a loss on the same lane is looked for. If there is one, those between are most likely losses
 /// there, too. For fewer losses it does not pay to move the diary's list out and back.
@@ -67,7 +31,7 @@ pub(crate) struct PutCounts {
 #[derive(Drop)]
 pub(crate) struct Notes<A: Allocator + Drop> {
     lanes: u32,
-    marks: Vec<Mark, A>,
+    marks: Vec<PackedMark, A>,
     words: Vec<u64, A>,
 }
 
@@ -98,7 +62,7 @@ impl<A: Allocator + Drop> Notes<A> {
         // Naming a field makes the invariant known: there are at most 16 lanes.
         let _ = &self.lanes;
         let (mark, word) = marked(lane as u8, note);
-        self.marks.push_reserved(mark);
+        self.marks.push_reserved(mark.pack());
         put_word(&mut self.words, word);
     }
 
@@ -256,7 +220,7 @@ fn add_note<A: Allocator + Drop>(diary: &mut Diary<A>, note: Note) -> Result<(),
 #[inline(always)]
 fn file_singly<A: Allocator + Drop>(
     row: &mut [Diary<A>],
-    marks: &[Mark],
+    marks: &[PackedMark],
     from: usize,
     words: &[u64],
     read: &mut usize,
@@ -270,8 +234,8 @@ fn file_singly<A: Allocator + Drop>(
 {
     let mut at = from;
     while at < marks.len() {
-        let mark = marks[at];
-        file_mark(row, mark, words, read)?;
+        let mark = &marks[at];
+        file_mark(row, mark.mark(), words, read)?;
         at += 1;
         if is_run(mark.lane(), marks, at) {
             break;
@@ -282,10 +246,10 @@ fn file_singly<A: Allocator + Drop>(
 
 /// Whether the mark [`AHEAD`] places on is a loss on this lane. This only guesses whether the marks between are, too.
 #[inline(always)]
-fn is_run(lane: u8, marks: &[Mark], from: usize) -> bool {
+fn is_run(lane: u8, marks: &[PackedMark], from: usize) -> bool {
     match marks.get(from.wrapping_add(AHEAD)) {
-        Some(Mark::Lost { lane: of, to: _ }) => *of == lane,
-        _ => false,
+        Some(mark) => mark.is_loss_on(lane),
+        None => false,
     }
 }
 
@@ -294,7 +258,7 @@ fn is_run(lane: u8, marks: &[Mark], from: usize) -> bool {
 #[inline(always)]
 fn file_losses<A: Allocator + Clone + Drop>(
     row: &mut [Diary<A>],
-    marks: &[Mark],
+    marks: &[PackedMark],
     from: usize,
     alloc: &A,
 ) -> usize
@@ -305,7 +269,10 @@ fn file_losses<A: Allocator + Clone + Drop>(
     ensures same { map (with_notes []) row.new ≡ map (with_notes []) row.old }
     ensures since { from ≤ result }
 {
-    let Some(Mark::Lost { lane, to: _ }) = marks.get(from).copied() else {
+    let Some(mark) = marks.get(from) else {
+        return from;
+    };
+    let Mark::Lost { lane, to: _ } = mark.mark() else {
         return from;
     };
     if lane as usize >= row.len() {
@@ -324,7 +291,7 @@ fn file_losses<A: Allocator + Clone + Drop>(
 fn add_losses<A: Allocator + Drop>(
     diary: &mut Diary<A>,
     lane: u8,
-    marks: &[Mark],
+    marks: &[PackedMark],
     from: usize,
     alloc: A,
 ) -> usize
@@ -346,7 +313,7 @@ fn add_losses<A: Allocator + Drop>(
 fn losses<A: Allocator + Drop>(
     list: &mut Vec<Note, A>,
     lane: u8,
-    marks: &[Mark],
+    marks: &[PackedMark],
     from: usize,
 ) -> usize
     requires from { from ≤ length marks.now }
@@ -359,7 +326,7 @@ fn losses<A: Allocator + Drop>(
     let ahead = from - list.len();
     let full = list.len() + most;
     while list.len() < full {
-        let Mark::Lost { lane: of, to } = marks[list.len() + ahead] else {
+        let Mark::Lost { lane: of, to } = marks[list.len() + ahead].mark() else {
             break;
         };
         if of != lane {

@@ -9,7 +9,7 @@ use Rattle.mb_mailbox.proofs.notes.file_losses.Goals as goal
 pub add_losses-requires : goal.add_losses-requires
 add_losses-requires g c =
     let ds = c.args.row.now in
-    let p = c.in-Some-Lost.lane in
+    let p = c.in-Lost.lane in
     let d = get_or ds p c.index-row-lane.result in
     let low : p < length ds = omega arith in
     let at : slice_get ds p ≡ Some d = slice_get-get_or ds p c.index-row-lane.result low in
@@ -21,7 +21,7 @@ add_losses-requires g c =
 pub returns : goal.returns
 returns g c =
     let ds = c.args.row.now in
-    let p = c.in-Some-Lost.lane in
+    let p = c.in-Lost.lane in
     let d = get_or ds p c.index-row-lane.result in
     let e = c.add_losses.new.diary in
     let low : p < length ds = omega arith in

@@ -1,6 +1,6 @@
 -- Proof of `file_singly`: adds the notes of marks, one after the other.
-use Rattle.std.proofs.Common.{◌<◌, ◌∙◌, arith, get_or, length, refl}
-use Rattle.mb_mailbox.specs.declared.notes.Mark.TheVariants as mark
+use Rattle.std.proofs.Common.{◌+◌, ◌<◌, ◌∙◌, ap, arith, length}
+use Rattle.mb_mailbox.specs.LaneNotes.{words_in}
 use Rattle.mb_mailbox.proofs.LaneLists.{few_read, filed_more, read_more}
 use Rattle.mb_mailbox.proofs.notes.file_singly.Goals as goal
 
@@ -17,13 +17,15 @@ loop-at-preserved g c =
     let k = c.loop-at.at in
     let low : k < length ms = omega arith in
     let before = c.loop-at.invariant in
-    let more = read_more ms k (mark.Took 0) low in
-    let words = c.file_mark.ensures.read in
+    let d = c.index-marks-at.result in
+    let is = c.mark.ensures ∙ c.index-marks-at.is in
+    let more = read_more ms k d low in
+    let words = c.file_mark.ensures.read ∙ ap (λ m. c.loop-at.read + words_in m) is in
     let read = before.read in
     let since = before.since in
     record {
-      filed = filed_more ms c.args.words.now k c.loop-at.read (get_or ms k (mark.Took 0)) (mark.Took 0) c.loop-at.row
-          c.file_mark.new.row low refl before.read before.filed c.in_ok-file_mark.ensures.notes
+      filed = filed_more ms c.args.words.now k c.loop-at.read c.mark.result d c.loop-at.row
+          c.file_mark.new.row low is before.read before.filed c.in_ok-file_mark.ensures.notes
           c.in_ok-file_mark.ensures.same;
       read = omega (arith, words, read, more);
       same = c.in_ok-file_mark.ensures.same ∙ before.same;
@@ -36,13 +38,15 @@ returns-then-is_run-clause-filed g c =
     let ms = c.args.marks.now in
     let k = c.loop-at.at in
     let before = c.loop-at.invariant in
-    filed_more ms c.args.words.now k c.loop-at.read (get_or ms k (mark.Took 0)) (mark.Took 0) c.loop-at.row
-    c.file_mark.new.row (omega arith) refl before.read before.filed c.in_ok-file_mark.ensures.notes
+    let is = c.mark.ensures ∙ c.index-marks-at.is in
+    filed_more ms c.args.words.now k c.loop-at.read c.mark.result c.index-marks-at.result c.loop-at.row
+    c.file_mark.new.row (omega arith) is before.read before.filed c.in_ok-file_mark.ensures.notes
     c.in_ok-file_mark.ensures.same
 
 pub returns-then-is_run-clause-read : goal.returns-then-is_run-clause-read
 returns-then-is_run-clause-read g c =
-    let more = read_more c.args.marks.now c.loop-at.at (mark.Took 0) (omega arith) in
-    let words = c.file_mark.ensures.read in
+    let is = c.mark.ensures ∙ c.index-marks-at.is in
+    let more = read_more c.args.marks.now c.loop-at.at c.index-marks-at.result (omega arith) in
+    let words = c.file_mark.ensures.read ∙ ap (λ m. c.loop-at.read + words_in m) is in
     let read = c.loop-at.invariant.read in
     omega (arith, words, read, more)

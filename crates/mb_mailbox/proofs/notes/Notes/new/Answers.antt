@@ -1,7 +1,7 @@
 use Rattle.std.proofs.Common.{◌≡◌, List, arith, subst, sym, refl, ℕ}
 use Rattle.std.specs.Prelude.{Some, slice_get}
 use Rattle.mb_mailbox.specs.LaneNotes.{AreMarked, all_told, by_lane}
-use Rattle.mb_mailbox.specs.declared.notes.Mark.{Mark}
+use Rattle.mb_mailbox.specs.declared.notes.marks.Mark.{Mark}
 use Rattle.mb_mailbox.proofs.LaneLists.{lanes_counted, no_lists, none_counted}
 use Rattle.mb_mailbox.proofs.notes.Notes.new.Goals as goal
 
