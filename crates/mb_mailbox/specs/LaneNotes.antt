@@ -1,6 +1,6 @@
 -- The notes of a consumer in the order of time. Each is stored as a mark, which has its lane, and for some marks a
 -- word more. Then the same notes lane by lane, and diaries filled from marks.
-use Rattle.std.specs.Prelude.{ℕ, zero, suc, ◌≡◌, ◌+◌, ◌-◌, ◌^◌, ◌≤◌, List, [], ◌∷◌, ◌++◌, if◌then◌else◌, length, map, nat_eq, nat_lt, slice_get, sum_by, take}
+use Rattle.std.specs.Prelude.{ℕ, zero, suc, ◌≡◌, ◌+◌, ◌-◌, ◌^◌, ◌%◌, ◌≤◌, List, [], ◌∷◌, ◌++◌, if◌then◌else◌, length, map, nat_eq, nat_lt, slice_get, sum_by, take}
 use Rattle.std.specs.Option.{option_map_or}
 use Rattle.mb_world.specs.Theorem.{DiaryView}
 use Rattle.mb_mailbox.specs.Imports.{Note}
@@ -56,11 +56,12 @@ told (mark.Lost p w) x = noted p (Lost w)
 told (mark.LostFar p) x = noted p (Lost (if nat_lt x (2 ^ 32) then x else 0))
 told (mark.Undecided p) x = noted p Undecided
 
--- the mark that these two bytes stand for: 16 times its kind, and its lane, in the first, and the winner in the other
+-- the mark that these two bytes stand for. The first is 16 times its kind, and its lane. The other is one more than the
+-- winner, modulo 256
 abbrev pub unpacked : ℕ → ℕ → Mark
-unpacked h w =
+unpacked h n =
     if nat_lt h 16 then mark.Took h
-    else if nat_lt h 32 then mark.Lost (h - 16) w
+    else if nat_lt h 32 then mark.Lost (h - 16) ((n + 255) % 256)
     else if nat_lt h 48 then mark.LostFar (h - 32)
     else mark.Undecided (h - 48)
 

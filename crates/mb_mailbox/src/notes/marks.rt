@@ -17,11 +17,12 @@ pub(crate) enum Mark {
     Undecided { lane: u8 },
 }
 
-/// A mark in two bytes. `head` is 16 times the kind, and the lane. `to` is the winner of a `Lost` mark, or 0.
-// One store writes both. `head` is the upper byte, since a take can shift it before its loop.
+/// A mark in two bytes. `head` is 16 times the kind, and the lane. `next` is one more than the winner of a `Lost` mark,
+/// modulo 256, or 0 of another mark.
+// One store writes both. A take computes `head`, the upper byte, before its loop, and an exchange has found `next`.
 #[derive(Drop)]
 pub(crate) struct PackedMark {
-    to: u8,
+    next: u8,
     head: u8,
 }
 
@@ -33,7 +34,7 @@ impl Model for PackedMark {
 
     ghost Value = { Mark };
 
-    ghost view = { λ p. unpacked p.head p.to };
+    ghost view = { λ p. unpacked p.head p.next };
 }
 
 /// The mark of a note on this lane, and its word if it needs one.
@@ -57,13 +58,13 @@ impl Mark {
         requires { (told self 0).lane < 16 }
         ensures { result ≡ self }
     {
-        let (head, to) = match self {
+        let (head, next) = match self {
             Mark::Took { lane } => (lane, 0),
-            Mark::Lost { lane, to } => (16 + lane, to),
+            Mark::Lost { lane, to } => (16 + lane, to.wrapping_add(1)),
             Mark::LostFar { lane } => (32 + lane, 0),
             Mark::Undecided { lane } => (48 + lane, 0),
         };
-        PackedMark { head, to }
+        PackedMark { head, next }
     }
 }
 
@@ -73,13 +74,13 @@ impl PackedMark {
     pub(crate) fn mark(&self) -> Mark
         ensures { result ≡ self.now }
     {
-        let (head, to) = (self.head, self.to);
+        let head = self.head;
         if head < 16 {
             Mark::Took { lane: head }
         } else if head < 32 {
             Mark::Lost {
                 lane: head - 16,
-                to,
+                to: self.next.wrapping_sub(1),
             }
         } else if head < 48 {
             Mark::LostFar { lane: head - 32 }
