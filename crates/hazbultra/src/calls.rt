@@ -122,13 +122,10 @@ pub extern "C" fn hz_poll(consumer: &mut Handle, lane: u64, budget: u64, value: 
         return BAD_HANDLE;
     };
     match opened {
-        Thing::OfConsumer(seeded) => {
-            let answer = match &mut seeded.source {
-                Some(source) => seeded.consumer.poll(lane, budget, source),
-                None => seeded.consumer.poll(lane, budget, &mut Zeros),
-            };
-            tell(answer, value)
-        }
+        Thing::OfConsumer(seeded) => match &mut seeded.source {
+            Some(source) => tell(seeded.consumer.poll(lane, budget, source), value),
+            None => tell(seeded.consumer.poll(lane, budget, &mut Zeros), value),
+        },
         _ => BAD_HANDLE,
     }
 }
@@ -170,18 +167,16 @@ pub extern "C" fn hz_take(consumer: &mut Handle, lane: u64, most: u64, value: &m
         return BAD_HANDLE;
     };
     match opened {
-        Thing::OfConsumer(seeded) => {
-            let answer = match &mut seeded.source {
-                Some(source) => seeded.consumer.take(lane, most, source),
-                None => seeded.consumer.take(lane, most, &mut Zeros),
-            };
-            tell(answer, value)
-        }
+        Thing::OfConsumer(seeded) => match &mut seeded.source {
+            Some(source) => tell(seeded.consumer.take(lane, most, source), value),
+            None => tell(seeded.consumer.take(lane, most, &mut Zeros), value),
+        },
         _ => BAD_HANDLE,
     }
 }
 
 /// Writes the value of a poll's result, if it has one, and returns the result's code.
+#[inline(always)]
 fn tell(answer: Poll, value: &mut u64) -> u32
     ensures told { answer_told result value.new ≡ Some answer }
     ensures kept { result ≢ TOOK → result ≢ LOST → value.new ≡ value.old }
