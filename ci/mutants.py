@@ -22,7 +22,7 @@ import kit as kits
 from kit import TOP
 
 MOST = 40  # mutants of one check
-MEMORY = 3_500_000_000  # bytes: the most that one check has been seen to take, with some room
+MEMORY = 3_500_000_000  # bytes: the most that one process of a check has been seen to take, with some room
 LINE = re.compile(r"(refuses|alone|file|old|new): ?(.*)")
 FUNCTION = re.compile(r'^ *(?:pub(?:\([\w ]+\))? )?(?:const |final |ghost |unsafe |extern "C" )*fn (\w+)', re.M)
 # What the prover says if a proof file names what the edit took away, and if it cannot read a text at all.
@@ -204,7 +204,7 @@ def main(words):
     for it in dict.fromkeys(lib for crate in wanted for lib in kits.lacking(crate, "--proved" in words)):
         if it.build_rlib(["--jobs", "1"], anew=False):
             sys.exit(f"{it.name} is not proved, so nothing above it is tried")
-    # The mutants of the largest crate take as long as all others. So on four processors two checks run, of two processes each.
+    # The largest crate's mutants take as long as all others. So two checks run at a time, each with half of the processes.
     lanes = kits.lanes(kit, MEMORY)
     jobs = max(1, lanes // 2)
     with ThreadPoolExecutor(lanes // jobs) as pool:

@@ -59,7 +59,7 @@ pub fn puts<A: Allocator + Copy + Drop>(
 
 /// Makes and fills `choice.times` mailboxes, one after the other. Each consumer reads each mailbox to its end, by takes
 /// or by polls.
-// A constant says which, so that a loop of polls has nothing of a take in it.
+// `BY_TAKES` says which. It is a constant, so that a loop of polls has no code of a take.
 pub fn mailboxes<A: Allocator + Copy + Drop, R: Rng, const BY_TAKES: bool>(
     alloc: A,
     choice: &Choice,

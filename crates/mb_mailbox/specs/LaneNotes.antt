@@ -56,8 +56,8 @@ told (mark.Lost p w) x = noted p (Lost w)
 told (mark.LostFar p) x = noted p (Lost (if nat_lt x (2 ^ 32) then x else 0))
 told (mark.Undecided p) x = noted p Undecided
 
--- the mark that these two bytes stand for. The first is 16 times its kind, and its lane. The other is one more than the
--- winner, modulo 256
+-- the mark that these two bytes stand for. The first is the lane, plus 16 for Lost, 32 for LostFar and 48 for Undecided.
+-- For Lost the other is one more than the winner, modulo 256. Else it says nothing
 abbrev pub unpacked : ℕ → ℕ → Mark
 unpacked h n =
     if nat_lt h 16 then mark.Took h

@@ -17,7 +17,7 @@ use mb_cells::laws::looks_tell_links;
 use std::alloc::Allocator;
 
 /// Loads the link at this cursor, before which the consumer stands on the lane. `places` may be out of date there. The
-/// caller passes the number of the mailbox's lanes, which it can keep in a register.
+/// caller passes the number of the mailbox's lanes, so that a loop can keep this number in a register.
 #[inline(always)]
 pub(super) fn meet<A: Allocator + Drop, B: Allocator + Drop>(
     fields: &mut ConsumerFields<A>,
@@ -47,6 +47,8 @@ pub(super) fn meet<A: Allocator + Drop, B: Allocator + Drop>(
     ensures finds { (k : ℕ) → look_of result ≡ look.Cell k
         → IsBeforeObject mailbox.now.claims.layout lane k 0 fields.new.seat.consumer
         (with_fields fields.new) }
+
+    // Such a link is one more than the cell's number, and the mailbox has the cell. Numbers of cells are below 2^32.
     ensures within { (k : ℕ) → look_of result ≡ look.Cell k
         → (result ≡ k + 1) × (k < mailbox.now.cells.size.cells) }
     ensures few { mailbox.now.cells.size.cells < 2 ^ 32 }

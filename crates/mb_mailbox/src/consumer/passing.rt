@@ -24,7 +24,7 @@ use std::alloc::Allocator;
 
 /// Makes the exchange of a new claim, and loads the item if the claim is won. It adds the note. The consumer is past
 /// the cell then, but `places` is not changed, so its place on the lane is out of date. The caller passes the
-/// consumer's number, which it can keep in a register.
+/// consumer's number, so that a loop can keep this number in a register.
 #[inline(always)]
 fn settle<A: Allocator + Drop, B: Allocator + Drop, R: Rng>(
     fields: &mut ConsumerFields<A>,
@@ -73,7 +73,8 @@ fn settle<A: Allocator + Drop, B: Allocator + Drop, R: Rng>(
 
 /// Goes on past items that the consumer loses, from this cursor on, as long as the most accesses for an item, three,
 /// are left. If a poll's answer is no loss, returns that answer. The place on the lane is up to date again at the end.
-// After an atomic step the compiler reads memory anew, so what the loop needs of the mailbox stands in variables.
+// After an atomic step the compiler reads memory anew. So variables have the numbers of lanes, of cells and of the
+// consumer.
 #[inline(always)]
 pub(super) fn pass<A: Allocator + Drop, B: Allocator + Drop, R: Rng>(
     fields: &mut ConsumerFields<A>,
@@ -110,7 +111,7 @@ pub(super) fn pass<A: Allocator + Drop, B: Allocator + Drop, R: Rng>(
 {
     let size = mailbox.cells.size();
     let number = fields.seat.consumer();
-    // Each loss takes two accesses, and one is kept for an item.
+    // Each loss takes two accesses. One access is for an item.
     let most = left.saturating_sub(1) / 2;
     let mut more = most;
     let mut at = first;

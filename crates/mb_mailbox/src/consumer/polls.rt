@@ -77,7 +77,8 @@ impl<A: Allocator + Drop> Consumer<A> {
 
     /// A poll of a lane that there is, with the clauses of [`Consumer::poll`]. Its budget is `left`. Afterwards `left`
     /// is what the poll did not use.
-    // `IN_TAKE` gives polls and takes code of their own. What one caller calls can be inlined into it.
+    // `IN_TAKE` is true in takes. So polls and takes have copies of their own, and a function with one caller can be
+    // inlined.
     #[inline(always)]
     pub(super) fn poll_rest<B: Allocator + Drop, R: Rng, const IN_TAKE: bool>(
         &mut self,

@@ -17,9 +17,10 @@ pub(crate) enum Mark {
     Undecided { lane: u8 },
 }
 
-/// A mark in two bytes. `head` is 16 times the kind, and the lane. `next` is one more than the winner of a `Lost` mark,
-/// modulo 256, or 0 of another mark.
-// One store writes both. A take computes `head`, the upper byte, before its loop, and an exchange has found `next`.
+/// A mark in two bytes. `head` is the lane, plus 16 for `Lost`, 32 for `LostFar` and 48 for `Undecided`. `next` is one
+/// more than the winner of a `Lost` mark, modulo 256. In other marks `next` is 0.
+// One store writes both bytes. A take computes `head`, the upper byte, before its loop. `next` is the byte that the
+// exchange found.
 #[derive(Drop)]
 pub(crate) struct PackedMark {
     next: u8,
@@ -89,12 +90,12 @@ impl PackedMark {
         }
     }
 
-    /// The lane of the note.
+    /// The lane of the note, one of 16.
     pub(crate) fn lane(&self) -> u8 {
         self.head % 16
     }
 
-    /// Whether this is a loss on this lane, which needs no word.
+    /// Whether this is a loss on this lane, one of 16, and needs no word.
     pub(crate) fn is_loss_on(&self, lane: u8) -> bool {
         self.head == 16 + lane % 16
     }

@@ -33,7 +33,7 @@ impl<A: Allocator + Drop> SharedCells<A> {
         }
     }
 
-    /// Loads a word, whose address this is, with a reader's seat.
+    /// Loads the word at this address, with a reader's seat.
     pub(super) fn load<W: AccessSpec>(
         &self,
         seat: &mut Seat<(), View>,

@@ -29,9 +29,9 @@ impl<A: Allocator + Drop> SharedCells<A> {
     ghost use Rattle.mb_cells.specs.declared.answer.Look.TheVariants as look;
     ghost use Rattle.mb_shared_cells.specs.{ItemMakes, LookMakes};
 
-    /// The link at the cursor, by one load: 0 if nothing comes yet, `END` if the lane has ended, else one more than the
-    /// number of the next cell. A reader may load the head of each lane, and the link of each cell that it met. The
-    /// caller passes the number of lanes, which it can keep in a register.
+    /// The link at the cursor, by one load. It is 0 if nothing comes yet, and `END` after the last cell of a lane that has
+    /// ended. Else it is one more than the next cell's number. A reader may load the head of each lane, and the link of
+    /// each cell that it met. The caller passes the number of lanes, so that a loop can keep this number in a register.
     #[inline(always)]
     pub fn link(&self, seat: &mut ReaderSeat, cursor: Cursor, lanes: u32) -> u64
         requires table { seat.old.table ≡ self.now }

@@ -65,7 +65,7 @@ impl<A: Allocator + Drop> SharedClaims<A> {
 
     /// Makes the only access of a new claim of the seat's consumer on a cell, if each cell has a last object alone.
     /// Returns how the claim ended: won or lost. The random word of the access counts for nothing. The caller passes
-    /// the number of the seat's consumer, which it can keep in a register.
+    /// the number of the seat's consumer, so that a loop can keep this number in a register.
     #[inline(always)]
     pub fn exchange(&self, seat: &mut ClaimSeat, consumer: u32, cell: u32, word: u64) -> Stage
         requires table { seat.old.table ≡ name_of self.now }
@@ -185,7 +185,8 @@ impl<A: Allocator + Drop> SharedClaims<A> {
     }
 }
 
-/// How a claim that is one exchange ends, if the exchange found this value. It never finds its own consumer's number.
+/// How a claim that is one exchange ends, if the exchange found this value. The exchange never finds its own consumer's
+/// number, since that consumer had done nothing on the cell.
 #[inline(always)]
 fn stage_found(found: u64) -> Stage
     requires { found ≤ 2 ^ 8 }
