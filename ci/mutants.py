@@ -204,7 +204,7 @@ def main(words):
     for it in dict.fromkeys(lib for crate in wanted for lib in kits.lacking(crate, "--proved" in words)):
         if it.build_rlib(["--jobs", "1"], anew=False):
             sys.exit(f"{it.name} is not proved, so nothing above it is tried")
-    # The largest crate's mutants take as long as all others. So two checks run at a time, each with half of the processes.
+    # The largest crate's mutants take the longest. So two checks run at a time, each with half of the processes.
     lanes = kits.lanes(kit, MEMORY)
     jobs = max(1, lanes // 2)
     with ThreadPoolExecutor(lanes // jobs) as pool:
