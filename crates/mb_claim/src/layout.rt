@@ -68,7 +68,7 @@ impl fmt::Display for BadLayout {
 impl Error for BadLayout {}
 
 impl Layout {
-    ghost use Rattle.std.specs.Prelude.{◌≡◌, ◌<◌, ◌≤◌, ◌+◌, ◌*◌, ◌^◌, ℕ, true, [], ◌∷◌, length, slice_get, Some};
+    ghost use Rattle.std.specs.Prelude.{◌≡◌, ◌↔◌, ◌<◌, ◌≤◌, ◌+◌, ◌*◌, ◌^◌, ℕ, true, [], ◌∷◌, length, slice_get, Some};
     ghost use Rattle.std.specs.Prelude.{IsOk, IfOk, IfSome, Err, MatchOption};
     ghost use Rattle.mb_quorum.specs.Tables.{table_of};
     ghost use Rattle.mb_deciding.specs.Course.{IsFitKind};
@@ -346,7 +346,7 @@ impl Layout {
     /// Whether each cell has a last object alone.
     #[inline(always)]
     pub fn is_alone(&self) -> bool
-        ensures { result ≡ true → kinds_of self.now ≡ LastObject ∷ [] }
+        ensures { (result ≡ true) ↔ (kinds_of self.now ≡ LastObject ∷ []) }
     {
         if self.objects == 1 { true } else { false }
     }

@@ -32,7 +32,7 @@ pass-requires g c =
       wide = c.self.invariant.1;
       alone = subst (λ (l : Layout). kinds_of l ≡ LastObject ∷ [])
           (c.layout.ensures ∙ ap (λ (v : MailboxView). v.claims.layout) c.mailbox.view_is)
-          (c.is_alone.ensures c.if-not-is_alone.false);
+          (c.is_alone.ensures.0 c.if-not-is_alone.false);
     }
 
 pub invariant_of-self-2 : goal.invariant_of-self-2
