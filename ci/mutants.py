@@ -26,7 +26,7 @@ MEMORY = 3_500_000_000  # bytes: the most that one process of a check has been s
 LINE = re.compile(r"(refuses|alone|file|old|new): ?(.*)")
 FUNCTION = re.compile(r'^ *(?:pub(?:\([\w ]+\))? )?(?:const |final |ghost |unsafe |extern "C" )*fn (\w+)', re.M)
 # What the prover says if a proof file names what the edit took away, and if it cannot read a text at all.
-LOST = re.compile(r"has no field|is not in scope|has no `|was not admitted|which was rejected, was not checked")
+LOST = re.compile(r"has no field|is not in scope|has no `|was not admitted|rejected, (?:was|were) not checked")
 UNREAD = re.compile(r"is not in scope|has no field|is no name|operand is missing|expected the end|cannot continue")
 
 

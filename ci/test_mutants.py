@@ -9,6 +9,7 @@ SAID = """\
 ./proofs/values/width/Answers.antt:10:37: error: `returns-clause-exact`: record `Rattle.Start` has no field `saturating_sub`
   the fields that can be named here are `args`, `well_formed`, `ranges`, `requires`
 ./proofs/values/width/Answers.antt:13:5: error: 1 declaration that depends on `returns-exact`, which was rejected, was not checked
+./proofs/values/width/Answers.antt:16:5: error: 2 declarations that depend on `returns-range`, which was rejected, were not checked
 fn q::values::checked_values: no proof: expected answers in ./proofs/..; `search` did not prove `returns-clause-range`
 fn q::unary::UnaryQuorums::read_quorum: not proved; it calls `q::bits::Bits::width`, which is not proved
 fn q::bits::Bits::width: no proof: it calls `q::values::width`, which is not proved
