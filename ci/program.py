@@ -6,6 +6,7 @@ each is run here once more, from `main` on. Then each sample of a page is looked
 prints, and a block that begins as scripts or outputs do has the first or last lines of one. The last line is `N passed, N failed`.
 """
 import contextlib
+import functools
 import glob
 import os
 import pty
@@ -14,6 +15,7 @@ import resource
 import shlex
 import subprocess
 import sys
+import tempfile
 
 TOP = os.path.dirname(os.path.dirname(os.path.abspath(__file__)))
 LIMIT = 60  # seconds for one run
@@ -24,12 +26,21 @@ EXAMPLE = re.compile(
 SPELLED = tuple("ratify inputs turns process setup offer push finish step lane left diary".split())
 SETUP, RATIFIER, BAD = b"setup 1 1 0 1 bits\n", b"ratify unary 1\ninputs 0\nturns 0\n", b"setup 1 1 1 1 bits\npush  0\n"
 ONE = ("run", "--producers", "1", "--consumers", "1", "--items", "2", "--pairs", "1")
+ONE_REPORT = b"lane 0 ended put 0 1\nleft 0\ndiary 0 0 took 0 took 1\n"
 FOUR = ("run", "--producers", "2", "--consumers", "2", "--items", "2")
 MANY = ("run", "--producers", "16", "--consumers", "64", "--items", "16")
 # So little memory that a process starts, but has no room for a large mailbox or script.
 DATA = ((resource.RLIMIT_DATA, 384 << 10),)
 LONGEST = SETUP.ljust(1 << 20, b"#")
 IN_WORDS = b"line 2: expected `offer <lane> <item>`, `push <lane>`, `finish <lane>` or `step <consumer> <lane> <word>`\n"
+
+
+@functools.cache
+def holding():
+    """A folder, until this process ends, with the library of ci/yields.c."""
+    folder = tempfile.TemporaryDirectory()
+    subprocess.run(["cc", "-shared", "-fPIC", "-o", f"{folder.name}/yields.so", f"{TOP}/ci/yields.c"], check=True)
+    return folder
 
 
 def threads(most):
@@ -54,6 +65,7 @@ ENDS = [
     ("a word that is no UTF-8", ("replay", b"\xff"), SETUP, b"", b"error: a word of the command line is not UTF-8\n", 2, None),
     ("no thread", ONE, b"", b"", b"fault 3 NoThread\n", 3, threads(0)),
     ("no third thread", FOUR, b"", b"", b"fault 3 NoThread\n", 3, threads(2)),
+    ("a producer that waits until a consumer yields", ONE, b"", ONE_REPORT, b"", 0, "yields"),
     ("no memory for a mailbox", MANY, b"", b"", b"fault 2 NoMemory\n", 3, DATA),
     ("no memory for a script", ("replay",), LONGEST, b"", b"fault 10 NoMemory\n", 3, DATA),
     ("no memory for a ratifier", ("ratify",), LONGEST, b"", b"fault 8 NoMemory\n", 3, DATA),
@@ -88,6 +100,8 @@ def differences(program, words, given, output, error, status, limit):
         # (with one arena the C library reserves no addresses for the memory of single threads)
         how["env"] = {**os.environ, "MALLOC_ARENA_MAX": "1"}
         how["preexec_fn"] = lambda: [resource.setrlimit(kind, (size, resource.getrlimit(kind)[1])) for kind, size in limit]
+    if limit == "yields":
+        how["env"] = {**os.environ, "LD_PRELOAD": f"{holding().name}/yields.so"}
     with subprocess.Popen([program, *words], **how) as ran:
         try:
             wrote = ran.communicate(given if isinstance(given, bytes) else None, timeout=LIMIT)

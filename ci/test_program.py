@@ -1,11 +1,22 @@
 """Tests of ci/program.py, over programs of a line or two of sh: the right one passes, and each wrong one is told."""
 import resource
+import subprocess
 from unittest import mock
 
 import program
 from rooms import Room
 
 READ, GLOB = program.read, program.glob.glob
+TWO_THREADS = """
+#include <pthread.h>
+#include <sched.h>
+static void *first(void *word) { return word; }
+static void *second(void *word) { return YIELDS ? sched_yield(), word : word; }
+int main(void) {
+    pthread_t it[2];
+    return pthread_create(it, 0, first, 0) || pthread_create(it + 1, 0, second, 0) || pthread_join(*it, 0);
+}
+"""
 
 
 class Program(Room):
@@ -35,6 +46,14 @@ class Program(Room):
             self.assertEqual([size for _, size in program.threads(2)], [1 << 23, 24 << 20])
         right = 'test "$(ulimit -s) $(ulimit -v)" = "65536 167936" && echo fault >&2; exit 2'
         self.assertEqual(self.told(right, limit=((resource.RLIMIT_STACK, 64 << 20), (resource.RLIMIT_AS, 164 << 20))), "")
+
+    def test_a_first_thread_waits_until_another_yields(self):
+        source = self.write("two.c", TWO_THREADS)
+        for yields, limit, told in (1, program.LIMIT, ""), (0, 1, "no end after 1 seconds"):
+            path = f"{self.top}/two{yields}"
+            subprocess.run(["cc", f"-DYIELDS={yields}", "-pthread", "-o", path, source], check=True)
+            with mock.patch.object(program, "LIMIT", limit):
+                self.assertEqual(program.differences(path, (), b"", b"", b"", 0, "yields"), told)
 
     def test_examples_and_false_samples_are_told(self):
         path = self.write("a folder/it's", '#!/bin/sh\n[ "$*" = replay ] && cat\n')

@@ -27,6 +27,16 @@ put_count m p [] (j ∷ js) a = absurd a
 put_count m p (v ∷ vs) [] a = absurd a
 put_count m p (v ∷ vs) (j ∷ js) a = ap suc (put_count m (suc p) vs js a.2)
 
+-- there are as many jobs as lists and consumers issued
+job_count : {R Z : Type 0} (m : MailboxView) (items : List (Vec ℕ Z)) (jobs : List (Job R Z)) (h mid : HubView)
+    (given : AreGiven m items jobs h mid) → length jobs ≡ length items + length given.polls
+job_count {R} {Z} m items jobs h mid given =
+    let each = ap length given.whole ∙ length-append (map job.Put given.puts) (map job.Poll given.polls) in
+    let first = length-map {B = Job R Z} given.puts job.Put in
+    let last = length-map {B = Job R Z} given.polls job.Poll in
+    let lists = put_count m (length h.puts) items given.puts given.are_puts in
+    omega (arith, each, first, last, lists)
+
 -- ---- if nothing was issued
 -- if the hub is as before, the run issued nothing, so all that it issued were returned
 pub nothing_taken : (lists : List (List ℕ)) (sources : ℕ) (h : HubView) → WereTakenInEarly lists sources h h
@@ -36,6 +46,7 @@ nothing_taken lists sources h = record {
   whole = refl;
   given = 0;
   few = omega arith;
+  fewer = λ some. some;
   taken = record {
     lanes = [];
     consumers = [];
@@ -141,11 +152,8 @@ module _ {R Z : Type 0} (m : MailboxView) (may_stop may_pass : Who → ℕ → T
   pub some_worker : 0 < length ends → 0 < length items + length given.polls
   some_worker some =
       let all = zip_length _ jobs ends came in
-      let each = ap length given.whole ∙ length-append (map job.Put given.puts) (map job.Poll given.polls) in
-      let first = length-map {B = Job R Z} given.puts job.Put in
-      let last = length-map {B = Job R Z} given.polls job.Poll in
-      let lists = put_count m (length h.puts) items given.puts given.are_puts in
-      omega (arith, some, all, each, first, last, lists)
+      let count = job_count m items jobs h mid given in
+      omega (arith, some, all, count)
 
   module _ (rngs : List R) (sources : map (λ (j : PollJob R Z). j.rng) given.polls ≡ rngs)
       (w : Worked) (full : w.full ≡ min (2 ^ 64 - 1) (sum_by full_of ends))
@@ -256,17 +264,24 @@ module _ {R Z : Type 0} (m : MailboxView) (may_stop may_pass : Who → ℕ → T
           given.polls split.polls hub given.are_puts given.are_polls split.put split.polled was all_on.1);
     }
 
--- all that were issued were returned, also if the hub could not issue a producer for each list and all consumers
+-- all that were issued were returned, also if the hub could not issue a producer for each list and all consumers. Then
+-- there are fewer jobs than lists and sources
 pub early : {R Z : Type 0} (m : MailboxView) (may_stop may_pass : Who → ℕ → Type 0) (stream : R → Stream)
     (items : List (Vec ℕ Z)) (lanes : Lanes) (jobs : List (Job R Z)) (ends : List (Done Z)) (h mid now : HubView)
     (hub : IsHub h) (sources : ℕ) (g : AreGivenEarly m items sources jobs h mid)
+    → length jobs < length items + sources
     → AllZip (IsEnd may_stop may_pass stream lanes) jobs ends → now ≡ with_taken ends mid
     → WereTakenInEarly (lists_in items) sources h now
-early m may_stop may_pass stream items lanes jobs ends h mid now hub sources g came is = record {
+early m may_stop may_pass stream items lanes jobs ends h mid now hub sources g fewer came is = record {
   front = lists_in g.front;
   rest = lists_in g.rest;
   whole = sym (map-append (λ (v : Vec ℕ _). v.items) g.front g.rest) ∙ ap lists_in g.whole;
   given = length g.given.polls;
   few = g.few;
+  fewer = λ _.
+      let count = job_count m g.front jobs h mid g.given in
+      let issued = length-map g.front (λ (v : Vec ℕ _). v.items) in
+      let asked = length-map items (λ (v : Vec ℕ _). v.items) in
+      omega (arith, fewer, count, issued, asked);
   taken = taken m may_stop may_pass stream g.front lanes jobs ends h mid now hub g.given came is;
 }

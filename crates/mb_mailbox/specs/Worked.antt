@@ -57,13 +57,14 @@ pub record WereTakenIn (lists : List (List ℕ)) (sources : ℕ) (old new : HubV
   pub run : IsRunOf lists sources lanes consumers old new
 
 -- producers were issued only for a beginning of these lists, and consumers for at most this many sources. All that were
--- issued were returned
+-- issued were returned. If there are lists or sources at all, fewer were issued than there are
 pub record WereTakenInEarly (lists : List (List ℕ)) (sources : ℕ) (old new : HubView) : Type 0 where
   pub front : List (List ℕ)
   pub rest : List (List ℕ)
   pub whole : front ++ rest ≡ lists
   pub given : ℕ
   pub few : given ≤ sources
+  pub fewer : 0 < length lists + sources → length front + given < length lists + sources
   pub taken : WereTakenIn front given old new
 
 -- ---- items that were not put because no cell was left

@@ -55,11 +55,12 @@ pub enum WorkFault {
     AllGiven,
     /// The budget is 0. Nothing has changed.
     BadBudget,
-    /// The allocator refused what the run needs. Each producer issued has ended its lane, and all that the call issued
-    /// is returned. The hub keeps what was returned before.
+    /// The allocator refused what the run needs, before a number was issued for each list and source. Each producer
+    /// issued has ended its lane, and all that the call issued is returned. The hub keeps what was returned before.
     NoMemory,
     /// A thread could not be started, for whatever reason: threads do not use the caller's allocator. It comes only if
-    /// there is a list or a source. As after `NoMemory`, each lane issued has ended, and all issued are returned.
+    /// there is a list or a source, and a number was issued for each. As after `NoMemory`, each lane issued has ended,
+    /// and all issued are returned.
     NoThread,
 }
 

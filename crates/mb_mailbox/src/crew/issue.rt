@@ -1,5 +1,5 @@
 //! The producers and consumers that are issued for a run, in order.
-ghost use Rattle.std.specs.Prelude.{◌≡◌, ◌+◌, ◌≤◌, [], length, true, vec_capacity, vec_len};
+ghost use Rattle.std.specs.Prelude.{◌≡◌, ◌+◌, ◌<◌, ◌≤◌, [], false, length, true, vec_capacity, vec_len};
 ghost use Rattle.std.specs.List.{All};
 ghost use Rattle.mb_mailbox.specs.Imports.{consumer_count};
 ghost use Rattle.mb_mailbox.specs.Hubs.{IsHubOf};
@@ -29,6 +29,7 @@ pub(super) fn give_producers<R: Drop, A: Allocator + Clone + Drop, B: Allocator 
         → ArePutsGiven mailbox.now items.items jobs.new.items hub.old hub.new }
     ensures jobs { All (IsJobOf mailbox.now) jobs.new.items }
     ensures few { vec_len jobs.new ≤ vec_len items }
+    ensures fewer { result ≡ false → vec_len jobs.new < vec_len items }
     ensures room { vec_capacity jobs.new ≡ vec_capacity jobs.old }
     ensures belongs { IsHubOf mailbox.now hub.new }
 {
@@ -63,6 +64,7 @@ pub(super) fn give_consumers<R: Rng + Drop, A: Allocator + Clone + Drop, B: Allo
         hub.old hub.new }
     ensures jobs { All (IsJobOf mailbox.now) jobs.new.items }
     ensures few { vec_len jobs.new ≤ vec_len jobs.old + vec_len rngs }
+    ensures fewer { result ≡ false → vec_len jobs.new < vec_len jobs.old + vec_len rngs }
     ensures belongs { IsHubOf mailbox.now hub.new }
 {
     for rng in rngs {
@@ -99,6 +101,7 @@ pub(super) fn give<R: Rng + Drop, A: Allocator + Clone + Drop, B: Allocator + Dr
         → AreAllGiven mailbox.now items.items rngs.items jobs.new.items hub.old hub.new }
     ensures jobs { All (IsJobOf mailbox.now) jobs.new.items }
     ensures few { vec_len jobs.new ≤ vec_len items + vec_len rngs }
+    ensures fewer { result ≡ false → vec_len jobs.new < vec_len items + vec_len rngs }
     ensures belongs { IsHubOf mailbox.now hub.new }
 {
     if !give_producers(alloc, mailbox, hub, items, jobs) {

@@ -37,7 +37,12 @@ returns-then-not-give-clause-no_memory g c = λ e.
     early c.args.mailbox.now (g.G.Gate.may_stop c.args.gate.now) (g.G.Gate.may_pass c.args.gate.now) g.R.Rng.stream
     c.args.load.items.items c.next_lanes-lanes.result c.give.new.jobs.items c.end_all-ends.result.items
     c.args.hub.now c.give.new.hub c.settle.new.hub c.has_history.ensures.kept _ c.give.ensures.early
-    c.end_all-ends.ensures c.settle.ensures.hub
+    (omega (
+      arith,
+      c.give.ensures.fewer c.if-not-give.true,
+      c.give.new.jobs.ok.0,
+      c.args.load.items.ok.0,
+    )) c.end_all-ends.ensures c.settle.ensures.hub
 
 pub end_all-ends-requires-clause-room : goal.end_all-ends-requires-clause-room
 end_all-ends-requires-clause-room g c κs within = omega (arith, c.give.ensures.few, c.requires.ends.1)
