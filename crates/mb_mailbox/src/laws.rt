@@ -1,24 +1,30 @@
 //! Laws of polls, of what a hub has taken back, and of what is gathered. The functions compute nothing: their contracts
 //! are the laws.
-ghost use Rattle.std.specs.Prelude.{ℕ, ◌≡◌, ◌≢◌, ◌≤◌, ◌<◌, ◌+◌, List, [], ◌∷◌, Some, None, false, true, length, map, slice_get};
-ghost use Rattle.mb_claim.specs.Vocabulary.{most_accesses, shape_of};
-ghost use Rattle.mb_mailbox.specs.Imports.{Claim, IsLawfulPart, Note, Stream, Undecided, claims_at, has_ended};
-ghost use Rattle.mb_mailbox.specs.Calls.{AreCalls, Call};
-ghost use Rattle.mb_mailbox.specs.ConsumerWords.{AnswerTells, ConsumerView, HasNoteOnEach, IsConsumer, IsConsumerOf, IsPollOf, Poll};
+ghost use Rattle.std.specs.Prelude.{ℕ, ◌≡◌, ◌≢◌, ◌≤◌, ◌<◌, ◌+◌, ◌-◌, ◌*◌, ◌^◌, List, [], ◌∷◌, Some, None, false, true, length, map, slice_get};
+ghost use Rattle.mb_claim.specs.Vocabulary.{HasStage, IsClaimLawful, claims_in, kinds_of, most_accesses, shape_of};
+ghost use Rattle.mb_claim.specs.declared.access.Stage.TheVariants as stage;
+ghost use Rattle.mb_deciding.specs.declared.object.Kind.TheVariants.{LastObject};
+ghost use Rattle.mb_mailbox.specs.Imports.{Claim, ClaimAccess, IsLawfulPart, Layout, Note, Stream, Undecided, cells_met, claims_at, has_ended};
+ghost use Rattle.mb_mailbox.specs.ConsumerWords.{AnswerTells, ConsumerView, HasLoads, HasNoteOnEach, IsConsumer, IsConsumerOf, IsPollOf, Poll};
 ghost use Rattle.mb_mailbox.specs.Gathering.{IsGathered, IsReportIn, UndecidedHasCompany, begun_in, count_missing, ended_in, items_in, notes_in};
-ghost use Rattle.mb_mailbox.specs.Mailboxes.{MailboxView};
+ghost use Rattle.mb_mailbox.specs.{Calls.{AreCalls, Call}, Mailboxes.{MailboxView, plan_at}, Producers.{ProducerView}};
 ghost use Rattle.mb_mailbox.specs.{Jobs.{accesses_made}, Steps.{AreDrawn, outcome}, Takes.{IsTakeOf}};
 ghost use Rattle.mb_mailbox.specs.declared.consumer.Poll.TheVariants.{Lost, Spent, Took};
-ghost use Rattle.mb_world.specs.{Agreement.{AreAllTaken, IsLeftBesideBegun}, Places.{has_begun_at}, Theorem.{ReportView, note}};
-ghost use Rattle.mb_mailbox.specs.GatheringSamples.{alone_undecided, two_undecided};
+ghost use Rattle.mb_world.specs.{Agreement.{AreAllTaken, IsLeftBesideBegun}, Places.{has_begun_at}, Plan.{consumers_of}, Theorem.{ReportView, items_left, items_put, note, notes}};
+ghost use Rattle.mb_mailbox.specs.{Emptiness.{HasFoundEmpty}, EmptinessSamples.{looked_back, looked_past, met_one, with_loads}, GatheringSamples.{alone_undecided, two_undecided}};
 ghost use Rattle.mb_mailbox.specs.Hubs.{HubView, with_taken_consumer, with_taken_producer};
-ghost use Rattle.mb_mailbox.specs.Producers.{ProducerView};
 ghost use Rattle.mb_world.specs.declared.place.Place.{Place, TheVariants.At};
 
-use mb_cells::laws::looks_tell_links;
-use mb_claim::laws::{claims_are_bounded, layouts_are_sound, prefixes_have_one_stage};
+use mb_cells::laws::{cells_stand_once, looks_tell_links, readers_follow_lanes};
+use mb_claim::laws::{
+    claims_are_bounded, claims_have_one_winner, last_objects_decide_claims, layouts_are_sound,
+    prefixes_have_one_stage,
+};
 use mb_claim::steps::accesses_lengthen_one_part;
-use mb_world::laws::{last_objects_settle_items, shaped_setups_have_last_objects};
+use mb_shared_cells::laws::lanes_are_empty_if_nothing_is_found;
+use mb_world::laws::{
+    last_objects_settle_items, reports_have_all_diaries, shaped_setups_have_last_objects,
+};
 use mb_world::steps::loads_meet_cells;
 
 /// Whatever its budget, a poll makes at most two accesses more than a whole claim may have: the load of a link, and the
@@ -38,6 +44,40 @@ pub fn polls_are_short()
     loads_meet_cells();
     looks_tell_links();
     prefixes_have_one_stage();
+}
+
+/// Whatever its budget, a take makes few accesses: at most one more than a whole claim may have, for each cell that it
+/// meets, and as many once more. So with a budget for all cells it is never spent. The take and its consumer are as
+/// [`Consumer::take`](crate::Consumer::take) and [`keeps_its_parts`](crate::Consumer::keeps_its_parts) say.
+pub fn takes_are_short()
+    ensures few { (m : MailboxView) (p most : ℕ) (answer : Poll) (s t : Stream)
+        (old new : ConsumerView) → IsTakeOf p most answer s t old new → IsConsumerOf m new
+        → IsLawfulPart (claims_at new.seat.table) new.seat.consumer new.seat.part
+        → let each = most_accesses m.claims.layout + 1 in
+        accesses_made new + each * length (cells_met p old.reader.part)
+        ≤ accesses_made old + each * length (cells_met p new.reader.part) + each }
+    ensures unspent { (m : MailboxView) (p most : ℕ) (answer : Poll) (s t : Stream)
+        (old new : ConsumerView) → IsTakeOf p most answer s t old new → IsConsumerOf m new
+        → HasLoads new
+        → IsLawfulPart (claims_at new.seat.table) new.seat.consumer new.seat.part
+        → (most_accesses m.claims.layout + 1) * (m.cells.size.cells + 1) < most
+        → answer ≢ Spent }
+{
+    accesses_lengthen_one_part();
+    cells_stand_once();
+    claims_are_bounded();
+    loads_meet_cells();
+    looks_tell_links();
+    readers_follow_lanes();
+}
+
+/// A take with the budget 2^64 - 1 is never spent: for up to 2^24 cells the bound of [`takes_are_short`] is below that,
+/// whatever the layout.
+pub fn full_budgets_suffice()
+    ensures { (layout : Layout) (cells : ℕ) → cells ≤ 2 ^ 24
+        → (most_accesses layout + 1) * (cells + 1) < 2 ^ 64 - 1 }
+{
+    layouts_are_sound();
 }
 
 /// A lane that was never issued is open and empty. A consumer that was never issued has noted and begun nothing.
@@ -75,7 +115,8 @@ pub fn noted_lanes_hold_no_claim()
 
 /// If each cell of a mailbox has a last object, its report has no undecided note. If nobody took an item that was
 /// competed for, it is left: some diary's notes end just before it, and the claim there is begun. On a lane on which
-/// no claim is begun, each item that was competed for is taken.
+/// no claim is begun, each item that was competed for is taken. If each consumer has a note on each item of a lane,
+/// nothing is left of it.
 pub fn last_objects_settle_what_is_gathered()
     ensures notes { (m : MailboxView) (h : HubView) (r : ReportView) (c p j : ℕ)
         → (shape_of m.claims.layout).last ≡ true → IsGathered m h r
@@ -84,9 +125,29 @@ pub fn last_objects_settle_what_is_gathered()
         → (shape_of m.claims.layout).last ≡ true → IsGathered m h r → IsLeftBesideBegun r }
     ensures taken { (m : MailboxView) (h : HubView) (r : ReportView)
         → (shape_of m.claims.layout).last ≡ true → IsGathered m h r → AreAllTaken r }
+    ensures none_left { (m : MailboxView) (h : HubView) (r : ReportView) (p : ℕ)
+        → (shape_of m.claims.layout).last ≡ true → IsGathered m h r
+        → ((c : ℕ) → c < consumers_of (plan_at m)
+        → length (notes c p r) ≡ length (items_put p r))
+        → items_left p r ≡ [] }
 {
     last_objects_settle_items();
+    layouts_are_sound();
+    reports_have_all_diaries();
     shaped_setups_have_last_objects();
+}
+
+/// If each cell has a last object alone, an item is lost only to a consumer that has won it by then. A claim never goes
+/// back, so that consumer has won it in each longer history, too.
+pub fn exchanges_are_lost_to_winners()
+    ensures { (layout : Layout) (cells k c w : ℕ) (h : List ClaimAccess)
+        → kinds_of layout ≡ LastObject ∷ [] → IsClaimLawful (claims_in layout cells) h
+        → HasStage (claims_in layout cells) c k (stage.Lost w) h
+        → HasStage (claims_in layout cells) w k stage.Won h }
+{
+    claims_have_one_winner();
+    last_objects_decide_claims();
+    layouts_are_sound();
 }
 
 /// If a consumer's claims had no access before its calls, the claims' random words are the source's first, in order.
@@ -114,6 +175,26 @@ pub fn sample_takes()
     ensures idle { (p : ℕ) (s t : Stream) (old : ConsumerView)
         → IsTakeOf p 2 Spent s t old old → ⊥ }
 {}
+
+/// Samples of `HasFoundEmpty`, of a consumer that meets cell 0 on lane 0, and loses it. A take that then looks past it
+/// and finds nothing may return [`Poll::Nothing`](crate::Poll::Nothing), though another cell may be linked after that.
+pub fn sample_emptiness()
+    ensures whole { (s : ConsumerView)
+        → HasFoundEmpty 0 (with_loads s []) (with_loads s (looked_past s)) }
+
+    // A take that stops one cell early may not: it has not looked past the last cell that it met. Nor may a call without
+    // a load, or one whose last load was of a link that the consumer had left behind.
+    ensures early { (s : ConsumerView)
+        → HasFoundEmpty 0 (with_loads s []) (with_loads s (met_one s)) → ⊥ }
+    ensures idle { (s : ConsumerView)
+        → HasFoundEmpty 0 (with_loads s (looked_past s)) (with_loads s (looked_past s)) → ⊥ }
+    ensures behind { (s : ConsumerView)
+        → HasFoundEmpty 0 (with_loads s []) (with_loads s (looked_back s)) → ⊥ }
+{
+    lanes_are_empty_if_nothing_is_found();
+    loads_meet_cells();
+    readers_follow_lanes();
+}
 
 /// A hub has at most one report of what was returned to it.
 pub fn hubs_have_one_report()
