@@ -18,9 +18,9 @@ namespace hazbultra {
 
 /* A call that has to succeed was refused. what() is the name of the code. */
 struct refusal : std::runtime_error {
-    explicit refusal(uint32_t code, hz_missing missing = {}) : runtime_error(hz_code_name(code)), code(hz_code(code)), missing(missing) {}
+    explicit refusal(uint32_t why, hz_missing out = {}) : runtime_error(hz_code_name(why)), code(hz_code(why)), missing(out) {}
     hz_code code;
-    hz_missing missing; /* HZ_MISSING: how many producers and consumers were not taken back */
+    hz_missing missing; /* at HZ_MISSING how many producers and consumers were not taken back, else 0 */
 };
 
 inline void expect_done(uint32_t code) {
@@ -54,7 +54,7 @@ class owner {
     hz_handle handle = HZ_NONE;
 };
 
-/* The producer of one lane. If it ends before the hub took it back, the mailbox is never gathered: so is a consumer. */
+/* The producer of one lane. Give it back to its hub by take_back. If it is destroyed before that, gather throws HZ_MISSING. */
 class producer : public owner {
   public:
     uint64_t lane() const noexcept { return number; }
@@ -69,6 +69,7 @@ class producer : public owner {
     uint64_t number = 0;
 };
 
+/* A consumer. It has to be taken back, too. */
 class consumer : public owner {
   public:
     uint64_t index() const noexcept { return number; }
@@ -93,29 +94,29 @@ class consumer : public owner {
 /* What was put, taken and left. Each call throws HZ_NOT_THERE if there is no such lane or consumer. */
 class report : public owner {
   public:
-    hz_lane lane(uint64_t lane) {
+    hz_lane lane(uint64_t number) {
         hz_lane found = {};
-        expect_done(hz_report_lane(&handle, lane, &found));
+        expect_done(hz_report_lane(&handle, number, &found));
         return found;
     }
-    hz_diary diary(uint64_t consumer, uint64_t lane) {
+    hz_diary diary(uint64_t by, uint64_t of_lane) {
         hz_diary found = {};
-        expect_done(hz_report_diary(&handle, consumer, lane, &found));
+        expect_done(hz_report_diary(&handle, by, of_lane, &found));
         return found;
     }
     /* All items that were put, or those that nobody took, in the order put. */
-    std::vector<uint64_t> items(uint64_t lane, bool left) {
+    std::vector<uint64_t> items(uint64_t of_lane, bool left) {
         /* (an empty vector may have a null pointer, which the call does not take) */
-        std::vector<uint64_t> found(this->lane(lane).put + 1);
+        std::vector<uint64_t> found(lane(of_lane).put + 1);
         uint64_t copied = 0;
-        expect_done(hz_report_items(&handle, lane, left, 0, found.data(), found.size(), &copied));
+        expect_done(hz_report_items(&handle, of_lane, left, 0, found.data(), found.size(), &copied));
         found.resize(copied);
         return found;
     }
-    std::vector<hz_note> notes(uint64_t consumer, uint64_t lane) {
-        std::vector<hz_note> found(diary(consumer, lane).notes + 1);
+    std::vector<hz_note> notes(uint64_t by, uint64_t of_lane) {
+        std::vector<hz_note> found(diary(by, of_lane).notes + 1);
         uint64_t copied = 0;
-        expect_done(hz_report_notes(&handle, consumer, lane, 0, found.data(), found.size(), &copied));
+        expect_done(hz_report_notes(&handle, by, of_lane, 0, found.data(), found.size(), &copied));
         found.resize(copied);
         return found;
     }
@@ -130,10 +131,13 @@ inline hz_setup exchange_setup(uint64_t producers, uint64_t consumers, uint64_t 
     return {producers, consumers, cells, 0, HZ_BITS, false, true};
 }
 
+/* A mailbox: it issues producers and consumers, takes them back, and makes the report. */
 class hub : public owner {
   public:
+    /* It throws HZ_BAD_TABLE .. HZ_BAD_PAIRS, or HZ_NO_MEMORY. */
     explicit hub(const hz_setup &setup) { expect_done(hz_mailbox_new(hz_next_id(), &setup, &handle)); }
 
+    /* Both throw HZ_ALL_GIVEN or HZ_NO_MEMORY. */
     producer issue_producer() {
         producer made;
         expect_done(hz_producer_new(&handle, &made.handle, &made.number));
@@ -144,7 +148,7 @@ class hub : public owner {
         expect_done(hz_consumer_new(&handle, seed.data(), &made.handle, &made.number));
         return made;
     }
-    /* If it throws, one is as it was. */
+    /* If it throws, HZ_OTHER_MAILBOX or HZ_BAD_HANDLE, the producer or consumer is as it was. */
     void take_back(producer &&one) { expect_done(hz_take_back(&handle, &one.handle)); }
     void take_back(consumer &&one) { expect_done(hz_take_back(&handle, &one.handle)); }
 
