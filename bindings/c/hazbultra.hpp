@@ -73,21 +73,18 @@ class producer : public owner {
 class consumer : public owner {
   public:
     uint64_t index() const noexcept { return number; }
-    [[nodiscard]] answer poll(uint64_t lane, uint64_t budget = UINT64_MAX) noexcept {
-        answer found = {HZ_BAD_HANDLE, 0};
-        found.code = hz_code(hz_poll(&handle, lane, budget, &found.value));
-        return found;
-    }
+    [[nodiscard]] answer poll(uint64_t lane, uint64_t budget = UINT64_MAX) noexcept { return ask(hz_poll, lane, budget); }
     /* It never returns HZ_LOST. */
-    [[nodiscard]] answer take(uint64_t lane, uint64_t most = UINT64_MAX) noexcept {
-        answer found = {HZ_BAD_HANDLE, 0};
-        found.code = hz_code(hz_take(&handle, lane, most, &found.value));
-        return found;
-    }
+    [[nodiscard]] answer take(uint64_t lane, uint64_t most = UINT64_MAX) noexcept { return ask(hz_take, lane, most); }
 
   private:
     friend class hub;
     consumer() = default;
+    answer ask(decltype(&hz_poll) call, uint64_t lane, uint64_t most) noexcept {
+        answer found = {HZ_BAD_HANDLE, 0};
+        found.code = hz_code(call(&handle, lane, most, &found.value));
+        return found;
+    }
     uint64_t number = 0;
 };
 
