@@ -53,7 +53,13 @@ if [ "$mode" = --place ] && [ -n "$(git status --porcelain -- crates crates.txt)
     echo "commit the crates first: the texts name the commit that the files are of" >&2
     exit 1
 fi
-look prebuilt/mailbox prebuilt/mailbox.txt mailbox_main crates/mailbox_main/out/mailbox_main . ./mailbox --build
+left=crates/mailbox_main/out/mailbox_main
+newer() { find crates.txt crates/*/src crates/*/specs crates/*/proofs -type f -newer $left 2>/dev/null | head -n 1; }
+if [ "$proved" = --proved ] && { [ ! -f $left ] || [ -n "$(newer)" ]; }; then
+    echo "run rt ci first: there is no $left, or $(newer) is newer" >&2
+    exit 1
+fi
+look prebuilt/mailbox prebuilt/mailbox.txt mailbox_main $left . ./mailbox --build
 for target in aarch64-unknown-linux-gnu x86_64-unknown-linux-gnu; do
     archive=bindings/rust/prebuilt/$target/libhazbultra
     look $archive.a $archive.txt hazbultra crates/hazbultra/out/libhazbultra.a crates/hazbultra rt lib --target $target

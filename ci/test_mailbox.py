@@ -155,5 +155,7 @@ class Prebuilt(Place):
         for archive in ARCHIVES.values():
             self.write(archive, "ARchive\n")
         self.assertIn("3 files, 4 faults", self.told("--compare"))
+        os.utime(f"{self.top}/crates/mailbox_main/out/mailbox_main", (1, 1))
+        self.assertIn("run rt ci first", self.told("--place", "--proved"))
         self.write(SOURCE, "//")
         self.assertIn("commit the crates first", self.told("--place"))
