@@ -1,6 +1,6 @@
 /* Owning C++17 types over hazbultra.h, whose head says what a caller owes. A value here owns what its handle leads to. It can
- * be moved and cannot be copied, and its destructor frees what it owns. So rules 1, 2 and 4 are kept. You keep the others:
- * no two threads use one value at a time, unless something orders their calls.
+ * be moved and cannot be copied, and its destructor frees what it owns. So rules 1 and 4 are kept, and of rule 2 all but that a
+ * setup is initialised. The others are yours: above all, that a value is in one call at a time (rule 3).
  *
  * A call of a value that was moved from returns HZ_BAD_HANDLE, or throws it.
  */
