@@ -14,7 +14,7 @@ LOOPS = TOP / "crates" / "bench_loops" / "out" / "bench_loops"
 LARGE = TOP / "crates" / "bench_large" / "out" / "bench_large"
 BESIDE = ROOM / "release" / "beside_queues"
 C = TOP / "bindings" / "c"
-ARCHIVE = TOP / "bindings" / "rust" / "prebuilt" / "libhazbultra.a"
+ARCHIVE = TOP / "bindings" / "rust" / "prebuilt" / "x86_64-unknown-linux-gnu" / "libhazbultra.a"
 NANOSECONDS = {"s": 1e9, "ms": 1e6, "µs": 1e3, "ns": 1}
 
 

@@ -1,7 +1,7 @@
 """The kit's own library, for what the command rt cannot do: it knows rattle's command line, and where libraries stand.
 
     ci/kit.py --jobs       prints what RT_JOBS is to be for `rt ci`, or nothing if rt has to guess
-    ci/kit.py --archive    builds the archive over the libraries that `rt ci` left, and proves none of them once more
+    ci/kit.py --archive [FLAGS..]    builds the archive over the libraries that `rt ci` left, and proves none of them once more
 """
 import importlib
 import os
@@ -35,18 +35,18 @@ def lanes(kit, memory):
     return next(it for it in range(len(os.sched_getaffinity(0)), 0, -1) if it == 1 or kit.fits(*[memory] * it))
 
 
-def archive(kit, crate):
+def archive(kit, crate, flags):
     """Builds the archive of this crate. Returns whether that failed."""
     held = kit.lock([*crate.below(), crate])
     os.makedirs(f"{crate.folder}/out", exist_ok=True)
     assert held and not lacking(crate, True), "rt ci left no library"
-    return crate.build_static(["--jobs", os.environ.get("RT_JOBS", "1")])
+    return crate.build_static(["--jobs", os.environ.get("RT_JOBS", "1"), *flags])
 
 
 if __name__ == "__main__":
     kit, crates = load()
     if "--archive" in sys.argv:
-        sys.exit(archive(kit, crates["hazbultra"]))
+        sys.exit(archive(kit, crates["hazbultra"], sys.argv[2:]))
     most = lanes(kit, MEMORY)
     # With RT_JOBS rt starts so many checks, whatever memory it expects them to take. With two processors RT_JOBS is not needed.
     print(most if most > 2 and most == len(os.sched_getaffinity(0)) else "")

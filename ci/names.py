@@ -19,9 +19,10 @@ SET_IN = re.compile(r"(?<=\n\n)(?: {4}.*\n|\n(?= {4}))+")
 LINK = re.compile(r"\[([^]]*)\]\([^)]*\)")
 FUNCTION = re.compile(r"^ *(?:pub(?:\(\w+\))? |const |final )*fn (\w+)(.*?)(?=^ *\}?\{|^ *(?:pub |#\[|fn )|\Z)", re.M | re.S)
 NAMES = r"(?:`[\w:]+`(?:, | and ))*`[\w:]+`"
-SOURCES = tuple(".rt .antt .rs .c .h .py .sh .toml .txt .in HANDLES mailbox script run test Makefile".split())
+SOURCES = tuple(".rt .antt .rs .c .h .hpp .cpp .py .sh .toml .txt .in HANDLES mailbox script run test Makefile".split())
 # Words of the world outside: commands, the libraries below, placeholders of formats.
 OUTSIDE = set("""a b i k l m n o p q s u v w x y rt ci cd cp rm try start holes plant fmt doc version grep rnE rn usr bin time sh
+ldar stlr ldaxr stlxr neoverse __msan_unpoison find_package libc
 git clone main fn use mod forever earlier widths stdin stdout stderr SeedableRng seed_from_u64 crossbeam_queue SegQueue mpsc
 mb_NAME""".split())
 

@@ -11,7 +11,7 @@ OWN = "sh env sed grep awk tee mktemp date dirname rm cat tail".split()
 FILES = "mailbox examples/script bindings/rust/tests/packing.sh bindings/c/Makefile ci/prebuilt.sh ci/map.sh".split()
 # What a program does that is refused a thread.
 REFUSED = 'echo "run 0 of seed $1: Work(NoThread, 2), Plan { cells: 3 }"; echo Error: a thread could not be started; exit 1'
-TOOLS = "python3 cargo rustfmt cargo-clippy make cc c++ gcc clang valgrind pkg-config git rt sha256sum nats-server".split()
+TOOLS = "python3 cargo rustfmt cargo-clippy make cc c++ gcc clang valgrind pkg-config git rt sha256sum nats-server cmake musl-gcc aarch64-linux-gnu-gcc qemu-aarch64 rustc".split()
 
 
 class Test(Room):
@@ -35,7 +35,7 @@ class Test(Room):
 
     def run_it(self, *words):
         """The exit status, how many passed, failed and were skipped, and all lines."""
-        how = {"stdout": subprocess.PIPE, "stderr": subprocess.STDOUT, "text": True, "env": {"PATH": f"{self.top}/bin"}}
+        how = {"stdout": subprocess.PIPE, "stderr": subprocess.STDOUT, "text": True, "env": {"PATH": f"{self.top}/bin", "LEAST_RUST": f"{self.top}/bin"}}
         ran = subprocess.run([f"{self.top}/test", *words], check=False, **how)
         counts = re.fullmatch(r"(\d+) passed, (\d+) failed, (\d+) skipped", ran.stdout.splitlines()[-1])
         return ran.returncode, tuple(map(int, counts.groups())) if counts else None, ran.stdout

@@ -3,7 +3,8 @@
  * waits for anything but the allocator.
  *
  * Link libhazbultra.a and heap.c, which has its allocation functions: gcc -pthread your.c heap.c libhazbultra.a
- * The library that `make install` installs has heap.c in it. Both are for x86-64 Linux, on a processor of level x86-64-v2.
+ * The library that `make install` installs has heap.c in it. Both are for Linux, with glibc or musl: on a 64-bit ARM
+ * processor, little-endian, or on an x86-64 processor of level x86-64-v2. A C++ program may take hazbultra.hpp.
  *
  * WHAT A CALLER OWES. Nothing checks a C caller. What is proved holds only if the caller keeps these six rules:
  *
@@ -38,6 +39,15 @@
  */
 #ifndef HAZBULTRA_H
 #define HAZBULTRA_H
+
+/* The name of the target whose archive is for this machine. */
+#if defined(__linux__) && defined(__x86_64__) && defined(__LP64__)
+#define HZ_TARGET "x86_64-unknown-linux-gnu"
+#elif defined(__linux__) && defined(__AARCH64EL__) && defined(__LP64__)
+#define HZ_TARGET "aarch64-unknown-linux-gnu"
+#else
+#error "hazbultra has proved archives for x86_64-unknown-linux-gnu and aarch64-unknown-linux-gnu, and none for this machine"
+#endif
 
 #include <stdbool.h>
 #include <stddef.h>
@@ -115,6 +125,21 @@ typedef enum {
     HZ_BAD_CELLS = 35,     /* cells is above 2^24 */
     HZ_BAD_PAIRS = 36      /* pairs is above 8, or it is 0 while last is false or fast is true */
 } hz_code;
+
+/* Returns the name of a code, as "HZ_BAD_PAIRS" of 36, or "no hz_code". */
+static inline const char *hz_code_name(uint32_t code) {
+#define HZ_NAME(it) case it: return #it;
+    switch (code) {
+        HZ_NAME(HZ_DONE) HZ_NAME(HZ_TOOK) HZ_NAME(HZ_LOST) HZ_NAME(HZ_UNDECIDED) HZ_NAME(HZ_NOTHING) HZ_NAME(HZ_ENDED)
+        HZ_NAME(HZ_SPENT) HZ_NAME(HZ_NO_LANE) HZ_NAME(HZ_LINKED) HZ_NAME(HZ_FULL) HZ_NAME(HZ_CLOSED)
+        HZ_NAME(HZ_NO_MEMORY) HZ_NAME(HZ_BAD_HANDLE) HZ_NAME(HZ_ALL_GIVEN) HZ_NAME(HZ_MISSING)
+        HZ_NAME(HZ_OTHER_MAILBOX) HZ_NAME(HZ_NOT_THERE) HZ_NAME(HZ_BAD_TABLE) HZ_NAME(HZ_BAD_PRODUCERS)
+        HZ_NAME(HZ_BAD_CONSUMERS) HZ_NAME(HZ_BAD_CELLS) HZ_NAME(HZ_BAD_PAIRS)
+    default:
+        return "no hz_code";
+    }
+#undef HZ_NAME
+}
 
 /* The quorum table of the ratifiers in each cell. Take HZ_MIDDLE for more than four consumers, else HZ_BITS. */
 typedef enum {

@@ -45,7 +45,8 @@ WEAK void rattle_dealloc(void *at) {
     free(at);
 }
 
-/* The number of the next mailbox. The Rust crate counts from 0. So a program with both gives no number twice. */
+/* The number of the next mailbox. The Rust crate counts from 0. So a program with both gives no number twice. The order is
+ * relaxed: no two of these steps return one number, in any order, and the number orders nothing else. */
 static _Atomic uint64_t next_id = UINT64_C(1) << 63;
 
 WEAK uint64_t hz_next_id(void) {

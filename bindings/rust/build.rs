@@ -1,10 +1,13 @@
-//! Links the archive of proved code: the one in this package, or in the folder that the variable `HAZBULTRA_LIB` names.
+//! Links the archive of proved code: that of this package for the target, or the one in the folder that the variable
+//! `HAZBULTRA_LIB` names.
 use std::error::Error;
 use std::path::PathBuf;
 use std::process::ExitCode;
 use std::{env, fs};
 
 const ARCHIVE: &str = "libhazbultra.a";
+/// The targets of this package's archives. Each archive stands in a folder of `prebuilt` with the name of its target.
+const TARGETS: [&str; 2] = ["x86_64-unknown-linux-gnu", "aarch64-unknown-linux-gnu"];
 
 fn main() -> ExitCode {
     match link() {
@@ -19,15 +22,10 @@ fn main() -> ExitCode {
 /// Copies the archive to cargo's folder for this build, and links that copy. If a package was moved or copied with its
 /// `target`, cargo names its new folder. The linker gets no other path. So no package links the archive of another.
 fn link() -> Result<(), Box<dyn Error>> {
-    let target = |part: &str| env::var(format!("CARGO_CFG_TARGET_{part}")).unwrap_or_default();
-    let (arch, os) = (target("ARCH"), target("OS"));
-    if arch != "x86_64" || os != "linux" {
-        let why = "the proved archive is for x86_64 Linux alone";
-        return Err(format!("{why}, and not for {arch} {os}").into());
-    }
+    let of_package = PathBuf::from("prebuilt").join(fitting()?);
     println!("cargo::rerun-if-env-changed=HAZBULTRA_LIB");
     // Cargo runs this program in the package's folder. So a relative path begins there.
-    let folder = env::var_os("HAZBULTRA_LIB").map_or_else(|| "prebuilt".into(), PathBuf::from);
+    let folder = env::var_os("HAZBULTRA_LIB").map_or(of_package, PathBuf::from);
     let archive = folder.join(ARCHIVE);
     println!("cargo::rerun-if-changed={}", archive.display());
     let bytes = fs::read(&archive).map_err(|why| {
@@ -39,4 +37,20 @@ fn link() -> Result<(), Box<dyn Error>> {
     println!("cargo::rustc-link-search=native={}", out.display());
     println!("cargo::rustc-link-lib=static=hazbultra");
     Ok(())
+}
+
+/// The target whose archive fits the one that cargo builds for. An archive calls no C library but for `malloc` and the
+/// like, so it is for musl too.
+fn fitting() -> Result<&'static str, String> {
+    let target = |part: &str| env::var(format!("CARGO_CFG_TARGET_{part}")).unwrap_or_default();
+    let (arch, os) = (target("ARCH"), target("OS"));
+    let (endian, width) = (target("ENDIAN"), target("POINTER_WIDTH"));
+    let is_known = os == "linux" && endian == "little" && width == "64";
+    let of_arch = TARGETS
+        .into_iter()
+        .find(|it| it.split('-').next() == Some(arch.as_str()));
+    of_arch.filter(|_| is_known).ok_or_else(|| {
+        let all = TARGETS.join(" and ");
+        format!("there are proved archives for {all}, and none for {arch} {os}, {endian}-endian, of {width} bits")
+    })
 }

@@ -5,8 +5,8 @@
 //! [`channel`] is a channel over such mailboxes: any number of values may be sent, and receivers sleep until one comes.
 //!
 //! The mailbox is written in Rattle, which is Rust with contracts, and proved for every run: every order of the threads'
-//! steps, and all random words. This crate links an archive built from it, and needs nothing else. It is for x86-64 Linux,
-//! on a processor of level x86-64-v2.
+//! steps, and all random words. This crate links an archive built from it, and needs nothing else. It is for Linux, on
+//! x86-64 of level x86-64-v2 or on little-endian aarch64.
 //!
 //! ```
 //! use hazbultra::Mailbox;

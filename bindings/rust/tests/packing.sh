@@ -1,13 +1,16 @@
 #!/bin/sh
 # Builds the crate in all places where users may have it: moved, copied, packed, as a git dependency, vendored. It prints a
 # line for each case, and its status is 0 if all builds do as they have to. It needs cargo and git, and no network.
+# packing.sh TARGET does so for another target, whose programs cargo has to be told how to link and run.
 set -u
 crate=$(cd "$(dirname "$0")/.." && pwd) && room=$(mktemp -d) || exit 2
 trap 'rm -rf "$room"' EXIT
 trap 'exit 2' HUP INT TERM
 unset CARGO_TARGET_DIR CARGO_BUILD_TARGET_DIR CARGO_BUILD_TARGET HAZBULTRA_LIB
 export CARGO_HOME="$room/home" GIT_CONFIG_GLOBAL=/dev/null
-letter=target/debug/examples/one_letter failed=0
+[ $# = 0 ] || export CARGO_BUILD_TARGET="$1"
+built=target/${1:+$1/}debug failed=0
+letter=$built/examples/one_letter
 
 try() { # NAME FUNCTION: runs the function in a folder of its own, and prints whether it succeeded
     mkdir "$room/$2" && cd "$room/$2" || exit 2
@@ -31,8 +34,8 @@ prints() { # FOLDER WORDS..: whether `cargo run WORDS..` there prints what the e
 }
 prints_letter() { prints "$1" --example one_letter; }
 
-# Changes a word in a comment of the archive. The linker keeps it, so it shows which archive a program has.
-mark() { LC_ALL=C sed -i 's/rattle logic=/marked logic=/' "$1/prebuilt/libhazbultra.a"; }
+# Changes a word in a comment of the archives. The linker keeps it, so it shows which archive a program has.
+mark() { LC_ALL=C sed -i 's/rattle logic=/marked logic=/' "$1"/prebuilt/*/libhazbultra.a; }
 has_mark() { grep -q 'marked logic=' "$1"; }
 
 built() { place here && prints_letter here; }
@@ -52,19 +55,22 @@ depended_on() {
         cp "$crate/examples/one_letter.rs" src/main.rs && {
         printf '[package]\nname = "user"\nedition = "2021"\n[workspace]\n[dependencies]\n'
         echo "hazbultra = { git = \"file://$room/depended_on/repository\" }"
-    } >Cargo.toml && cargo fetch --quiet && prints . && has_mark target/debug/user
+    } >Cargo.toml && cargo fetch --quiet && prints . && has_mark $built/user
 }
 vendored() { # whether it builds after its sources outside the vendored folder were removed
     mv ../depended_on/user . && cd user && mkdir .cargo && cargo vendor --offline >.cargo/config.toml &&
-        rm -r ../../depended_on "$CARGO_HOME" target && prints . && has_mark target/debug/user
+        rm -r ../../depended_on "$CARGO_HOME" target && prints . && has_mark $built/user
 }
 fails() { # REASON WORDS..: whether a build fails with this error, and without a panic
     reason=$1 && shift && ! cargo build --quiet --offline "$@" 2>../why && cat ../why &&
         grep -q "^error: hazbultra@.*$reason" ../why && ! grep -q panicked ../why
 }
 refused() {
-    place here && cd here && mv prebuilt .. && fails 'libhazbultra.a: No such file' &&
-        (export HAZBULTRA_LIB=../prebuilt && prints_letter . && fails 'not for aarch64' --target aarch64-unknown-linux-gnu)
+    place here && cd here && mv prebuilt .. && fails 'libhazbultra.a: No such file' || return
+    (export HAZBULTRA_LIB="../prebuilt/${CARGO_BUILD_TARGET-x86_64-unknown-linux-gnu}" && prints_letter .) || return
+    for it in riscv64gc-unknown-linux-gnu aarch64_be-unknown-linux-gnu x86_64-unknown-linux-gnux32 aarch64-apple-darwin; do
+        fails "x86_64-unknown-linux-gnu and aarch64-unknown-linux-gnu, and none for ${it%%[-_g]*}" --target $it || return
+    done
 }
 
 try 'built' built
@@ -73,5 +79,5 @@ try 'copied, and each has its own archive' copied
 try 'packed' packed
 try 'a git dependency' depended_on
 try 'vendored' vendored
-try 'refused without an archive, and on another processor' refused
+try 'refused without an archive, and on other machines' refused
 exit $failed

@@ -42,6 +42,7 @@ pub(crate) enum NotIssued {
 
 impl<T> Hub<T> {
     pub(crate) fn new(setup: &Setup, carrier: Carrier<T>) -> Result<Hub<T>, BuildError> {
+        // (`Relaxed` suffices: no two of these steps return one number, in any order, and the number orders nothing else)
         let id = NUMBERS.fetch_add(1, Ordering::Relaxed);
         let mut handle = Handle::empty();
         // SAFETY: the rules of calls.

@@ -102,6 +102,7 @@ impl<T> Filler<T> {
 
 impl<T> Drop for Filler<T> {
     fn drop(&mut self) {
+        // (`Relaxed` suffices: `into_parts` reads it after this filler's `Arc` was dropped, which orders the two)
         self.slots.filled.store(self.filled, Relaxed);
     }
 }
@@ -132,6 +133,7 @@ impl<T> Emptier<T> {
 
 impl<T> Drop for Emptier<T> {
     fn drop(&mut self) {
+        // (`Relaxed`, as above: and one step takes the larger, whatever other emptiers do)
         self.slots.emptied.fetch_max(self.emptied, Relaxed);
     }
 }

@@ -1,0 +1,99 @@
+// A producer and two consumers in threads, by the types of hazbultra.hpp: who owns a handle, and what a refusal says.
+#include <hazbultra.hpp>
+
+#include <cstdio>
+#include <cstdlib>
+#include <cstring>
+#include <thread>
+#include <type_traits>
+
+using namespace hazbultra;
+
+#define EXPECT(so) ((so) ? (void)0 : (std::fprintf(stderr, "demo.cpp:%d: not so: %s\n", __LINE__, #so), std::exit(1)))
+
+template <class T> constexpr bool can_only_be_moved() {
+    return !std::is_copy_constructible_v<T> && !std::is_copy_assignable_v<T> && std::is_nothrow_move_constructible_v<T>
+        && std::is_nothrow_move_assignable_v<T>;
+}
+static_assert(can_only_be_moved<hub>() && can_only_be_moved<producer>() && can_only_be_moved<consumer>()
+              && can_only_be_moved<report>());
+
+template <class Call> static refusal refused(Call call) {
+    try {
+        call();
+    } catch (const refusal &why) {
+        return why;
+    }
+    std::fputs("a call was not refused\n", stderr);
+    std::exit(1);
+}
+
+constexpr uint64_t ITEMS = 1000;
+
+// Takes all that it wins of lane 0, and returns the sum.
+static uint64_t sum_of(consumer &one) {
+    for (uint64_t sum = 0;;) {
+        answer found = one.take(0);
+        if (found.code == HZ_ENDED)
+            return sum;
+        EXPECT(found.code == HZ_TOOK || found.code == HZ_NOTHING);
+        sum += found.code == HZ_TOOK ? found.value : 0;
+    }
+}
+
+static void threads() {
+    hub mailbox(exchange_setup(1, 2, ITEMS));
+    producer lane = mailbox.issue_producer();
+    consumer some[2] = {mailbox.issue_consumer(), mailbox.issue_consumer()};
+    EXPECT(lane.lane() == 0 && some[1].index() == 1);
+    EXPECT(refused([&] { mailbox.issue_producer(); }).code == HZ_ALL_GIVEN);
+
+    uint64_t sums[2];
+    std::thread workers[2] = {std::thread([&] { sums[0] = sum_of(some[0]); }), std::thread([&] { sums[1] = sum_of(some[1]); })};
+    for (uint64_t item = 1; item <= ITEMS; item++)
+        EXPECT(lane.put(item) == HZ_LINKED);
+    EXPECT(lane.put(0) == HZ_FULL && lane.finish() == HZ_DONE && lane.put(0) == HZ_CLOSED);
+    for (auto &it : workers)
+        it.join();
+    EXPECT(sums[0] + sums[1] == ITEMS * (ITEMS + 1) / 2);
+
+    refusal why = refused([&] { mailbox.gather(); });
+    EXPECT(why.code == HZ_MISSING && why.missing.producers == 1 && why.missing.consumers == 2);
+    mailbox.take_back(std::move(lane));
+    EXPECT(!lane && lane.put(1) == HZ_BAD_HANDLE);
+    for (auto &it : some)
+        mailbox.take_back(std::move(it));
+    report found = mailbox.gather();
+    EXPECT(!mailbox && found.lane(0).put == ITEMS && found.lane(0).ended && found.items(0, true).empty());
+    EXPECT(found.items(0, false).size() == ITEMS && found.items(0, false)[1] == 2);
+    uint64_t taken = 0;
+    for (uint64_t it = 0; it < 2; it++)
+        for (hz_note note : found.notes(it, 0))
+            taken += note.kind == HZ_TOOK;
+    EXPECT(taken == ITEMS && refused([&] { found.lane(1); }).code == HZ_NOT_THERE);
+    EXPECT(refused([&] { found.notes(2, 0); }).code == HZ_NOT_THERE && !found.diary(0, 0).begun);
+}
+
+// A value that was moved from leads to nothing, and one that is assigned to gives up what it had.
+static void moves() {
+    hub first(exchange_setup(2, 1, 4)), second(exchange_setup(1, 1, 4));
+    producer one = first.issue_producer();
+    producer moved = std::move(one);
+    EXPECT(!one && moved && one.put(1) == HZ_BAD_HANDLE && moved.put(1) == HZ_LINKED);
+    EXPECT(refused([&] { second.take_back(std::move(moved)); }).code == HZ_OTHER_MAILBOX && moved);
+    moved = first.issue_producer();
+    EXPECT(moved.lane() == 1 && moved.put(2) == HZ_LINKED);
+    first.take_back(std::move(moved));
+    EXPECT(refused([&] { first.gather(); }).missing.producers == 1);
+    second = std::move(first);
+    EXPECT(!first && refused([&] { second.issue_producer(); }).code == HZ_ALL_GIVEN);
+}
+
+int main() {
+    hz_setup bad = exchange_setup(1, 1, 1);
+    bad.last = false;
+    EXPECT(std::strcmp(refused([&] { hub made(bad); }).what(), "HZ_BAD_PAIRS") == 0);
+    threads();
+    moves();
+    std::puts("each item was taken once, and each handle had one owner");
+}

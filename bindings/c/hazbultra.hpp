@@ -1,0 +1,164 @@
+/* Owning C++17 types over hazbultra.h, whose head says what a caller owes. A value here owns what its handle leads to. It can
+ * be moved and cannot be copied, and its destructor frees what it owns. So rules 1 and 4 are kept, and of rule 2 all but that a
+ * setup is initialised. The others are yours: above all, that a value is in one call at a time (rule 3).
+ *
+ * A call of a value that was moved from returns HZ_BAD_HANDLE, or throws it.
+ */
+#ifndef HAZBULTRA_HPP
+#define HAZBULTRA_HPP
+
+#include "hazbultra.h"
+
+#include <array>
+#include <stdexcept>
+#include <utility>
+#include <vector>
+
+namespace hazbultra {
+
+/* A call that has to succeed was refused. what() is the name of the code. */
+struct refusal : std::runtime_error {
+    explicit refusal(uint32_t why, hz_missing out = {}) : runtime_error(hz_code_name(why)), code(hz_code(why)), missing(out) {}
+    hz_code code;
+    hz_missing missing; /* at HZ_MISSING how many producers and consumers were not taken back, else 0 */
+};
+
+inline void expect_done(uint32_t code) {
+    if (code != HZ_DONE)
+        throw refusal(code);
+}
+
+/* What a poll or take returned: value is an item at HZ_TOOK, and a consumer's number at HZ_LOST. */
+struct answer {
+    hz_code code;
+    uint64_t value;
+};
+
+/* A handle with one owner. */
+class owner {
+  public:
+    owner(owner &&other) noexcept : handle(std::exchange(other.handle, HZ_NONE)) {}
+    owner &operator=(owner &&other) noexcept {
+        hz_handle moved = std::exchange(other.handle, HZ_NONE);
+        hz_free(&handle);
+        handle = moved;
+        return *this;
+    }
+    ~owner() { hz_free(&handle); }
+    /* Whether it leads to something. */
+    explicit operator bool() const noexcept { return handle.full; }
+
+  protected:
+    friend class hub;
+    owner() = default;
+    hz_handle handle = HZ_NONE;
+};
+
+/* The producer of one lane. Give it back to its hub by take_back. If it is destroyed before that, gather throws HZ_MISSING. */
+class producer : public owner {
+  public:
+    uint64_t lane() const noexcept { return number; }
+    /* HZ_LINKED, HZ_FULL or HZ_CLOSED. */
+    [[nodiscard]] hz_code put(uint64_t item) noexcept { return hz_code(hz_put(&handle, item)); }
+    /* HZ_DONE or HZ_CLOSED. */
+    hz_code finish() noexcept { return hz_code(hz_finish(&handle)); }
+
+  private:
+    friend class hub;
+    producer() = default;
+    uint64_t number = 0;
+};
+
+/* A consumer. It has to be taken back, too. */
+class consumer : public owner {
+  public:
+    uint64_t index() const noexcept { return number; }
+    [[nodiscard]] answer poll(uint64_t lane, uint64_t budget = UINT64_MAX) noexcept { return ask(hz_poll, lane, budget); }
+    /* It never returns HZ_LOST. */
+    [[nodiscard]] answer take(uint64_t lane, uint64_t most = UINT64_MAX) noexcept { return ask(hz_take, lane, most); }
+
+  private:
+    friend class hub;
+    consumer() = default;
+    answer ask(decltype(&hz_poll) call, uint64_t lane, uint64_t most) noexcept {
+        answer found = {HZ_BAD_HANDLE, 0};
+        found.code = hz_code(call(&handle, lane, most, &found.value));
+        return found;
+    }
+    uint64_t number = 0;
+};
+
+/* What was put, taken and left. Each call throws HZ_NOT_THERE if there is no such lane or consumer. */
+class report : public owner {
+  public:
+    hz_lane lane(uint64_t number) {
+        hz_lane found = {};
+        expect_done(hz_report_lane(&handle, number, &found));
+        return found;
+    }
+    hz_diary diary(uint64_t by, uint64_t of_lane) {
+        hz_diary found = {};
+        expect_done(hz_report_diary(&handle, by, of_lane, &found));
+        return found;
+    }
+    /* All items that were put, or those that nobody took, in the order put. */
+    std::vector<uint64_t> items(uint64_t of_lane, bool left) {
+        /* (an empty vector may have a null pointer, which the call does not take) */
+        std::vector<uint64_t> found(lane(of_lane).put + 1);
+        uint64_t copied = 0;
+        expect_done(hz_report_items(&handle, of_lane, left, 0, found.data(), found.size(), &copied));
+        found.resize(copied);
+        return found;
+    }
+    std::vector<hz_note> notes(uint64_t by, uint64_t of_lane) {
+        std::vector<hz_note> found(diary(by, of_lane).notes + 1);
+        uint64_t copied = 0;
+        expect_done(hz_report_notes(&handle, by, of_lane, 0, found.data(), found.size(), &copied));
+        found.resize(copied);
+        return found;
+    }
+
+  private:
+    friend class hub;
+    report() = default;
+};
+
+/* The fastest setup: each claim on an item is one compare-exchange. */
+inline hz_setup exchange_setup(uint64_t producers, uint64_t consumers, uint64_t cells) {
+    return {producers, consumers, cells, 0, HZ_BITS, false, true};
+}
+
+/* A mailbox: it issues producers and consumers, takes them back, and makes the report. */
+class hub : public owner {
+  public:
+    /* It throws HZ_BAD_TABLE .. HZ_BAD_PAIRS, or HZ_NO_MEMORY. */
+    explicit hub(const hz_setup &setup) { expect_done(hz_mailbox_new(hz_next_id(), &setup, &handle)); }
+
+    /* Both throw HZ_ALL_GIVEN or HZ_NO_MEMORY. */
+    producer issue_producer() {
+        producer made;
+        expect_done(hz_producer_new(&handle, &made.handle, &made.number));
+        return made;
+    }
+    consumer issue_consumer(const std::array<uint8_t, 32> &seed = {}) {
+        consumer made;
+        expect_done(hz_consumer_new(&handle, seed.data(), &made.handle, &made.number));
+        return made;
+    }
+    /* If it throws, HZ_OTHER_MAILBOX or HZ_BAD_HANDLE, the producer or consumer is as it was. */
+    void take_back(producer &&one) { expect_done(hz_take_back(&handle, &one.handle)); }
+    void take_back(consumer &&one) { expect_done(hz_take_back(&handle, &one.handle)); }
+
+    /* Ends the mailbox. If it throws, the hub is as it was: HZ_MISSING or HZ_NO_MEMORY. */
+    report gather() {
+        report made;
+        hz_missing missing = {};
+        uint32_t code = hz_gather(&handle, &made.handle, &missing);
+        if (code != HZ_DONE)
+            throw refusal(code, missing);
+        return made;
+    }
+};
+
+} // namespace hazbultra
+#endif
