@@ -1,175 +1,159 @@
 #!/usr/bin/env python3
-"""Tests the fleet with a real server. Files of effects show which jobs ran. Usage: test.py [JOBS OF THE LONG RUN]"""
-import json
+"""Tests the fleet with real servers. Files of effects show which jobs ran. The parts run at a time.
+
+Usage: test.py [JOBS OF THE LONG RUN [PART ..]]. With 100000 jobs or more the long run kills ten processes and the server.
+"""
 import os
-import resource
 import shutil
 import signal
-import socket
 import subprocess
 import sys
 import tempfile
+import threading
 import time
-import urllib.request
+import traceback
 
+import operating
+import truth
+from harness import HELD, Server, end, expect_each, fill, fleet, rows, started, value, wait
+
+HERE = os.path.dirname(os.path.abspath(__file__))
 LONG = int(sys.argv[1]) if sys.argv[1:] else 20000
-with socket.create_server(("127.0.0.1", 0)) as one, socket.create_server(("127.0.0.1", 0)) as other:
-    PORT, PAGE = one.getsockname()[1], other.getsockname()[1]
-URL = f"nats://127.0.0.1:{PORT}"
-HELD = 4 + 64  # how many jobs a process has at most: one of each worker, and a batch that waits
-started = []  # each process that was started, the server first
-
-
-def wait(so, seconds=120):
-    end = time.monotonic() + seconds
-    while not so():
-        assert time.monotonic() < end, f"not after {seconds} seconds"
-        time.sleep(0.02)
-
-
-def start(*words, **more):
-    started.append(subprocess.Popen([str(it) for it in words], text=True, **more))
-    return started[-1]
-
-
-def end(process, number=signal.SIGTERM, status=0):
-    """Ends a process by a signal (0 sends none), and checks its status. Returns what it printed."""
-    process.send_signal(number)
-    said = "".join(filter(None, process.communicate(timeout=60)))
-    assert process.returncode == status, f"a process ended with {process.returncode}, not {status}: {said}"
-    return said
-
-
-def fill(stream, lines, check=True):
-    text = "".join(f"{it}\n" for it in lines)
-    return subprocess.run(["./fill", URL, stream], input=text, text=True, check=check, capture_output=True).returncode
-
-
-def start_server():
-    start("nats-server", "-a", "127.0.0.1", "-p", PORT, "-m", PAGE, "-js", "-sd", "store", "-l", "log")
-    wait(lambda: fill("READY", [1], check=False) == 0)
-
-
-def fleet(stream, *more, ack=30, limit=None):
-    words = ("./fleet", "--server", URL, "--stream", stream, "--ack", ack, "--effects", stream, *more)
-    return start(*words, preexec_fn=limit, stdout=subprocess.PIPE, stderr=subprocess.PIPE)
-
-
-def left(stream):
-    """How many jobs of the stream were neither acknowledged nor ended."""
-    with urllib.request.urlopen(f"http://127.0.0.1:{PAGE}/jsz?streams=1") as page:
-        streams = json.load(page)["account_details"][0]["stream_detail"]
-    return next(it["state"]["messages"] for it in streams if it["name"] == stream)
-
-
-def rows(stream):
-    """The effects on a stream: of each whole row the job and the process."""
-    with open(stream, "a+", encoding="ascii") as file:
-        file.seek(0)
-        return [tuple(map(int, it.split()[:2])) for it in file if it.endswith("\n")]
-
-
-def expect_each(stream, jobs, most_again=0):
-    """Checks that each job ran, none twice in one process, and not too many again in another. Returns how many did that."""
-    found = rows(stream)
-    assert {job for job, _ in found} == set(jobs), f"{stream}: other jobs ran than there are"
-    assert len(set(found)) == len(found), f"{stream}: a job ran twice in one process"
-    assert len(found) <= len(jobs) + most_again, f"{stream}: more than {most_again} jobs ran again"
-    return len(found) - len(jobs)
 
 
 def long_run():
     """One of three processes is killed and started again. Then the server is away for ten seconds."""
-    fill("LONG", range(LONG))
-    processes = [fleet("LONG", "--cells", cells, ack=15) for cells in (50, 1000, 4096)]
+    server = Server("long")
+    fill(server, "LONG", range(LONG))
+    processes = [fleet(server, "LONG", "--cells", cells, ack=15) for cells in (50, 1000, 4096)]
     wait(lambda: len(rows("LONG")) > LONG // 3)
     end(processes[0], signal.SIGKILL, -signal.SIGKILL)
-    processes[0] = fleet("LONG", ack=15)
+    processes[0] = fleet(server, "LONG", ack=15)
     wait(lambda: len(rows("LONG")) > LONG * 2 // 3)
-    end(started[0], status=1)
+    server.kill(signal.SIGTERM)
     time.sleep(10)
-    start_server()
-    wait(lambda: left("LONG") == 0)
+    server.start()
+    wait(lambda: server.left("LONG") == 0)
     for said in map(end, processes):
         assert "the server is away" in said and "the server is back" in said, said
     print(f"fleet: of {LONG} jobs {expect_each('LONG', range(LONG), 4 * HELD)} ran again in another process")
 
 
+def many_kills():
+    """Ten kills of processes, each at another moment, and one of the server. The table of effects has each job."""
+    server = Server("kills")
+    fill(server, "KILLS", range(LONG))
+    processes = [fleet(server, "KILLS", "--max-tries", 5, ack=5) for _ in range(3)]
+    kills = [LONG * (at + 1) // 13 for at in range(12)]
+    for number, at in enumerate(kills):
+        wait(lambda at=at: len(rows("KILLS")) > at, 60)
+        if number == 6:
+            server.kill()
+            time.sleep(1)
+            server.start()
+        elif number < 11:
+            end(processes[number % 3], signal.SIGKILL, -signal.SIGKILL)
+            processes[number % 3] = fleet(server, "KILLS", "--max-tries", 5, ack=5)
+    wait(lambda: server.left("KILLS") == 0, 60)
+    said = [end(it) for it in processes]
+    again = expect_each("KILLS", range(LONG), LONG)
+    assert server.left("KILLS-dead") == 0, "a job that was only killed with its process is dead"
+    print(f"fleet: of {LONG} jobs {again} ran again in another process, after ten kills and one of the server")
+    print(f"fleet: {sum('had stayed in the stream' in it for it in said)} processes removed jobs that stayed")
+
+
 def handed_out_again():
     """Jobs longer than --ack run once. If their process is stopped for so long, it drops them when they come again."""
-    fill("AGAIN", range(20))
-    process = fleet("AGAIN", "--pause", 1300, ack=1)
+    server = Server("again")
+    fill(server, "AGAIN", range(20))
+    process = fleet(server, "AGAIN", "--pause", 1300, ack=1)
     wait(lambda: len(rows("AGAIN")) >= 4)
     process.send_signal(signal.SIGSTOP)
     time.sleep(2.5)
     process.send_signal(signal.SIGCONT)
-    wait(lambda: left("AGAIN") == 0)
-    dropped = int(end(process).split("dropped ")[1].split(",")[0])
+    wait(lambda: server.left("AGAIN") == 0)
+    dropped = value(end(process), "dropped")
     assert 0 < dropped <= 20, f"{dropped} jobs were handed out again, and not those that it had when it was stopped"
     expect_each("AGAIN", range(20))
 
 
 def stop_in_the_middle():
     """A process gives back what fails, and all it has if it is stopped or gets no memory. The next gets it at once."""
-    fill("STOP", range(9000))
-    full = fleet("STOP", "--effects", "/dev/full")
+    server = Server("stop")
+    fill(server, "STOP", range(9000))
+    full = fleet(server, "STOP", "--effects", "/dev/full")
     wait(lambda: "is given back" in full.stderr.readline())
     end(full)
-    stopped = fleet("STOP", "--pause", 1)
+    stopped = fleet(server, "STOP", "--pause", 1)
     wait(lambda: len(rows("STOP")) >= 50)
     end(stopped)
-    lacking = fleet("STOP", "--cells", 4000, "--pause", 1)
+    lacking = fleet(server, "STOP", "--cells", 4000, "--pause", 1)
     wait(lambda: lacking.pid in (it for _, it in rows("STOP")))
-    resource.prlimit(lacking.pid, resource.RLIMIT_DATA, (1 << 20, 1 << 20))
+    subprocess.run(["prlimit", f"--pid={lacking.pid}", f"--data={1 << 20}"], check=True)
     said = end(lacking, 0, 1)
-    assert "no memory" in said.lower() and "given back 0" not in said and len(rows("STOP")) < 9000, said
-    last = fleet("STOP")
-    wait(lambda: left("STOP") == 0, 10)
+    assert "no memory" in said.lower() and value(said, "given back") > 0 and len(rows("STOP")) < 9000, said
+    assert value(said, "unsettled") == 0, said
+    last = fleet(server, "STOP")
+    wait(lambda: server.left("STOP") == 0, 10)
     end(last)
     expect_each("STOP", range(9000))
 
 
-def bad_jobs():
-    """Bad jobs are ended. Then the stream is deleted, by a request of the server's own protocol."""
-    bad = ["banana", "-1", "+1", " 1", "1.5", "", "18446744073709551616", "x" * 900, "\x1b[1m"]
-    fill("BAD", [7, *bad, 8])
-    process = fleet("BAD", ack=2)
-    wait(lambda: left("BAD") == 0)
-    expect_each("BAD", (7, 8))
-    with socket.create_connection(("127.0.0.1", PORT)) as it:
-        it.sendall(b"CONNECT {}\r\nPUB $JS.API.STREAM.DELETE.BAD 0\r\n\r\n")
-        said = end(process, 0, 1)
-    assert said.count("a job is no number") == len(bad) and "the stream BAD or its consumer fleet is gone" in said, said
-
-
 def refusals():
     """At a wrong option, a fault or too little memory a process prints one line on standard error, and its status says so."""
+    server = Server("refusals")
+    fill(server, "STOP", range(10))
     cases = [(1, "No server available", "--server", it) for it in ("nats://127.0.0.1:1", "nonsense:")]
     cases += [(2, "give 1 to 64", "--workers", it) for it in ("0", "65", "many", "-1", "", "99999999999999999999")]
-    cases += [(2, "give 1 to 1024", "--batch"), (2, "give --server, ", "--colour", "red")]
-    cases += [(1, "stream not found", "--stream", "NONE"), (1, "consumer's value is 30000000000", "--ack", 5)]
-    for status, line, *words in (*cases, (1, "No such file or directory", "--effects", "no/folder")):
-        said = end(fleet("STOP", *words), 0, status)
+    cases += [(2, "give 1 to 1024", "--batch"), (2, "there is no such option", "--colour", "red")]
+    cases += [(1, "stream not found", "--stream", "NONE"), (2, "no such name", "--stream", "A.B")]
+    cases += [(1, "No such file or directory", "--effects", "no/folder"), (2, "give 2 to 1000", "--max-tries", 1)]
+    cases += [(1, "No such file or directory", "--user", "i", "--password", "none"), (1, "", "--ca", "none")]
+    for status, line, *words in cases:
+        said = end(fleet(server, "STOP", *words), 0, status)
         assert line in said and said.count("\n") == 1, f"{words}: {said}"
-    for kind, size in ((resource.RLIMIT_AS, 24), (resource.RLIMIT_AS, 64), (resource.RLIMIT_DATA, 16)):
-        said = end(fleet("STOP", limit=lambda: resource.setrlimit(kind, (size << 20,) * 2)), 0, 1)
+    for kind, size in (("as", 24), ("as", 64), ("data", 16)):
+        said = end(fleet(server, "STOP", before=("prlimit", f"--{kind}={size << 20}")), 0, 1)
         assert said.startswith("fleet: ") and said.count("\n") == 1, f"{size} MB: {said}"
+    for program in "fleet", "fill":
+        for word, line in ("--help", "--server "), ("--version", f"{program} 0.1.0, with libnats 3."):
+            said = subprocess.run([f"./{program}", word], check=True, capture_output=True, text=True).stdout
+            assert line in said, said
+
+
+def run_parts(parts):
+    """Runs all parts at a time. Returns whether all passed."""
+    failed = []
+
+    def run_one(part):
+        began = time.monotonic()
+        try:
+            part()
+            print(f"fleet: {part.__name__}: passed, {time.monotonic() - began:.0f} s", flush=True)
+        except BaseException:  # (also those of asserts: the other parts go on)
+            failed.append(part.__name__)
+            print(f"fleet: {part.__name__}: FAILED\n{traceback.format_exc()}", flush=True)
+
+    threads = [threading.Thread(target=run_one, args=(it,)) for it in parts]
+    for it in threads:
+        it.start()
+    for it in threads:
+        it.join()
+    return not failed
 
 
 def main():
     os.environ["PATH"] += ":/usr/sbin"  # (where Debian has the server)
     if not shutil.which("nats-server") or not os.path.exists("/usr/include/nats/nats.h"):
         print(f"fleet: SKIPPED: there is no {'libnats-dev' if shutil.which('nats-server') else 'nats-server'}")
-        return
+        return 0
+    parts = [long_run, handed_out_again, stop_in_the_middle, refusals, *truth.parts, *operating.parts]
+    parts += [many_kills] if LONG >= 100000 else []
     with tempfile.TemporaryDirectory() as room:
-        subprocess.run(["make", "-s", "-C", os.path.dirname(os.path.abspath(__file__)), f"BUILD={room}"], check=True)
+        subprocess.run(["make", "-s", "-C", HERE, f"BUILD={room}"], check=True)
         os.chdir(room)
         try:
-            start_server()
-            for part in (long_run, handed_out_again, stop_in_the_middle, bad_jobs, refusals):
-                began = time.monotonic()
-                part()
-                print(f"fleet: {part.__name__}: passed, {time.monotonic() - began:.0f} s", flush=True)
+            return not run_parts([it for it in parts if it.__name__ in (sys.argv[2:] or it.__name__)])
         finally:
             for process in started:
                 process.kill()
@@ -177,4 +161,4 @@ def main():
 
 
 if __name__ == "__main__":
-    main()
+    sys.exit(main())

@@ -1,0 +1,228 @@
+"""What an operator asks for: a limit of tries, backoff, metrics, several addresses, TLS, and that the page is right."""
+import base64
+import collections
+import os
+import re
+import shutil
+import signal
+import socket
+import subprocess
+import time
+
+from harness import HELD, Server, end, expect_each, fill, fleet, rows, table, value, wait
+
+HERE = os.path.dirname(os.path.abspath(__file__))
+
+
+def dead_letters(server, stream):
+    """Of each dead letter its job, and its headers."""
+    last = server.ask(f"STREAM.INFO.{stream}-dead")["state"]["last_seq"]
+    for number in range(1, last + 1):
+        message = server.ask(f"STREAM.MSG.GET.{stream}-dead", seq=number)["message"]
+        job, headers = (base64.b64decode(message.get(it, "")).decode() for it in ("data", "hdrs"))
+        yield job, dict(it.split(": ", 1) for it in headers.split("\r\n")[1:] if it)
+
+
+def limit_of_tries():
+    """Of 1,000 jobs 20 always fail, and two abort the process. The others are done, and the 22 dead letters say why."""
+    server = Server("tries")
+    failing, aborting = [f"fail {it}" for it in range(1, 21)], ["abort 21", "abort 22"]
+    jobs = [*range(100, 100 + 978)]
+    for at, job in enumerate([*failing, *aborting]):
+        jobs.insert(40 + 43 * at, job)
+    fill(server, "TRIES", jobs)
+    more, deaths, said = ("--max-tries", 3, "--backoff", 200), 0, []
+    processes = [fleet(server, "TRIES", *more, ack=1) for _ in range(3)]
+    while server.left("TRIES") > 0:
+        for at, process in enumerate(processes):
+            if process.poll() is not None:
+                said.append(end(process, 0, -6))
+                processes[at], deaths = fleet(server, "TRIES", *more, ack=1), deaths + 1
+        time.sleep(0.05)
+    said += [end(it) for it in processes]
+    expect_each("TRIES", range(100, 1078))
+    assert 2 < deaths <= 2 * 3, f"{deaths} processes died of two jobs"
+    letters = dict(dead_letters(server, "TRIES"))
+    assert set(letters) == {*failing, *aborting} and server.left("TRIES-dead") == 22, letters
+    for job, headers in letters.items():
+        line = jobs.index(job) + 1
+        reason = f"job {job[5:]} failed: as it says" if job in failing else "a job ended its process each time"
+        assert headers["Fleet-Reason"] == reason and headers["Fleet-Tries"] == "3", headers
+        assert headers["Fleet-Id"] == f"one:{line}" and headers["Fleet-Sequence"] == str(line), headers
+    failures = collections.Counter(re.findall(r"job (\d+) failed", "".join(said)))
+    # (a process may abort between the end of a run and the line about it)
+    assert set(failures) == {str(it) for it in range(1, 21)} and 58 <= sum(failures.values()) <= 62, failures
+    assert server.left("TRIES-tries") == 0, "records stay of jobs that left the stream"
+
+
+def alone():
+    """Jobs that were given back run beside others. Those of a process that was killed run alone, and are not counted."""
+    server = Server("alone")
+    fill(server, "ALONE", range(400))
+    first = fleet(server, "ALONE", "--max-tries", 2, "--pause", 30, ack=1)
+    wait(lambda: len(rows("ALONE")) >= 20)
+    assert value(end(first), "given back") > 20
+    second = fleet(server, "ALONE", "--max-tries", 2, "--pause", 30, ack=1)
+    wait(lambda: len(rows("ALONE")) >= 150)
+    end(second, 9, -9)
+    third = fleet(server, "ALONE", "--max-tries", 2, ack=1)
+    wait(lambda: server.left("ALONE") == 0)
+    end(third)
+    expect_each("ALONE", range(400), 4)
+    found = collections.Counter((int(pid), worker == "4", delivery) for _, pid, worker, delivery, _ in table("ALONE"))
+    assert found[second.pid, False, "2"] > 20 and not any(is_alone for pid, is_alone, _ in found if pid != third.pid), found
+    assert sum(found[third.pid, True, it] for it in ("2", "3")) <= HELD and found[third.pid, True, "2"] > 20, found
+    assert found[third.pid, False, "1"] > 100 and found[third.pid, True, "1"] == 0, found
+    assert server.left("ALONE-dead") == 0
+
+
+def backoff():
+    """The times between the tries of a job that fails double, with and without a limit of tries."""
+    server = Server("backoff")
+    for stream, *more in ("UNLIMITED",), ("LIMITED", "--max-tries", 6):
+        fill(server, stream, ["fail 1"])
+        process, times = fleet(server, stream, "--backoff", 100, *more), []
+        while len(times) < 6:
+            assert "job 1 failed" in process.stderr.readline()
+            times.append(time.monotonic())
+        end(process)
+        # 0.1, 0.2, 0.4, 0.8 and 1.6 seconds: 3.1 together. (on a busy machine a line may be read half a second late)
+        assert 2.6 < times[-1] - times[0] < 4.6 and times[-1] - times[-2] > 1.1, f"{stream}: {times}"
+
+
+def read_metrics(path):
+    """The values of a whole file of metrics."""
+    with open(path, encoding="ascii") as file:
+        lines = [it for it in file.read().splitlines() if not it.startswith("#")]
+    return {re.sub("hazbultra_fleet_|_total", "", it.split("{")[0]): int(it.split()[1]) for it in lines}
+
+
+def metrics():
+    """Metrics are those of the table of effects. They are whole each time, and there is a line each `--every` seconds."""
+    server = Server("metrics")
+    fill(server, "METRICS", [*range(600), "banana", *(f"fail {it}" for it in range(5))])
+    more = ("--every", 1, "--max-tries", 2, "--backoff", 100, "--pause", 40)
+    processes = [fleet(server, "METRICS", "--metrics", f"metrics.{it}", *more) for it in range(2)]
+    seen = []
+    while server.left("METRICS") > 0:
+        seen += [read_metrics(f"metrics.{it}") for it in range(2) if os.path.exists(f"metrics.{it}")]
+        time.sleep(0.01)
+    said = [end(it) for it in processes]
+    assert any(0 < it["running"] <= 4 and it["waiting"] > 0 and it["connected"] == 1 for it in seen), seen[-1:]
+    at_end = [read_metrics(f"metrics.{it}") for it in range(2)]
+    found, ran = rows("METRICS"), collections.Counter(pid for _, pid in rows("METRICS"))
+    assert [it["done"] for it in at_end] == [ran[it.pid] for it in processes] and sum(ran.values()) == len({*found}) == 600
+    sums = {name: sum(it[name] for it in at_end) for name in at_end[0]}
+    assert sums["failed"] == 10 and sums["bad"] == 1 and sums["redelivered"] == 5, sums
+    assert sums["dead"] == 6 == server.left("METRICS-dead") and sums["waiting"] == sums["running"] == 0, sums
+    for line, values in zip(said, at_end):
+        reports = re.findall(r"^process \d+: done .*", line, re.M)
+        assert len(reports) >= 3 and value(reports[-1], "done") == values["done"], line
+        assert value(reports[0], "running") == 4 and value(reports[0], "done") < values["done"], line
+
+
+def addresses_and_tls():
+    """The first of two addresses is dead. Then TLS with a password: with a wrong one, or without, there is one line."""
+    plain = Server("address")
+    fill(plain, "ADDRESS", [1])
+    process = fleet(plain, "ADDRESS", "--server", f"nats://127.0.0.1:1,{plain.url}")
+    wait(lambda: plain.left("ADDRESS") == 0, 10)
+    end(process)
+    if not shutil.which("openssl"):
+        print("fleet: SKIPPED: TLS: there is no openssl")
+        return
+    request = "openssl req -x509 -newkey rsa:2048 -nodes -keyout tls.key -out tls.crt -days 2 -subj /CN=localhost"
+    subprocess.run([*request.split(), "-addext", "subjectAltName=IP:127.0.0.1"], check=True, capture_output=True)
+    tls = 'tls { cert_file: "tls.crt", key_file: "tls.key" }\nauthorization { user: "worker", password: "a secret" }'
+    server = Server("tls", tls)
+    for name, password in ("right", "a secret"), ("wrong", "none"):
+        with open(name, "w", encoding="ascii") as file:
+            file.write(f"{password}\n")
+    words = ("--user", "worker", "--ca", "tls.crt", "--password")
+    fill(server, "TLS", range(50), *words, "right")
+    process = fleet(server, "TLS", *words, "right", "--max-tries", 3)
+    wait(lambda: len(rows("TLS")) == 50, 20)
+    server.kill(signal.SIGTERM)
+    server.start()
+    fill(server, "TLS", range(50, 100), *words, "right", name="more")
+    wait(lambda: len(rows("TLS")) == 100, 20)
+    end(process)
+    other = subprocess.run([*request.replace("tls.", "other.").split()], check=False, capture_output=True)
+    assert other.returncode == 0
+    cases = [(words + ("wrong",), "uthorization"), (("--ca", "tls.crt"), "uthorization"), ((), "SSL")]
+    cases += [(("--user", "worker", "--password", "right", "--ca", "other.crt"), "SSL")]
+    for more, line in cases:
+        said = end(fleet(server, "TLS", *more), 0, 1)
+        assert line in said and said.count("\n") == 1, f"{more}: {said}"
+
+
+def is_free(port):
+    try:
+        socket.create_server(("127.0.0.1", port)).close()
+    except OSError:
+        return False
+    return True
+
+
+def fresh_user(words, **more):
+    """Runs words as a user who is not root, if we are, in an environment of its own without /usr/sbin."""
+    user = ["setpriv", "--reuid=65534", "--regid=65534", "--clear-groups"] if os.getuid() == 0 else []
+    home = os.path.abspath("user")
+    words = [*user, "env", "-i", f"HOME={home}", "PATH=/usr/local/bin:/usr/bin:/bin", *words]
+    return subprocess.run(words, capture_output=True, text=True, check=True, **more).stdout
+
+
+def page():
+    """The page's commands, word for word, in a fresh user's shell beside Debian's own server on port 4222."""
+    with open(f"{HERE}/README.md", encoding="utf-8") as file:
+        block = re.search(r"as you:\n\n((?: {4}.*\n)+)", file.read()).group(1)
+    copy, above = "user/c/fleet", os.path.dirname(HERE)
+    shutil.copytree(HERE, copy, ignore=shutil.ignore_patterns("build", "__pycache__"))
+    for name in "hazbultra.h", "heap.c":
+        shutil.copy(f"{above}/{name}", "user/c")
+    shutil.copytree(f"{above}/../rust/prebuilt", "user/rust/prebuilt", symlinks=False)
+    os.chmod(".", 0o755)
+    subprocess.run(["chmod", "-R", "a+rwX", "user"], check=True)
+    if is_free(4222):  # (else such a server is there)
+        Server("debian", jets=None, port=4222)
+    wait(lambda: is_free(4333))  # (until other tests of this machine have ended)
+    said = fresh_user(["bash", "-m"], input=block, cwd=copy, timeout=300)
+    numbers = [int(it) for it in said.splitlines() if it.isdigit()]
+    jobs = int(re.search(r"seq 1 (\d+)", block).group(1))
+    assert numbers[0] == jobs and jobs <= numbers[1] <= jobs + 4, said
+    assert said.count(" unsettled 0\n") == 2 and f"of {jobs} jobs {jobs} went into" in said, said
+
+
+def installed():
+    """What `make install` installs runs, and systemd takes the unit."""
+    prefix = os.path.abspath("a prefix")
+    subprocess.run(["make", "-s", "-C", HERE, f"BUILD={os.getcwd()}", f"PREFIX={prefix}", "install"], check=True)
+    for program in "fleet", "fill":
+        words = [f"{prefix}/bin/hazbultra-{program}", "--version"]
+        assert "0.1.0" in subprocess.run(words, check=True, capture_output=True, text=True).stdout
+    with open(f"{HERE}/hazbultra-fleet@.service", encoding="ascii") as file:
+        unit = file.read()
+    assert "ExecStart=/usr/local/bin/hazbultra-fleet" in unit
+    if shutil.which("systemd-analyze"):
+        with open("hazbultra-fleet@1.service", "w", encoding="ascii") as file:
+            file.write(unit.replace("/usr/local", os.getcwd()).replace("bin/hazbultra-fleet", "fleet"))
+        done = subprocess.run(["systemd-analyze", "verify", "./hazbultra-fleet@1.service"], capture_output=True, text=True)
+        assert done.returncode == 0 and "hazbultra" not in done.stderr, done.stderr
+
+
+def memory():
+    """No memory is lost, by valgrind: of jobs that are done, that fail, that are bad, and that are dead."""
+    if not shutil.which("valgrind"):
+        print("fleet: SKIPPED: memory: there is no valgrind")
+        return
+    server = Server("memory")
+    valgrind = ("valgrind", "-q", "--leak-check=full", "--errors-for-leak-kinds=definite,indirect", "--error-exitcode=9")
+    valgrind += ("--show-leak-kinds=definite,indirect",)
+    fill(server, "MEMORY", [*range(100), "fail 100", "banana"], before=valgrind)
+    process = fleet(server, "MEMORY", "--max-tries", 2, "--backoff", 100, "--cells", 20, before=valgrind)
+    wait(lambda: server.left("MEMORY-dead") == 2 and server.left("MEMORY") == 0)
+    said = end(process)
+    assert value(said, "mailboxes") > 3 and "==" not in said, said
+
+
+parts = [limit_of_tries, alone, backoff, metrics, addresses_and_tls, page, installed, memory]
