@@ -52,12 +52,14 @@ tells_by p (poll.Took v) old new kind has = tells_item p v old new (has (λ f. c
 tells_by p (poll.Lost w) old new kind has = record {
   noted = λ _. has (λ f. cc);
   ended = λ f. absurd (cc);
+  empty = λ f. absurd (cc);
   known_nothing = λ theirs k f. absurd (cc);
   known_ended = λ theirs k f. absurd (cc);
 }
 tells_by p poll.Undecided old new kind has = record {
   noted = λ _. has (λ f. cc);
   ended = λ f. absurd (cc);
+  empty = λ f. absurd (cc);
   known_nothing = λ theirs k f. absurd (cc);
   known_ended = λ theirs k f. absurd (cc);
 }

@@ -29,6 +29,7 @@ pub mod Ending
 pub mod Beginnings
 pub mod Straight
 pub mod ShortPolls
+pub mod ShortTakes
 pub mod Taking
 pub mod Meeting
 pub mod Takes

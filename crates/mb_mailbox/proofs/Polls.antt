@@ -1,11 +1,12 @@
 -- Steps on a lane, one after another, and the poll that they make.
-use Rattle.std.proofs.Common.{◌≤◌, ◌≡◌, ℕ, ◌+◌, [], ◌∷◌, refl, sym, ap, ◌∙◌, subst, arith}
+use Rattle.std.proofs.Common.{◌≤◌, ◌≡◌, ℕ, ◌+◌, ◌++◌, [], ◌∷◌, append_assoc, refl, sym, ap, ◌∙◌, subst, arith}
 use Rattle.std.specs.Prelude.{Option, None, slice_get}
-use Rattle.mb_mailbox.specs.Imports.{ReaderSeatView, SeatView, Stream, ToCells, ToClaims, WorldAccess, WorldHistory, claims_at}
+use Rattle.mb_mailbox.specs.Imports.{History, ReaderSeatView, SeatView, Stream, ToCells, ToClaims, WorldAccess, WorldHistory, claims_at}
 use Rattle.mb_mailbox.specs.declared.consumer.Poll.{Poll}
 use Rattle.mb_mailbox.specs.declared.consumer.Poll.TheVariants as poll
 use Rattle.mb_mailbox.specs.Consumers.{ConsumerView, parts_of}
 use Rattle.mb_mailbox.specs.ConsumerStep.{ConsumerStep}
+use Rattle.mb_mailbox.specs.Emptiness.{empty_load}
 use Rattle.mb_mailbox.specs.Steps.{AnswerTells, AreDrawn, AreSteps, HasDone, IsPollOf, IsStep, LeadTo, note_with, outcome, with_note, drawn_words}
 
 -- if `HasDone` holds of accesses without an answer, and then of one more access, it holds of all of them
@@ -88,12 +89,23 @@ poll_of p n budget x s t old new m few all = record {
   spent = λ e. m.count ∙ all e;
 }
 
--- `AnswerTells` from `now` on holds from `old` on, too, if the consumer knew the same parts of lanes then
-pub told_from : (p : ℕ) (answer : Option Poll) (old now new : ConsumerView) → now.reader.known ≡ old.reader.known
+-- `AnswerTells` from `now` on holds from `old` on, too, if the consumer made no more than these loads in between
+pub told_from : (p : ℕ) (answer : Option Poll) (old now new : ConsumerView) (loads : History)
+    → now.reader ≡ record old.reader { part = loads ++ old.reader.part }
     → AnswerTells p answer now new → AnswerTells p answer old new
-told_from p answer old now new same tells = record {
+told_from p answer old now new loads same tells = record {
   noted = tells.noted;
   ended = tells.ended;
-  known_nothing = λ theirs k. tells.known_nothing theirs (ap (λ ks. slice_get ks p) same ∙ k);
-  known_ended = λ theirs k. tells.known_ended theirs (ap (λ ks. slice_get ks p) same ∙ k);
+  empty = λ nothing.
+      let found = tells.empty nothing in
+      let all : found.made ++ now.reader.part ≡ (found.made ++ loads) ++ old.reader.part =
+          ap (λ (r : ReaderSeatView). found.made ++ r.part) same
+          ∙ sym (append_assoc found.made loads old.reader.part) in
+      record {
+        made = found.made ++ loads;
+        newest = found.newest ∙ ap (λ l. empty_load p new ∷ l) all;
+        moment = λ later before lawful own. found.moment later before lawful (own ∙ sym all);
+      };
+  known_nothing = λ theirs k. tells.known_nothing theirs (ap (λ (r : ReaderSeatView). slice_get r.known p) same ∙ k);
+  known_ended = λ theirs k. tells.known_ended theirs (ap (λ (r : ReaderSeatView). slice_get r.known p) same ∙ k);
 }

@@ -33,13 +33,13 @@ TellsCell = (v k : ℕ) → look_of v ≡ look.Cell k → (v ≡ k + 1) × (v �
 
 -- ---- cells met
 -- after one more load a consumer has met no fewer cells
-pushed : (b : Bool) (given : Option ℕ) (ks : List ℕ) → length ks ≤ length (cond b (push_if given ks) ks)
+pub pushed : (b : Bool) (given : Option ℕ) (ks : List ℕ) → length ks ≤ length (cond b (push_if given ks) ks)
 pushed true None ks = omega arith
 pushed true (Some k) ks = omega arith
 pushed false given ks = omega arith
 
 -- if the load of a link comes to no answer, it found a cell k, so the link is k + 1
-found : TellsCell → (v : ℕ) (l : Look) → look_of v ≡ l → None ≡ link_answer l
+pub found : TellsCell → (v : ℕ) (l : Look) → look_of v ≡ l → None ≡ link_answer l
     → (k : ℕ) × (v ≡ k + 1) × (k + 1 ≢ END)
 found tells v look.Nothing is none = absurd (cc)
 found tells v look.Ended is none = absurd (cc)

@@ -1,7 +1,7 @@
 -- Takes: polls one after another, past the items that are lost.
-use Rattle.std.proofs.Common.{◌≡◌, ◌≢◌, ◌+◌, ◌-◌, ◌*◌, ◌<◌, ◌≤◌, ℕ, List, [], ◌∷◌, ◌++◌, ap, arith, length, subst, sym, ◌∙◌}
+use Rattle.std.proofs.Common.{◌≡◌, ◌≢◌, ◌+◌, ◌-◌, ◌*◌, ◌<◌, ◌≤◌, ℕ, List, [], ◌∷◌, ◌++◌, ap, append_assoc, arith, length, subst, sym, ◌∙◌}
 use Rattle.std.specs.Prelude.{Some}
-use Rattle.mb_mailbox.specs.Imports.{Cursor, ReaderSeatView, Stream, WorldHistory}
+use Rattle.mb_mailbox.specs.Imports.{Cursor, History, ReaderSeatView, Stream, WorldHistory, pool_accesses}
 use Rattle.mb_mailbox.specs.Consumers.{ConsumerView, IsConsumer, IsConsumerOf}
 use Rattle.mb_mailbox.specs.Jobs.{accesses_made}
 use Rattle.mb_mailbox.specs.{Mailboxes.MailboxView, NoteLists.HasAllRoom, Pursuits.{at_link, with_fields}}
@@ -81,12 +81,18 @@ passed_grows p most (w ∷ older) s t start new (u, mid, was, last) =
     let more = lost_grows p last.left w u t mid new last.poll in
     omega (arith, before, more)
 
--- a consumer that has passed items knows the same parts of lanes as before
-pub passed_known : (p most : ℕ) (winners : List ℕ) (s t : Stream) (start new : ConsumerView)
-    → HasPassed p most winners s t start new → new.reader.known ≡ start.reader.known
-passed_known p most [] s t start new (drawn, is) = ap (λ (v : ConsumerView). v.reader.known) is
-passed_known p most (w ∷ older) s t start new (u, mid, was, last) =
-    ap (λ (r : ReaderSeatView). r.known) last.poll.done.reader ∙ passed_known p most older s u start mid was
+-- a consumer that has passed items has made loads, and is the same reader as before
+pub passed_reads : (p most : ℕ) (winners : List ℕ) (s t : Stream) (start new : ConsumerView)
+    → HasPassed p most winners s t start new
+    → (loads : History) × (new.reader ≡ record start.reader { part = loads ++ start.reader.part })
+passed_reads p most [] s t start new (drawn, is) = ([], ap (λ (v : ConsumerView). v.reader) is)
+passed_reads p most (w ∷ older) s t start new (u, mid, was, last) =
+    let before = passed_reads p most older s u start mid was in
+    let more = pool_accesses last.poll.accesses in (
+      more ++ before.0,
+      last.poll.done.reader ∙ ap (λ (r : ReaderSeatView). record r { part = more ++ r.part }) before.1
+          ∙ ap (λ (h : History). record start.reader { part = h }) (sym (append_assoc more before.0 start.reader.part)),
+    )
 
 -- ---- the end of a take
 -- items passed, and then a poll of what is left that loses no item, make a take, and `AnswerTells` holds of it
@@ -95,17 +101,18 @@ pub take_by : (p most left : ℕ) (winners : List ℕ) (answer : Poll) (s t u : 
     → IsPollOf p left answer t u mid new → ((w : ℕ) → answer ≢ poll.Lost w)
     → AnswerTells p (outcome answer) mid new
     → IsTakeOf p most answer s u start new × AnswerTells p (outcome answer) start new
-take_by p most left winners answer s t u start mid new was rest one over tells = (
-  record {
-    winners = winners;
-    mid = mid;
-    rest = t;
-    passed = was;
-    last = record { left = left; rest = rest; poll = one };
-    over = over;
-  },
-  told_from p (outcome answer) start mid new (passed_known p most winners s t start mid was) tells,
-)
+take_by p most left winners answer s t u start mid new was rest one over tells =
+    let reads = passed_reads p most winners s t start mid was in (
+      record {
+        winners = winners;
+        mid = mid;
+        rest = t;
+        passed = was;
+        last = record { left = left; rest = rest; poll = one };
+        over = over;
+      },
+      told_from p (outcome answer) start mid new reads.0 reads.1 tells,
+    )
 
 -- ---- items passed while a variable has the cursor
 -- what is left of a budget of `most` with which so many items may be lost, after all but `more` of them

@@ -2,6 +2,7 @@ pub mod Imports
 pub mod Mailboxes
 pub mod Consumers
 pub mod ConsumerStep
+pub mod Emptiness
 pub mod Steps
 pub mod Laws
 pub mod LaneNotes
@@ -26,5 +27,6 @@ pub mod Gathering
 pub mod ReportedRuns
 pub mod Filling
 pub mod GatheringSamples
+pub mod EmptinessSamples
 pub mod ConsumerWords
 pub mod Vocabulary

@@ -9,6 +9,7 @@ use Rattle.mb_mailbox.specs.Imports.{has_ended, linked_cells, next_u64, place_pa
 use Rattle.mb_mailbox.specs.declared.consumer.Poll.{Poll}
 use Rattle.mb_mailbox.specs.declared.consumer.Poll.TheVariants as poll
 use Rattle.mb_mailbox.specs.Consumers.{ConsumerView, parts_of}
+use Rattle.mb_mailbox.specs.Emptiness.{HasFoundEmpty}
 use Rattle.mb_mailbox.specs.ConsumerStep.{ConsumerStep}
 
 -- ---- random words
@@ -121,6 +122,8 @@ pub record AnswerTells (p : ℕ) (answer : Option Poll) (old new : ConsumerView)
   pub noted : answer ≢ None → HasNoteOnEach p new
   -- if the answer is `Ended`, the consumer has loaded the end mark
   pub ended : answer ≡ Some poll.Ended → HasLoadedEnd p new
+  -- if the answer is `Nothing`, the consumer had met the whole lane at the moment of its last load
+  pub empty : answer ≡ Some poll.Nothing → HasFoundEmpty p old new
   -- The next two clauses are about a lane whose producer was returned before the consumer was issued. With the answer
   -- `Nothing` the consumer has met all that was put, and the lane has not ended. With `Ended` it has met all that was
   -- put, and the lane has ended.

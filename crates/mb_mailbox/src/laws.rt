@@ -1,24 +1,28 @@
 //! Laws of polls, of what a hub has taken back, and of what is gathered. The functions compute nothing: their contracts
 //! are the laws.
-ghost use Rattle.std.specs.Prelude.{ℕ, ◌≡◌, ◌≢◌, ◌≤◌, ◌<◌, ◌+◌, List, [], ◌∷◌, Some, None, false, true, length, map, slice_get};
+ghost use Rattle.std.specs.Prelude.{ℕ, ◌≡◌, ◌≢◌, ◌≤◌, ◌<◌, ◌+◌, ◌*◌, List, [], ◌∷◌, Some, None, false, true, length, map, slice_get};
 ghost use Rattle.mb_claim.specs.Vocabulary.{most_accesses, shape_of};
-ghost use Rattle.mb_mailbox.specs.Imports.{Claim, IsLawfulPart, Note, Stream, Undecided, claims_at, has_ended};
+ghost use Rattle.mb_mailbox.specs.Imports.{Claim, IsLawfulPart, Note, Stream, Undecided, cells_met, claims_at, has_ended};
 ghost use Rattle.mb_mailbox.specs.Calls.{AreCalls, Call};
-ghost use Rattle.mb_mailbox.specs.ConsumerWords.{AnswerTells, ConsumerView, HasNoteOnEach, IsConsumer, IsConsumerOf, IsPollOf, Poll};
+ghost use Rattle.mb_mailbox.specs.ConsumerWords.{AnswerTells, ConsumerView, HasLoads, HasNoteOnEach, IsConsumer, IsConsumerOf, IsPollOf, Poll};
 ghost use Rattle.mb_mailbox.specs.Gathering.{IsGathered, IsReportIn, UndecidedHasCompany, begun_in, count_missing, ended_in, items_in, notes_in};
-ghost use Rattle.mb_mailbox.specs.Mailboxes.{MailboxView};
+ghost use Rattle.mb_mailbox.specs.Mailboxes.{MailboxView, plan_at};
 ghost use Rattle.mb_mailbox.specs.{Jobs.{accesses_made}, Steps.{AreDrawn, outcome}, Takes.{IsTakeOf}};
 ghost use Rattle.mb_mailbox.specs.declared.consumer.Poll.TheVariants.{Lost, Spent, Took};
-ghost use Rattle.mb_world.specs.{Agreement.{AreAllTaken, IsLeftBesideBegun}, Places.{has_begun_at}, Theorem.{ReportView, note}};
+ghost use Rattle.mb_world.specs.{Agreement.{AreAllTaken, IsLeftBesideBegun}, Places.{has_begun_at}, Plan.{consumers_of}, Theorem.{ReportView, items_left, items_put, note, notes}};
+ghost use Rattle.mb_mailbox.specs.{Emptiness.{HasFoundEmpty}, EmptinessSamples.{looked_back, looked_past, met_one, with_loads}};
 ghost use Rattle.mb_mailbox.specs.GatheringSamples.{alone_undecided, two_undecided};
 ghost use Rattle.mb_mailbox.specs.Hubs.{HubView, with_taken_consumer, with_taken_producer};
 ghost use Rattle.mb_mailbox.specs.Producers.{ProducerView};
 ghost use Rattle.mb_world.specs.declared.place.Place.{Place, TheVariants.At};
 
-use mb_cells::laws::looks_tell_links;
+use mb_cells::laws::{cells_stand_once, looks_tell_links, readers_follow_lanes};
 use mb_claim::laws::{claims_are_bounded, layouts_are_sound, prefixes_have_one_stage};
 use mb_claim::steps::accesses_lengthen_one_part;
-use mb_world::laws::{last_objects_settle_items, shaped_setups_have_last_objects};
+use mb_shared_cells::laws::lanes_are_empty_if_nothing_is_found;
+use mb_world::laws::{
+    last_objects_settle_items, reports_have_all_diaries, shaped_setups_have_last_objects,
+};
 use mb_world::steps::loads_meet_cells;
 
 /// Whatever its budget, a poll makes at most two accesses more than a whole claim may have: the load of a link, and the
@@ -38,6 +42,31 @@ pub fn polls_are_short()
     loads_meet_cells();
     looks_tell_links();
     prefixes_have_one_stage();
+}
+
+/// Whatever its budget, a take makes few accesses: at most one more than a whole claim may have, for each cell that it
+/// meets, and as many once more. So with a budget for all cells it is never spent. The take and its consumer are as
+/// [`Consumer::take`](crate::Consumer::take) and [`keeps_its_parts`](crate::Consumer::keeps_its_parts) say.
+pub fn takes_are_short()
+    ensures few { (m : MailboxView) (p most : ℕ) (answer : Poll) (s t : Stream)
+        (old new : ConsumerView) → IsTakeOf p most answer s t old new → IsConsumerOf m new
+        → IsLawfulPart (claims_at new.seat.table) new.seat.consumer new.seat.part
+        → let each = most_accesses m.claims.layout + 1 in
+        accesses_made new + each * length (cells_met p old.reader.part)
+        ≤ accesses_made old + each * length (cells_met p new.reader.part) + each }
+    ensures unspent { (m : MailboxView) (p most : ℕ) (answer : Poll) (s t : Stream)
+        (old new : ConsumerView) → IsTakeOf p most answer s t old new → IsConsumerOf m new
+        → HasLoads new
+        → IsLawfulPart (claims_at new.seat.table) new.seat.consumer new.seat.part
+        → (most_accesses m.claims.layout + 1) * (m.cells.size.cells + 1) < most
+        → answer ≢ Spent }
+{
+    accesses_lengthen_one_part();
+    cells_stand_once();
+    claims_are_bounded();
+    loads_meet_cells();
+    looks_tell_links();
+    readers_follow_lanes();
 }
 
 /// A lane that was never issued is open and empty. A consumer that was never issued has noted and begun nothing.
@@ -75,7 +104,8 @@ pub fn noted_lanes_hold_no_claim()
 
 /// If each cell of a mailbox has a last object, its report has no undecided note. If nobody took an item that was
 /// competed for, it is left: some diary's notes end just before it, and the claim there is begun. On a lane on which
-/// no claim is begun, each item that was competed for is taken.
+/// no claim is begun, each item that was competed for is taken. If each consumer has a note on each item of a lane,
+/// nothing is left of it.
 pub fn last_objects_settle_what_is_gathered()
     ensures notes { (m : MailboxView) (h : HubView) (r : ReportView) (c p j : ℕ)
         → (shape_of m.claims.layout).last ≡ true → IsGathered m h r
@@ -84,8 +114,15 @@ pub fn last_objects_settle_what_is_gathered()
         → (shape_of m.claims.layout).last ≡ true → IsGathered m h r → IsLeftBesideBegun r }
     ensures taken { (m : MailboxView) (h : HubView) (r : ReportView)
         → (shape_of m.claims.layout).last ≡ true → IsGathered m h r → AreAllTaken r }
+    ensures none_left { (m : MailboxView) (h : HubView) (r : ReportView) (p : ℕ)
+        → (shape_of m.claims.layout).last ≡ true → IsGathered m h r
+        → ((c : ℕ) → c < consumers_of (plan_at m)
+        → length (notes c p r) ≡ length (items_put p r))
+        → items_left p r ≡ [] }
 {
     last_objects_settle_items();
+    layouts_are_sound();
+    reports_have_all_diaries();
     shaped_setups_have_last_objects();
 }
 
@@ -114,6 +151,26 @@ pub fn sample_takes()
     ensures idle { (p : ℕ) (s t : Stream) (old : ConsumerView)
         → IsTakeOf p 2 Spent s t old old → ⊥ }
 {}
+
+/// Samples of `HasFoundEmpty`, of a consumer that meets cell 0 on lane 0, and loses it. A take that then looks past it
+/// and finds nothing may return [`Poll::Nothing`](crate::Poll::Nothing), though another cell may be linked after that.
+pub fn sample_emptiness()
+    ensures whole { (s : ConsumerView)
+        → HasFoundEmpty 0 (with_loads s []) (with_loads s (looked_past s)) }
+
+    // A take that stops one cell early may not: it has not looked past the last cell that it met. Nor may a call without
+    // a load, or one whose last load was of a link that the consumer had left behind.
+    ensures early { (s : ConsumerView)
+        → HasFoundEmpty 0 (with_loads s []) (with_loads s (met_one s)) → ⊥ }
+    ensures idle { (s : ConsumerView)
+        → HasFoundEmpty 0 (with_loads s (looked_past s)) (with_loads s (looked_past s)) → ⊥ }
+    ensures behind { (s : ConsumerView)
+        → HasFoundEmpty 0 (with_loads s []) (with_loads s (looked_back s)) → ⊥ }
+{
+    lanes_are_empty_if_nothing_is_found();
+    loads_meet_cells();
+    readers_follow_lanes();
+}
 
 /// A hub has at most one report of what was returned to it.
 pub fn hubs_have_one_report()

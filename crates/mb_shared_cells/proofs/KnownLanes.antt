@@ -1,4 +1,4 @@
--- What a reader finds on a lane that it knows: one that was returned before the reader was issued.
+-- What a reader finds past the cells that it met on a lane, also on one that was returned before it was issued.
 use Rattle.std.proofs.Common.{Bool, List, [], ap, append_assoc, arith, false, inl, inr, refl, subst, sym, true, ℕ, ◌++◌, ◌+◌, ◌<◌, ◌∙◌, ◌∷◌, ◌≡◌, ◌≢◌}
 use Rattle.std.specs.Prelude.{Some, if◌then◌else◌, slice_get}
 use Rattle.mb_cells.specs.Vocabulary.{Has, HasMet, History, IsPoolLawful, IsStart, has_ended, linked_cells, part, place_past, value_in}
@@ -39,38 +39,50 @@ has_behind : (later ks : List ℕ) (k : ℕ) → Has (later ++ k ∷ ks) k
 has_behind [] ks k = inl refl
 has_behind (j ∷ later) ks k = inr (has_behind later ks k)
 
--- a load of the word past the cells met on a known lane finds what `Found` says
-pub found : ReadLaws → (size : PoolSize) (r p : ℕ) (known : PartList) (done theirs : History) (ks : List ℕ)
-    (w : Word) (v : ℕ) → w ≡ place_past p ks → IsAccessAfter size known (access_by (Reader r) w (Load v)) done
-    → slice_get known p ≡ Some (Some theirs) → HasMet r p ks done → Found p theirs ks v
-found laws size r p known done theirs ks w v at_place after at met =
-    let h = after.older in
-    let lawful = laws.older size (access_by (Reader r) w (Load v) ∷ []) h after.lawful in
-    let is : part (Producer p) h ≡ theirs = after.lanes p theirs at in
-    let told : v ≡ value_in (place_past p ks) h = after.lawful.memory.0 ∙ ap (λ z. value_in z h) at_place in
-    let start = laws.start size h r p ks lawful (subst (λ l. HasMet r p ks l) (sym after.own) met) in
-    by h lawful is told start.0 start.1
+-- a load of the word past the cells met finds what `Found` says of the history before the load
+pub found_in : ReadLaws → (size : PoolSize) (r p : ℕ) (h : History) (ks : List ℕ) (w : Word) (v : ℕ)
+    → w ≡ place_past p ks → IsPoolLawful size (access_by (Reader r) w (Load v) ∷ h)
+    → HasMet r p ks (part (Reader r) h) → Found p h ks v
+found_in laws size r p h ks w v at_place after met =
+    let lawful = laws.older size (access_by (Reader r) w (Load v) ∷ []) h after in
+    let told : v ≡ value_in (place_past p ks) h = after.memory.0 ∙ ap (λ z. value_in z h) at_place in
+    let start = laws.start size h r p ks lawful met in
+    by lawful told start.0 start.1
   where
-    ends : (b : Bool) → v ≡ (if b then END else 0) → ks ≡ linked_cells p theirs → has_ended p theirs ≡ b
-        → Found p theirs ks v
+    ends : (b : Bool) → v ≡ (if b then END else 0) → ks ≡ linked_cells p h → has_ended p h ≡ b → Found p h ks v
     ends true told all ended = the_end told all ended
     ends false told all ended = no_cell told all ended
 
-    by : (h : History) → IsPoolLawful size h → part (Producer p) h ≡ theirs → v ≡ value_in (place_past p ks) h
-        → (later : List ℕ) → later ++ ks ≡ linked_cells p h → Found p theirs ks v
-    by h lawful is told [] e =
-        ends (has_ended p h) (told ∙ ap (λ l. value_in (place_past p l) h) e ∙ laws.end size h p lawful)
-        (e ∙ laws.linked h p ∙ ap (linked_cells p) is)
-        (sym (ap (has_ended p) is) ∙ sym (laws.ended h p))
-    by h lawful is told (x ∷ xs) e =
+    by : IsPoolLawful size h → v ≡ value_in (place_past p ks) h
+        → (later : List ℕ) → later ++ ks ≡ linked_cells p h → Found p h ks v
+    by lawful told [] e =
+        ends (has_ended p h) (told ∙ ap (λ l. value_in (place_past p l) h) e ∙ laws.end size h p lawful) e refl
+    by lawful told (x ∷ xs) e =
         let t = last_of x xs in
         let k = t.1.0 in
         let cut : t.0 ++ k ∷ ks ≡ linked_cells p h =
         sym (append_assoc t.0 (k ∷ []) ks) ∙ ap (λ l. l ++ ks) t.1.1 ∙ e in
         let low = (laws.within size h p k lawful (subst (λ l. Has l k) cut (has_behind t.0 ks k))).1 in
         let few = lawful.sized in
-        a_cell k (told ∙ laws.next size h p k t.0 ks lawful cut) (λ end. omega arith)
-        (t.0, cut ∙ laws.linked h p ∙ ap (linked_cells p) is)
+        a_cell k (told ∙ laws.next size h p k t.0 ks lawful cut) (λ end. omega arith) (t.0, cut)
+
+-- what `Found` says of one history it says of another in which the lane has the same cells, and has ended just as well
+found_by : (p : ℕ) (h theirs : History) (ks : List ℕ) (v : ℕ) → linked_cells p h ≡ linked_cells p theirs
+    → has_ended p h ≡ has_ended p theirs → Found p h ks v → Found p theirs ks v
+found_by p h theirs ks v cells ends (a_cell k told no_end start) = a_cell k told no_end (start.0, start.1 ∙ cells)
+found_by p h theirs ks v cells ends (the_end told all ended) = the_end told (all ∙ cells) (sym ends ∙ ended)
+found_by p h theirs ks v cells ends (no_cell told all ended) = no_cell told (all ∙ cells) (sym ends ∙ ended)
+
+-- a load of the word past the cells met on a known lane finds what `Found` says of the lane's part
+pub found : ReadLaws → (size : PoolSize) (r p : ℕ) (known : PartList) (done theirs : History) (ks : List ℕ)
+    (w : Word) (v : ℕ) → w ≡ place_past p ks → IsAccessAfter size known (access_by (Reader r) w (Load v)) done
+    → slice_get known p ≡ Some (Some theirs) → HasMet r p ks done → Found p theirs ks v
+found laws size r p known done theirs ks w v at_place after at met =
+    let h = after.older in
+    let is : part (Producer p) h ≡ theirs = after.lanes p theirs at in
+    found_by p h theirs ks v (laws.linked h p ∙ ap (linked_cells p) is) (laws.ended h p ∙ ap (has_ended p) is)
+    (found_in laws size r p h ks w v at_place after.lawful
+    (subst (λ l. HasMet r p ks l) (sym after.own) met))
 
 -- if the load found 0, the reader has met all cells of the lane, and the lane has not ended
 pub nothing_found : (p : ℕ) (theirs : History) (ks : List ℕ) (v : ℕ) → v ≡ 0 → Found p theirs ks v

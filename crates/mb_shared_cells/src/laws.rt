@@ -6,7 +6,7 @@
 //! table says so: [`CellsRule`](crate::rule::CellsRule). It is checked at each step.
 ghost use Rattle.std.specs.Prelude.{◌≡◌, ◌≢◌, ◌+◌, ◌<◌, ◌≤◌, ◌^◌, ◌∷◌, ◌++◌, ℕ, List, Some, None, [], length, replicate, false};
 ghost use Rattle.std.specs.Prelude.{slice_get, slice_index, slice_set, true};
-ghost use Rattle.mb_cells.specs.Vocabulary.{Entry, Has, HasMet, History, IsLaneAfter, IsLanePrefix, IsMemoryOf, IsStart};
+ghost use Rattle.mb_cells.specs.Vocabulary.{Entry, Has, HasMet, History, IsLaneAfter, IsLanePrefix, IsMemoryOf, IsPoolLawful, IsStart};
 ghost use Rattle.mb_cells.specs.Vocabulary.{MayRead, address_of, block_after, fetch, has_ended, linked_cells, load};
 ghost use Rattle.mb_cells.specs.Vocabulary.{next_link, part, place_past, push_store, put_list, store, word_of};
 ghost use Rattle.mb_cells.specs.declared.answer.Finish.TheVariants as finish;
@@ -166,6 +166,21 @@ pub fn known_lanes_are_read_whole()
 {
     cells_stand_once();
     looks_tell_links();
+    history_extends();
+    parts_tell_lanes();
+    readers_follow_lanes();
+    words_lead_through_lanes();
+}
+
+/// A load past the cells that a reader met on a lane finds nothing only if no other cell is linked there before it, and
+/// the lane has not ended. So each lawful history has a moment at which the reader had met the whole lane.
+pub fn lanes_are_empty_if_nothing_is_found()
+    ensures { (size : PoolSize) (later before : History) (r p : ℕ) (ks : List ℕ)
+        → IsPoolLawful size (later ++ load r (place_past p ks) 0 ∷ before)
+        → HasMet r p ks (part (Reader r) before)
+        → (linked_cells p before ≡ ks) × (has_ended p before ≡ false) }
+{
+    cells_stand_once();
     history_extends();
     parts_tell_lanes();
     readers_follow_lanes();

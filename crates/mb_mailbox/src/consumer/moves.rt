@@ -20,7 +20,7 @@ use mb_cells::steps::{
 };
 use mb_claim::laws::{layouts_are_sound, prefixes_have_one_stage};
 use mb_claim::steps::accesses_lengthen_one_part;
-use mb_shared_cells::laws::known_lanes_are_read_whole;
+use mb_shared_cells::laws::{known_lanes_are_read_whole, lanes_are_empty_if_nothing_is_found};
 use mb_world::steps::{loads_meet_cells, parts_fit_on};
 
 /// The laws of the crates below from which those of a consumer's moves follow, in one record.
@@ -139,5 +139,6 @@ pub(super) fn answers_tell_lanes()
 {
     laws_hold();
     looks_tell_links();
+    lanes_are_empty_if_nothing_is_found();
     known_lanes_are_read_whole();
 }

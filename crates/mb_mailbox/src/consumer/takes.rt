@@ -2,14 +2,15 @@
 use super::passing::pass;
 use super::places::place_at;
 use super::{Consumer, Poll};
+use crate::laws::takes_are_short;
 use crate::mailbox::Mailbox;
 use mb_world::Place;
 use rand_core::Rng;
 use std::alloc::Allocator;
 
 impl<A: Allocator + Drop> Consumer<A> {
-    ghost use Rattle.std.specs.Prelude.{◌≡◌, ◌≢◌, ◌↔◌, ◌≤◌, ◌+◌, ◌<◌, ℕ, List, true, IfSome, None};
-    ghost use Rattle.mb_claim.specs.Vocabulary.{shape_of};
+    ghost use Rattle.std.specs.Prelude.{◌≡◌, ◌≢◌, ◌↔◌, ◌≤◌, ◌+◌, ◌*◌, ◌<◌, ℕ, List, true, IfSome, None};
+    ghost use Rattle.mb_claim.specs.Vocabulary.{most_accesses, shape_of};
     ghost use Rattle.mb_mailbox.specs.declared.consumer.Poll.TheVariants.{Lost, NoLane, Spent, Undecided};
     ghost use Rattle.mb_mailbox.specs.Consumers.{IsConsumerOf};
     ghost use Rattle.mb_mailbox.specs.Jobs.{accesses_made};
@@ -23,7 +24,8 @@ impl<A: Allocator + Drop> Consumer<A> {
     /// is no such lane, and changes nothing. It takes no lock and no memory.
     ///
     /// An item that is lost takes one access for its link and at most [`max_steps`](mb_claim::Layout::max_steps) for
-    /// its claim. An item that is taken takes one more.
+    /// its claim. An item that is taken takes one more. So a take is never `Spent` if `most` is above `max_steps` plus 1
+    /// times the number of cells plus 1.
     #[inline(always)]
     pub fn take<B: Allocator + Drop, R: Rng>(
         &mut self,
@@ -42,9 +44,12 @@ impl<A: Allocator + Drop> Consumer<A> {
             → IsTakeOf lane most result (R.stream rng.old) (R.stream rng.new) self.old self.new }
         ensures not_lost { (w : ℕ) → result ≢ Lost w }
 
-        // It makes at most `most` accesses, and just as many if it is spent.
+        // It makes at most `most` accesses, and just as many if it is spent. With a budget above those of all cells it is
+        // never spent.
         ensures within { accesses_made self.new ≤ accesses_made self.old + most }
         ensures spent { result ≡ Spent → accesses_made self.new ≡ accesses_made self.old + most }
+        ensures unspent { (most_accesses mailbox.now.claims.layout + 1)
+            * (mailbox.now.cells.size.cells + 1) < most → result ≢ Spent }
 
         // If each cell has a last object, the answer is never `Undecided`.
         ensures decided { (shape_of mailbox.now.claims.layout).last ≡ true → result ≢ Undecided }
@@ -56,16 +61,21 @@ impl<A: Allocator + Drop> Consumer<A> {
         let Some(lane) = self.lane_of(mailbox, lane) else {
             return Poll::NoLane;
         };
+        takes_are_short();
         let mut left = most;
         'items: loop {
             if let Some(answer) = self.pass_lost(mailbox, lane, &mut left, rng) {
+                self.keeps_its_parts();
                 return answer;
             }
             // A copy goes in, so that `left` itself can stay in a register.
             let mut rest = left;
             match self.poll_apart(mailbox, lane, &mut rest, rng) {
                 Poll::Lost(_) => left = rest,
-                answer => return answer,
+                answer => {
+                    self.keeps_its_parts();
+                    return answer;
+                }
             }
         }
     }

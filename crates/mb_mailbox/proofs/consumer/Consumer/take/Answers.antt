@@ -3,7 +3,7 @@ use Rattle.std.proofs.Common.{◌∙◌, ◌++◌, ◌∷◌, subst, arith}
 use Rattle.mb_mailbox.specs.Steps.{AnswerTells, outcome}
 use Rattle.mb_mailbox.specs.Takes.{IsTakeOf}
 use Rattle.mb_mailbox.proofs.Polls.{told_from}
-use Rattle.mb_mailbox.proofs.Takes.{lost_grows, passed_grows, passed_known, passed_on, spent_by, take_by, take_on, within_by}
+use Rattle.mb_mailbox.proofs.Takes.{lost_grows, passed_grows, passed_on, passed_reads, spent_by, take_by, take_on, within_by}
 use Rattle.mb_mailbox.proofs.consumer.Consumer.take.Goals as goal
 
 pub items-smaller : goal.items-smaller
@@ -53,6 +53,8 @@ returns-in-Some-pass_lost g c =
     let take = take_on p c.args.most c.items.left c.args.self.now c.items.self inv.rest inv.winners answer
     (g.R.Rng.stream c.args.rng.now) (g.R.Rng.stream c.items.rng) (g.R.Rng.stream c.pass_lost.new.rng)
     c.pass_lost.new.self inv.passed taken.0 in
+    let reads = passed_reads p c.args.most inv.winners (g.R.Rng.stream c.args.rng.now) (g.R.Rng.stream c.items.rng)
+    c.args.self.now c.items.self inv.passed in
     record {
       no_lane = ((λ e. absurd (not.0 e)), (λ wide. absurd (omega (arith, wide, low, is))));
       refused = λ e. absurd (not.0 e);
@@ -61,11 +63,12 @@ returns-in-Some-pass_lost g c =
       not_lost = take.over;
       within = within_by p c.args.most answer _ _ c.args.self.now take.mid c.pass_lost.new.self take.last;
       spent = spent_by p c.args.most answer _ _ c.args.self.now take.mid c.pass_lost.new.self take.last;
+      unspent = c.takes_are_short.ensures.unspent c.args.mailbox.now p c.args.most answer
+          (g.R.Rng.stream c.args.rng.now) (g.R.Rng.stream c.pass_lost.new.rng) c.args.self.now c.pass_lost.new.self
+          take c.pass_lost.ensures.belongs c.keeps_its_parts.ensures.loads c.keeps_its_parts.ensures.claims;
       decided = λ last. not.1;
       told = λ there. subst (λ q. AnswerTells q (outcome answer) c.args.self.now c.pass_lost.new.self) is
-          (told_from p (outcome answer) c.args.self.now c.items.self c.pass_lost.new.self
-          (passed_known p c.args.most inv.winners (g.R.Rng.stream c.args.rng.now) (g.R.Rng.stream c.items.rng)
-          c.args.self.now c.items.self inv.passed) taken.1);
+          (told_from p (outcome answer) c.args.self.now c.items.self c.pass_lost.new.self reads.0 reads.1 taken.1);
       belongs = c.pass_lost.ensures.belongs;
     }
 
@@ -94,6 +97,9 @@ returns-in_default-poll_apart g c =
       not_lost = c.in_default-poll_apart.not-Lost;
       within = within_by p c.args.most answer _ _ c.args.self.now take.0.mid c.poll_apart.new.self take.0.last;
       spent = spent_by p c.args.most answer _ _ c.args.self.now take.0.mid c.poll_apart.new.self take.0.last;
+      unspent = c.takes_are_short.ensures.unspent c.args.mailbox.now p c.args.most answer
+          (g.R.Rng.stream c.args.rng.now) (g.R.Rng.stream c.poll_apart.new.rng) c.args.self.now c.poll_apart.new.self
+          take.0 c.poll_apart.ensures.belongs c.keeps_its_parts-in_default-poll_apart.ensures.loads c.keeps_its_parts-in_default-poll_apart.ensures.claims;
       decided = c.poll_apart.ensures.decided;
       told = λ there. subst (λ q. AnswerTells q (outcome answer) c.args.self.now c.poll_apart.new.self) is take.1;
       belongs = c.poll_apart.ensures.belongs;

@@ -7,7 +7,8 @@ returns-clause-noted c s p at i e = noted s p at i e
 
 pub returns-clause-nothing : goal.returns-clause-nothing
 returns-clause-nothing c s p at now i h e m =
-    tells_nothing c.laws_hold.ensures c.looks_tell_links.ensures.nothing s p at now i h e m
+    tells_nothing c.laws_hold.ensures c.lanes_are_empty_if_nothing_is_found.ensures
+    c.looks_tell_links.ensures.nothing s p at now i h e m
     (λ theirs known met word. c.known_lanes_are_read_whole.ensures.nothing s.reader now at p theirs
     (cells_met p s.reader.part) known met word m)
 
