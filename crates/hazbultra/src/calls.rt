@@ -1,5 +1,5 @@
 //! The calls of a producer and of a consumer.
-ghost use Rattle.std.specs.Prelude.{◌≡◌, ◌≢◌, ◌↔◌, ◌⊎◌, ◌<◌, ◌≤◌, ◌+◌, ℕ, Some, false, true};
+ghost use Rattle.std.specs.Prelude.{◌≡◌, ◌≢◌, ◌↔◌, ◌⊎◌, ◌<◌, ◌≤◌, ◌+◌, ◌*◌, ℕ, Some, false, true};
 ghost use Rattle.mb_claim.specs.Vocabulary.{most_accesses, shape_of};
 ghost use Rattle.mb_mailbox.specs.declared.consumer.Poll.{Poll};
 ghost use Rattle.mb_mailbox.specs.declared.consumer.Poll.TheVariants.{NoLane, Spent, Undecided};
@@ -144,6 +144,9 @@ pub extern "C" fn hz_take(consumer: &mut Handle, lane: u64, most: u64, value: &m
     ensures spent { result ≡ SPENT → ConsumerWent (λ c d. accesses_made d.consumer.consumer
         ≡ accesses_made c.consumer.consumer + most)
         consumer.old.block.thing consumer.new.block.thing }
+    ensures unspent { result ≡ SPENT → ConsumerMade (λ c.
+        most ≤ (most_accesses c.consumer.mailbox.claims.layout + 1)
+        * (c.consumer.mailbox.cells.size.cells + 1)) consumer.old.block.thing }
     ensures decided { result ≡ UNDECIDED → ConsumerMade (λ c.
         (shape_of c.consumer.mailbox.claims.layout).last ≡ false) consumer.old.block.thing }
     ensures kept { result ≢ TOOK → value.new ≡ value.old }

@@ -1,6 +1,6 @@
 //! Laws of mailboxes as plain Rust makes them by default and by `FastLast`, and samples of what this crate defines.
 //! The functions compute nothing: their contracts are the laws and the samples.
-ghost use Rattle.std.specs.Prelude.{ℕ, ◌≡◌, ◌+◌, [], List, None, Some, false, length, true};
+ghost use Rattle.std.specs.Prelude.{ℕ, ◌≡◌, ◌≤◌, ◌<◌, ◌+◌, ◌-◌, ◌*◌, ◌^◌, [], List, None, Some, false, length, true};
 ghost use Rattle.rand_chacha.specs.ChaCha.{of_seed};
 ghost use Rattle.mb_quorum.specs.declared.table.TableName.TheVariants.{Bits, Middle};
 ghost use Rattle.mb_claim.specs.{Vocabulary.{most_accesses}, declared.layout.Layout.{Layout}};
@@ -9,8 +9,12 @@ ghost use Rattle.mb_world.specs.Vocabulary.{shaped_plan};
 ghost use Rattle.hazbultra.specs.{Calls.{source_of, words_of}, Defaults.{by_default, by_fast_last}};
 ghost use Rattle.hazbultra.specs.{Samples.{asked}, Lending.{handle_to, leading_to}};
 ghost use Rattle.hazbultra.specs.{Refusals.{plan_asked, refusal_of}, Zeros.{zeros}};
+ghost use Rattle.hazbultra.specs.declared.codes.TheConstants.{ALL_GIVEN, BAD_HANDLE, CLOSED, DONE, FULL, LINKED};
+ghost use Rattle.hazbultra.specs.declared.codes.TheConstants.{MISSING, NOT_THERE, NO_MEMORY, OTHER_MAILBOX};
 ghost use Rattle.hazbultra.specs.declared.handle.{Handle.{Handle}, block.Block.{Block}};
 ghost use Rattle.hazbultra.specs.declared.thing.Thing.{Thing};
+
+use mb_mailbox::laws::full_budgets_suffice;
 
 /// The most accesses of a claim, with the load of its link and that of its item: 3 by default, and with `FastLast` what
 /// the clauses say for 1, 2, 4, 16 and 64 consumers. A poll with this budget is never spent (`unspent` of `hz_poll`).
@@ -31,6 +35,23 @@ pub fn whole_items_take_few_accesses()
     // By default each cell has a last object alone. By `FastLast` two ratifiers and four pairs come before it.
     ensures alone { (p n k : ℕ) → length (by_default p n k).claims.kinds ≡ 1 }
     ensures objects { (p n k : ℕ) → length (by_fast_last p n k).claims.kinds ≡ 11 }
+{}
+
+/// A take with the budget 2^64 - 1, as the `take` of plain Rust makes it, is never spent (`unspent` of `hz_take`). Setups
+/// have at most 2^24 cells (`accepted` of `hz_mailbox_new`).
+pub fn takes_need_no_budget()
+    ensures { (m : MailboxView) → m.cells.size.cells ≤ 2 ^ 24
+        → (most_accesses m.claims.layout + 1) * (m.cells.size.cells + 1) < 2 ^ 64 - 1 }
+{
+    full_budgets_suffice();
+}
+
+/// The numbers of the codes in `bindings/c/hazbultra.h`, but for those that `answer_told` and `setup_code` have.
+pub fn codes_have_their_numbers()
+    ensures done { DONE ≡ 0 }
+    ensures puts { (LINKED ≡ 8) × (FULL ≡ 9) × (CLOSED ≡ 10) }
+    ensures refusals { (NO_MEMORY ≡ 16) × (BAD_HANDLE ≡ 17) × (ALL_GIVEN ≡ 18) × (MISSING ≡ 19)
+        × (OTHER_MAILBOX ≡ 20) × (NOT_THERE ≡ 21) }
 {}
 
 /// What C asks for by a setup: samples. With no pairs, and a last object alone, each claim is one exchange, whatever

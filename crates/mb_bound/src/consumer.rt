@@ -31,7 +31,7 @@ impl<A: Allocator + Drop> Model for BoundConsumer<A> {
 }
 
 impl<A: Allocator + Drop> BoundConsumer<A> {
-    ghost use Rattle.std.specs.Prelude.{◌≡◌, ◌≢◌, ◌↔◌, ◌≤◌, ◌+◌, ℕ, true};
+    ghost use Rattle.std.specs.Prelude.{◌≡◌, ◌≢◌, ◌↔◌, ◌≤◌, ◌<◌, ◌+◌, ◌*◌, ℕ, true};
     ghost use Rattle.mb_claim.specs.Vocabulary.{most_accesses, shape_of};
     ghost use Rattle.mb_mailbox.specs.declared.consumer.Poll.TheVariants.{Lost, NoLane, Spent, Undecided};
     ghost use Rattle.mb_mailbox.specs.Consumers.{IsConsumerOf};
@@ -94,6 +94,8 @@ impl<A: Allocator + Drop> BoundConsumer<A> {
             ≤ accesses_made self.old.consumer + most }
         ensures spent { result ≡ Spent
             → accesses_made self.new.consumer ≡ accesses_made self.old.consumer + most }
+        ensures unspent { (most_accesses self.old.mailbox.claims.layout + 1)
+            * (self.old.mailbox.cells.size.cells + 1) < most → result ≢ Spent }
         ensures decided { (shape_of self.old.mailbox.claims.layout).last ≡ true
             → result ≢ Undecided }
         ensures told { result ≢ NoLane

@@ -99,8 +99,8 @@ told_from p answer old now new loads same tells = record {
   empty = λ nothing.
       let found = tells.empty nothing in
       let all : found.made ++ now.reader.part ≡ (found.made ++ loads) ++ old.reader.part =
-          ap (λ (r : ReaderSeatView). found.made ++ r.part) same
-          ∙ sym (append_assoc found.made loads old.reader.part) in
+      ap (λ (r : ReaderSeatView). found.made ++ r.part) same
+      ∙ sym (append_assoc found.made loads old.reader.part) in
       record {
         made = found.made ++ loads;
         newest = found.newest ∙ ap (λ l. empty_load p new ∷ l) all;

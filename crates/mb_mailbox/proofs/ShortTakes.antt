@@ -1,14 +1,12 @@
--- A take makes few accesses: for each cell that it meets the load of a link and those of one claim, and as many once more.
-use Rattle.std.proofs.Common.{◌≡◌, ◌+◌, ◌*◌, ◌≤◌, ℕ, suc, List, [], ◌∷◌, ◌++◌, length, refl, sym, ap, ◌∙◌, subst, arith}
-use Rattle.std.proofs.lemmas.List.{length-append}
+-- A take makes few accesses: for each cell that it meets those of a link and of a claim, and as many once more.
+use Rattle.std.proofs.Common.{◌≡◌, ◌+◌, ◌*◌, ◌≤◌, ℕ, List, [], ◌∷◌, ◌++◌, length, refl, sym, ap, ◌∙◌, subst, arith}
 use Rattle.std.proofs.Math.Nat.{mul-le-mul_left, mul-suc}
-use Rattle.std.specs.Prelude.{Option, Some, None, filter_map}
+use Rattle.std.specs.Prelude.{Option, Some, None}
 use Rattle.std.specs.List.{cons_option}
 use Rattle.mb_cells.specs.declared.answer.Look.TheVariants as look
-use Rattle.mb_claim.specs.declared.access.Stage.TheVariants as stage
 use Rattle.mb_claim.specs.History.{step_by}
-use Rattle.mb_world.specs.{ConsumerPath.claim_access, Fitting.cell_given, Imports.{is_same_word, push_if}}
-use Rattle.mb_mailbox.specs.Imports.{ClaimAccess, Look, ObjectTurn, Parts, ReaderSeatView, SeatView, Stream, ToCells, ToClaims, WorldAccess, WorldHistory}
+use Rattle.mb_world.specs.{ConsumerPath.claim_access, Fitting.cell_given, Imports.{is_same_word}}
+use Rattle.mb_mailbox.specs.Imports.{ClaimAccess, Look, ObjectTurn, Parts, Stream, ToCells, ToClaims, WorldAccess, WorldHistory}
 use Rattle.mb_mailbox.specs.Imports.{cells_met, claim_accesses, claim_step, claims_at, link_load, look_of, part_on, place_past}
 use Rattle.mb_mailbox.specs.ConsumerStep.{competes, looks, takes}
 use Rattle.mb_mailbox.specs.ConsumerWords.{ConsumerStep, ConsumerView, LeadTo, Poll, link_answer, parts_of}

@@ -1,23 +1,25 @@
 //! Laws of polls, of what a hub has taken back, and of what is gathered. The functions compute nothing: their contracts
 //! are the laws.
-ghost use Rattle.std.specs.Prelude.{ℕ, ◌≡◌, ◌≢◌, ◌≤◌, ◌<◌, ◌+◌, ◌*◌, List, [], ◌∷◌, Some, None, false, true, length, map, slice_get};
-ghost use Rattle.mb_claim.specs.Vocabulary.{most_accesses, shape_of};
-ghost use Rattle.mb_mailbox.specs.Imports.{Claim, IsLawfulPart, Note, Stream, Undecided, cells_met, claims_at, has_ended};
-ghost use Rattle.mb_mailbox.specs.Calls.{AreCalls, Call};
+ghost use Rattle.std.specs.Prelude.{ℕ, ◌≡◌, ◌≢◌, ◌≤◌, ◌<◌, ◌+◌, ◌-◌, ◌*◌, ◌^◌, List, [], ◌∷◌, Some, None, false, true, length, map, slice_get};
+ghost use Rattle.mb_claim.specs.Vocabulary.{HasStage, IsClaimLawful, claims_in, kinds_of, most_accesses, shape_of};
+ghost use Rattle.mb_claim.specs.declared.access.Stage.TheVariants as stage;
+ghost use Rattle.mb_deciding.specs.declared.object.Kind.TheVariants.{LastObject};
+ghost use Rattle.mb_mailbox.specs.Imports.{Claim, ClaimAccess, IsLawfulPart, Layout, Note, Stream, Undecided, cells_met, claims_at, has_ended};
 ghost use Rattle.mb_mailbox.specs.ConsumerWords.{AnswerTells, ConsumerView, HasLoads, HasNoteOnEach, IsConsumer, IsConsumerOf, IsPollOf, Poll};
 ghost use Rattle.mb_mailbox.specs.Gathering.{IsGathered, IsReportIn, UndecidedHasCompany, begun_in, count_missing, ended_in, items_in, notes_in};
-ghost use Rattle.mb_mailbox.specs.Mailboxes.{MailboxView, plan_at};
+ghost use Rattle.mb_mailbox.specs.{Calls.{AreCalls, Call}, Mailboxes.{MailboxView, plan_at}, Producers.{ProducerView}};
 ghost use Rattle.mb_mailbox.specs.{Jobs.{accesses_made}, Steps.{AreDrawn, outcome}, Takes.{IsTakeOf}};
 ghost use Rattle.mb_mailbox.specs.declared.consumer.Poll.TheVariants.{Lost, Spent, Took};
 ghost use Rattle.mb_world.specs.{Agreement.{AreAllTaken, IsLeftBesideBegun}, Places.{has_begun_at}, Plan.{consumers_of}, Theorem.{ReportView, items_left, items_put, note, notes}};
-ghost use Rattle.mb_mailbox.specs.{Emptiness.{HasFoundEmpty}, EmptinessSamples.{looked_back, looked_past, met_one, with_loads}};
-ghost use Rattle.mb_mailbox.specs.GatheringSamples.{alone_undecided, two_undecided};
+ghost use Rattle.mb_mailbox.specs.{Emptiness.{HasFoundEmpty}, EmptinessSamples.{looked_back, looked_past, met_one, with_loads}, GatheringSamples.{alone_undecided, two_undecided}};
 ghost use Rattle.mb_mailbox.specs.Hubs.{HubView, with_taken_consumer, with_taken_producer};
-ghost use Rattle.mb_mailbox.specs.Producers.{ProducerView};
 ghost use Rattle.mb_world.specs.declared.place.Place.{Place, TheVariants.At};
 
 use mb_cells::laws::{cells_stand_once, looks_tell_links, readers_follow_lanes};
-use mb_claim::laws::{claims_are_bounded, layouts_are_sound, prefixes_have_one_stage};
+use mb_claim::laws::{
+    claims_are_bounded, claims_have_one_winner, last_objects_decide_claims, layouts_are_sound,
+    prefixes_have_one_stage,
+};
 use mb_claim::steps::accesses_lengthen_one_part;
 use mb_shared_cells::laws::lanes_are_empty_if_nothing_is_found;
 use mb_world::laws::{
@@ -67,6 +69,15 @@ pub fn takes_are_short()
     loads_meet_cells();
     looks_tell_links();
     readers_follow_lanes();
+}
+
+/// A take with the budget 2^64 - 1 is never spent: for up to 2^24 cells the bound of [`takes_are_short`] is below that,
+/// whatever the layout.
+pub fn full_budgets_suffice()
+    ensures { (layout : Layout) (cells : ℕ) → cells ≤ 2 ^ 24
+        → (most_accesses layout + 1) * (cells + 1) < 2 ^ 64 - 1 }
+{
+    layouts_are_sound();
 }
 
 /// A lane that was never issued is open and empty. A consumer that was never issued has noted and begun nothing.
@@ -124,6 +135,19 @@ pub fn last_objects_settle_what_is_gathered()
     layouts_are_sound();
     reports_have_all_diaries();
     shaped_setups_have_last_objects();
+}
+
+/// If each cell has a last object alone, an item is lost only to a consumer that has won it by then. A claim never goes
+/// back, so that consumer has won it in each longer history, too.
+pub fn exchanges_are_lost_to_winners()
+    ensures { (layout : Layout) (cells k c w : ℕ) (h : List ClaimAccess)
+        → kinds_of layout ≡ LastObject ∷ [] → IsClaimLawful (claims_in layout cells) h
+        → HasStage (claims_in layout cells) c k (stage.Lost w) h
+        → HasStage (claims_in layout cells) w k stage.Won h }
+{
+    claims_have_one_winner();
+    last_objects_decide_claims();
+    layouts_are_sound();
 }
 
 /// If a consumer's claims had no access before its calls, the claims' random words are the source's first, in order.

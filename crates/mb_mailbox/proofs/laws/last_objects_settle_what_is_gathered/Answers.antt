@@ -1,5 +1,5 @@
 -- Proof of `laws::last_objects_settle_what_is_gathered`: what a report shows if each cell has a last object.
-use Rattle.std.proofs.Common.{◌≡◌, ◌∙◌, ◌<◌, ◌+◌, Bool, List, [], ◌∷◌, ap, arith, false, inl, length, refl, subst, suc, sym, true, ℕ}
+use Rattle.std.proofs.Common.{◌≡◌, ◌∙◌, ◌<◌, Bool, List, [], ◌∷◌, ap, arith, false, inl, length, refl, subst, suc, true, ℕ}
 use Rattle.std.specs.Prelude.{IsSome, None, Option, Some, if◌then◌else◌, slice_get}
 use Rattle.std.specs.Option.{is_none, option_map_or}
 use Rattle.std.proofs.lemmas.Option.{slice_get_within}

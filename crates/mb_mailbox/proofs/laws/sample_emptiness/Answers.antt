@@ -1,7 +1,6 @@
 -- Proof of `laws::sample_emptiness`: which loads of a consumer find a lane empty.
-use Rattle.std.proofs.Common.{◌+◌, ◌≡◌, ◌++◌, List, [], ◌∷◌, ap, arith, length, refl, subst, ℕ}
+use Rattle.std.proofs.Common.{◌≡◌, ◌++◌, List, [], ◌∷◌, ap, arith, length, refl, subst}
 use Rattle.std.proofs.lemmas.List.{length-append}
-use Rattle.mb_cells.specs.declared.access.PoolAct.TheVariants.{Load}
 use Rattle.mb_mailbox.specs.Imports.{Counter, Head, HasMet, History, Link, PoolAccess, Reader, Word, cells_met, load, part}
 use Rattle.mb_mailbox.specs.EmptinessSamples.{looked_past, met_one}
 use Rattle.mb_mailbox.proofs.laws.sample_emptiness.Goals as goal

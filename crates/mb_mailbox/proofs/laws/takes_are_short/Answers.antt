@@ -1,9 +1,9 @@
 -- Proof of `laws::takes_are_short`: a take makes few accesses.
-use Rattle.std.proofs.Common.{◌+◌, ◌*◌, ◌≤◌, ◌≡◌, ◌++◌, List, ap, arith, length, subst, suc, sym, ℕ}
+use Rattle.std.proofs.Common.{◌+◌, ◌*◌, ◌≤◌, ◌≡◌, ap, arith, length, subst, suc}
 use Rattle.std.proofs.Math.Nat.{mul-le-mul_left, mul-suc}
 use Rattle.std.proofs.lemmas.List.{length-append}
 use Rattle.mb_claim.specs.Vocabulary.{most_accesses}
-use Rattle.mb_mailbox.specs.Imports.{CellsName, ClaimTable, HasMet, History, Reader, cells_met, part}
+use Rattle.mb_mailbox.specs.Imports.{CellsName, ClaimTable, HasMet, History, cells_met}
 use Rattle.mb_mailbox.proofs.ShortTakes.{take_few}
 use Rattle.mb_mailbox.proofs.Straight.{few_on}
 use Rattle.mb_mailbox.proofs.Takes.{spent_by}

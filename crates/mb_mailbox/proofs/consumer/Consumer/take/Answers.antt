@@ -99,7 +99,8 @@ returns-in_default-poll_apart g c =
       spent = spent_by p c.args.most answer _ _ c.args.self.now take.0.mid c.poll_apart.new.self take.0.last;
       unspent = c.takes_are_short.ensures.unspent c.args.mailbox.now p c.args.most answer
           (g.R.Rng.stream c.args.rng.now) (g.R.Rng.stream c.poll_apart.new.rng) c.args.self.now c.poll_apart.new.self
-          take.0 c.poll_apart.ensures.belongs c.keeps_its_parts-in_default-poll_apart.ensures.loads c.keeps_its_parts-in_default-poll_apart.ensures.claims;
+          take.0 c.poll_apart.ensures.belongs c.keeps_its_parts-in_default-poll_apart.ensures.loads
+          c.keeps_its_parts-in_default-poll_apart.ensures.claims;
       decided = c.poll_apart.ensures.decided;
       told = λ there. subst (λ q. AnswerTells q (outcome answer) c.args.self.now c.poll_apart.new.self) is take.1;
       belongs = c.poll_apart.ensures.belongs;
