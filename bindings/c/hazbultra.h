@@ -227,7 +227,9 @@ uint32_t hz_finish(hz_handle *producer);
  * no memory.
  * HZ_TOOK: this consumer took the item, and value is the item. HZ_LOST: no consumer but the one with the number value can win
  * the item. HZ_UNDECIDED: the claim ended, and does not show who has won the item, if anybody has. It never comes if last is
- * true in the setup. HZ_NOTHING: the lane has no further item so far. HZ_ENDED: the lane has ended, and has no further item.
+ * true in the setup. HZ_NOTHING: at one moment of the call this consumer had met all items linked on the lane, and the lane
+ * had not ended. If each claim is one exchange, all of them were taken or won by then. HZ_ENDED: the lane has ended, and has
+ * no further item.
  * HZ_SPENT: the budget is used up, which UINT64_MAX never is, and the next poll of the lane goes on from there.
  * HZ_NO_LANE: there is no such lane. HZ_BAD_HANDLE. value is written at HZ_TOOK and HZ_LOST only. */
 HZ_CHECKED HZ_NONNULL
@@ -236,7 +238,8 @@ uint32_t hz_poll(hz_handle *consumer, uint64_t lane, uint64_t budget, uint64_t *
 /* Takes the next item of a lane that this consumer wins, past the items that it loses. It does what calls of hz_poll do one
  * after another, until one does not return HZ_LOST. All together make at most `most` accesses. It asks for no memory.
  * HZ_TOOK: this consumer took the item, and value is the item. HZ_UNDECIDED, HZ_NOTHING, HZ_ENDED, HZ_NO_LANE,
- * HZ_BAD_HANDLE: as in hz_poll. HZ_SPENT: `most` accesses were made, and the next call for the lane goes on from there.
+ * HZ_BAD_HANDLE: as in hz_poll. HZ_SPENT: `most` accesses were made, and the next call for the lane goes on from there. With
+ * UINT64_MAX it never comes.
  * value is written at HZ_TOOK only. */
 HZ_CHECKED HZ_NONNULL
 uint32_t hz_take(hz_handle *consumer, uint64_t lane, uint64_t most, uint64_t *value);

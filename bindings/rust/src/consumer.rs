@@ -16,7 +16,8 @@ pub enum Poll<T> {
     /// This consumer does not know who has won the item, if anybody has. It comes only with the shapes
     /// [`Plain`](crate::Shape::Plain) and [`Fast`](crate::Shape::Fast).
     Undecided,
-    /// The lane has no further item so far.
+    /// At one moment of the call this consumer had met all items linked on the lane, and the lane had not ended. By default
+    /// all of them were taken or won by then.
     Nothing,
     /// The lane has ended, and has no further item.
     Ended,

@@ -10,7 +10,7 @@ use Rattle.mb_world.specs.{ConsumerPath.claim_access, Fitting.cell_given, Import
 use Rattle.mb_world.specs.declared.place.Place.{Place, TheVariants.{At, Before}}
 use Rattle.mb_mailbox.specs.Imports.{Claims, END, History, IsClaimPrefix, IsDoneWith, Look, MayLookPast, Note, ObjectTurn, Parts, ReaderSeatView, Stage, Stream, ToCells, ToClaims}
 use Rattle.mb_mailbox.specs.Imports.{WorldAccess, WorldHistory, cells_met, claim_accesses, claim_step, claims_at, claims_in, link_load, load, look_of, place_past}
-use Rattle.mb_mailbox.specs.ConsumerWords.{AnswerTells, ConsumerStep, ConsumerView, IsConsumer, IsPollOf, LeadTo, Poll, link_answer, notes_on, parts_of, stage_answer}
+use Rattle.mb_mailbox.specs.ConsumerWords.{ConsumerStep, ConsumerView, HasNoteOnEach, IsConsumer, IsPollOf, LeadTo, Poll, link_answer, notes_on, parts_of, stage_answer}
 use Rattle.mb_mailbox.specs.ConsumerStep.{IsLastMet, competes, looks, takes}
 use Rattle.mb_mailbox.specs.Steps.{note_with, outcome, parts_after, with_note}
 use Rattle.mb_mailbox.proofs.Lists.{get_some, set_here}
@@ -197,7 +197,7 @@ one_note p (Some n) notes low =
 
 module _ (p budget : ℕ) (answer : Poll) (s t : Stream) (old new : ConsumerView)
     (i : IsPollOf p budget answer s t old new) (was : IsConsumer old) (is : IsConsumer new)
-    (told : AnswerTells p (outcome answer) old new) (low : p < old.reader.table.size.lanes) where
+    (noted_on : outcome answer ≢ None → HasNoteOnEach p new) (low : p < old.reader.table.size.lanes) where
   -- in a poll of a lane a consumer meets at most one cell more
   pub one_met : length (cells_met p new.reader.part) ≤ suc (length (cells_met p old.reader.part))
   one_met = by (outcome answer) refl
@@ -216,7 +216,7 @@ module _ (p budget : ℕ) (answer : Poll) (s t : Stream) (old new : ConsumerView
           (i.done.notes ∙ ap (λ z. with_note p (note_with z) old.notes) e) in
           omega (arith, same, before.low, after.high)
       by (Some r) e =
-          let all = told.noted (λ f. let g : Some r ≡ None = sym e ∙ f in absurd (cc)) in
+          let all = noted_on (λ f. let g : Some r ≡ None = sym e ∙ f in absurd (cc)) in
           let more = one_note p (note_with (outcome answer)) old.notes
           (subst (λ n. p < n) (sym was.notes_count) low) in
           let same = ap (λ (l : List (List Note)). length (notes_on p l)) i.done.notes in

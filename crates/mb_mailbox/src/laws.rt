@@ -5,7 +5,7 @@ ghost use Rattle.mb_claim.specs.Vocabulary.{HasStage, IsClaimLawful, claims_in, 
 ghost use Rattle.mb_claim.specs.declared.access.Stage.TheVariants as stage;
 ghost use Rattle.mb_deciding.specs.declared.object.Kind.TheVariants.{LastObject};
 ghost use Rattle.mb_mailbox.specs.Imports.{Claim, ClaimAccess, IsLawfulPart, Layout, Note, Stream, Undecided, cells_met, claims_at, has_ended};
-ghost use Rattle.mb_mailbox.specs.ConsumerWords.{AnswerTells, ConsumerView, HasLoads, HasNoteOnEach, IsConsumer, IsConsumerOf, IsPollOf, Poll};
+ghost use Rattle.mb_mailbox.specs.ConsumerWords.{ConsumerView, HasLoads, HasNoteOnEach, IsConsumer, IsConsumerOf, IsPollOf, Poll};
 ghost use Rattle.mb_mailbox.specs.Gathering.{IsGathered, IsReportIn, UndecidedHasCompany, begun_in, count_missing, ended_in, items_in, notes_in};
 ghost use Rattle.mb_mailbox.specs.{Calls.{AreCalls, Call}, Mailboxes.{MailboxView, plan_at}, Producers.{ProducerView}};
 ghost use Rattle.mb_mailbox.specs.{Jobs.{accesses_made}, Steps.{AreDrawn, outcome}, Takes.{IsTakeOf}};
@@ -35,7 +35,7 @@ pub fn polls_are_short()
         (old new : ConsumerView) (poll : IsPollOf p budget answer s t old new)
         → p < m.cells.size.lanes → IsConsumer old → IsConsumer new → IsConsumerOf m new
         → IsLawfulPart (claims_at new.seat.table) new.seat.consumer new.seat.part
-        → AnswerTells p (outcome answer) old new
+        → (outcome answer ≢ None → HasNoteOnEach p new)
         → length poll.accesses ≤ most_accesses m.claims.layout + 2 }
 {
     accesses_lengthen_one_part();

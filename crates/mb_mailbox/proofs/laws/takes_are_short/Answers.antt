@@ -20,10 +20,7 @@ returns-clause-few c m p most answer s t old new i belongs lawful =
 pub returns-clause-unspent : goal.returns-clause-unspent
 returns-clause-unspent c m p most answer s t old new i belongs loads lawful wide spent =
     let each = most_accesses m.claims.layout in
-    let few = take_few c.accesses_lengthen_one_part.ensures.own_cell c.loads_meet_cells.ensures.cell
-    c.looks_tell_links.ensures.cell p each most answer s t old new i
-    (λ k. few_on c.accesses_lengthen_one_part.ensures.cells c.claims_are_bounded.ensures.layouts m.claims.layout
-    m.claims.cells k new.seat (ap (λ (z : ClaimTable). z.size) belongs.claims) lawful) in
+    let few = returns-clause-few c m p most answer s t old new i belongs lawful in
     let all = spent_by p most answer i.rest t old i.mid new i.last spent in
     let r = new.reader.reader in
     let h = loads.0 in
