@@ -62,7 +62,7 @@ pub struct Totals {
 /// The accounts of a channel. [`Builder::audited`](super::Builder::audited) makes it.
 ///
 /// An account is made when a segment is over and no end stands in it any more, or when the last receiver is dropped.
-/// The accounts of one chain come in the order of their values. The newest 16 accounts wait. Older ones that
+/// They come in the order of their values. The newest 16 accounts wait. Older ones that
 /// nobody asked for go, and are in the [totals](Audit::totals) alone. Each call takes the lock of the accounts.
 pub struct Audit<T> {
     ledger: Arc<Ledger<T>>,

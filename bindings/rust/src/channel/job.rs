@@ -1,4 +1,5 @@
 //! A value that comes back unless its work was done.
+use super::audit::GIVEN_BACK;
 use super::errors::written;
 use super::shared::Shared;
 use std::ops::{Deref, DerefMut};
@@ -10,7 +11,7 @@ use std::sync::Arc;
 /// While a job is open the channel does not end: receivers sleep, since the value may come back. So a thread that holds a
 /// job, and waits on the same channel for its end, waits for ever.
 ///
-/// The value comes back as the last one of the first chain, also if the channel is full. Its order is lost. If there is no
+/// The value comes back as the last one, also if the channel is full. If there is no
 /// memory for a segment, or no receiver is left, it is dropped.
 #[must_use = "its drop gives the value back"]
 pub struct Job<T> {
@@ -51,7 +52,7 @@ impl<T> DerefMut for Job<T> {
 impl<T> Drop for Job<T> {
     fn drop(&mut self) {
         if let Some(value) = self.value.take() {
-            self.shared.put_again(value);
+            drop(self.shared.put(value, GIVEN_BACK));
         }
         self.shared.end_job();
     }

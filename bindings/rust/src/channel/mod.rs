@@ -7,7 +7,7 @@
 //! use hazbultra::channel;
 //! use std::thread;
 //!
-//! let (sender, receiver) = channel::channel();
+//! let (sender, receiver) = channel::unbounded();
 //! let workers: Vec<_> = (0..4)
 //!     .map(|_| receiver.clone())
 //!     .map(|receiver| thread::spawn(move || receiver.iter().sum::<u64>()))
@@ -23,32 +23,30 @@
 //! - At most one receiver gets a value, and none is lost while ends are there for it. When all senders are dropped,
 //!   receivers get what is left, and then an error. When all receivers are dropped, what is left is dropped, and senders
 //!   get their values back.
-//! - The values of one [`Sender`] are received in the order sent. Those of two senders may overtake each other.
-//! - A receiver finds nothing only if there was a moment, during its call, at which nothing was left of what was sent
-//!   before.
+//! - **One order.** If one send returns before another one begins, in any threads, its value is received first.
+//! - A receiver finds nothing only if there was a moment, during its call, at which nothing was left. A sender finds no
+//!   room only if there was a moment, during its call, at which as many values waited as the bound allows.
 //! - No value waits while a receiver sleeps. A wake-up that its receiver does not use goes to the next one: after a
 //!   timeout, a dropped future, or a waker that panics.
-//! - Memory is in proportion to the values that wait. An end that does nothing holds at most one segment of each chain, but
-//!   for moments.
+//! - Memory is in proportion to the values that wait. A receiver that does nothing holds at most one segment, but for
+//!   moments.
 //! - What takes a lock is said at [`Sender`] and [`Receiver`].
 //!
 //! # How it is built
 //!
-//! Each of the first 16 senders writes a *chain* of its own: segment after segment, each a [`Mailbox`](crate::Mailbox) with
-//! one lane. Each of the first 64 receivers has a consumer of its own in the segment that it stands in. It goes first to
-//! one chain, and if nothing is there to the others. A claim is one compare-exchange. The items are the numbers of slots, so
-//! no value is boxed. A table in the crate's README says what is proved, and what is tested.
+//! The values stand in a *chain*: segment after segment, each a [`Mailbox`](crate::Mailbox) with one lane. Senders put into
+//! the last one, one at a time. Each of the first 64 receivers has a consumer of its own in the segment that it stands in. A
+//! claim is one compare-exchange. The items are the numbers of slots, so no value is boxed. A table in the crate's README
+//! says what is proved, and what is tested.
 //!
 //! It has no `select!`, no channel without room (`bounded(0)`), and ends with the process.
 mod audit;
-mod chain;
 mod errors;
 mod job;
 mod receiver;
-mod seat;
-mod segment;
 mod sender;
 mod shared;
+mod store;
 mod system;
 mod wait;
 
@@ -60,17 +58,13 @@ pub use job::Job;
 pub use receiver::{IntoIter, Iter, Receiver, RecvFuture, TryIter};
 pub use sender::{SendFuture, Sender};
 
-use shared::{Plan, Shared};
+use shared::Shared;
 use std::sync::Arc;
-
-/// So many chains, each for one sender. It is the most producers that a mailbox may have.
-const CHAINS: usize = 16;
-/// So many seats, each for one receiver. It is the most consumers that a mailbox may have.
-const SEATS: usize = 64;
+use store::Plan;
 
 /// A channel without a bound: a send never waits for room.
 #[must_use]
-pub fn channel<T>() -> (Sender<T>, Receiver<T>) {
+pub fn unbounded<T>() -> (Sender<T>, Receiver<T>) {
     Builder::new().build()
 }
 
@@ -122,7 +116,7 @@ impl Builder {
         }
     }
 
-    /// So many values go into each segment, 1 to 2^24. If it is not said, a chain begins with 32, and grows to 4,096. Large
+    /// So many values go into each segment, 1 to 2^24. If it is not said, the first gets 32, and later ones up to 4,096. Large
     /// values get smaller segments.
     ///
     /// # Panics

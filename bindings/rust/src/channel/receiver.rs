@@ -1,9 +1,8 @@
 //! A receiver.
 use super::errors::{written, RecvError, RecvTimeoutError, TryRecvError};
 use super::job::Job;
-use super::seat::Seat;
-use super::segment::Look;
-use super::shared::{told, Got, Shared};
+use super::shared::{told, Shared};
+use super::store::{Look, Seat};
 use std::future::Future;
 use std::iter::FusedIterator;
 use std::panic::{RefUnwindSafe, UnwindSafe};
@@ -17,18 +16,18 @@ use std::time::{Duration, Instant};
 ///
 /// **Locks of a receive.** Each of the first 64 receivers has a seat of its own. A receive holds the lock of its seat. So it
 /// waits only for another thread that shares this receiver by `&`, for one of the receivers beyond 64, which share seats, or
-/// for the few steps in which somebody moves its seat on. Nobody waits for the seat of another: whoever finds a segment over
-/// only tries the locks of other seats. A receive that comes to a new segment takes the lock under which its chain keeps the
-/// first segment, that under which the mailbox issues consumers, and with an audit those of the segment's log and of the
-/// accounts. A receive that sleeps, or makes room for a sender that does, takes the lock of the list of sleepers.
+/// for the few steps in which somebody moves its seat on, or looks for room. Nobody waits for the seat of another. A receive
+/// that comes to a new segment takes the lock under which the channel keeps the first one, that under which the mailbox issues
+/// consumers, and with an audit those of the segment's log and of the accounts. The first one to leave a segment takes the
+/// lock of the list of seats, and tries that of each. A receive that sleeps, or makes room for a sender that does, takes the
+/// lock of the list of sleepers.
 ///
-/// A clone and a drop take the lock of the list of ends. The drop of the last receiver takes those of all lanes and seats
-/// too, one after the other.
+/// A clone takes the lock of the list of seats. The drop of the last receiver takes those of the lane and of all seats, one
+/// after the other.
 pub struct Receiver<T> {
     shared: Arc<Shared<T>>,
     seat: Arc<Seat<T>>,
     number: u64,
-    place: usize,
 }
 
 /// How long a receiver that got no memory sleeps before it tries again.
@@ -36,42 +35,25 @@ const PAUSE: Duration = Duration::from_millis(1);
 
 impl<T> Receiver<T> {
     pub(super) fn new(shared: Arc<Shared<T>>) -> Receiver<T> {
-        let (number, seat, place) = shared.add_receiver();
+        let (seat, number) = (shared.store.seat(), shared.receivers.add());
         Receiver {
             shared,
             seat,
             number,
-            place,
         }
     }
 
-    fn take(&self) -> Got<T> {
-        self.take_after(self.seat.take(self.number))
-    }
-
-    /// Takes a value where the seat took last, or goes on after that look.
     #[inline]
-    fn take_or<E>(&self, go_on: impl FnOnce(Look<T>) -> Result<T, E>) -> Result<T, E> {
-        match self.seat.take(self.number) {
-            Look::Took(value) => {
-                self.shared.free();
-                Ok(value)
-            }
-            look => go_on(look),
-        }
+    fn take(&self) -> Look<T> {
+        self.shared.take(&self.seat, self.number)
     }
 
-    /// Takes a value after this look where the seat took last.
-    fn take_after(&self, look: Look<T>) -> Got<T> {
-        self.shared.take(&self.seat, look, self.number)
-    }
-
-    fn take_job(&self) -> Got<Job<T>> {
+    fn take_job(&self) -> Look<Job<T>> {
         match self.shared.take_job(&self.seat, self.number) {
-            Got::Took(value) => Got::Took(Job::new(value, Arc::clone(&self.shared))),
-            Got::Nothing => Got::Nothing,
-            Got::Closed => Got::Closed,
-            Got::NoMemory => Got::NoMemory,
+            Look::Took(value) => Look::Took(Job::new(value, Arc::clone(&self.shared))),
+            Look::Nothing => Look::Nothing,
+            Look::Over => Look::Over,
+            Look::NoMemory => Look::NoMemory,
         }
     }
 
@@ -81,7 +63,7 @@ impl<T> Receiver<T> {
     /// Nothing is there, there is no memory to look at a segment, or nothing comes any more.
     #[inline]
     pub fn try_recv(&self) -> Result<T, TryRecvError> {
-        self.take_or(|look| now(self.take_after(look)))
+        now(self.take())
     }
 
     /// Receives a value. It sleeps until one comes. If there is no memory for its place in a segment, it tries again each
@@ -139,37 +121,32 @@ impl<T> Receiver<T> {
 
     #[inline]
     fn recv_until(&self, until: Option<Instant>) -> Result<T, RecvTimeoutError> {
-        self.take_or(|look| self.recv_after(until, look))
-    }
-
-    /// The same after this look where the seat took last.
-    #[cold]
-    fn recv_after(&self, until: Option<Instant>, look: Look<T>) -> Result<T, RecvTimeoutError> {
-        match self.take_after(look) {
-            Got::Took(value) => Ok(value),
+        match self.take() {
+            Look::Took(value) => Ok(value),
             _ => self.wait(until, || self.take()),
         }
     }
 
+    #[cold]
     fn wait<G>(
         &self,
         until: Option<Instant>,
-        take: impl Fn() -> Got<G>,
+        take: impl Fn() -> Look<G>,
     ) -> Result<G, RecvTimeoutError> {
         let look = || match take() {
-            Got::Nothing => None,
-            got => Some(got),
+            Look::Nothing => None,
+            look => Some(look),
         };
         loop {
             match self.shared.empty.wait(until, look) {
-                Some(Got::Took(value)) => return Ok(value),
-                Some(Got::Closed) => return Err(RecvTimeoutError::Disconnected),
+                Some(Look::Took(value)) => return Ok(value),
+                Some(Look::Over) => return Err(RecvTimeoutError::Disconnected),
                 None => return Err(RecvTimeoutError::Timeout),
-                Some(Got::NoMemory | Got::Nothing) => {}
+                Some(Look::NoMemory | Look::Nothing) => {}
             }
+            // (it gets no memory for a value that is there, so it wakes another receiver)
+            self.shared.empty.wake_one();
             if until.is_some_and(|until| Instant::now() >= until) {
-                // (it gets no memory for a value that is there, so it wakes another receiver)
-                self.shared.empty.wake_one();
                 return Err(RecvTimeoutError::Timeout);
             }
             thread::sleep(PAUSE);
@@ -187,11 +164,11 @@ impl<T> Receiver<T> {
     }
 }
 
-fn now<G>(got: Got<G>) -> Result<G, TryRecvError> {
-    match got {
-        Got::Took(value) => Ok(value),
-        Got::Closed => Err(TryRecvError::Disconnected),
-        Got::Nothing | Got::NoMemory => Err(TryRecvError::Empty),
+fn now<G>(look: Look<G>) -> Result<G, TryRecvError> {
+    match look {
+        Look::Took(value) => Ok(value),
+        Look::Over => Err(TryRecvError::Disconnected),
+        Look::Nothing | Look::NoMemory => Err(TryRecvError::Empty),
     }
 }
 
@@ -199,7 +176,7 @@ told!(Receiver);
 
 impl<T> Drop for Receiver<T> {
     fn drop(&mut self) {
-        self.shared.drop_receiver(self.place);
+        self.shared.drop_receiver();
     }
 }
 
@@ -218,10 +195,10 @@ impl<T> Future for RecvFuture<'_, T> {
         let receiver = this.receiver;
         let waker = context.waker();
         let look = || match receiver.take() {
-            Got::Took(value) => Some(Ok(value)),
-            Got::Closed => Some(Err(RecvError)),
-            Got::Nothing => None,
-            Got::NoMemory => {
+            Look::Took(value) => Some(Ok(value)),
+            Look::Over => Some(Err(RecvError)),
+            Look::Nothing => None,
+            Look::NoMemory => {
                 waker.wake_by_ref(); // (so the task is polled again)
                 None
             }

@@ -1,7 +1,7 @@
 //! A sender.
-use super::chain::Refused;
 use super::errors::{written, SendError, SendTimeoutError, TrySendError};
-use super::shared::{told, Room, Shared};
+use super::shared::{told, Shared};
+use super::store::Refused;
 use std::future::Future;
 use std::panic::{RefUnwindSafe, UnwindSafe};
 use std::pin::Pin;
@@ -11,31 +11,21 @@ use std::time::{Duration, Instant};
 
 /// Sends values. A clone of it is another sender.
 ///
-/// The values of one sender are received in the order sent, one after the other. Those of two senders may overtake each
-/// other.
+/// If one send returns before another one begins, in any threads, its value is received first.
 ///
-/// **Locks of a send.** Each of the first 16 senders has a lane of its own. A send holds the lock of its lane for one put.
-/// So it waits only for another thread that shares this sender by `&`, for one of the senders beyond 16, which share lanes,
-/// or for a job that comes back. A send that begins a segment takes memory under that lock, and the first of a lane takes
-/// the lock under which the receivers find the first segment. If a receiver sleeps, or this sender has to, the send takes
-/// the lock of the list of sleepers too. With an audit it also takes that of the segment's log, which a receiver takes
-/// once a segment.
-///
-/// A clone and a drop take the lock of the list of ends.
+/// **Locks of a send.** A send holds the lock of the channel's lane for one put. So it waits for other senders, and for a job
+/// that comes back. A send that begins a segment takes memory under that lock, and the first one takes the lock under which
+/// receivers find the first segment. A send that finds no room takes the lock of each receiver's seat under it, one after
+/// the other. If a receiver sleeps, or this sender has to, the send takes the lock of the list of sleepers.
 pub struct Sender<T> {
     shared: Arc<Shared<T>>,
     number: u64,
-    chain: usize,
 }
 
 impl<T> Sender<T> {
     pub(super) fn new(shared: Arc<Shared<T>>) -> Sender<T> {
-        let (number, chain) = shared.add_sender();
-        Sender {
-            shared,
-            number,
-            chain,
-        }
+        let number = shared.senders.add();
+        Sender { shared, number }
     }
 
     /// Sends a value. If the channel is full, it sleeps until there is room. [Which locks it takes](Sender).
@@ -53,14 +43,10 @@ impl<T> Sender<T> {
     /// # Errors
     /// The channel is full, all receivers are gone, or there is no memory for a segment. The value is in the error.
     pub fn try_send(&self, value: T) -> Result<(), TrySendError<T>> {
-        match self.shared.reserve() {
-            Room::Free => self.put(value).map_err(|why| match why {
-                Refused::Closed(value) => TrySendError::Disconnected(value),
-                Refused::NoMemory(value) => TrySendError::Full(value),
-            }),
-            Room::Full => Err(TrySendError::Full(value)),
-            Room::Closed => Err(TrySendError::Disconnected(value)),
-        }
+        self.put(value).map_err(|why| match why {
+            Refused::Closed(value) => TrySendError::Disconnected(value),
+            Refused::Full(value) | Refused::NoMemory(value) => TrySendError::Full(value),
+        })
     }
 
     /// Sends a value. If the channel is full, it sleeps until there is room, but not longer than this. It takes the
@@ -93,36 +79,43 @@ impl<T> Sender<T> {
 
     #[inline]
     fn send_until(&self, value: T, until: Option<Instant>) -> Result<(), SendTimeoutError<T>> {
-        let room = match self.shared.reserve() {
-            Room::Full => self.wait_for_room(until),
-            room => room,
+        let sent = match self.put(value) {
+            Err(Refused::Full(value)) => self.wait_for_room(value, until),
+            sent => sent,
         };
-        match room {
-            Room::Free => self.put(value).map_err(|why| match why {
-                Refused::Closed(value) => SendTimeoutError::Disconnected(value),
-                Refused::NoMemory(value) => SendTimeoutError::Timeout(value),
-            }),
-            Room::Full => Err(SendTimeoutError::Timeout(value)),
-            Room::Closed => Err(SendTimeoutError::Disconnected(value)),
-        }
+        sent.map_err(|why| match why {
+            Refused::Closed(value) => SendTimeoutError::Disconnected(value),
+            Refused::Full(value) | Refused::NoMemory(value) => SendTimeoutError::Timeout(value),
+        })
     }
 
     #[cold]
-    fn wait_for_room(&self, until: Option<Instant>) -> Room {
-        let found = self.shared.full.wait(until, || self.look_for_room());
-        found.unwrap_or(Room::Full)
+    fn wait_for_room(&self, value: T, until: Option<Instant>) -> Result<(), Refused<T>> {
+        let mut value = Some(value);
+        let waited = self.shared.full.wait(until, || self.put_of(&mut value));
+        match (waited, value) {
+            (None, Some(value)) => Err(Refused::Full(value)),
+            (sent, _) => sent.unwrap_or(Ok(())),
+        }
     }
 
-    fn look_for_room(&self) -> Option<Room> {
-        match self.shared.reserve() {
-            Room::Full => None,
-            room => Some(room),
+    /// Puts the value, unless there is no room. It looks for room before it takes a lock.
+    fn put_of(&self, value: &mut Option<T>) -> Option<Result<(), Refused<T>>> {
+        if self.is_full() {
+            return None;
+        }
+        match self.put(value.take()?) {
+            Err(Refused::Full(back)) => {
+                *value = Some(back);
+                None
+            }
+            sent => Some(sent),
         }
     }
 
     #[inline]
     fn put(&self, value: T) -> Result<(), Refused<T>> {
-        self.shared.put(self.chain, value, self.number)
+        self.shared.put(value, self.number)
     }
 }
 
@@ -130,7 +123,7 @@ told!(Sender);
 
 impl<T> Drop for Sender<T> {
     fn drop(&mut self) {
-        self.shared.drop_sender(self.chain);
+        self.shared.drop_sender();
     }
 }
 
@@ -151,18 +144,12 @@ impl<T> Future for SendFuture<'_, T> {
     /// The future was ready at an earlier poll.
     fn poll(self: Pin<&mut Self>, context: &mut Context<'_>) -> Poll<Self::Output> {
         let this = self.get_mut();
-        let sender = this.sender;
+        let (sender, value) = (this.sender, &mut this.value);
+        assert!(value.is_some(), "it is polled until it is ready");
+        let look = || sender.put_of(value);
         let full = &sender.shared.full;
-        let look = || sender.look_for_room();
         full.poll(&mut this.place, context.waker(), look)
-            .map(|room| {
-                let value = this.value.take().expect("it is polled until it is ready");
-                match room {
-                    Room::Free => sender.put(value).map_err(Refused::into_inner),
-                    _ => Err(value),
-                }
-                .map_err(SendError)
-            })
+            .map(|sent| sent.map_err(|why| SendError(why.into_inner())))
     }
 }
 
