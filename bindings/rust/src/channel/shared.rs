@@ -1,12 +1,14 @@
 //! What all ends of a channel share.
-use super::store::{Chain, Look, Plan, Refused, Seat};
+use super::store::{Look, Meeting, Plan, Refused, Seat, Store};
 use super::system::{Line, Waiters};
-use std::sync::atomic::{AtomicU64, AtomicUsize, Ordering::SeqCst};
+use std::sync::atomic::{AtomicBool, AtomicU64, AtomicUsize, Ordering::SeqCst};
 
 pub(super) struct Shared<T> {
-    pub(super) store: Chain<T>,
+    pub(super) store: Store<T>,
     pub(super) senders: Ends,
     pub(super) receivers: Ends,
+    /// Whether an end closed it.
+    is_shut: AtomicBool,
     jobs: Line<Jobs>,
     /// Receivers that wait for a value.
     pub(super) empty: Waiters,
@@ -27,6 +29,13 @@ impl Ends {
     pub(super) fn add(&self) -> u64 {
         self.there.fetch_add(1, SeqCst);
         self.made.fetch_add(1, SeqCst)
+    }
+
+    /// The same if there is one.
+    pub(super) fn add_to_others(&self) -> Option<u64> {
+        let more = |there: usize| (there > 0).then_some(there + 1);
+        let added = self.there.fetch_update(SeqCst, SeqCst, more);
+        added.ok().map(|_| self.made.fetch_add(1, SeqCst))
     }
 
     pub(super) fn count(&self) -> usize {
@@ -63,9 +72,10 @@ impl Jobs {
 impl<T> Shared<T> {
     pub(super) fn new(plan: Plan<T>) -> Shared<T> {
         Shared {
-            store: Chain::new(plan),
+            store: Store::new(plan),
             senders: Ends::default(),
             receivers: Ends::default(),
+            is_shut: AtomicBool::new(false),
             jobs: Line(Jobs(AtomicUsize::new(0))),
             empty: Waiters::new(),
             full: Waiters::new(),
@@ -88,6 +98,24 @@ impl<T> Shared<T> {
         }
     }
 
+    /// Lets no sender put a value after this. Returns whether one could before.
+    pub(super) fn close(&self) -> bool {
+        let was_open = self.store.close() && self.senders.count() != 0;
+        self.is_shut.store(true, SeqCst);
+        self.full.wake_all();
+        self.empty.wake_all();
+        was_open
+    }
+
+    /// Whether no sender can put a value.
+    pub(super) fn is_closed(&self) -> bool {
+        self.receivers.count() == 0 || !self.has_senders()
+    }
+
+    fn has_senders(&self) -> bool {
+        self.senders.count() != 0 && !self.is_shut.load(SeqCst)
+    }
+
     /// Puts a value, and wakes a receiver.
     #[inline]
     pub(super) fn put(&self, value: T, who: u64) -> Result<(), Refused<T>> {
@@ -105,8 +133,8 @@ impl<T> Shared<T> {
 
     /// Takes a value, and wakes a sender that waits for room.
     #[inline]
-    fn look(&self, seat: &Seat<T>, who: u64) -> Look<T> {
-        let look = self.store.take(seat, who);
+    fn look(&self, seat: &Seat<T>, who: u64, waits: bool) -> Look<T> {
+        let look = self.store.take(seat, who, waits);
         if let Look::Took(_) = look {
             self.full.wake_one();
         }
@@ -115,20 +143,20 @@ impl<T> Shared<T> {
 
     /// Takes a value, or finds that there is none. It may be that nothing comes.
     #[inline]
-    pub(super) fn take(&self, seat: &Seat<T>, who: u64) -> Look<T> {
-        match self.look(seat, who) {
-            Look::Nothing => self.look_again(seat, who),
+    pub(super) fn take(&self, seat: &Seat<T>, who: u64, waits: bool) -> Look<T> {
+        match self.look(seat, who, waits) {
+            Look::Nothing => self.look_again(seat, who, waits),
             look => look,
         }
     }
 
     /// The same after a look that found nothing.
-    fn look_again(&self, seat: &Seat<T>, who: u64) -> Look<T> {
+    fn look_again(&self, seat: &Seat<T>, who: u64, waits: bool) -> Look<T> {
         let jobs = self.jobs.0.load();
-        if self.senders.count() != 0 || jobs % BEGUN != 0 {
+        if self.has_senders() || jobs % BEGUN != 0 {
             return Look::Nothing;
         }
-        match self.look(seat, who) {
+        match self.look(seat, who, waits) {
             Look::Nothing if self.jobs.0.load() == jobs => Look::Over,
             look => look,
         }
@@ -136,10 +164,10 @@ impl<T> Shared<T> {
 
     /// The same for a job, which is open if it returns a value. It counts as open during the look: so nobody else finds that
     /// nothing comes, while this value may come back.
-    pub(super) fn take_job(&self, seat: &Seat<T>, who: u64) -> Look<T> {
-        let has_senders = self.senders.count() != 0;
+    pub(super) fn take_job(&self, seat: &Seat<T>, who: u64, waits: bool) -> Look<T> {
+        let has_senders = self.has_senders();
         let before = self.jobs.0.begin();
-        let look = self.look(seat, who);
+        let look = self.look(seat, who, waits);
         if let Look::Took(_) = look {
             return look;
         }
@@ -154,10 +182,29 @@ impl<T> Shared<T> {
     /// Ends a job, and returns what there was before. The last one lets all receivers look whether anything comes.
     pub(super) fn end_job(&self) -> usize {
         let jobs = self.jobs.0.end();
-        if jobs % BEGUN == 1 && self.senders.count() == 0 {
+        if jobs % BEGUN == 1 && !self.has_senders() {
             self.empty.wake_all();
         }
         jobs
+    }
+
+    /// A receiver begins to wait. It matters to a meeting, and so do the two calls below.
+    pub(super) fn arrive(&self) {
+        if let Some(meeting) = self.store.meeting() {
+            meeting.arrive();
+        }
+    }
+
+    /// A receiver gives up, unless a value is left for it. Returns whether it did.
+    pub(super) fn leave(&self) -> bool {
+        self.store.meeting().is_none_or(Meeting::leave)
+    }
+
+    /// A receiver goes.
+    pub(super) fn abandon(&self) {
+        if let Some(meeting) = self.store.meeting() {
+            meeting.abandon();
+        }
     }
 
     pub(super) fn len(&self) -> usize {
@@ -166,59 +213,8 @@ impl<T> Shared<T> {
         }
         self.store.len()
     }
+
+    pub(super) fn is_full(&self) -> bool {
+        self.store.bound().is_some_and(|bound| self.len() >= bound)
+    }
 }
-
-/// What each end tells of its channel.
-macro_rules! told {
-    ($end:ident) => {
-        impl<T> $end<T> {
-            /// Its number in the channel's [audit](super::Audit). No other end of its side has it. This and the calls below
-            /// take no lock.
-            #[must_use]
-            pub fn number(&self) -> u64 {
-                self.number
-            }
-
-            /// How many values wait, at one moment of this call. A value whose send or receive is under way may count or
-            /// not.
-            #[must_use]
-            pub fn len(&self) -> usize {
-                self.shared.len()
-            }
-
-            /// Whether no value waits, at one moment of this call, as [`len`](Self::len) counts.
-            #[must_use]
-            pub fn is_empty(&self) -> bool {
-                self.len() == 0
-            }
-
-            /// Whether as many values wait as the bound allows. Without a bound it is false.
-            #[must_use]
-            pub fn is_full(&self) -> bool {
-                self.capacity().is_some_and(|bound| self.len() >= bound)
-            }
-
-            /// The bound, if there is one.
-            #[must_use]
-            pub fn capacity(&self) -> Option<usize> {
-                self.shared.store.bound()
-            }
-
-            /// Whether the other one is an end of the same channel.
-            #[must_use]
-            pub fn same_channel(&self, other: &Self) -> bool {
-                Arc::ptr_eq(&self.shared, &other.shared)
-            }
-        }
-
-        impl<T> Clone for $end<T> {
-            fn clone(&self) -> Self {
-                $end::new(Arc::clone(&self.shared))
-            }
-        }
-
-        impl<T> UnwindSafe for $end<T> {}
-        impl<T> RefUnwindSafe for $end<T> {}
-    };
-}
-pub(super) use told;

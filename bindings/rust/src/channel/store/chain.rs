@@ -5,7 +5,7 @@
 //! that was put before has a taker then. If a segment is over and has none after it, that moment is the load of the next one. If
 //! no more values were put than taken, it is the load of how many were put, since the other number was loaded before.
 use super::segment::{Place, Segment, Writer};
-use super::{Look, Plan, Refused, SEATS};
+use super::{Look, Plan, Refused, State, SEATS};
 use crate::channel::audit::GIVEN_BACK;
 use crate::channel::system::{lock, Line};
 use std::mem;
@@ -34,19 +34,16 @@ struct Lane<T> {
     state: State,
 }
 
-#[derive(PartialEq)]
-enum State {
-    Open,
-    /// No sender puts a value any more. What a job gives back comes in.
-    Closed,
-    /// All receivers are gone, so nothing comes in.
-    Left,
-}
-
 /// A seat, from which a receiver takes: it has a place in one segment, with a consumer of its own. (It is on lines of memory
 /// of its own, as a [`Line`].)
 #[repr(align(128))]
 pub(crate) struct Seat<T>(Mutex<Place<T>>);
+
+impl<T> Default for Seat<T> {
+    fn default() -> Self {
+        Seat(Mutex::default())
+    }
+}
 
 impl<T> Seat<T> {
     /// Leaves its segment, if that is over, so that this seat does not pin it. It only tries the lock: a seat that is in
@@ -81,7 +78,6 @@ impl<T> Chain<T> {
         self.plan.bound
     }
 
-    /// How many values wait, at one moment of this call. A value whose put or take is under way may count or not.
     pub(crate) fn len(&self) -> usize {
         loop {
             let (taken, put) = (self.taken.0.load(SeqCst), self.put.0.load(SeqCst));
@@ -96,13 +92,11 @@ impl<T> Chain<T> {
     pub(crate) fn put(&self, value: T, who: u64) -> Result<(), Refused<T>> {
         let mut lane = lock(&self.lane);
         let put = self.put.0.load(Relaxed);
-        if who != GIVEN_BACK {
-            if lane.state != State::Open {
-                return Err(Refused::Closed(value));
-            }
-            if self.is_full(put) {
-                return Err(Refused::Full(value));
-            }
+        if !lane.state.admits(who) {
+            return Err(Refused::Closed(value));
+        }
+        if who != GIVEN_BACK && self.is_full(put) {
+            return Err(Refused::Full(value));
         }
         let Some(writer) = &mut lane.writer else {
             return self.begin_and_put(lane, value, who);
@@ -122,9 +116,6 @@ impl<T> Chain<T> {
         value: T,
         who: u64,
     ) -> Result<(), Refused<T>> {
-        if lane.state == State::Left {
-            return Err(Refused::Closed(value));
-        }
         let cells = self.plan.cells_after(self.put.0.load(Relaxed));
         let Some(writer) = Writer::new(cells, self.plan.audit.clone()) else {
             return Err(Refused::NoMemory(value));
@@ -153,7 +144,6 @@ impl<T> Chain<T> {
         }
     }
 
-    /// Takes the first value that nobody else takes.
     #[inline]
     pub(crate) fn take(&self, seat: &Seat<T>, who: u64) -> Look<T> {
         let mut place = lock(&seat.0);
@@ -221,7 +211,7 @@ impl<T> Chain<T> {
                 return Arc::clone(seat);
             }
         }
-        let seat = Arc::new(Seat(Mutex::default()));
+        let seat = Arc::<Seat<T>>::default();
         seats.push(Arc::clone(&seat));
         seat
     }
@@ -232,17 +222,10 @@ impl<T> Chain<T> {
         (0..).map_while(seat).for_each(|it| work(&it));
     }
 
-    /// Lets no sender put a value after this. Returns false if that was so before.
     pub(crate) fn close(&self) -> bool {
-        let mut lane = lock(&self.lane);
-        let was_open = lane.state == State::Open;
-        if was_open {
-            lane.state = State::Closed;
-        }
-        was_open
+        lock(&self.lane).state.close()
     }
 
-    /// Ends it: nobody puts or takes a value after this, and what is left is dropped.
     pub(crate) fn end(&self) {
         let (full, written) = {
             let mut lane = lock(&self.lane);

@@ -4,13 +4,10 @@
 //! The main theorem says that no two consumers take the same number. So one alone comes for the value of a slot.
 use super::{Look, SEATS};
 use crate::channel::audit::{Ledger, Logs};
-use crate::channel::system::lock;
+use crate::channel::system::{lock, Panics};
 use crate::ffi::{Emptier, Filler, Slots};
-use std::mem;
-use std::panic::{catch_unwind, resume_unwind, AssertUnwindSafe};
 use std::sync::atomic::{AtomicBool, Ordering::SeqCst};
 use std::sync::{Arc, Mutex, OnceLock};
-use std::thread;
 
 pub(super) struct Segment<T> {
     /// (there until the drop)
@@ -187,7 +184,7 @@ impl<T> Drop for Place<T> {
 /// a call. If the drop of a value panics, the other values are dropped too.
 impl<T> Drop for Segment<T> {
     fn drop(&mut self) {
-        let mut panic = None;
+        let mut panics = Panics::default();
         // (nobody stands in it any more)
         if let Some(slots) = self.slots.take().and_then(Arc::into_inner) {
             let (left, mailbox) = slots.into_parts();
@@ -197,22 +194,16 @@ impl<T> Drop for Segment<T> {
                     // (not by `collect`, which would keep the memory of all slots)
                     let mut kept = Vec::new();
                     kept.extend(left);
-                    ledger.close(mailbox, &logs, kept);
+                    panics.contain(|| ledger.close(mailbox, &logs, kept));
                 }
-                None => left.for_each(|value| {
-                    if let Err(why) = catch_unwind(AssertUnwindSafe(|| drop(value))) {
-                        // (the drop of what an earlier one said may panic, too)
-                        mem::forget(panic.replace(why));
-                    }
-                }),
+                None => panics.drop_each(left),
             }
         }
         let mut next = self.next.take();
         while let Some(mut segment) = next.and_then(Arc::into_inner) {
             next = segment.next.take();
+            panics.contain(|| drop(segment));
         }
-        if let Some(why) = panic.filter(|_| !thread::panicking()) {
-            resume_unwind(why);
-        }
+        panics.resume();
     }
 }
