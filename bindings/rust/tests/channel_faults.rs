@@ -39,9 +39,9 @@ fn a_send_that_is_polled_too_often_takes_no_room() {
 fn a_receive_that_is_polled_too_often_takes_no_value() {
     let (sender, receiver) = unbounded();
     (1..=2).for_each(|it| sender.send(it).unwrap());
-    let mut received = receiver.recv_async();
-    assert!(poll(&mut received, &flag()).is_ready());
-    assert!(panics(|| assert!(poll(&mut received, &flag()).is_ready())));
+    let mut taken = receiver.recv_async();
+    assert!(poll(&mut taken, &flag()).is_ready());
+    assert!(panics(|| assert!(poll(&mut taken, &flag()).is_ready())));
     assert_eq!(receiver.recv(), Ok(2));
 }
 
