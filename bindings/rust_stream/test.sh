@@ -3,4 +3,4 @@
 cd "$(dirname -- "$0")" || exit 2
 set -- /usr/share/cargo/registry/futures-core-0.3.*
 [ -e "$1" ] || { echo "streams: SKIPPED: there is no librust-futures-core-dev" && exit; }
-cargo clippy -q --offline --all-targets -- -D warnings && cargo test -q --offline
+cargo test -q --offline
