@@ -86,9 +86,14 @@ impl<T> Filler<T> {
         &self.slots
     }
 
-    /// Fills the next slot, of which there has to be one. Returns how many it has filled.
+    /// How many slots it has filled.
+    pub(crate) fn filled(&self) -> usize {
+        self.filled
+    }
+
+    /// Fills the next slot, of which there has to be one.
     #[inline]
-    pub(crate) fn fill(&mut self, value: T) -> usize {
+    pub(crate) fn fill(&mut self, value: T) {
         let slot = self.slots.all[self.filled].0.get();
         // SAFETY: the slot is this filler's, since its number was not put.
         unsafe { slot.write(MaybeUninit::new(value)) };
@@ -96,7 +101,6 @@ impl<T> Filler<T> {
         let code = unsafe { hz_put(&mut self.producer.part.handle, self.filled as u64) };
         debug_assert!(code == calls::LINKED, "there is a cell for each slot");
         self.filled += 1;
-        self.filled
     }
 }
 
@@ -113,10 +117,9 @@ impl<T> Emptier<T> {
         self.consumer.number()
     }
 
-    /// The value of the next slot that nobody else empties, and how many slots come up to it. If there is none, it is
-    /// whether none comes.
+    /// The value of the next slot that nobody else empties. If there is none, it is whether none comes.
     #[inline]
-    pub(crate) fn take(&mut self) -> Result<(T, usize), bool> {
+    pub(crate) fn take(&mut self) -> Result<T, bool> {
         let (consumer, mut taken) = (&mut self.consumer.part.handle, 0);
         // SAFETY: the rules of calls. A number is its own word.
         let code = unsafe { hz_take(consumer, 0, u64::MAX, &mut taken) };
@@ -127,7 +130,7 @@ impl<T> Emptier<T> {
         let slot = self.slots.all[taken].0.get();
         self.emptied = taken + 1;
         // SAFETY: ownership. The slot was filled before its number was put, and this emptier alone takes that, now.
-        Ok((unsafe { slot.read().assume_init() }, self.emptied))
+        Ok(unsafe { slot.read().assume_init() })
     }
 }
 
