@@ -145,7 +145,7 @@ fn work<T: Send, S: Sending<T>, R: Receiving<T>>(
 
 fn through<T: Send>(what: &str, way: &str, plan: Plan, form: Form<T>) -> Option<(u64, Vec<u64>)> {
     match what {
-        "hazbultra" => work(hazbultra::channel::channel(), way, plan, form),
+        "hazbultra" => work(hazbultra::channel::unbounded(), way, plan, form),
         "crossbeam" => work(crossbeam_channel::unbounded(), way, plan, form),
         "flume" => work(flume::unbounded(), way, plan, form),
         "std" => {

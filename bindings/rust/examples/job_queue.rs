@@ -1,5 +1,5 @@
 //! Workers sleep until a job comes. A job that panics is tried again, perhaps by another worker. At last all end.
-use hazbultra::channel::{channel, Receiver};
+use hazbultra::channel::{unbounded, Receiver};
 use std::panic;
 use std::sync::atomic::{AtomicUsize, Ordering};
 use std::thread;
@@ -44,7 +44,7 @@ fn worker(jobs: &Receiver<Work>) -> usize {
 
 fn main() {
     panic::set_hook(Box::new(|_| ())); // (these panics are meant)
-    let (sender, receiver) = channel();
+    let (sender, receiver) = unbounded();
     let workers: Vec<_> = (0..WORKERS)
         .map(|_| receiver.clone())
         .map(|jobs| thread::spawn(move || worker(&jobs)))

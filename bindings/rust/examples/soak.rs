@@ -5,7 +5,7 @@
 //! - `idle`: 64 receivers sleep, and take next to no processor time.
 //! - `memory`: values go by an idle sender and an idle receiver, with and without an audit. Memory does not grow.
 //! - `full`: a send that gets no memory returns its value, and all others are received. It needs a limit: `ulimit -v 200000`.
-use hazbultra::channel::{channel, Builder, Receiver, RecvError, SendError, Sender};
+use hazbultra::channel::{unbounded, Builder, Receiver, RecvError, SendError, Sender};
 use std::collections::BTreeMap;
 use std::panic::{catch_unwind, resume_unwind, AssertUnwindSafe};
 use std::sync::atomic::{AtomicU64, Ordering::Relaxed};
@@ -193,7 +193,7 @@ fn number_of(path: &str, place: usize) -> u64 {
 }
 
 fn idle(seconds: u64) -> String {
-    let (sender, receiver) = channel::<u64>();
+    let (sender, receiver) = unbounded::<u64>();
     let sleepers: Vec<_> = (0..64)
         .map(|_| receiver.clone())
         .map(|it| thread::spawn(move || it.recv()))
@@ -243,7 +243,7 @@ fn memory(seconds: u64) -> String {
         let ends = if is_audited {
             (sender, receiver)
         } else {
-            channel()
+            unbounded()
         };
         // These two have used a segment, and do nothing more.
         let (idle_sender, idle_receiver) = ends.clone();
@@ -260,7 +260,7 @@ fn memory(seconds: u64) -> String {
 
 /// Sends until there is no memory. Then receives all that was sent.
 fn full() -> String {
-    let (sender, receiver) = channel();
+    let (sender, receiver) = unbounded();
     // (so the receiver has its memory before there is no more)
     sender.send(0_u64).expect("a receiver is there");
     receiver.recv().expect("it was sent");

@@ -1,5 +1,5 @@
 //! Tests of the channel, which is not proved. Most have small segments, so that values go through many.
-use hazbultra::channel::{bounded, channel, Builder, Receiver, Sender};
+use hazbultra::channel::{bounded, unbounded, Builder, Receiver, Sender};
 use hazbultra::channel::{RecvError, RecvTimeoutError, SendError, TryRecvError, TrySendError};
 use std::collections::BTreeMap;
 use std::future::Future;
@@ -38,6 +38,14 @@ fn values_of_a_sender_keep_their_order() {
 }
 
 #[test]
+fn the_values_of_many_senders_have_one_order() {
+    let (sender, receiver) = small();
+    let senders = [(); 20].map(|()| sender.clone());
+    (0..500).for_each(|it| senders[it * 7 % 20].send(it).unwrap());
+    assert!(receiver.try_iter().eq(0..500));
+}
+
+#[test]
 fn a_clone_of_a_receiver_begins_where_values_are_left() {
     let (sender, receiver) = small();
     (0..10).for_each(|it| sender.send(it).unwrap());
@@ -47,7 +55,7 @@ fn a_clone_of_a_receiver_begins_where_values_are_left() {
 
 #[test]
 fn each_value_goes_to_one_of_many_ends() {
-    // (more receivers and senders than there are chains and seats, so some share them)
+    // (more receivers than there are seats, so some share them)
     let (sender, receiver) = Builder::new().cells(16).build();
     let takers: Vec<_> = (0..70)
         .map(|_| receiver.clone())
@@ -78,8 +86,7 @@ fn each_value_goes_to_one_of_many_ends() {
         .eq((0..20).flat_map(|s| (0..500).map(move |it| (s, it)))));
 }
 
-/// A receiver that looks after a send finds a value, also if other threads send and receive meanwhile. (There are many
-/// chains, and a value may come into one at which the receiver has looked.)
+/// A receiver that looks after a send finds a value, also if other threads send and receive meanwhile.
 #[test]
 fn a_receiver_finds_what_was_sent_before() {
     let (sender, receiver) = Builder::new().cells(64).build();
@@ -138,7 +145,7 @@ fn an_end_ends_the_other_side() {
 
 #[test]
 fn the_end_wakes_sleepers() {
-    let (sender, receiver) = channel::<u8>();
+    let (sender, receiver) = unbounded::<u8>();
     let sleeper = thread::spawn(move || receiver.recv());
     thread::sleep(SHORT);
     drop(sender);
@@ -191,7 +198,7 @@ fn values_may_hold_ends_of_their_own_channel() {
 
 #[test]
 fn ten_million_values_that_wait_are_dropped() {
-    let (sender, receiver) = channel();
+    let (sender, receiver) = unbounded();
     (0..10_000_000_u32).for_each(|it| sender.send(it).unwrap());
     drop(receiver);
     assert_eq!(sender.send(1), Err(SendError(1)));
@@ -299,7 +306,7 @@ fn a_send_that_is_dropped_sends_nothing() {
 #[test]
 fn no_round_sleeps_for_ever() {
     let (sender, receiver) = Builder::new().cells(3).build();
-    let (back, rounds) = channel();
+    let (back, rounds) = unbounded();
     for _ in 0..3 {
         let (receiver, back) = (receiver.clone(), back.clone());
         thread::spawn(move || receiver.iter().for_each(|it| back.send(it).unwrap()));

@@ -1,6 +1,6 @@
 //! Who sent what, who took it, and what is left.
 use super::errors::written;
-use super::system::lock;
+use super::system::{lock, Panics};
 use crate::{Mailbox, Note, Report};
 use std::collections::{BTreeMap, VecDeque};
 use std::fmt;
@@ -62,7 +62,7 @@ pub struct Totals {
 /// The accounts of a channel. [`Builder::audited`](super::Builder::audited) makes it.
 ///
 /// An account is made when a segment is over and no end stands in it any more, or when the last receiver is dropped.
-/// The accounts of one chain come in the order of their values. The newest 16 accounts wait. Older ones that
+/// They come in the order of their values. The newest 16 accounts wait. Older ones that
 /// nobody asked for go, and are in the [totals](Audit::totals) alone. Each call takes the lock of the accounts.
 pub struct Audit<T> {
     ledger: Arc<Ledger<T>>,
@@ -109,39 +109,49 @@ impl<T> Audit<T> {
 impl<T> Drop for Audit<T> {
     fn drop(&mut self) {
         lock(&self.ledger.book).kept = 0;
-        // (the values that are left in the accounts are dropped under no lock)
-        drop(self.accounts());
+        drop_left(self.accounts());
     }
 }
 
+/// Drops the values that are left in accounts. No lock is held then, and each is dropped, also if the drop of one panics.
+fn drop_left<T>(accounts: impl IntoIterator<Item = Account<T>>) {
+    let mut panics = Panics::default();
+    panics.drop_each(accounts.into_iter().flat_map(|it| it.left));
+    panics.resume();
+}
+
 impl<T> Ledger<T> {
+    /// Counts a value that went from hand to hand.
+    pub(super) fn count(&self, sender: u64, receiver: u64) {
+        lock(&self.book)
+            .totals
+            .add(Fate::new(sender, Some(receiver)));
+    }
+
     /// Makes the account of a mailbox to which all producers and consumers were returned.
     pub(super) fn close(&self, mailbox: Mailbox<u64>, logs: &Logs, left: Vec<T>) {
-        let account = mailbox.gather().ok().map(|report| Account {
-            fates: fates(&report, logs),
-            left,
-        });
-        let mut book = lock(&self.book);
-        let Some(account) = account else {
-            book.totals.unknown += 1;
-            return;
+        let Ok(report) = mailbox.gather() else {
+            lock(&self.book).totals.unknown += 1;
+            let fates = Vec::new();
+            return drop_left([Account { fates, left }]);
         };
-        book.totals.add(&account);
-        book.accounts.push_back(account);
+        let fates = fates(&report, logs);
+        let mut book = lock(&self.book);
+        for fate in &fates {
+            book.totals.add(*fate);
+        }
+        book.accounts.push_back(Account { fates, left });
         let is_over = book.accounts.len() > book.kept;
         let oldest = is_over.then(|| book.accounts.pop_front());
         drop(book);
-        drop(oldest);
+        drop_left(oldest.flatten());
     }
 }
 
 /// The report says which consumer took which place, and the logs say which sender and receiver that was.
 fn fates(report: &Report<u64>, logs: &Logs) -> Vec<Fate> {
-    let senders = logs.senders.iter().map(|sender| Fate {
-        sender: (*sender != GIVEN_BACK).then_some(*sender),
-        receiver: None,
-    });
-    let mut fates: Vec<_> = senders.collect();
+    let senders = logs.senders.iter();
+    let mut fates: Vec<_> = senders.map(|it| Fate::new(*it, None)).collect();
     for (consumer, takers) in &logs.takers {
         let notes = report.diary(*consumer, 0).map(|it| it.notes.iter());
         let places = (0..).zip(notes.unwrap_or_default());
@@ -153,17 +163,22 @@ fn fates(report: &Report<u64>, logs: &Logs) -> Vec<Fate> {
     fates
 }
 
+impl Fate {
+    fn new(sender: u64, receiver: Option<u64>) -> Fate {
+        let sender = (sender != GIVEN_BACK).then_some(sender);
+        Fate { sender, receiver }
+    }
+}
+
 impl Totals {
-    fn add<T>(&mut self, account: &Account<T>) {
-        for fate in &account.fates {
-            match fate.sender {
-                Some(sender) => *self.sent.entry(sender).or_default() += 1,
-                None => self.given_back += 1,
-            }
-            match fate.receiver {
-                Some(receiver) => *self.taken.entry(receiver).or_default() += 1,
-                None => self.left += 1,
-            }
+    fn add(&mut self, fate: Fate) {
+        match fate.sender {
+            Some(sender) => *self.sent.entry(sender).or_default() += 1,
+            None => self.given_back += 1,
+        }
+        match fate.receiver {
+            Some(receiver) => *self.taken.entry(receiver).or_default() += 1,
+            None => self.left += 1,
         }
     }
 }

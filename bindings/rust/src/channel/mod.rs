@@ -7,7 +7,7 @@
 //! use hazbultra::channel;
 //! use std::thread;
 //!
-//! let (sender, receiver) = channel::channel();
+//! let (sender, receiver) = channel::unbounded();
 //! let workers: Vec<_> = (0..4)
 //!     .map(|_| receiver.clone())
 //!     .map(|receiver| thread::spawn(move || receiver.iter().sum::<u64>()))
@@ -21,34 +21,36 @@
 //! # What is promised
 //!
 //! - At most one receiver gets a value, and none is lost while ends are there for it. When all senders are dropped,
-//!   receivers get what is left, and then an error. When all receivers are dropped, what is left is dropped, and senders
+//!   or an end closes the channel, receivers get what is left, and then an error. When all receivers are dropped, what is left is dropped, and senders
 //!   get their values back.
-//! - The values of one [`Sender`] are received in the order sent. Those of two senders may overtake each other.
-//! - A receiver finds nothing only if there was a moment, during its call, at which nothing was left of what was sent
-//!   before.
+//! - **One order.** If one send returns before another one begins, in any threads, its value is received first.
+//! - A receiver finds nothing only if there was a moment, during its call, at which nothing was left. A sender finds no
+//!   room only if there was a moment, during its call, at which as many values waited as the bound allows.
 //! - No value waits while a receiver sleeps. A wake-up that its receiver does not use goes to the next one: after a
 //!   timeout, a dropped future, or a waker that panics.
-//! - Memory is in proportion to the values that wait. An end that does nothing holds at most one segment of each chain, but
-//!   for moments.
+//! - Memory is in proportion to the values that wait. A receiver that does nothing holds at most one segment, but for
+//!   moments.
 //! - What takes a lock is said at [`Sender`] and [`Receiver`].
 //!
 //! # How it is built
 //!
-//! Each of the first 16 senders writes a *chain* of its own: segment after segment, each a [`Mailbox`](crate::Mailbox) with
-//! one lane. Each of the first 64 receivers has a consumer of its own in the segment that it stands in. It goes first to
-//! one chain, and if nothing is there to the others. A claim is one compare-exchange. The items are the numbers of slots, so
-//! no value is boxed. A table in the crate's README says what is proved, and what is tested.
+//! The values stand in a *chain*: segment after segment, each a [`Mailbox`](crate::Mailbox) with one lane. Senders put into
+//! the last one, one at a time. Each of the first 64 receivers has a consumer of its own in the segment that it stands in. A
+//! claim is one compare-exchange. The items are the numbers of slots, so no value is boxed. A table in the crate's README
+//! says what is proved, and what is tested.
 //!
-//! It has no `select!`, no channel without room (`bounded(0)`), and ends with the process.
+//! A channel of bound 0 has no chain: each value goes from hand to hand, under one lock.
 mod audit;
-mod chain;
+mod ends;
 mod errors;
+mod future;
+mod iter;
 mod job;
+mod parcel;
 mod receiver;
-mod seat;
-mod segment;
 mod sender;
 mod shared;
+mod store;
 mod system;
 mod wait;
 
@@ -56,28 +58,42 @@ pub use audit::{Account, Audit, Fate, Totals};
 pub use errors::{
     RecvError, RecvTimeoutError, SendError, SendTimeoutError, TryRecvError, TrySendError,
 };
+pub use future::{JobFuture, RecvFuture, SendFuture};
+pub use iter::{Drain, IntoIter, Iter, TryIter};
 pub use job::Job;
-pub use receiver::{IntoIter, Iter, Receiver, RecvFuture, TryIter};
-pub use sender::{SendFuture, Sender};
+pub use receiver::{Receiver, WeakReceiver};
+pub use sender::{Sender, WeakSender};
 
-use shared::{Plan, Shared};
+use shared::Shared;
 use std::sync::Arc;
-
-/// So many chains, each for one sender. It is the most producers that a mailbox may have.
-const CHAINS: usize = 16;
-/// So many seats, each for one receiver. It is the most consumers that a mailbox may have.
-const SEATS: usize = 64;
+use store::Plan;
 
 /// A channel without a bound: a send never waits for room.
+///
+/// ```
+/// let (sender, receiver) = hazbultra::channel::unbounded();
+/// (0..1000).for_each(|it| sender.send(it).unwrap());
+/// assert_eq!(receiver.recv(), Ok(0));
+/// ```
 #[must_use]
-pub fn channel<T>() -> (Sender<T>, Receiver<T>) {
+pub fn unbounded<T>() -> (Sender<T>, Receiver<T>) {
     Builder::new().build()
 }
 
 /// A channel in which at most so many values wait. A send waits for room.
 ///
-/// # Panics
-/// The bound is 0.
+/// If the bound is 0, both sides meet: a send returns when a receiver waits for the value or takes it.
+///
+/// ```
+/// use hazbultra::channel::bounded;
+/// use std::thread;
+///
+/// let (sender, receiver) = bounded(0);
+/// assert!(sender.try_send(1).unwrap_err().is_full()); // (nobody waits)
+/// let taker = thread::spawn(move || receiver.recv());
+/// sender.send(2).unwrap();
+/// assert_eq!(taker.join().unwrap(), Ok(2));
+/// ```
 #[must_use]
 pub fn bounded<T>(bound: usize) -> (Sender<T>, Receiver<T>) {
     Builder::new().bound(bound).build()
@@ -110,23 +126,20 @@ impl Builder {
         Builder::default()
     }
 
-    /// At most so many values wait.
-    ///
-    /// # Panics
-    /// The bound is 0: a channel without room is not offered.
+    /// At most so many values wait, as with [`bounded`].
     pub fn bound(self, bound: usize) -> Builder {
-        assert!(bound > 0, "a channel has room for one value at least");
         Builder {
             bound: Some(bound),
             ..self
         }
     }
 
-    /// So many values go into each segment, 1 to 2^24. If it is not said, a chain begins with 32, and grows to 4,096. Large
+    /// So many values go into each segment, 1 to 2^24. If it is not said, the first gets 32, and later ones up to 4,096. Large
     /// values get smaller segments.
     ///
     /// # Panics
     /// The number is out of range.
+    #[track_caller]
     pub fn cells(self, cells: usize) -> Builder {
         assert!((1..=1 << 24).contains(&cells), "1 to 2^24 cells");
         Builder {
@@ -141,7 +154,8 @@ impl Builder {
         self.make(None)
     }
 
-    /// Makes the channel, and what hands out its accounts. It costs some 24 bytes more for each value of a segment.
+    /// Makes the channel, and what hands out its accounts. It costs some 24 bytes more for each value of a segment. With
+    /// bound 0 there are no segments, and so no accounts, but [totals](Audit::totals).
     #[must_use]
     pub fn audited<T>(self) -> (Sender<T>, Receiver<T>, Audit<T>) {
         let (audit, ledger) = Audit::new();

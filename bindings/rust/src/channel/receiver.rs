@@ -1,15 +1,14 @@
 //! A receiver.
+use super::ends::ends;
 use super::errors::{written, RecvError, RecvTimeoutError, TryRecvError};
+use super::future::{JobFuture, RecvFuture};
+use super::iter::{Drain, Iter, TryIter};
 use super::job::Job;
-use super::seat::Seat;
-use super::segment::Look;
-use super::shared::{told, Got, Shared};
-use std::future::Future;
-use std::iter::FusedIterator;
+use super::shared::Shared;
+use super::store::{Look, Seat};
+use std::borrow::Cow;
 use std::panic::{RefUnwindSafe, UnwindSafe};
-use std::pin::Pin;
 use std::sync::Arc;
-use std::task::{Context, Poll};
 use std::thread;
 use std::time::{Duration, Instant};
 
@@ -17,18 +16,18 @@ use std::time::{Duration, Instant};
 ///
 /// **Locks of a receive.** Each of the first 64 receivers has a seat of its own. A receive holds the lock of its seat. So it
 /// waits only for another thread that shares this receiver by `&`, for one of the receivers beyond 64, which share seats, or
-/// for the few steps in which somebody moves its seat on. Nobody waits for the seat of another: whoever finds a segment over
-/// only tries the locks of other seats. A receive that comes to a new segment takes the lock under which its chain keeps the
-/// first segment, that under which the mailbox issues consumers, and with an audit those of the segment's log and of the
-/// accounts. A receive that sleeps, or makes room for a sender that does, takes the lock of the list of sleepers.
+/// for the few steps in which somebody moves its seat on, or looks for room. Nobody waits for the seat of another. A receive
+/// that comes to a new segment takes the lock under which the channel keeps the first one, that under which the mailbox issues
+/// consumers, and with an audit those of the segment's log and of the accounts. The first one to leave a segment takes the
+/// lock of the list of seats, and tries that of each. A receive that sleeps, or makes room for a sender that does, takes the
+/// lock of the list of sleepers. In a channel of bound 0 each call takes the one lock of that channel.
 ///
-/// A clone and a drop take the lock of the list of ends. The drop of the last receiver takes those of all lanes and seats
-/// too, one after the other.
+/// A clone takes the lock of the list of seats. The drop of the last receiver takes those of the lane and of all seats, one
+/// after the other.
 pub struct Receiver<T> {
-    shared: Arc<Shared<T>>,
+    pub(super) shared: Arc<Shared<T>>,
     seat: Arc<Seat<T>>,
     number: u64,
-    place: usize,
 }
 
 /// How long a receiver that got no memory sleeps before it tries again.
@@ -36,42 +35,35 @@ const PAUSE: Duration = Duration::from_millis(1);
 
 impl<T> Receiver<T> {
     pub(super) fn new(shared: Arc<Shared<T>>) -> Receiver<T> {
-        let (number, seat, place) = shared.add_receiver();
+        let number = shared.receivers.add();
+        Receiver::sit(shared, number)
+    }
+
+    /// A further one, if there is one.
+    fn join(shared: Arc<Shared<T>>) -> Option<Receiver<T>> {
+        let number = shared.receivers.add_to_others()?;
+        Some(Receiver::sit(shared, number))
+    }
+
+    fn sit(shared: Arc<Shared<T>>, number: u64) -> Receiver<T> {
         Receiver {
+            seat: shared.store.seat(),
             shared,
-            seat,
             number,
-            place,
         }
     }
 
-    fn take(&self) -> Got<T> {
-        self.take_after(self.seat.take(self.number))
-    }
-
-    /// Takes a value where the seat took last, or goes on after that look.
     #[inline]
-    fn take_or<E>(&self, go_on: impl FnOnce(Look<T>) -> Result<T, E>) -> Result<T, E> {
-        match self.seat.take(self.number) {
-            Look::Took(value) => {
-                self.shared.free();
-                Ok(value)
-            }
-            look => go_on(look),
-        }
+    pub(super) fn take(&self, waits: bool) -> Look<T> {
+        self.shared.take(&self.seat, self.number, waits)
     }
 
-    /// Takes a value after this look where the seat took last.
-    fn take_after(&self, look: Look<T>) -> Got<T> {
-        self.shared.take(&self.seat, look, self.number)
-    }
-
-    fn take_job(&self) -> Got<Job<T>> {
-        match self.shared.take_job(&self.seat, self.number) {
-            Got::Took(value) => Got::Took(Job::new(value, Arc::clone(&self.shared))),
-            Got::Nothing => Got::Nothing,
-            Got::Closed => Got::Closed,
-            Got::NoMemory => Got::NoMemory,
+    pub(super) fn take_job(&self, waits: bool) -> Look<Job<T>> {
+        match self.shared.take_job(&self.seat, self.number, waits) {
+            Look::Took(value) => Look::Took(Job::new(value, Arc::clone(&self.shared))),
+            Look::Nothing => Look::Nothing,
+            Look::Over => Look::Over,
+            Look::NoMemory => Look::NoMemory,
         }
     }
 
@@ -79,9 +71,20 @@ impl<T> Receiver<T> {
     ///
     /// # Errors
     /// Nothing is there, there is no memory to look at a segment, or nothing comes any more.
+    ///
+    /// ```
+    /// use hazbultra::channel::{unbounded, TryRecvError};
+    ///
+    /// let (sender, receiver) = unbounded();
+    /// assert_eq!(receiver.try_recv(), Err(TryRecvError::Empty));
+    /// sender.send(1).unwrap();
+    /// drop(sender);
+    /// assert_eq!(receiver.try_recv(), Ok(1));
+    /// assert_eq!(receiver.try_recv(), Err(TryRecvError::Disconnected));
+    /// ```
     #[inline]
     pub fn try_recv(&self) -> Result<T, TryRecvError> {
-        self.take_or(|look| now(self.take_after(look)))
+        now(self.take(false))
     }
 
     /// Receives a value. It sleeps until one comes. If there is no memory for its place in a segment, it tries again each
@@ -89,25 +92,92 @@ impl<T> Receiver<T> {
     ///
     /// # Errors
     /// Nothing is left, and nothing comes any more.
+    ///
+    /// ```
+    /// use hazbultra::channel::{unbounded, RecvError};
+    /// use std::thread;
+    ///
+    /// let (sender, receiver) = unbounded();
+    /// thread::spawn(move || sender.send("a letter"));
+    /// assert_eq!(receiver.recv(), Ok("a letter"));
+    /// assert_eq!(receiver.recv(), Err(RecvError)); // (the sender is gone)
+    /// ```
     #[inline]
     pub fn recv(&self) -> Result<T, RecvError> {
         self.recv_until(None).map_err(|_| RecvError)
     }
 
-    /// Receives a value. It sleeps until one comes, but not longer than this. It takes the [locks of a receive](Receiver).
+    /// Does what [`recv`](Receiver::recv) does, but sleeps no longer than this.
     ///
     /// # Errors
     /// It received nothing until then, or nothing comes any more.
+    ///
+    /// ```
+    /// use hazbultra::channel::{unbounded, RecvTimeoutError};
+    /// use std::time::Duration;
+    ///
+    /// let (_sender, receiver) = unbounded::<u8>();
+    /// let received = receiver.recv_timeout(Duration::from_millis(1));
+    /// assert_eq!(received, Err(RecvTimeoutError::Timeout));
+    /// ```
     pub fn recv_timeout(&self, timeout: Duration) -> Result<T, RecvTimeoutError> {
         self.recv_until(Instant::now().checked_add(timeout))
     }
 
-    /// Does what [`recv_timeout`](Receiver::recv_timeout) does, but sleeps until this time at most.
+    /// Does what [`recv`](Receiver::recv) does, but sleeps until this time at most.
     ///
     /// # Errors
     /// As [`recv_timeout`](Receiver::recv_timeout).
+    ///
+    /// ```
+    /// use hazbultra::channel::unbounded;
+    /// use std::time::{Duration, Instant};
+    ///
+    /// let (sender, receiver) = unbounded();
+    /// sender.send(1).unwrap();
+    /// let soon = Instant::now() + Duration::from_millis(1);
+    /// assert_eq!(receiver.recv_deadline(soon), Ok(1));
+    /// assert!(receiver.recv_deadline(soon).unwrap_err().is_timeout());
+    /// ```
     pub fn recv_deadline(&self, deadline: Instant) -> Result<T, RecvTimeoutError> {
         self.recv_until(Some(deadline))
+    }
+
+    /// Receives a value as [`recv`](Receiver::recv) does, but a task waits, in any executor, and no thread sleeps. If the
+    /// future is dropped before it is ready, it receives nothing. A poll takes the [locks of a receive](Receiver), a drop
+    /// that of the list of sleepers.
+    ///
+    /// ```
+    /// # include!(concat!(env!("CARGO_MANIFEST_DIR"), "/tests/run/mod.rs"));
+    /// # fn main() {
+    /// let (sender, receiver) = hazbultra::channel::unbounded();
+    /// sender.send("a letter").unwrap();
+    /// run(async {
+    ///     assert_eq!(receiver.recv_async().await, Ok("a letter"));
+    /// });
+    /// # }
+    /// ```
+    pub fn recv_async(&self) -> RecvFuture<'_, T> {
+        RecvFuture::new(Cow::Borrowed(self))
+    }
+
+    /// Does what [`recv_async`](Receiver::recv_async) does. The future has this receiver, and drops it when it is dropped.
+    ///
+    /// ```
+    /// use std::future::Future;
+    ///
+    /// fn spawn(task: impl Future + Send + 'static) {
+    ///     // (an executor runs it)
+    /// #   drop(task);
+    /// }
+    /// let (_sender, receiver) = hazbultra::channel::unbounded::<u8>();
+    /// spawn(receiver.clone().into_recv_async());
+    /// ```
+    pub fn into_recv_async<'a>(self) -> RecvFuture<'a, T>
+    where
+        T: 'a,
+    {
+        RecvFuture::new(Cow::Owned(self))
     }
 
     /// Receives a value as a job, which gives the value back to the channel unless it is [done](Job::done). It sleeps until
@@ -116,195 +186,182 @@ impl<T> Receiver<T> {
     ///
     /// # Errors
     /// Nothing is left, nothing comes any more, and no other job is open.
+    ///
+    /// ```
+    /// let (sender, receiver) = hazbultra::channel::unbounded();
+    /// sender.send("a letter").unwrap();
+    /// drop(receiver.recv_job().unwrap()); // (as by a panic: the value comes back)
+    /// assert_eq!(receiver.recv_job().unwrap().done(), "a letter");
+    /// ```
     pub fn recv_job(&self) -> Result<Job<T>, RecvError> {
-        self.wait(None, || self.take_job()).map_err(|_| RecvError)
+        self.wait(None, || self.take_job(true))
+            .map_err(|_| RecvError)
+    }
+
+    /// Does what [`recv_job`](Receiver::recv_job) does, but sleeps no longer than this. So a worker may look at a flag that
+    /// stops it.
+    ///
+    /// # Errors
+    /// It received nothing until then, or nothing comes any more.
+    ///
+    /// ```
+    /// use std::time::Duration;
+    ///
+    /// let (_sender, receiver) = hazbultra::channel::unbounded::<u8>();
+    /// let received = receiver.recv_job_timeout(Duration::from_millis(1));
+    /// assert!(received.unwrap_err().is_timeout());
+    /// ```
+    pub fn recv_job_timeout(&self, timeout: Duration) -> Result<Job<T>, RecvTimeoutError> {
+        self.wait(Instant::now().checked_add(timeout), || self.take_job(true))
+    }
+
+    /// Does what [`recv_job`](Receiver::recv_job) does, but sleeps until this time at most.
+    ///
+    /// # Errors
+    /// As [`recv_job_timeout`](Receiver::recv_job_timeout).
+    ///
+    /// ```
+    /// use std::time::{Duration, Instant};
+    ///
+    /// let (sender, receiver) = hazbultra::channel::unbounded();
+    /// sender.send(1).unwrap();
+    /// let soon = Instant::now() + Duration::from_millis(1);
+    /// assert_eq!(receiver.recv_job_deadline(soon).unwrap().done(), 1);
+    /// ```
+    pub fn recv_job_deadline(&self, deadline: Instant) -> Result<Job<T>, RecvTimeoutError> {
+        self.wait(Some(deadline), || self.take_job(true))
+    }
+
+    /// Receives a job as [`recv_job`](Receiver::recv_job) does, but a task waits, as with
+    /// [`recv_async`](Receiver::recv_async).
+    ///
+    /// ```
+    /// # include!(concat!(env!("CARGO_MANIFEST_DIR"), "/tests/run/mod.rs"));
+    /// # fn main() {
+    /// let (sender, receiver) = hazbultra::channel::unbounded();
+    /// sender.send("a letter").unwrap();
+    /// run(async {
+    ///     let job = receiver.recv_job_async().await.unwrap();
+    ///     assert_eq!(job.done(), "a letter");
+    /// });
+    /// # }
+    /// ```
+    pub fn recv_job_async(&self) -> JobFuture<'_, T> {
+        JobFuture::new(Cow::Borrowed(self))
     }
 
     /// Receives a value as a job if one is there now. It never sleeps, but for [the locks of a receive](Receiver).
     ///
     /// # Errors
     /// Nothing is there, there is no memory to look at a segment, or nothing comes any more.
+    ///
+    /// ```
+    /// let (sender, receiver) = hazbultra::channel::unbounded();
+    /// assert!(receiver.try_recv_job().unwrap_err().is_empty());
+    /// sender.send(1).unwrap();
+    /// assert_eq!(receiver.try_recv_job().unwrap().done(), 1);
+    /// ```
     pub fn try_recv_job(&self) -> Result<Job<T>, TryRecvError> {
-        now(self.take_job())
-    }
-
-    /// Receives a value. The task waits until one comes, in any executor, and no thread sleeps. If the future is dropped
-    /// before, it receives nothing. A poll takes the [locks of a receive](Receiver), a drop that of the list of sleepers.
-    pub fn recv_async(&self) -> RecvFuture<'_, T> {
-        RecvFuture {
-            receiver: self,
-            place: None,
-        }
+        now(self.take_job(false))
     }
 
     #[inline]
     fn recv_until(&self, until: Option<Instant>) -> Result<T, RecvTimeoutError> {
-        self.take_or(|look| self.recv_after(until, look))
-    }
-
-    /// The same after this look where the seat took last.
-    #[cold]
-    fn recv_after(&self, until: Option<Instant>, look: Look<T>) -> Result<T, RecvTimeoutError> {
-        match self.take_after(look) {
-            Got::Took(value) => Ok(value),
-            _ => self.wait(until, || self.take()),
+        match self.take(false) {
+            Look::Took(value) => Ok(value),
+            _ => self.wait(until, || self.take(true)),
         }
     }
 
+    #[cold]
     fn wait<G>(
         &self,
         until: Option<Instant>,
-        take: impl Fn() -> Got<G>,
+        take: impl Fn() -> Look<G>,
     ) -> Result<G, RecvTimeoutError> {
+        let shared = &self.shared;
+        shared.arrive();
         let look = || match take() {
-            Got::Nothing => None,
-            got => Some(got),
+            Look::Nothing => None,
+            look => Some(look),
         };
         loop {
-            match self.shared.empty.wait(until, look) {
-                Some(Got::Took(value)) => return Ok(value),
-                Some(Got::Closed) => return Err(RecvTimeoutError::Disconnected),
-                None => return Err(RecvTimeoutError::Timeout),
-                Some(Got::NoMemory | Got::Nothing) => {}
+            match shared.empty.wait(until, look) {
+                Some(Look::Took(value)) => return Ok(value),
+                Some(Look::Over) => {
+                    shared.abandon();
+                    return Err(RecvTimeoutError::Disconnected);
+                }
+                Some(Look::NoMemory) => {
+                    // (it gets no memory for a value that is there, so it wakes another receiver)
+                    shared.empty.wake_one();
+                    thread::sleep(PAUSE);
+                }
+                Some(Look::Nothing) | None => {}
             }
-            if until.is_some_and(|until| Instant::now() >= until) {
-                // (it gets no memory for a value that is there, so it wakes another receiver)
-                self.shared.empty.wake_one();
+            if until.is_some_and(|until| Instant::now() >= until) && shared.leave() {
                 return Err(RecvTimeoutError::Timeout);
             }
-            thread::sleep(PAUSE);
         }
     }
 
     /// Iterates over the values that calls of [`recv`](Receiver::recv) return, until nothing comes any more.
+    ///
+    /// ```
+    /// let (sender, receiver) = hazbultra::channel::unbounded();
+    /// (0..3).for_each(|it| sender.send(it).unwrap());
+    /// drop(sender);
+    /// assert!(receiver.iter().eq(0..3));
+    /// ```
     pub fn iter(&self) -> Iter<'_, T> {
         Iter { receiver: self }
     }
 
     /// Iterates over the values that calls of [`try_recv`](Receiver::try_recv) return, until one returns an error.
+    ///
+    /// ```
+    /// let (sender, receiver) = hazbultra::channel::unbounded();
+    /// (0..3).for_each(|it| sender.send(it).unwrap());
+    /// assert!(receiver.try_iter().eq(0..3));
+    /// ```
     pub fn try_iter(&self) -> TryIter<'_, T> {
         TryIter { receiver: self }
     }
-}
 
-fn now<G>(got: Got<G>) -> Result<G, TryRecvError> {
-    match got {
-        Got::Took(value) => Ok(value),
-        Got::Closed => Err(TryRecvError::Disconnected),
-        Got::Nothing | Got::NoMemory => Err(TryRecvError::Empty),
+    /// Iterates over values as [`try_iter`](Receiver::try_iter) does, but over no more than wait now. So it ends, also if
+    /// senders go on. A value that it does not come to stays.
+    ///
+    /// ```
+    /// let (sender, receiver) = hazbultra::channel::unbounded();
+    /// (0..3).for_each(|it| sender.send(it).unwrap());
+    /// let values: Vec<_> = receiver.drain().inspect(|it| sender.send(it + 10).unwrap()).collect();
+    /// assert_eq!((values, receiver.len()), (vec![0, 1, 2], 3));
+    /// ```
+    pub fn drain(&self) -> Drain<'_, T> {
+        Drain {
+            receiver: self,
+            left: self.len(),
+        }
     }
 }
 
-told!(Receiver);
+fn now<G>(look: Look<G>) -> Result<G, TryRecvError> {
+    match look {
+        Look::Took(value) => Ok(value),
+        Look::Over => Err(TryRecvError::Disconnected),
+        Look::Nothing | Look::NoMemory => Err(TryRecvError::Empty),
+    }
+}
+
+ends!(Receiver, WeakReceiver);
 
 impl<T> Drop for Receiver<T> {
     fn drop(&mut self) {
-        self.shared.drop_receiver(self.place);
-    }
-}
-
-/// A value that is to be received. [`Receiver::recv_async`] makes it.
-#[must_use = "it receives nothing until it is polled"]
-pub struct RecvFuture<'a, T> {
-    receiver: &'a Receiver<T>,
-    place: Option<u64>,
-}
-
-impl<T> Future for RecvFuture<'_, T> {
-    type Output = Result<T, RecvError>;
-
-    fn poll(self: Pin<&mut Self>, context: &mut Context<'_>) -> Poll<Self::Output> {
-        let this = self.get_mut();
-        let receiver = this.receiver;
-        let waker = context.waker();
-        let look = || match receiver.take() {
-            Got::Took(value) => Some(Ok(value)),
-            Got::Closed => Some(Err(RecvError)),
-            Got::Nothing => None,
-            Got::NoMemory => {
-                waker.wake_by_ref(); // (so the task is polled again)
-                None
-            }
-        };
-        receiver.shared.empty.poll(&mut this.place, waker, look)
-    }
-}
-
-impl<T> Drop for RecvFuture<'_, T> {
-    fn drop(&mut self) {
-        if let Some(place) = self.place {
-            self.receiver.shared.empty.leave(place);
-        }
+        self.shared.drop_receiver();
     }
 }
 
 written! {
     Debug [T] Receiver<T>: |_| "Receiver { .. }";
-    Debug [T] RecvFuture<'_, T>: |_| "RecvFuture { .. }";
-}
-
-/// An iterator over the values that a receiver receives. [`Receiver::iter`] makes it.
-#[must_use = "it does nothing until it is iterated over"]
-#[derive(Debug)]
-pub struct Iter<'a, T> {
-    receiver: &'a Receiver<T>,
-}
-
-/// An iterator over the values that are there. [`Receiver::try_iter`] makes it.
-#[must_use = "it does nothing until it is iterated over"]
-#[derive(Debug)]
-pub struct TryIter<'a, T> {
-    receiver: &'a Receiver<T>,
-}
-
-/// An iterator that owns a receiver, over the values that it receives. [`Receiver::into_iter`] makes it.
-#[must_use = "it does nothing until it is iterated over"]
-#[derive(Debug)]
-pub struct IntoIter<T> {
-    receiver: Receiver<T>,
-}
-
-impl<T> Iterator for Iter<'_, T> {
-    type Item = T;
-
-    fn next(&mut self) -> Option<T> {
-        self.receiver.recv().ok()
-    }
-}
-
-impl<T> Iterator for TryIter<'_, T> {
-    type Item = T;
-
-    fn next(&mut self) -> Option<T> {
-        self.receiver.try_recv().ok()
-    }
-}
-
-impl<T> Iterator for IntoIter<T> {
-    type Item = T;
-
-    fn next(&mut self) -> Option<T> {
-        self.receiver.recv().ok()
-    }
-}
-
-impl<T> FusedIterator for Iter<'_, T> {}
-impl<T> FusedIterator for IntoIter<T> {}
-
-impl<T> IntoIterator for Receiver<T> {
-    type Item = T;
-    type IntoIter = IntoIter<T>;
-
-    fn into_iter(self) -> IntoIter<T> {
-        IntoIter { receiver: self }
-    }
-}
-
-impl<'a, T> IntoIterator for &'a Receiver<T> {
-    type Item = T;
-    type IntoIter = Iter<'a, T>;
-
-    fn into_iter(self) -> Iter<'a, T> {
-        self.iter()
-    }
+    Debug [T] WeakReceiver<T>: |_| "WeakReceiver { .. }";
 }

@@ -1,180 +1,196 @@
 //! A sender.
-use super::chain::Refused;
+use super::ends::ends;
 use super::errors::{written, SendError, SendTimeoutError, TrySendError};
-use super::shared::{told, Room, Shared};
-use std::future::Future;
+use super::future::SendFuture;
+use super::shared::Shared;
+use super::store::Refused;
+use std::borrow::Cow;
 use std::panic::{RefUnwindSafe, UnwindSafe};
-use std::pin::Pin;
 use std::sync::Arc;
-use std::task::{Context, Poll};
 use std::time::{Duration, Instant};
 
 /// Sends values. A clone of it is another sender.
 ///
-/// The values of one sender are received in the order sent, one after the other. Those of two senders may overtake each
-/// other.
+/// If one send returns before another one begins, in any threads, its value is received first.
 ///
-/// **Locks of a send.** Each of the first 16 senders has a lane of its own. A send holds the lock of its lane for one put.
-/// So it waits only for another thread that shares this sender by `&`, for one of the senders beyond 16, which share lanes,
-/// or for a job that comes back. A send that begins a segment takes memory under that lock, and the first of a lane takes
-/// the lock under which the receivers find the first segment. If a receiver sleeps, or this sender has to, the send takes
-/// the lock of the list of sleepers too. With an audit it also takes that of the segment's log, which a receiver takes
-/// once a segment.
-///
-/// A clone and a drop take the lock of the list of ends.
+/// **Locks of a send.** A send holds the lock of the channel's lane for one put. So it waits for other senders, and for a job
+/// that comes back. A send that begins a segment takes memory under that lock, and the first one takes the lock under which
+/// receivers find the first segment. A send that finds no room takes the lock of each receiver's seat under it, one after
+/// the other. If a receiver sleeps, or this sender has to, the send takes the lock of the list of sleepers. In a channel of
+/// bound 0 each call takes the one lock of that channel, also those that say that they take none.
 pub struct Sender<T> {
-    shared: Arc<Shared<T>>,
-    number: u64,
-    chain: usize,
+    pub(super) shared: Arc<Shared<T>>,
+    pub(super) number: u64,
 }
 
 impl<T> Sender<T> {
     pub(super) fn new(shared: Arc<Shared<T>>) -> Sender<T> {
-        let (number, chain) = shared.add_sender();
-        Sender {
-            shared,
-            number,
-            chain,
-        }
+        let number = shared.senders.add();
+        Sender { shared, number }
     }
 
-    /// Sends a value. If the channel is full, it sleeps until there is room. [Which locks it takes](Sender).
+    /// A further one, if there is one.
+    fn join(shared: Arc<Shared<T>>) -> Option<Sender<T>> {
+        let number = shared.senders.add_to_others()?;
+        Some(Sender { shared, number })
+    }
+
+    /// Sends a value. If the channel is full, it sleeps until there is room. If the bound is 0, it sleeps until a receiver
+    /// waits for the value or takes it. [Which locks it takes](Sender).
     ///
     /// # Errors
-    /// All receivers are gone, or there is no memory for a segment. The value is in the error.
+    /// The channel is closed, all receivers are gone, or there is no memory for a segment. The value is in the error.
+    ///
+    /// ```
+    /// use hazbultra::channel::{unbounded, SendError};
+    ///
+    /// let (sender, receiver) = unbounded();
+    /// assert_eq!(sender.send(1), Ok(()));
+    /// drop(receiver);
+    /// assert_eq!(sender.send(2), Err(SendError(2)));
+    /// ```
     #[inline]
     pub fn send(&self, value: T) -> Result<(), SendError<T>> {
         self.send_until(value, None)
             .map_err(|why| SendError(why.into_inner()))
     }
 
-    /// Sends a value if there is room now. It never sleeps, but for [the locks of a send](Sender).
+    /// Sends a value if there is room now, or with bound 0 if a receiver waits. It never sleeps, but for
+    /// [the locks of a send](Sender).
     ///
     /// # Errors
-    /// The channel is full, all receivers are gone, or there is no memory for a segment. The value is in the error.
+    /// The channel is full or closed, all receivers are gone, or there is no memory for a segment. The value is in the error.
+    ///
+    /// ```
+    /// use hazbultra::channel::{bounded, TrySendError};
+    ///
+    /// let (sender, receiver) = bounded(1);
+    /// assert_eq!(sender.try_send(1), Ok(()));
+    /// assert_eq!(sender.try_send(2), Err(TrySendError::Full(2)));
+    /// drop(receiver);
+    /// assert_eq!(sender.try_send(3), Err(TrySendError::Disconnected(3)));
+    /// ```
     pub fn try_send(&self, value: T) -> Result<(), TrySendError<T>> {
-        match self.shared.reserve() {
-            Room::Free => self.put(value).map_err(|why| match why {
-                Refused::Closed(value) => TrySendError::Disconnected(value),
-                Refused::NoMemory(value) => TrySendError::Full(value),
-            }),
-            Room::Full => Err(TrySendError::Full(value)),
-            Room::Closed => Err(TrySendError::Disconnected(value)),
-        }
+        self.put(value).map_err(|why| match why {
+            Refused::Closed(value) => TrySendError::Disconnected(value),
+            Refused::Full(value) | Refused::NoMemory(value) => TrySendError::Full(value),
+        })
     }
 
-    /// Sends a value. If the channel is full, it sleeps until there is room, but not longer than this. It takes the
-    /// [locks of a send](Sender).
+    /// Does what [`send`](Sender::send) does, but sleeps no longer than this.
     ///
     /// # Errors
-    /// It was full until then, all receivers are gone, or there is no memory for a segment. The value is in the error.
+    /// Those of [`send`](Sender::send), and that it slept for so long. The value is in the error.
+    ///
+    /// ```
+    /// use hazbultra::channel::{bounded, SendTimeoutError};
+    /// use std::time::Duration;
+    ///
+    /// let (sender, _receiver) = bounded(1);
+    /// sender.send(1).unwrap();
+    /// let sent = sender.send_timeout(2, Duration::from_millis(1));
+    /// assert_eq!(sent, Err(SendTimeoutError::Timeout(2)));
+    /// ```
     pub fn send_timeout(&self, value: T, timeout: Duration) -> Result<(), SendTimeoutError<T>> {
         self.send_until(value, Instant::now().checked_add(timeout))
     }
 
-    /// Does what [`send_timeout`](Sender::send_timeout) does, but sleeps until this time at most.
+    /// Does what [`send`](Sender::send) does, but sleeps until this time at most.
     ///
     /// # Errors
     /// As [`send_timeout`](Sender::send_timeout).
+    ///
+    /// ```
+    /// use hazbultra::channel::bounded;
+    /// use std::time::{Duration, Instant};
+    ///
+    /// let (sender, _receiver) = bounded(0);
+    /// let soon = Instant::now() + Duration::from_millis(1);
+    /// let refused = sender.send_deadline("nobody comes", soon).unwrap_err();
+    /// assert_eq!(refused.into_inner(), "nobody comes");
+    /// ```
     pub fn send_deadline(&self, value: T, deadline: Instant) -> Result<(), SendTimeoutError<T>> {
         self.send_until(value, Some(deadline))
     }
 
-    /// Sends a value. If the channel is full, the task waits until there is room, and no thread sleeps. Any executor
-    /// will do. If the future is dropped before, it sends nothing. A poll takes the [locks of a send](Sender), a drop that
-    /// of the list of sleepers.
+    /// Sends a value as [`send`](Sender::send) does, but a task waits, in any executor, and no thread sleeps. If the future
+    /// is dropped before it is ready, it sends nothing. (With bound 0 a receiver may have taken the value before that.) A
+    /// poll takes the [locks of a send](Sender), a drop that of the list of sleepers.
+    ///
+    /// ```
+    /// # include!(concat!(env!("CARGO_MANIFEST_DIR"), "/tests/run/mod.rs"));
+    /// # fn main() {
+    /// let (sender, receiver) = hazbultra::channel::bounded(1);
+    /// run(async {
+    ///     sender.send_async("a letter").await.unwrap();
+    ///     assert_eq!(receiver.recv_async().await, Ok("a letter"));
+    /// });
+    /// # }
+    /// ```
     pub fn send_async(&self, value: T) -> SendFuture<'_, T> {
-        SendFuture {
-            sender: self,
-            value: Some(value),
-            place: None,
-        }
+        SendFuture::new(Cow::Borrowed(self), value)
+    }
+
+    /// Does what [`send_async`](Sender::send_async) does. The future has this sender, and drops it when it is dropped.
+    ///
+    /// ```
+    /// use std::future::Future;
+    ///
+    /// fn spawn(task: impl Future + Send + 'static) {
+    ///     // (an executor runs it)
+    /// #   drop(task);
+    /// }
+    /// let (sender, _receiver) = hazbultra::channel::unbounded();
+    /// spawn(sender.into_send_async("a letter"));
+    /// ```
+    pub fn into_send_async<'a>(self, value: T) -> SendFuture<'a, T>
+    where
+        T: 'a,
+    {
+        SendFuture::new(Cow::Owned(self), value)
     }
 
     #[inline]
     fn send_until(&self, value: T, until: Option<Instant>) -> Result<(), SendTimeoutError<T>> {
-        let room = match self.shared.reserve() {
-            Room::Full => self.wait_for_room(until),
-            room => room,
+        let sent = match self.put(value) {
+            Err(Refused::Full(value)) => self.wait(value, until),
+            sent => sent,
         };
-        match room {
-            Room::Free => self.put(value).map_err(|why| match why {
-                Refused::Closed(value) => SendTimeoutError::Disconnected(value),
-                Refused::NoMemory(value) => SendTimeoutError::Timeout(value),
-            }),
-            Room::Full => Err(SendTimeoutError::Timeout(value)),
-            Room::Closed => Err(SendTimeoutError::Disconnected(value)),
-        }
+        sent.map_err(|why| match why {
+            Refused::Closed(value) => SendTimeoutError::Disconnected(value),
+            Refused::Full(value) | Refused::NoMemory(value) => SendTimeoutError::Timeout(value),
+        })
     }
 
+    /// Waits for room, or for a receiver.
     #[cold]
-    fn wait_for_room(&self, until: Option<Instant>) -> Room {
-        let found = self.shared.full.wait(until, || self.look_for_room());
-        found.unwrap_or(Room::Full)
-    }
-
-    fn look_for_room(&self) -> Option<Room> {
-        match self.shared.reserve() {
-            Room::Full => None,
-            room => Some(room),
+    fn wait(&self, value: T, until: Option<Instant>) -> Result<(), Refused<T>> {
+        let shared = &self.shared;
+        let mut parcel = shared.parcel(value, self.number);
+        let bell = parcel.bell();
+        let list = bell.as_deref().unwrap_or(&shared.full);
+        if let Some(sent) = list.wait(until, || parcel.look(shared, self.number)) {
+            return sent;
         }
+        let back = parcel.take_back(shared);
+        back.map_or(Ok(()), |value| Err(Refused::Full(value)))
     }
 
     #[inline]
-    fn put(&self, value: T) -> Result<(), Refused<T>> {
-        self.shared.put(self.chain, value, self.number)
+    pub(super) fn put(&self, value: T) -> Result<(), Refused<T>> {
+        self.shared.put(value, self.number)
     }
 }
 
-told!(Sender);
+ends!(Sender, WeakSender);
 
 impl<T> Drop for Sender<T> {
     fn drop(&mut self) {
-        self.shared.drop_sender(self.chain);
-    }
-}
-
-/// A value that is to be sent. [`Sender::send_async`] makes it.
-#[must_use = "it sends nothing until it is polled"]
-pub struct SendFuture<'a, T> {
-    sender: &'a Sender<T>,
-    value: Option<T>,
-    place: Option<u64>,
-}
-
-impl<T> Unpin for SendFuture<'_, T> {}
-
-impl<T> Future for SendFuture<'_, T> {
-    type Output = Result<(), SendError<T>>;
-
-    /// # Panics
-    /// The future was ready at an earlier poll.
-    fn poll(self: Pin<&mut Self>, context: &mut Context<'_>) -> Poll<Self::Output> {
-        let this = self.get_mut();
-        let sender = this.sender;
-        let full = &sender.shared.full;
-        let look = || sender.look_for_room();
-        full.poll(&mut this.place, context.waker(), look)
-            .map(|room| {
-                let value = this.value.take().expect("it is polled until it is ready");
-                match room {
-                    Room::Free => sender.put(value).map_err(Refused::into_inner),
-                    _ => Err(value),
-                }
-                .map_err(SendError)
-            })
-    }
-}
-
-impl<T> Drop for SendFuture<'_, T> {
-    fn drop(&mut self) {
-        if let Some(place) = self.place {
-            self.sender.shared.full.leave(place);
-        }
+        self.shared.drop_sender();
     }
 }
 
 written! {
     Debug [T] Sender<T>: |_| "Sender { .. }";
-    Debug [T] SendFuture<'_, T>: |_| "SendFuture { .. }";
+    Debug [T] WeakSender<T>: |_| "WeakSender { .. }";
 }

@@ -1,10 +1,12 @@
 //! The wait list's system in the crate: the standard library.
 use super::wait::{Lock, System, WaitList, Word};
-use std::hint;
+use std::any::Any;
+use std::panic::{catch_unwind, resume_unwind, AssertUnwindSafe};
 use std::sync::atomic::{AtomicUsize, Ordering::SeqCst};
 use std::sync::{Mutex, MutexGuard, PoisonError};
 use std::thread::{self, Thread};
 use std::time::Instant;
+use std::{hint, mem};
 
 pub(super) type Waiters = WaitList<Std>;
 
@@ -77,5 +79,29 @@ impl<T> Lock<T> for Mutex<T> {
 
     fn hold<R>(&self, work: impl FnOnce(&mut T) -> R) -> R {
         work(&mut lock(self))
+    }
+}
+
+/// Does pieces of work that may panic, such as the drops of values, so that each is done. It keeps one panic.
+#[derive(Default)]
+pub(super) struct Panics(Option<Box<dyn Any + Send>>);
+
+impl Panics {
+    pub(super) fn contain(&mut self, work: impl FnOnce()) {
+        if let Err(why) = catch_unwind(AssertUnwindSafe(work)) {
+            mem::forget(self.0.replace(why)); // (the drop of what an earlier one said may panic, too)
+        }
+    }
+
+    pub(super) fn drop_each<T>(&mut self, values: impl IntoIterator<Item = T>) {
+        values.into_iter().for_each(|it| self.contain(|| drop(it)));
+    }
+
+    /// Goes on with the panic that it keeps, if there is one and no other is under way.
+    pub(super) fn resume(self) {
+        match self.0 {
+            Some(why) if !thread::panicking() => resume_unwind(why),
+            why => mem::forget(why),
+        }
     }
 }

@@ -112,10 +112,9 @@ impl<T> Emptier<T> {
         self.consumer.number()
     }
 
-    /// The value of the next slot that nobody else empties, and how many slots come up to it. If there is none, it is
-    /// whether none comes.
+    /// The value of the next slot that nobody else empties. If there is none, it is whether none comes.
     #[inline]
-    pub(crate) fn take(&mut self) -> Result<(T, usize), bool> {
+    pub(crate) fn take(&mut self) -> Result<T, bool> {
         let (consumer, mut taken) = (&mut self.consumer.part.handle, 0);
         // SAFETY: the rules of calls. A number is its own word.
         let code = unsafe { hz_take(consumer, 0, u64::MAX, &mut taken) };
@@ -126,7 +125,7 @@ impl<T> Emptier<T> {
         let slot = self.slots.all[taken].0.get();
         self.emptied = taken + 1;
         // SAFETY: ownership. The slot was filled before its number was put, and this emptier alone takes that, now.
-        Ok((unsafe { slot.read().assume_init() }, self.emptied))
+        Ok(unsafe { slot.read().assume_init() })
     }
 }
 

@@ -2,68 +2,45 @@
 //!
 //! One sender at a time fills it, from the first slot to the last. Each seat empties slots of it by a consumer of its own.
 //! The main theorem says that no two consumers take the same number. So one alone comes for the value of a slot.
-use super::audit::{Ledger, Logs};
-use super::system::{lock, Line};
-use super::SEATS;
+use super::{Look, SEATS};
+use crate::channel::audit::{Ledger, Logs};
+use crate::channel::system::{lock, Panics};
 use crate::ffi::{Emptier, Filler, Slots};
-use std::panic::{catch_unwind, resume_unwind, AssertUnwindSafe};
-use std::sync::atomic::Ordering::{Acquire, Release, SeqCst};
-use std::sync::atomic::{AtomicBool, AtomicU64};
+use std::sync::atomic::{AtomicBool, Ordering::SeqCst};
 use std::sync::{Arc, Mutex, OnceLock};
-use std::thread;
-
-/// The result of a look at a segment, or at a chain of them.
-pub(super) enum Look<T> {
-    Took(T),
-    /// Nothing further is there, so far.
-    Nothing,
-    /// All slots are taken, so the next segment is to be looked at.
-    Over,
-    NoMemory,
-}
 
 pub(super) struct Segment<T> {
-    /// How many values were sent on its chain before.
-    first: u64,
     /// (there until the drop)
     slots: Option<Arc<Slots<T>>>,
     /// Whether all slots are known to be taken. A seat that has no emptier here makes none after that.
     is_over: AtomicBool,
     next: OnceLock<Arc<Segment<T>>>,
-    /// So many slots, counted from the first, are known to be taken. It may lag behind. Who reads it need not go past them,
-    /// only to find nothing.
-    taken: Line<AtomicU64>,
     audit: Option<(Arc<Ledger<T>>, Mutex<Logs>)>,
 }
 
-/// Where a sender stands in a segment. It has one free slot at least.
+/// Where the senders stand in a segment. It has one free slot at least.
 pub(super) struct Writer<T> {
     filler: Filler<T>,
     cells: usize,
-    /// Before this slot nothing is to be noted, and there is a further one.
-    usual: usize,
+    /// Who sent what, if that is asked for.
+    log: Option<Vec<u64>>,
     segment: Arc<Segment<T>>,
 }
 
 /// Where a seat stands on a chain.
 pub(super) struct Place<T> {
     /// It is made as late as at the first look, and returns when the segment is over.
-    emptier: Option<(Emptier<T>, Arc<Segment<T>>)>,
-    /// It is `None` before the first value of the chain.
+    emptier: Option<Emptier<T>>,
+    /// It is `None` before the first value.
     segment: Option<Arc<Segment<T>>>,
     /// Who took what, if that is asked for.
-    log: Vec<u64>,
+    log: Option<Vec<u64>>,
 }
 
 impl<T> Segment<T> {
     /// Whether all slots are known to be taken.
     pub(super) fn is_over(&self) -> bool {
         self.is_over.load(SeqCst)
-    }
-
-    /// Whether all values are known to be taken that were sent on the chain before these.
-    pub(super) fn has_only_taken(&self, sent: u64) -> bool {
-        sent <= self.first + self.taken.0.load(Acquire)
     }
 
     pub(super) fn next(&self) -> Option<&Arc<Segment<T>>> {
@@ -75,28 +52,27 @@ impl<T> Segment<T> {
         let is_first = self.next.set(next).is_ok();
         debug_assert!(is_first);
     }
+
+    /// A log, if one is asked for.
+    fn log(&self) -> Option<Vec<u64>> {
+        self.audit.as_ref().map(|_| Vec::new())
+    }
 }
 
 impl<T> Writer<T> {
     /// A new segment, and its writer. It is `None` if there is not enough memory.
-    pub(super) fn new(
-        first: u64,
-        cells: usize,
-        audit: Option<Arc<Ledger<T>>>,
-    ) -> Option<Writer<T>> {
+    pub(super) fn new(cells: usize, audit: Option<Arc<Ledger<T>>>) -> Option<Writer<T>> {
         let filler = Slots::filler(cells, SEATS)?;
         let segment = Arc::new(Segment {
-            first,
             slots: Some(Arc::clone(filler.slots())),
             is_over: AtomicBool::new(false),
             next: OnceLock::new(),
-            taken: Line(AtomicU64::new(0)),
             audit: audit.map(|ledger| (ledger, Mutex::default())),
         });
         Some(Writer {
             filler,
             cells,
-            usual: if segment.audit.is_some() { 0 } else { cells },
+            log: segment.log(),
             segment,
         })
     }
@@ -108,33 +84,33 @@ impl<T> Writer<T> {
     /// Puts a value, and returns whether there is a further slot.
     #[inline]
     pub(super) fn put(&mut self, value: T, who: u64) -> bool {
-        let filled = self.filler.fill(value);
-        filled < self.usual || self.note(filled, who)
-    }
-
-    /// Notes who sent the last value, if that is asked for. Returns whether there is a further slot.
-    #[cold]
-    fn note(&self, filled: usize, who: u64) -> bool {
-        if let Some((_, logs)) = &self.segment.audit {
-            lock(logs).senders.push(who);
+        if let Some(log) = &mut self.log {
+            log.push(who);
         }
-        filled < self.cells
+        self.filler.fill(value) < self.cells
     }
 
     /// Ends the segment's lane, and leaves it.
     pub(super) fn end(self) -> Arc<Segment<T>> {
         drop(self.filler);
+        if let (Some((_, logs)), Some(log)) = (&self.segment.audit, self.log) {
+            lock(logs).senders = log;
+        }
         self.segment
     }
 }
 
-impl<T> Place<T> {
-    pub(super) const NOWHERE: Place<T> = Place {
-        emptier: None,
-        segment: None,
-        log: Vec::new(),
-    };
+impl<T> Default for Place<T> {
+    fn default() -> Self {
+        Place {
+            emptier: None,
+            segment: None,
+            log: None,
+        }
+    }
+}
 
+impl<T> Place<T> {
     pub(super) fn segment(&self) -> Option<&Arc<Segment<T>>> {
         self.segment.as_ref()
     }
@@ -150,55 +126,50 @@ impl<T> Place<T> {
         self.segment.as_ref().is_some_and(|it| it.is_over())
     }
 
-    /// Takes the next value, if it has an emptier.
+    /// Takes the next value. Without an emptier it is over here.
     #[inline]
     pub(super) fn take(&mut self, who: u64) -> Look<T> {
-        let Some((emptier, segment)) = &mut self.emptier else {
-            return Look::Nothing;
+        let Some(emptier) = &mut self.emptier else {
+            return Look::Over;
         };
-        let (value, taken) = match emptier.take() {
-            Ok(found) => found,
-            Err(is_over) if is_over => return Look::Over,
-            Err(_) => return Look::Nothing,
-        };
-        // Those before it were decided before it.
-        segment.taken.0.store(taken as u64, Release);
-        if segment.audit.is_some() {
-            self.log.push(who);
+        match emptier.take() {
+            Ok(value) => {
+                if let Some(log) = &mut self.log {
+                    log.push(who);
+                }
+                Look::Took(value)
+            }
+            Err(true) => Look::Over,
+            Err(false) => Look::Nothing,
         }
-        Look::Took(value)
     }
 
-    /// The same also for one that has no emptier yet. If it finds the segment over, as the first of all, it sets `is_end`.
-    pub(super) fn begin_and_take(&mut self, is_end: &mut bool, who: u64) -> Look<T> {
-        let Some(segment) = &self.segment else {
-            return Look::Nothing;
-        };
-        if segment.is_over() {
-            self.go_home();
-            return Look::Over;
-        }
-        if self.emptier.is_none() {
-            let emptier = segment.slots.as_ref().and_then(Slots::emptier);
-            self.emptier = emptier.map(|it| (it, Arc::clone(segment)));
+    /// Takes the next value of the segment in which it stands, which is not known to be over.
+    pub(super) fn begin_and_take(&mut self, who: u64) -> Look<T> {
+        if let (None, Some(segment)) = (&self.emptier, &self.segment) {
+            self.emptier = segment.slots.as_ref().and_then(Slots::emptier);
+            self.log = segment.log();
             if self.emptier.is_none() {
                 return Look::NoMemory;
             }
         }
-        let look = self.take(who);
-        if let (Look::Over, Some(segment)) = (&look, &self.segment) {
-            *is_end |= !segment.is_over.swap(true, SeqCst);
-            self.go_home();
-        }
-        look
+        self.take(who)
+    }
+
+    /// Says that the segment in which it stands is over. Returns whether it is the first to say so.
+    pub(super) fn end(&mut self) -> bool {
+        self.go_home();
+        let segment = self.segment.as_ref();
+        segment.is_some_and(|it| !it.is_over.swap(true, SeqCst))
     }
 
     fn go_home(&mut self) {
-        if let Some((emptier, segment)) = self.emptier.take() {
-            if let Some((_, logs)) = &segment.audit {
-                let log = std::mem::take(&mut self.log);
-                lock(logs).takers.push((emptier.number(), log));
-            }
+        let Some(emptier) = self.emptier.take() else {
+            return;
+        };
+        let audit = self.segment.as_ref().and_then(|it| it.audit.as_ref());
+        if let (Some((_, logs)), Some(log)) = (audit, self.log.take()) {
+            lock(logs).takers.push((emptier.number(), log));
         }
     }
 }
@@ -213,7 +184,7 @@ impl<T> Drop for Place<T> {
 /// a call. If the drop of a value panics, the other values are dropped too.
 impl<T> Drop for Segment<T> {
     fn drop(&mut self) {
-        let mut panic = None;
+        let mut panics = Panics::default();
         // (nobody stands in it any more)
         if let Some(slots) = self.slots.take().and_then(Arc::into_inner) {
             let (left, mailbox) = slots.into_parts();
@@ -223,22 +194,16 @@ impl<T> Drop for Segment<T> {
                     // (not by `collect`, which would keep the memory of all slots)
                     let mut kept = Vec::new();
                     kept.extend(left);
-                    ledger.close(mailbox, &logs, kept);
+                    panics.contain(|| ledger.close(mailbox, &logs, kept));
                 }
-                None => left.for_each(|value| {
-                    if let Err(why) = catch_unwind(AssertUnwindSafe(|| drop(value))) {
-                        // (the drop of what an earlier one said may panic, too)
-                        std::mem::forget(panic.replace(why));
-                    }
-                }),
+                None => panics.drop_each(left),
             }
         }
         let mut next = self.next.take();
         while let Some(mut segment) = next.and_then(Arc::into_inner) {
             next = segment.next.take();
+            panics.contain(|| drop(segment));
         }
-        if let Some(why) = panic.filter(|_| !thread::panicking()) {
-            resume_unwind(why);
-        }
+        panics.resume();
     }
 }

@@ -1,0 +1,252 @@
+//! A chain of segments, each of which is begun after the one before it was full. All senders put into the last one, one at a
+//! time. So all values have one order, and each is taken after those before it.
+//!
+//! **A receiver finds nothing only at a moment at which nothing is there.** The mailbox finds nothing at its last load: all
+//! that was put before has a taker then. If a segment is over and has none after it, that moment is the load of the next one. If
+//! no more values were put than taken, it is the load of how many were put, since the other number was loaded before.
+use super::segment::{Place, Segment, Writer};
+use super::{Look, Plan, Refused, State, SEATS};
+use crate::channel::audit::GIVEN_BACK;
+use crate::channel::system::{lock, Line};
+use std::mem;
+use std::sync::atomic::AtomicU64;
+use std::sync::atomic::Ordering::{Relaxed, SeqCst};
+use std::sync::{Arc, Mutex, MutexGuard, TryLockError};
+
+pub(crate) struct Chain<T> {
+    plan: Plan<T>,
+    lane: Mutex<Lane<T>>,
+    /// How many values were put. It is stored after the value can be taken, and before its put returns. (It stands apart,
+    /// since receivers read it again and again.)
+    put: Line<AtomicU64>,
+    /// How many values were taken. A take counts before its seat's lock is free.
+    taken: Line<AtomicU64>,
+    /// A segment before which all values are taken, if one was begun. A seat that stands in none comes in here.
+    head: Mutex<Option<Arc<Segment<T>>>>,
+    seats: Mutex<Vec<Arc<Seat<T>>>>,
+}
+
+/// Where the next value goes.
+struct Lane<T> {
+    writer: Option<Writer<T>>,
+    /// The last segment, if it is full.
+    full: Option<Arc<Segment<T>>>,
+    state: State,
+}
+
+/// A seat, from which a receiver takes: it has a place in one segment, with a consumer of its own. (It is on lines of memory
+/// of its own, as a [`Line`].)
+#[repr(align(128))]
+pub(crate) struct Seat<T>(Mutex<Place<T>>);
+
+impl<T> Default for Seat<T> {
+    fn default() -> Self {
+        Seat(Mutex::default())
+    }
+}
+
+impl<T> Seat<T> {
+    /// Leaves its segment, if that is over, so that this seat does not pin it. It only tries the lock: a seat that is in
+    /// use moves on by itself. Whoever calls it drops what it returns, under no lock.
+    fn tidy(&self) -> Option<Place<T>> {
+        let mut place = match self.0.try_lock() {
+            Ok(place) => place,
+            Err(TryLockError::Poisoned(place)) => place.into_inner(),
+            Err(TryLockError::WouldBlock) => return None,
+        };
+        place.is_over().then(|| mem::take(&mut *place))
+    }
+}
+
+impl<T> Chain<T> {
+    pub(crate) fn new(plan: Plan<T>) -> Chain<T> {
+        Chain {
+            plan,
+            lane: Mutex::new(Lane {
+                writer: None,
+                full: None,
+                state: State::Open,
+            }),
+            put: Line(AtomicU64::new(0)),
+            taken: Line(AtomicU64::new(0)),
+            head: Mutex::new(None),
+            seats: Mutex::new(Vec::new()),
+        }
+    }
+
+    pub(crate) fn bound(&self) -> Option<usize> {
+        self.plan.bound
+    }
+
+    pub(crate) fn len(&self) -> usize {
+        loop {
+            let (taken, put) = (self.taken.0.load(SeqCst), self.put.0.load(SeqCst));
+            if self.taken.0.load(SeqCst) == taken {
+                return usize::try_from(put.saturating_sub(taken)).unwrap_or(usize::MAX);
+            }
+        }
+    }
+
+    /// Puts a value at the end, under the lane's lock.
+    #[inline]
+    pub(crate) fn put(&self, value: T, who: u64) -> Result<(), Refused<T>> {
+        let mut lane = lock(&self.lane);
+        let put = self.put.0.load(Relaxed);
+        if !lane.state.admits(who) {
+            return Err(Refused::Closed(value));
+        }
+        if who != GIVEN_BACK && self.is_full(put) {
+            return Err(Refused::Full(value));
+        }
+        let Some(writer) = &mut lane.writer else {
+            return self.begin_and_put(lane, value, who);
+        };
+        if !writer.put(value, who) {
+            lane.end();
+        }
+        self.put.0.store(put + 1, SeqCst);
+        Ok(())
+    }
+
+    /// The same if the next segment has to be begun first.
+    #[cold]
+    fn begin_and_put(
+        &self,
+        mut lane: MutexGuard<'_, Lane<T>>,
+        value: T,
+        who: u64,
+    ) -> Result<(), Refused<T>> {
+        let cells = self.plan.cells_after(self.put.0.load(Relaxed));
+        let Some(writer) = Writer::new(cells, self.plan.audit.clone()) else {
+            return Err(Refused::NoMemory(value));
+        };
+        let segment = Arc::clone(writer.segment());
+        match lane.full.take() {
+            Some(full) => full.follow_with(segment),
+            None => *lock(&self.head) = Some(segment),
+        }
+        lane.writer = Some(writer);
+        drop(lane);
+        self.put(value, who)
+    }
+
+    /// Whether so many values, of which the last was just put, leave no room. The lane is locked.
+    #[inline]
+    fn is_full(&self, put: u64) -> bool {
+        let Some(bound) = self.plan.bound else {
+            return false;
+        };
+        let is_full = || put - self.taken.0.load(SeqCst) >= bound as u64;
+        // (a take that is under way, at a seat that is locked, may have made room)
+        is_full() && {
+            self.each_seat(|it| drop(lock(&it.0)));
+            is_full()
+        }
+    }
+
+    #[inline]
+    pub(crate) fn take(&self, seat: &Seat<T>, who: u64) -> Look<T> {
+        let mut place = lock(&seat.0);
+        let look = match place.take(who) {
+            Look::Over => return self.go_on(place, who),
+            look => look,
+        };
+        if let Look::Took(_) = look {
+            self.taken.0.fetch_add(1, SeqCst);
+        }
+        look
+    }
+
+    /// The same for a seat that stands in no segment so far, or in one that is over.
+    #[cold]
+    fn go_on(&self, mut place: MutexGuard<'_, Place<T>>, who: u64) -> Look<T> {
+        let mut is_first = false;
+        let look = loop {
+            let taken = self.taken.0.load(SeqCst);
+            if self.put.0.load(SeqCst) <= taken {
+                break Look::Nothing;
+            }
+            let next = match place.segment() {
+                None => lock(&self.head).clone(),
+                Some(segment) if segment.is_over() => segment.next().cloned(),
+                Some(_) => match place.begin_and_take(who) {
+                    Look::Over => {
+                        is_first |= place.end();
+                        continue;
+                    }
+                    look => break look,
+                },
+            };
+            let Some(next) = next else {
+                break Look::Nothing;
+            };
+            let over = place.enter(Arc::clone(&next));
+            self.pass(over, next);
+        };
+        if let Look::Took(_) = look {
+            self.taken.0.fetch_add(1, SeqCst);
+        }
+        drop(place);
+        if is_first {
+            self.each_seat(|it| drop(it.tidy()));
+        }
+        look
+    }
+
+    /// Moves the head past a segment that is over.
+    fn pass(&self, over: Option<Arc<Segment<T>>>, next: Arc<Segment<T>>) {
+        let mut head = lock(&self.head);
+        let is_head =
+            over.is_some() && head.as_ref().map(Arc::as_ptr) == over.as_ref().map(Arc::as_ptr);
+        let old = is_head.then(|| head.replace(next));
+        drop(head);
+        drop((old, over));
+    }
+
+    /// A seat for a further receiver: a free one, or else the one that the fewest share.
+    pub(crate) fn seat(&self) -> Arc<Seat<T>> {
+        let mut seats = lock(&self.seats);
+        if let Some(seat) = seats.iter().min_by_key(|it| Arc::strong_count(it)) {
+            if Arc::strong_count(seat) == 1 || seats.len() == SEATS {
+                return Arc::clone(seat);
+            }
+        }
+        let seat = Arc::<Seat<T>>::default();
+        seats.push(Arc::clone(&seat));
+        seat
+    }
+
+    /// (It does nothing under the lock of the list of seats.)
+    fn each_seat(&self, mut work: impl FnMut(&Seat<T>)) {
+        let seat = |number: usize| lock(&self.seats).get(number).cloned();
+        (0..).map_while(seat).for_each(|it| work(&it));
+    }
+
+    pub(crate) fn close(&self) -> bool {
+        lock(&self.lane).state.close()
+    }
+
+    pub(crate) fn end(&self) {
+        let (full, written) = {
+            let mut lane = lock(&self.lane);
+            lane.state = State::Left;
+            (lane.full.take(), lane.writer.take().map(Writer::end))
+        };
+        let head = lock(&self.head).take();
+        self.each_seat(|it| {
+            let place = mem::take(&mut *lock(&it.0));
+            drop(place);
+        });
+        // (last, and under no lock: all values that are left are in it, and may have ends of this channel)
+        drop((full, written, head));
+    }
+}
+
+impl<T> Lane<T> {
+    /// Ends the segment, which is full. The lane ends before there is a next segment. So whoever looks for that one sees
+    /// this end.
+    #[cold]
+    fn end(&mut self) {
+        self.full = self.writer.take().map(Writer::end);
+    }
+}
