@@ -1,13 +1,13 @@
 #!/usr/bin/env python3
 """Runs programs that use crossbeam-channel over this crate's channel: their own tests, and scenes in which no value may be lost.
 
-They come from Debian's packages. `[patch.crates-io]` puts a crate of one line in the place of crossbeam-channel.
+    clients.py           the clients whose packages are installed
+    clients.py FOLDER    larger ones too. It unpacks their packages into FOLDER, and installs none
 
-  clients.py           the clients whose packages are installed
-  clients.py FOLDER    also larger ones, whose packages it unpacks into FOLDER, and installs none
-
-The last line is `N passed, N failed`.
+The sources come from Debian's packages. `[patch.crates-io]` puts a crate of one line in the place of crossbeam-channel. A test is
+left out if it needs what Debian does not have, or in the short form if it sleeps for long. The last line is `N passed, N failed`.
 """
+import concurrent.futures
 import dataclasses
 import glob
 import os
@@ -19,34 +19,41 @@ import tempfile
 
 from crossbeam import CRATE, REGISTRY, write
 
-SHIM = "pub use hazbultra::channel::*;\n"
-MPSC = {"channel": "unbounded", "sync_channel": "bounded"}
+TIME = 600  # (seconds, after which a client's tests are taken to sleep for ever)
+MAIN = '[package]\nname = "{name}"\nversion = "{version}"\nedition = "2021"\n[dependencies]\n'
+# (threadpool uses the channel of std)
+POOL = [
+    ("src/lib.rs", r"std::sync::mpsc::\{channel, Receiver", "crossbeam_channel::{unbounded as channel, Receiver"),
+    ("src/lib.rs", r"std::sync::mpsc::\{channel, sync_channel", "crossbeam_channel::{unbounded as channel, bounded as sync_channel"),
+    ("src/lib.rs", r"std::sync::mpsc::TryRecvError", "crossbeam_channel::TryRecvError"),
+    ("Cargo.toml", r"(\[dependencies.num_cpus\])", r'[dependencies.crossbeam-channel]\nversion = "0.5"\n\1'),
+]
 
 
 @dataclasses.dataclass
 class Client:
-    """A program. It is `large` if CI does not install its packages."""
+    """A program: its name, edits of its files by patterns, and names of tests that are left out."""
 
     name: str
-    edits: tuple = ()
-    large: bool = False
-    words: tuple = ("--lib", "--tests")
-    package: str = ""
+    edits: list = dataclasses.field(default_factory=list)
+    left_out: str = ""
+    is_large: bool = False
 
-    def debian(self):
-        return self.package or f"librust-{self.name.replace('_', '-')}-dev"
+    def package(self):
+        return f"librust-{self.name.replace('_', '-')}-dev"
 
 
-# (threadpool uses the channel of std, so another has to be put into its text)
-THREADPOOL = (
-    ("src/lib.rs", "use std::sync::mpsc::{channel, Receiver, Sender};", "use crossbeam_channel::{unbounded as channel, Receiver, Sender};"),
-    ("src/lib.rs", "use std::sync::mpsc::{channel, sync_channel};", "use crossbeam_channel::{unbounded as channel, bounded as sync_channel};"),
-    ("src/lib.rs", "use std::sync::mpsc::TryRecvError", "use crossbeam_channel::TryRecvError"),
-    ("Cargo.toml", "[dependencies.num_cpus]", '[dependencies.crossbeam-channel]\nversion = "0.5"\n\n[dependencies.num_cpus]'),
-)
+def without(kind, *names):
+    """Edits of Cargo.toml that take away dependencies that Debian does not have, or has in another version."""
+    return [("Cargo.toml", rf"\[{kind}\.{name}\]\n(?:.+\n)+", "") for name in names]
+
+
 CLIENTS = [
     Client("slog-async"),
-    Client("rusty_pool"),
+    Client("rusty_pool", left_out="tests::test_full_usage tests::test_join_enqueued_task tests::it_works"),
     Client("rayon-core"),
-    Client("threadpool", THREADPOOL),
+    Client("threadpool", POOL),
+    Client("ignore", is_large=True),
+    Client("notify", without("dev-dependencies", "nix"), is_large=True),
+    Client("cursive_core", is_large=True),
 ]

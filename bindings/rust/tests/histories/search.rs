@@ -65,18 +65,28 @@ impl Queue {
         true
     }
 
-    /// Whether a channel of no capacity may hand a value from this send to this receive.
-    fn may_meet(&self, send: &Event, receive: &Event) -> bool {
+    /// The queue after a channel of no capacity has handed the value of this send over in this receive.
+    fn after_meeting(&self, send: &Event, receive: &Event) -> Option<Queue> {
         let (Call::Send { how, value, .. }, Call::Receive { how: other, .. }) =
             (send.call, receive.call)
         else {
-            return false;
+            return None;
         };
-        let is_met = send.answer == Answer::Done && receive.answer == Answer::Took(value);
-        let waits = |how| matches!(how, How::Wait | How::Timed);
-        is_met && (waits(how) || waits(other)) && !self.refuses()
+        let mut next = self.clone();
+        // (a future that is dropped may have given its value, or may leave it for the next receiver)
+        let gives = send.answer == Answer::Done || (how, send.answer) == DROPPED;
+        let is_left = (other, receive.answer) == DROPPED;
+        if is_left {
+            next.values.push_back(value);
+        }
+        let takes = is_left || (receive.answer == Answer::Took(value) && self.values.is_empty());
+        let one_waits = how != How::Now || other != How::Now;
+        (gives && takes && one_waits && !self.refuses()).then_some(next)
     }
 }
+
+/// A future that was not ready, and was dropped.
+const DROPPED: (How, Answer) = (How::Polled, Answer::NotNow);
 
 /// Searches the orders that go on with the calls that are not in `done`.
 struct Search<'a> {
@@ -110,8 +120,8 @@ impl Search<'_> {
             .iter()
             .flat_map(|one| next.iter().map(move |two| (*one, *two)));
         pairs.into_iter().any(|(one, two)| {
-            queue.may_meet(&self.events[one], &self.events[two])
-                && self.succeeds(done | 1 << one | 1 << two, queue)
+            let after = queue.after_meeting(&self.events[one], &self.events[two]);
+            after.is_some_and(|queue| self.succeeds(done | 1 << one | 1 << two, &queue))
         })
     }
 }
