@@ -1,12 +1,13 @@
 //! Tests of the channel, which is not proved. Most have small segments, so that values go through many.
+mod run;
+
 use hazbultra::channel::{bounded, unbounded, Builder, Receiver, Sender};
 use hazbultra::channel::{RecvError, RecvTimeoutError, SendError, TryRecvError, TrySendError};
+use run::{poll, run, Flag};
 use std::collections::BTreeMap;
-use std::future::Future;
-use std::pin::pin;
 use std::sync::atomic::{AtomicUsize, Ordering::SeqCst};
 use std::sync::{Arc, Barrier};
-use std::task::{Context, Poll, Wake, Waker};
+use std::task::Wake;
 use std::thread;
 use std::time::{Duration, Instant};
 
@@ -204,33 +205,6 @@ fn ten_million_values_that_wait_are_dropped() {
     assert_eq!(sender.send(1), Err(SendError(1)));
 }
 
-/// Runs a future to its end in this thread.
-fn run<F: Future>(future: F) -> F::Output {
-    struct Unpark(thread::Thread);
-    impl Wake for Unpark {
-        fn wake(self: Arc<Self>) {
-            self.0.unpark();
-        }
-    }
-    let waker = Waker::from(Arc::new(Unpark(thread::current())));
-    let mut future = pin!(future);
-    loop {
-        match future.as_mut().poll(&mut Context::from_waker(&waker)) {
-            Poll::Ready(result) => return result,
-            Poll::Pending => thread::park(),
-        }
-    }
-}
-
-/// Polls a future once. Its waker does nothing, so nobody polls it again.
-fn poll_once<F: Future + Unpin>(future: &mut F) -> Poll<F::Output> {
-    struct Deaf;
-    impl Wake for Deaf {
-        fn wake(self: Arc<Self>) {}
-    }
-    pin!(future).poll(&mut Context::from_waker(&Waker::from(Arc::new(Deaf))))
-}
-
 #[test]
 fn tasks_send_and_receive() {
     let (sender, receiver) = Builder::new().bound(2).cells(3).build();
@@ -250,7 +224,7 @@ fn a_future_that_is_dropped_passes_its_wake_up_on() {
     let (sender, receiver) = small();
     let other = receiver.clone();
     let mut first = receiver.recv_async();
-    assert!(poll_once(&mut first).is_pending());
+    assert!(poll(&mut first, &Arc::<Flag>::default()).is_pending());
     let sleeper = thread::spawn(move || other.recv_timeout(LONG));
     thread::sleep(SHORT * 5);
     sender.send(1).unwrap(); // (it wakes the first future, whose drop wakes the sleeper)
@@ -262,7 +236,7 @@ fn a_future_that_is_dropped_passes_its_wake_up_on() {
 fn a_future_that_is_dropped_leaves_the_list() {
     let (sender, receiver) = small();
     let mut first = receiver.recv_async();
-    assert!(poll_once(&mut first).is_pending());
+    assert!(poll(&mut first, &Arc::<Flag>::default()).is_pending());
     drop(first);
     let sleeper = thread::spawn(move || receiver.recv_timeout(LONG));
     thread::sleep(SHORT * 5);
@@ -280,10 +254,7 @@ fn a_waker_that_panics_is_passed_over() {
     }
     let (sender, receiver) = small();
     let mut first = receiver.recv_async();
-    let waker = Waker::from(Arc::new(Panicking));
-    assert!(pin!(&mut first)
-        .poll(&mut Context::from_waker(&waker))
-        .is_pending());
+    assert!(poll(&mut first, &Arc::new(Panicking)).is_pending());
     let other = receiver.clone();
     let sleeper = thread::spawn(move || other.recv_timeout(LONG));
     thread::sleep(SHORT * 5);
@@ -296,7 +267,7 @@ fn a_send_that_is_dropped_sends_nothing() {
     let (sender, receiver) = bounded(1);
     sender.send(1).unwrap();
     let mut future = sender.send_async(2);
-    assert!(poll_once(&mut future).is_pending());
+    assert!(poll(&mut future, &Arc::<Flag>::default()).is_pending());
     drop(future);
     drop(sender);
     assert!(receiver.iter().eq([1]));
