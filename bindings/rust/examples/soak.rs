@@ -231,9 +231,10 @@ fn check_passages([mut sends, mut receives]: [Vec<Passage>; 2]) {
 
 /// One channel, from its making to its end. Returns how many values went through.
 fn round(number: u64, share: u64) -> u64 {
-    let bound = [None, Some(10), Some(0), None, Some(1)][usize::try_from(number % 5).unwrap_or(0)];
-    // (with very small segments, or without room, the channel is slow)
-    let is_slow = number % 4 < 2 || bound.is_some_and(|it| it < 2);
+    let bounds = [None, Some(10), None, Some(0), None, Some(1), None];
+    let bound = bounds[usize::try_from(number % 7).unwrap_or(0)];
+    // (with very small segments, or little room, the channel is slow)
+    let is_slow = number % 4 < 2 || bound.is_some();
     let share = if is_slow { share / 50 } else { share };
     let mut builder = Builder::new();
     if let Some(cells) = [1, 3, 64].get(usize::try_from(number % 4).unwrap_or(0)) {
