@@ -23,7 +23,7 @@ SOURCES = tuple(".rt .antt .rs .c .h .py .sh .toml .txt .in HANDLES mailbox scri
 # Words of the world outside: commands, the libraries below, placeholders of formats.
 OUTSIDE = set("""a b i k l m n o p q s u v w x y rt ci cd cp rm try start holes plant fmt doc version grep rnE rn usr bin time sh
 git clone main fn use mod forever earlier widths stdin stdout stderr SeedableRng seed_from_u64 crossbeam_queue SegQueue mpsc
-mb_NAME""".split())
+mb_NAME sync_channel SyncSender Selector SendFut RecvFut into_stream send_blocking recv_blocking force_send""".split())
 
 
 def read(path):

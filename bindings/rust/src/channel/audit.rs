@@ -122,10 +122,8 @@ fn drop_left<T>(accounts: impl IntoIterator<Item = Account<T>>) {
 
 impl<T> Ledger<T> {
     /// Counts a value that went from hand to hand.
-    pub(super) fn count(&self, sender: u64, receiver: u64) {
-        lock(&self.book)
-            .totals
-            .add(Fate::new(sender, Some(receiver)));
+    pub(super) fn count(&self, sender: u64, receiver: Option<u64>) {
+        lock(&self.book).totals.add(Fate::new(sender, receiver));
     }
 
     /// Makes the account of a mailbox to which all producers and consumers were returned.

@@ -94,6 +94,8 @@ impl<T> Meeting<T> {
         let mut table = lock(&self.table);
         let (value, from, bell) = if let Some((value, from)) = table.left.pop_front() {
             (value, from, None)
+        } else if table.state != State::Open {
+            return Look::Nothing; // (the senders take back what they offer)
         } else if let Some((_, (value, from, bell))) = table.offers.pop_first() {
             (value, from, Some(bell))
         } else {
@@ -105,7 +107,7 @@ impl<T> Meeting<T> {
             bell.wake_one();
         }
         if let Some(audit) = &self.audit {
-            audit.count(from, who);
+            audit.count(from, Some(who));
         }
         Look::Took(value)
     }
@@ -147,7 +149,12 @@ impl<T> Meeting<T> {
         let left = mem::take(&mut table.left);
         drop(table);
         let mut panics = Panics::default();
-        panics.drop_each(left);
+        panics.drop_each(left.into_iter().map(|(value, from)| {
+            if let Some(audit) = &self.audit {
+                audit.count(from, None);
+            }
+            value
+        }));
         panics.resume();
     }
 }
