@@ -60,11 +60,15 @@ impl Passage {
 struct Dice(u64);
 
 impl Dice {
-    fn one_of(&mut self, sides: u64) -> bool {
+    fn under(&mut self, sides: u64) -> u64 {
         self.0 ^= self.0 << 13;
         self.0 ^= self.0 >> 7;
         self.0 ^= self.0 << 17;
-        self.0 % sides == 0
+        self.0 % sides
+    }
+
+    fn one_of(&mut self, sides: u64) -> bool {
+        self.under(sides) == 0
     }
 }
 
@@ -103,20 +107,17 @@ fn poll_and_drop<F: Future + Unpin>(mut future: F) -> Option<F::Output> {
 fn try_one_way(sender: &Sender<Value>, value: Value, dice: &mut Dice) -> bool {
     // (with bound 0 a future that is dropped may have given its value)
     let may_drop = sender.capacity() != Some(0);
-    let sent = if may_drop && dice.one_of(20) {
-        poll_and_drop(sender.send_async(value)).map(|it| it.is_ok())
-    } else if dice.one_of(20) {
-        Some(run(sender.send_async(value)).is_ok())
-    } else if dice.one_of(20) {
-        match sender.try_send(value) {
+    let sent = match dice.under(20) {
+        0 if may_drop => poll_and_drop(sender.send_async(value)).map(|it| it.is_ok()),
+        1 => Some(run(sender.send_async(value)).is_ok()),
+        2 => match sender.try_send(value) {
             Err(TrySendError::Full(_)) => None,
             sent => Some(sent.is_ok()),
-        }
-    } else {
-        match sender.send_timeout(value, Duration::from_micros(50)) {
+        },
+        _ => match sender.send_timeout(value, Duration::from_micros(50)) {
             Err(SendTimeoutError::Timeout(_)) => None,
             sent => Some(sent.is_ok()),
-        }
+        },
     };
     assert_ne!(sent, Some(false), "the receivers are there");
     sent.is_some()
@@ -160,13 +161,12 @@ fn panic_over_one(receiver: &Receiver<Value>) -> bool {
 
 /// Receives a value in one of several ways. It is `None` if there was none in time.
 fn receive_one(receiver: &Receiver<Value>, dice: &mut Dice) -> Option<Result<Value, RecvError>> {
-    if dice.one_of(20) {
-        return poll_and_drop(receiver.recv_async());
-    }
-    if dice.one_of(20) {
-        return Some(run(receiver.recv_async()));
-    }
-    let micros = if dice.one_of(3) { 20 } else { 60_000_000 };
+    let micros = match dice.under(20) {
+        0 => return poll_and_drop(receiver.recv_async()),
+        1 => return Some(run(receiver.recv_async())),
+        2..=8 => 20,
+        _ => 60_000_000,
+    };
     match receiver.recv_timeout(Duration::from_micros(micros)) {
         Ok(value) => Some(Ok(value)),
         Err(RecvTimeoutError::Disconnected) => Some(Err(RecvError)),

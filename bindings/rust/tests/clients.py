@@ -22,7 +22,7 @@ from crossbeam import CRATE, REGISTRY, write
 SHIM = "pub use hazbultra::channel::*;\n"
 CARGO = ["cargo", "test", "--offline", "--quiet", "--lib", "--bins", "--tests"]
 TIME = 600  # (seconds, after which a client's tests are taken to sleep for ever)
-THREADS = 32  # (many tests only sleep)
+THREADS = "32"  # (many tests only sleep)
 MAIN = '[package]\nname = "{name}"\nversion = "{version}"\nedition = "2021"\n[dependencies]\n'
 # (threadpool uses the channel of std)
 POOL = [
@@ -108,15 +108,15 @@ def join(room, names):
     members = ", ".join(f'"{it}"' for it in [*names.values(), "scenes"])
     patches = "".join(f'{name} = {{ path = "{folder}" }}\n' for name, folder in {**names, "crossbeam-channel": "shim"}.items())
     write(f"{room}/Cargo.toml", f"[workspace]\nmembers = [{members}]\n[patch.crates-io]\n{patches}")
-    subprocess.run([*CARGO, "--workspace", "--no-run", "--keep-going"], cwd=room, check=False, capture_output=True)
+    subprocess.run([*CARGO, "--workspace", "--no-run", "--no-fail-fast"], cwd=room, check=False, capture_output=True)
 
 
 def run(room, name, left_out):
     """Runs a client's tests. Returns how many passed and failed, and what they printed."""
     skips = [it for test in left_out.split() for it in ("--skip", test)]
-    words = [*CARGO, "-p", name, "--no-fail-fast", "--", f"--test-threads={THREADS}", *skips]
+    words = [*CARGO, "-p", name, "--no-fail-fast", "--", *skips]
     try:
-        done = subprocess.run(words, cwd=room, text=True, errors="replace", capture_output=True, timeout=TIME, check=False)
+        done = subprocess.run(words, cwd=room, env=os.environ | {"RUST_TEST_THREADS": THREADS}, text=True, errors="replace", capture_output=True, timeout=TIME, check=False)
     except subprocess.TimeoutExpired:
         return 0, 1, f"no end after {TIME} s"
     counts = re.findall(r"test result: .*? (\d+) passed; (\d+) failed", done.stdout)

@@ -134,10 +134,12 @@ fn histories() -> usize {
     count.map_or(500, |it| it.parse().expect("HISTORIES is a number"))
 }
 
-/// Histories of the channel with this bound, and segments of several sizes.
+/// Histories of the channel with this bound, and segments of several sizes. (There are none with bound 0.)
 fn search_channel(bound: Option<usize>) {
-    for cells in [Some(1), Some(3), None] {
-        let count = histories() / 3;
+    let sizes = [None, Some(1), Some(3)];
+    let sizes = &sizes[..if bound == Some(0) { 1 } else { 3 }];
+    for &cells in sizes {
+        let count = histories() / sizes.len();
         let (wrong, together) = first_wrong(&Real { cells }, bound, count, 79);
         println!(
             "bound {bound:?}, cells {cells:?}: {count} histories, {together} with calls at once"

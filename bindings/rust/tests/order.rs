@@ -47,7 +47,9 @@ fn pills_come_last() {
         let producer = sender.clone();
         let produce = move || (0..20).for_each(|it| producer.send(Some(it)).unwrap());
         thread::spawn(produce).join().unwrap();
-        workers.iter().for_each(|_| sender.send(None).unwrap());
+        for _ in &workers {
+            sender.send(None).unwrap();
+        }
         assert_eq!(
             workers.map(|it| it.join().unwrap()).iter().sum::<usize>(),
             20
@@ -60,21 +62,21 @@ fn pills_come_last() {
 fn a_value_sent_after_a_message_comes_after_what_the_other_sent() {
     for setup in setups() {
         let (sender, receiver) = setup.bound(64).build();
-        let (ping, pong) = (unbounded::<()>(), unbounded::<()>());
+        let [there, back] = [(); 2].map(|()| unbounded::<()>());
         let other = sender.clone();
         let taken: Vec<_> = thread::scope(|scope| {
             scope.spawn(|| {
                 for it in 0..10_000 {
                     other.send(2 * it).unwrap();
-                    ping.0.send(()).unwrap();
-                    pong.1.recv().unwrap();
+                    there.0.send(()).unwrap();
+                    back.1.recv().unwrap();
                 }
             });
             scope.spawn(|| {
                 for it in 0..10_000 {
-                    ping.1.recv().unwrap();
+                    there.1.recv().unwrap();
                     sender.send(2 * it + 1).unwrap();
-                    pong.0.send(()).unwrap();
+                    back.0.send(()).unwrap();
                 }
             });
             receiver.iter().take(20_000).collect()

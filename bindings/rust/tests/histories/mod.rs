@@ -270,11 +270,11 @@ impl Threads {
             let (gate, calls) = (Arc::clone(&gate), script.calls.clone());
             let job = Box::new(move || {
                 pass(&gate);
-                let play = |(call, pause)| {
+                let make = |(call, pause)| {
                     wait_for_turns(pause);
                     record(&mut ends, thread, call)
                 };
-                calls.into_iter().map(play).collect()
+                calls.into_iter().map(make).collect()
             });
             self.jobs[thread].send(job).expect("no worker has failed");
         }
