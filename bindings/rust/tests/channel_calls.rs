@@ -73,13 +73,14 @@ fn a_job_comes_back_after_a_close() {
     assert_eq!((receiver.recv(), receiver.recv()), (Ok(1), Err(RecvError)));
 }
 
-/// Each value whose send succeeds is received, also if the channel is closed meanwhile.
+/// Each value whose send succeeds is taken, also if the channel is closed meanwhile.
 #[test]
 fn a_close_loses_no_value() {
     for _ in 0..300 {
         let (sender, receiver) = small();
         let senders = [0, 1].map(|_| sender.clone());
-        let senders = senders.map(|it| thread::spawn(move || (0..).find(|n| it.send(*n).is_err())));
+        let senders =
+            senders.map(|it| thread::spawn(move || (0..usize::MAX).find(|n| it.send(*n).is_err())));
         let closer = receiver.clone();
         let taker = thread::spawn(move || receiver.iter().count());
         closer.close();
@@ -147,11 +148,11 @@ where
 fn futures_may_own_their_ends() {
     for bound in [0, 1] {
         let (sender, receiver) = bounded(bound);
-        let received = [(); 3].map(|()| spawn(receiver.clone().into_recv_async()));
+        let taken = [(); 3].map(|()| spawn(receiver.clone().into_recv_async()));
         drop(receiver);
         let sent = [1, 2, 3].map(|it| spawn(sender.clone().into_send_async(it)));
         assert_eq!(sent.map(|it| it.join().unwrap()), [Ok(()); 3]);
-        let mut values = received.map(|it| it.join().unwrap().unwrap());
+        let mut values = taken.map(|it| it.join().unwrap().unwrap());
         values.sort_unstable();
         assert_eq!(values, [1, 2, 3]);
         assert!(sender.is_closed(), "each future drops its receiver");

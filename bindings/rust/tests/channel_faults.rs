@@ -4,6 +4,7 @@ mod run;
 use hazbultra::channel::{bounded, unbounded, Builder, Sender};
 use run::{poll, Flag};
 use std::future::Future;
+use std::mem::ManuallyDrop;
 use std::panic::{catch_unwind, resume_unwind, AssertUnwindSafe};
 use std::pin::Pin;
 use std::process::Command;
@@ -39,9 +40,9 @@ fn a_send_that_is_polled_too_often_takes_no_room() {
 fn a_receive_that_is_polled_too_often_takes_no_value() {
     let (sender, receiver) = unbounded();
     (1..=2).for_each(|it| sender.send(it).unwrap());
-    let mut received = receiver.recv_async();
-    assert!(poll(&mut received, &flag()).is_ready());
-    assert!(panics(|| assert!(poll(&mut received, &flag()).is_ready())));
+    let mut taken = receiver.recv_async();
+    assert!(poll(&mut taken, &flag()).is_ready());
+    assert!(panics(|| assert!(poll(&mut taken, &flag()).is_ready())));
     assert_eq!(receiver.recv(), Ok(2));
 }
 
@@ -87,15 +88,18 @@ fn busy_senders_are_served_alike() {
     reason = "a clone of a waker of safe code does nothing when it is dropped"
 )]
 fn sends_when_dropped(sender: Sender<u8>) -> Waker {
+    fn count(at: *const ()) -> Arc<Sender<u8>> {
+        // SAFETY: `raw` made what it is, and each clone counts. A drop or `wake` ends one of them.
+        unsafe { Arc::from_raw(at.cast()) }
+    }
     static TABLE: RawWakerVTable = RawWakerVTable::new(
-        // SAFETY: all of them get what `raw` made. A clone counts, and only a drop and `wake` end what they get.
-        |at| unsafe {
-            Arc::increment_strong_count(at.cast::<Sender<u8>>());
+        |at| {
+            std::mem::forget(Arc::clone(&*ManuallyDrop::new(count(at))));
             RawWaker::new(at, &TABLE)
         },
-        |at| unsafe { drop(Arc::from_raw(at.cast::<Sender<u8>>())) },
+        |at| drop(count(at)),
         |_| {},
-        |at| unsafe { Arc::from_raw(at.cast::<Sender<u8>>()).send(1).unwrap() },
+        |at| count(at).send(1).unwrap(),
     );
     let raw = Arc::into_raw(Arc::new(sender)).cast();
     // SAFETY: the table's calls keep the rules of wakers. A sender may be used by all threads.

@@ -70,12 +70,12 @@ fn tasks_meet() {
     drop(second); // (it takes its value back)
     assert_eq!(receiver.try_recv(), Err(TryRecvError::Empty));
 
-    let mut received = receiver.recv_async();
-    assert!(poll(&mut received, &flags[2]).is_pending());
+    let mut result = receiver.recv_async();
+    assert!(poll(&mut result, &flags[2]).is_pending());
     assert_eq!(sender.try_send(3), Ok(()));
     assert_eq!(sender.try_send(4), Err(TrySendError::Full(4)));
     assert!(flags[2].take());
-    assert_eq!(poll(&mut received, &flags[2]), Poll::Ready(Ok(3)));
+    assert_eq!(poll(&mut result, &flags[2]), Poll::Ready(Ok(3)));
 }
 
 #[test]
@@ -156,19 +156,19 @@ fn each_value_of_a_meeting_comes_once() {
         thread::spawn(move || {
             let mut taken = Vec::new();
             loop {
-                let received = match kind {
+                let result = match kind {
                     0 => receiver.recv().map_err(Into::into),
                     1 => receiver.recv_timeout(Duration::from_micros(5)),
                     2 => run::run(receiver.recv_async()).map_err(Into::into),
                     _ => {
                         let mut future = receiver.recv_async();
                         match poll(&mut future, &Arc::<Flag>::default()) {
-                            Poll::Ready(received) => received.map_err(Into::into),
+                            Poll::Ready(result) => result.map_err(Into::into),
                             Poll::Pending => continue, // (it is dropped)
                         }
                     }
                 };
-                match received {
+                match result {
                     Ok(value) => taken.push(value),
                     Err(why) if why.is_timeout() => {}
                     Err(_) => return taken,

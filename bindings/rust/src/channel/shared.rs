@@ -119,20 +119,19 @@ impl<T> Shared<T> {
     /// Puts a value, and wakes a receiver.
     #[inline]
     pub(super) fn put(&self, value: T, who: u64) -> Result<(), Refused<T>> {
-        match self.store.put(value, who) {
-            Ok(()) => self.empty.wake_one(),
-            // (there is room, perhaps for another one)
-            Err(Refused::NoMemory(value)) => {
-                self.full.wake_one();
-                return Err(Refused::NoMemory(value));
+        if let Err(why) = self.store.put(value, who) {
+            if let Refused::NoMemory(_) = why {
+                self.full.wake_one(); // (there is room, perhaps for another one)
             }
-            refused => return refused,
+            return Err(why);
         }
+        self.empty.wake_one();
         Ok(())
     }
 
     /// Takes a value, and wakes a sender that waits for room.
-    #[inline]
+    #[allow(clippy::inline_always, reason = "a call costs a tenth of a receive")]
+    #[inline(always)]
     fn look(&self, seat: &Seat<T>, who: u64, waits: bool) -> Look<T> {
         let look = self.store.take(seat, who, waits);
         if let Look::Took(_) = look {
@@ -151,6 +150,7 @@ impl<T> Shared<T> {
     }
 
     /// The same after a look that found nothing.
+    #[cold]
     fn look_again(&self, seat: &Seat<T>, who: u64, waits: bool) -> Look<T> {
         let jobs = self.jobs.0.load();
         if self.has_senders() || jobs % BEGUN != 0 {

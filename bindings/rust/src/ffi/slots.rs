@@ -86,9 +86,14 @@ impl<T> Filler<T> {
         &self.slots
     }
 
-    /// Fills the next slot, of which there has to be one. Returns how many it has filled.
+    /// How many slots it has filled.
+    pub(crate) fn filled(&self) -> usize {
+        self.filled
+    }
+
+    /// Fills the next slot, of which there has to be one.
     #[inline]
-    pub(crate) fn fill(&mut self, value: T) -> usize {
+    pub(crate) fn fill(&mut self, value: T) {
         let slot = self.slots.all[self.filled].0.get();
         // SAFETY: the slot is this filler's, since its number was not put.
         unsafe { slot.write(MaybeUninit::new(value)) };
@@ -96,7 +101,6 @@ impl<T> Filler<T> {
         let code = unsafe { hz_put(&mut self.producer.part.handle, self.filled as u64) };
         debug_assert!(code == calls::LINKED, "there is a cell for each slot");
         self.filled += 1;
-        self.filled
     }
 }
 

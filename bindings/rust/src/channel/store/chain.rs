@@ -32,6 +32,8 @@ struct Lane<T> {
     /// The last segment, if it is full.
     full: Option<Arc<Segment<T>>>,
     state: State,
+    /// While fewer values were put, a put needs only a slot: there is a further one, no bound, no audit, and it is open.
+    plain: u64,
 }
 
 /// A seat, from which a receiver takes: it has a place in one segment, with a consumer of its own. (It is on lines of memory
@@ -66,6 +68,7 @@ impl<T> Chain<T> {
                 writer: None,
                 full: None,
                 state: State::Open,
+                plain: 0,
             }),
             put: Line(AtomicU64::new(0)),
             taken: Line(AtomicU64::new(0)),
@@ -91,49 +94,64 @@ impl<T> Chain<T> {
     #[inline]
     pub(crate) fn put(&self, value: T, who: u64) -> Result<(), Refused<T>> {
         let mut lane = lock(&self.lane);
+        let (put, plain) = (self.put.0.load(Relaxed), lane.plain);
+        match &mut lane.writer {
+            Some(writer) if put < plain => writer.put(value),
+            _ => return self.put_with_care(lane, value, who),
+        }
+        self.put.0.store(put + 1, SeqCst);
+        Ok(())
+    }
+
+    /// The same if there is more to do.
+    #[cold]
+    fn put_with_care(
+        &self,
+        mut lane: MutexGuard<'_, Lane<T>>,
+        value: T,
+        who: u64,
+    ) -> Result<(), Refused<T>> {
         let put = self.put.0.load(Relaxed);
         if !lane.state.admits(who) {
             return Err(Refused::Closed(value));
         }
-        if who != GIVEN_BACK && self.is_full(put) {
+        if self.is_full(put, who) {
             return Err(Refused::Full(value));
         }
+        if lane.writer.is_none() {
+            self.begin(&mut lane, put);
+        }
         let Some(writer) = &mut lane.writer else {
-            return self.begin_and_put(lane, value, who);
+            return Err(Refused::NoMemory(value));
         };
-        if !writer.put(value, who) {
+        writer.put(value);
+        if !writer.note(who) {
             lane.end();
         }
         self.put.0.store(put + 1, SeqCst);
         Ok(())
     }
 
-    /// The same if the next segment has to be begun first.
-    #[cold]
-    fn begin_and_put(
-        &self,
-        mut lane: MutexGuard<'_, Lane<T>>,
-        value: T,
-        who: u64,
-    ) -> Result<(), Refused<T>> {
-        let cells = self.plan.cells_after(self.put.0.load(Relaxed));
-        let Some(writer) = Writer::new(cells, self.plan.audit.clone()) else {
-            return Err(Refused::NoMemory(value));
+    /// Begins the next segment, if there is memory for it, after so many values were put.
+    fn begin(&self, lane: &mut Lane<T>, put: u64) {
+        let cells = self.plan.cells_after(put);
+        lane.writer = Writer::new(cells, self.plan.audit.clone());
+        let Some(writer) = &lane.writer else {
+            return;
         };
         let segment = Arc::clone(writer.segment());
         match lane.full.take() {
             Some(full) => full.follow_with(segment),
             None => *lock(&self.head) = Some(segment),
         }
-        lane.writer = Some(writer);
-        drop(lane);
-        self.put(value, who)
+        if lane.state == State::Open && self.plan.bound.is_none() && self.plan.audit.is_none() {
+            lane.plain = put + cells as u64 - 1;
+        }
     }
 
-    /// Whether so many values, of which the last was just put, leave no room. The lane is locked.
-    #[inline]
-    fn is_full(&self, put: u64) -> bool {
-        let Some(bound) = self.plan.bound else {
+    /// Whether there is no room for this sender after so many values were put. The lane is locked.
+    fn is_full(&self, put: u64, who: u64) -> bool {
+        let Some(bound) = self.plan.bound.filter(|_| who != GIVEN_BACK) else {
             return false;
         };
         let is_full = || put - self.taken.0.load(SeqCst) >= bound as u64;
@@ -144,7 +162,8 @@ impl<T> Chain<T> {
         }
     }
 
-    #[inline]
+    #[allow(clippy::inline_always, reason = "a call costs a tenth of a receive")]
+    #[inline(always)]
     pub(crate) fn take(&self, seat: &Seat<T>, who: u64) -> Look<T> {
         let mut place = lock(&seat.0);
         let look = match place.take(who) {
@@ -223,13 +242,15 @@ impl<T> Chain<T> {
     }
 
     pub(crate) fn close(&self) -> bool {
-        lock(&self.lane).state.close()
+        let mut lane = lock(&self.lane);
+        lane.plain = 0;
+        lane.state.close()
     }
 
     pub(crate) fn end(&self) {
         let (full, written) = {
             let mut lane = lock(&self.lane);
-            lane.state = State::Left;
+            (lane.state, lane.plain) = (State::Left, 0);
             (lane.full.take(), lane.writer.take().map(Writer::end))
         };
         let head = lock(&self.head).take();

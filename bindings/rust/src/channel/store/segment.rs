@@ -6,6 +6,7 @@ use super::{Look, SEATS};
 use crate::channel::audit::{Ledger, Logs};
 use crate::channel::system::{lock, Panics};
 use crate::ffi::{Emptier, Filler, Slots};
+use std::mem;
 use std::sync::atomic::{AtomicBool, Ordering::SeqCst};
 use std::sync::{Arc, Mutex, OnceLock};
 
@@ -23,7 +24,7 @@ pub(super) struct Writer<T> {
     filler: Filler<T>,
     cells: usize,
     /// Who sent what, if that is asked for.
-    log: Option<Vec<u64>>,
+    log: Vec<u64>,
     segment: Arc<Segment<T>>,
 }
 
@@ -34,7 +35,8 @@ pub(super) struct Place<T> {
     /// It is `None` before the first value.
     segment: Option<Arc<Segment<T>>>,
     /// Who took what, if that is asked for.
-    log: Option<Vec<u64>>,
+    log: Vec<u64>,
+    has_log: bool,
 }
 
 impl<T> Segment<T> {
@@ -52,11 +54,6 @@ impl<T> Segment<T> {
         let is_first = self.next.set(next).is_ok();
         debug_assert!(is_first);
     }
-
-    /// A log, if one is asked for.
-    fn log(&self) -> Option<Vec<u64>> {
-        self.audit.as_ref().map(|_| Vec::new())
-    }
 }
 
 impl<T> Writer<T> {
@@ -72,7 +69,7 @@ impl<T> Writer<T> {
         Some(Writer {
             filler,
             cells,
-            log: segment.log(),
+            log: Vec::new(),
             segment,
         })
     }
@@ -81,20 +78,24 @@ impl<T> Writer<T> {
         &self.segment
     }
 
-    /// Puts a value, and returns whether there is a further slot.
     #[inline]
-    pub(super) fn put(&mut self, value: T, who: u64) -> bool {
-        if let Some(log) = &mut self.log {
-            log.push(who);
+    pub(super) fn put(&mut self, value: T) {
+        self.filler.fill(value);
+    }
+
+    /// Notes who sent the last value, if that is asked for. Returns whether there is a further slot.
+    pub(super) fn note(&mut self, who: u64) -> bool {
+        if self.segment.audit.is_some() {
+            self.log.push(who);
         }
-        self.filler.fill(value) < self.cells
+        self.filler.filled() < self.cells
     }
 
     /// Ends the segment's lane, and leaves it.
     pub(super) fn end(self) -> Arc<Segment<T>> {
         drop(self.filler);
-        if let (Some((_, logs)), Some(log)) = (&self.segment.audit, self.log) {
-            lock(logs).senders = log;
+        if let Some((_, logs)) = &self.segment.audit {
+            lock(logs).senders = self.log;
         }
         self.segment
     }
@@ -105,7 +106,8 @@ impl<T> Default for Place<T> {
         Place {
             emptier: None,
             segment: None,
-            log: None,
+            log: Vec::new(),
+            has_log: false,
         }
     }
 }
@@ -134,8 +136,8 @@ impl<T> Place<T> {
         };
         match emptier.take() {
             Ok(value) => {
-                if let Some(log) = &mut self.log {
-                    log.push(who);
+                if self.has_log {
+                    self.log.push(who);
                 }
                 Look::Took(value)
             }
@@ -148,7 +150,7 @@ impl<T> Place<T> {
     pub(super) fn begin_and_take(&mut self, who: u64) -> Look<T> {
         if let (None, Some(segment)) = (&self.emptier, &self.segment) {
             self.emptier = segment.slots.as_ref().and_then(Slots::emptier);
-            self.log = segment.log();
+            self.has_log = segment.audit.is_some();
             if self.emptier.is_none() {
                 return Look::NoMemory;
             }
@@ -168,7 +170,8 @@ impl<T> Place<T> {
             return;
         };
         let audit = self.segment.as_ref().and_then(|it| it.audit.as_ref());
-        if let (Some((_, logs)), Some(log)) = (audit, self.log.take()) {
+        if let Some((_, logs)) = audit {
+            let log = mem::take(&mut self.log);
             lock(logs).takers.push((emptier.number(), log));
         }
     }
