@@ -2,16 +2,16 @@
 //!
 //! `HISTORIES=100000` records so many for each bound.
 mod histories;
+mod run;
 
 use hazbultra::channel::{Builder, Receiver, Sender};
 use hazbultra::channel::{RecvTimeoutError, SendTimeoutError, TryRecvError, TrySendError};
 use histories::model::{Fault, Model};
 use histories::search::{is_of_a_queue, judge, told};
 use histories::{Answer, Call, Channel, Dice, Ends, Event, How, Plan, Threads};
-use std::future::Future;
-use std::pin::pin;
+use run::{poll, Flag};
 use std::sync::Arc;
-use std::task::{Context, Poll, Wake, Waker};
+use std::task::Poll;
 use std::time::Duration;
 
 /// A wait that a value often ends.
@@ -20,15 +20,6 @@ const SHORT: Duration = Duration::from_micros(20);
 /// The channel of this crate. The values are boxes, so that one taken twice is freed twice.
 struct Real {
     cells: Option<usize>,
-}
-
-/// What a future gives at its first poll. It is dropped then.
-fn poll<F: Future>(future: F) -> Poll<F::Output> {
-    struct Deaf;
-    impl Wake for Deaf {
-        fn wake(self: Arc<Self>) {}
-    }
-    pin!(future).poll(&mut Context::from_waker(&Waker::from(Arc::new(Deaf))))
 }
 
 impl Channel for Real {
@@ -56,7 +47,7 @@ impl Channel for Real {
                 Err(SendTimeoutError::Timeout(_)) => Answer::NotNow,
                 Err(SendTimeoutError::Disconnected(_)) => Answer::Over,
             },
-            How::Polled => match poll(sender.send_async(value)) {
+            How::Polled => match poll(&mut sender.send_async(value), &Arc::<Flag>::default()) {
                 Poll::Ready(Ok(())) => Answer::Done,
                 Poll::Ready(Err(_)) => Answer::Over,
                 Poll::Pending => Answer::NotNow,
@@ -82,7 +73,7 @@ impl Channel for Real {
                 },
                 took,
             ),
-            How::Polled => match poll(receiver.recv_async()) {
+            How::Polled => match poll(&mut receiver.recv_async(), &Arc::<Flag>::default()) {
                 Poll::Ready(result) => result.map_or(Answer::Over, took),
                 Poll::Pending => Answer::NotNow,
             },
