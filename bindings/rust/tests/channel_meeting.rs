@@ -79,6 +79,28 @@ fn tasks_meet() {
 }
 
 #[test]
+fn what_is_left_for_a_receiver_is_for_no_other() {
+    let (sender, receiver) = bounded(0);
+    let flags = [(); 2].map(|()| Arc::<Flag>::default());
+    let (mut first, mut second) = (receiver.recv_async(), receiver.recv_async());
+    assert!(poll(&mut first, &flags[0]).is_pending());
+    sender.send(1).unwrap();
+    drop(sender);
+    assert_eq!(
+        (receiver.len(), receiver.try_recv()),
+        (0, Err(TryRecvError::Empty))
+    );
+    assert!(
+        poll(&mut second, &flags[1]).is_pending(),
+        "it is not the end"
+    );
+    assert!(flags[0].take() && !flags[1].take());
+    assert_eq!(poll(&mut first, &flags[0]), Poll::Ready(Ok(1)));
+    assert!(flags[1].take());
+    assert_eq!(poll(&mut second, &flags[1]), Poll::Ready(Err(RecvError)));
+}
+
+#[test]
 fn what_was_left_for_a_future_that_is_dropped_goes_to_the_next_receiver() {
     let (sender, receiver) = bounded(0);
     let flags = [(); 2].map(|()| Arc::<Flag>::default());

@@ -4,7 +4,7 @@ use super::job::Job;
 use super::parcel::Parcel;
 use super::receiver::Receiver;
 use super::sender::Sender;
-use super::store::{Look, Refused};
+use super::store::{Look, Refused, Ticket};
 use std::borrow::Cow;
 use std::future::Future;
 use std::pin::Pin;
@@ -81,6 +81,7 @@ impl<T> Drop for SendFuture<'_, T> {
 struct Waiting<'a, T> {
     receiver: Cow<'a, Receiver<T>>,
     stage: Stage,
+    ticket: Option<Ticket>,
     place: Option<u64>,
 }
 
@@ -96,6 +97,7 @@ impl<'a, T> Waiting<'a, T> {
         Waiting {
             receiver,
             stage: Stage::New,
+            ticket: None,
             place: None,
         }
     }
@@ -104,7 +106,7 @@ impl<'a, T> Waiting<'a, T> {
     fn poll<G>(
         &mut self,
         context: &mut Context<'_>,
-        take: impl Fn(&Receiver<T>) -> Look<G>,
+        take: impl Fn(&Receiver<T>, Option<&Ticket>) -> Look<G>,
     ) -> Poll<Result<G, RecvError>> {
         let (receiver, waker) = (&*self.receiver, context.waker());
         let shared = &receiver.shared;
@@ -113,14 +115,16 @@ impl<'a, T> Waiting<'a, T> {
             "a future is polled until it is ready"
         );
         if self.stage == Stage::New {
-            shared.arrive();
+            self.ticket = shared.arrive(true);
             self.stage = Stage::Waits;
         }
-        let look = || match take(receiver) {
+        let ticket = self.ticket.as_ref();
+        let list = ticket.map_or(&shared.empty, |it| &it.bell);
+        let look = || match take(receiver, ticket) {
             Look::Nothing => None,
             look => Some(look),
         };
-        let result = match shared.empty.poll(&mut self.place, waker, look) {
+        let result = match list.poll(&mut self.place, waker, look) {
             Poll::Pending | Poll::Ready(Look::Nothing) => return Poll::Pending,
             Poll::Ready(Look::NoMemory) => {
                 // (it gets no memory for a value that is there, so it wakes another receiver, and is polled again)
@@ -130,7 +134,7 @@ impl<'a, T> Waiting<'a, T> {
             }
             Poll::Ready(Look::Took(value)) => Ok(value),
             Poll::Ready(Look::Over) => {
-                shared.abandon();
+                shared.abandon(ticket);
                 Err(RecvError)
             }
         };
@@ -141,11 +145,12 @@ impl<'a, T> Waiting<'a, T> {
 
 impl<T> Drop for Waiting<'_, T> {
     fn drop(&mut self) {
+        let shared = &self.receiver.shared;
         if self.stage == Stage::Waits {
-            self.receiver.shared.abandon();
+            shared.abandon(self.ticket.as_ref());
         }
-        if let Some(place) = self.place {
-            self.receiver.shared.empty.leave(place);
+        if let (Some(place), None) = (self.place, &self.ticket) {
+            shared.empty.leave(place);
         }
     }
 }
@@ -174,7 +179,7 @@ impl<T> Future for RecvFuture<'_, T> {
     /// The future was ready at an earlier poll, and not [restarted](RecvFuture::restart).
     #[track_caller]
     fn poll(self: Pin<&mut Self>, context: &mut Context<'_>) -> Poll<Self::Output> {
-        self.get_mut().0.poll(context, |it| it.take(true))
+        self.get_mut().0.poll(context, Receiver::take)
     }
 }
 
@@ -195,7 +200,7 @@ impl<T> Future for JobFuture<'_, T> {
     /// The future was ready at an earlier poll.
     #[track_caller]
     fn poll(self: Pin<&mut Self>, context: &mut Context<'_>) -> Poll<Self::Output> {
-        self.get_mut().0.poll(context, |it| it.take_job(true))
+        self.get_mut().0.poll(context, Receiver::take_job)
     }
 }
 

@@ -1,6 +1,6 @@
 //! A value whose sender waits.
 use super::shared::Shared;
-use super::store::{Offer, Refused};
+use super::store::{Refused, Ticket};
 use super::system::Waiters;
 use std::mem;
 use std::sync::Arc;
@@ -10,7 +10,7 @@ pub(super) enum Parcel<T> {
     /// It waits for room.
     Here(T),
     /// The channel has no room at all, so it waits for a receiver.
-    Offered(Offer),
+    Offered(Ticket),
     Gone,
 }
 
@@ -19,9 +19,7 @@ impl<T> Shared<T> {
         let Some(meeting) = self.store.meeting() else {
             return Parcel::Here(value);
         };
-        let offer = meeting.offer(value, who);
-        self.empty.wake_one();
-        Parcel::Offered(offer)
+        Parcel::Offered(meeting.offer(value, who))
     }
 }
 

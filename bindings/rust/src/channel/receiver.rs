@@ -5,7 +5,7 @@ use super::future::{JobFuture, RecvFuture};
 use super::iter::{Drain, Iter, TryIter};
 use super::job::Job;
 use super::shared::Shared;
-use super::store::{Look, Seat};
+use super::store::{Look, Seat, Ticket};
 use std::borrow::Cow;
 use std::panic::{RefUnwindSafe, UnwindSafe};
 use std::sync::Arc;
@@ -54,12 +54,12 @@ impl<T> Receiver<T> {
     }
 
     #[inline]
-    pub(super) fn take(&self, waits: bool) -> Look<T> {
-        self.shared.take(&self.seat, self.number, waits)
+    pub(super) fn take(&self, ticket: Option<&Ticket>) -> Look<T> {
+        self.shared.take(&self.seat, self.number, ticket)
     }
 
-    pub(super) fn take_job(&self, waits: bool) -> Look<Job<T>> {
-        match self.shared.take_job(&self.seat, self.number, waits) {
+    pub(super) fn take_job(&self, ticket: Option<&Ticket>) -> Look<Job<T>> {
+        match self.shared.take_job(&self.seat, self.number, ticket) {
             Look::Took(value) => Look::Took(Job::new(value, Arc::clone(&self.shared))),
             Look::Nothing => Look::Nothing,
             Look::Over => Look::Over,
@@ -84,7 +84,7 @@ impl<T> Receiver<T> {
     /// ```
     #[inline]
     pub fn try_recv(&self) -> Result<T, TryRecvError> {
-        now(self.take(false))
+        now(self.take(None))
     }
 
     /// Receives a value. It sleeps until one comes. If there is no memory for its place in a segment, it tries again each
@@ -194,8 +194,7 @@ impl<T> Receiver<T> {
     /// assert_eq!(receiver.recv_job().unwrap().done(), "a letter");
     /// ```
     pub fn recv_job(&self) -> Result<Job<T>, RecvError> {
-        self.wait(None, || self.take_job(true))
-            .map_err(|_| RecvError)
+        self.wait(None, Receiver::take_job).map_err(|_| RecvError)
     }
 
     /// Does what [`recv_job`](Receiver::recv_job) does, but sleeps no longer than this. So a worker may look at a flag that
@@ -212,7 +211,7 @@ impl<T> Receiver<T> {
     /// assert!(received.unwrap_err().is_timeout());
     /// ```
     pub fn recv_job_timeout(&self, timeout: Duration) -> Result<Job<T>, RecvTimeoutError> {
-        self.wait(Instant::now().checked_add(timeout), || self.take_job(true))
+        self.wait(Instant::now().checked_add(timeout), Receiver::take_job)
     }
 
     /// Does what [`recv_job`](Receiver::recv_job) does, but sleeps until this time at most.
@@ -229,7 +228,7 @@ impl<T> Receiver<T> {
     /// assert_eq!(receiver.recv_job_deadline(soon).unwrap().done(), 1);
     /// ```
     pub fn recv_job_deadline(&self, deadline: Instant) -> Result<Job<T>, RecvTimeoutError> {
-        self.wait(Some(deadline), || self.take_job(true))
+        self.wait(Some(deadline), Receiver::take_job)
     }
 
     /// Receives a job as [`recv_job`](Receiver::recv_job) does, but a task waits, as with
@@ -262,14 +261,14 @@ impl<T> Receiver<T> {
     /// assert_eq!(receiver.try_recv_job().unwrap().done(), 1);
     /// ```
     pub fn try_recv_job(&self) -> Result<Job<T>, TryRecvError> {
-        now(self.take_job(false))
+        now(self.take_job(None))
     }
 
     #[inline]
     fn recv_until(&self, until: Option<Instant>) -> Result<T, RecvTimeoutError> {
-        match self.take(false) {
+        match self.take(None) {
             Look::Took(value) => Ok(value),
-            _ => self.wait(until, || self.take(true)),
+            _ => self.wait(until, Receiver::take),
         }
     }
 
@@ -277,19 +276,21 @@ impl<T> Receiver<T> {
     fn wait<G>(
         &self,
         until: Option<Instant>,
-        take: impl Fn() -> Look<G>,
+        take: impl Fn(&Self, Option<&Ticket>) -> Look<G>,
     ) -> Result<G, RecvTimeoutError> {
         let shared = &self.shared;
-        shared.arrive();
-        let look = || match take() {
+        let ticket = shared.arrive(false);
+        let ticket = ticket.as_ref();
+        let list = ticket.map_or(&shared.empty, |it| &it.bell);
+        let look = || match take(self, ticket) {
             Look::Nothing => None,
             look => Some(look),
         };
         loop {
-            match shared.empty.wait(until, look) {
+            match list.wait(until, look) {
                 Some(Look::Took(value)) => return Ok(value),
                 Some(Look::Over) => {
-                    shared.abandon();
+                    shared.abandon(ticket);
                     return Err(RecvTimeoutError::Disconnected);
                 }
                 Some(Look::NoMemory) => {
@@ -299,7 +300,7 @@ impl<T> Receiver<T> {
                 }
                 Some(Look::Nothing) | None => {}
             }
-            if until.is_some_and(|until| Instant::now() >= until) && shared.leave() {
+            if until.is_some_and(|until| Instant::now() >= until) && shared.give_up(ticket) {
                 return Err(RecvTimeoutError::Timeout);
             }
         }

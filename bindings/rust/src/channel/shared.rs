@@ -1,5 +1,5 @@
 //! What all ends of a channel share.
-use super::store::{Look, Meeting, Plan, Refused, Seat, Store};
+use super::store::{Look, Meeting, Plan, Refused, Seat, Store, Ticket};
 use super::system::{Line, Waiters};
 use std::sync::atomic::{AtomicBool, AtomicU64, AtomicUsize, Ordering::SeqCst};
 
@@ -85,7 +85,7 @@ impl<T> Shared<T> {
     /// The last one lets all receivers look whether anything is left.
     pub(super) fn drop_sender(&self) {
         if self.senders.remove() {
-            self.empty.wake_all();
+            self.wake_receivers();
         }
     }
 
@@ -103,7 +103,7 @@ impl<T> Shared<T> {
         let was_open = self.store.close() && self.senders.count() != 0;
         self.is_shut.store(true, SeqCst);
         self.full.wake_all();
-        self.empty.wake_all();
+        self.wake_receivers();
         was_open
     }
 
@@ -114,6 +114,19 @@ impl<T> Shared<T> {
 
     fn has_senders(&self) -> bool {
         self.senders.count() != 0 && !self.is_shut.load(SeqCst)
+    }
+
+    /// Whether something may come that no job gives back.
+    fn may_come(&self) -> bool {
+        self.has_senders() || !self.store.meeting().is_none_or(Meeting::is_settled)
+    }
+
+    /// Lets all receivers look that wait.
+    fn wake_receivers(&self) {
+        self.empty.wake_all();
+        if let Some(meeting) = self.store.meeting() {
+            meeting.wake_receivers();
+        }
     }
 
     /// Puts a value, and wakes a receiver.
@@ -132,31 +145,34 @@ impl<T> Shared<T> {
     /// Takes a value, and wakes a sender that waits for room.
     #[allow(clippy::inline_always, reason = "a call costs a tenth of a receive")]
     #[inline(always)]
-    fn look(&self, seat: &Seat<T>, who: u64, waits: bool) -> Look<T> {
-        let look = self.store.take(seat, who, waits);
+    fn look(&self, seat: &Seat<T>, who: u64, ticket: Option<&Ticket>) -> Look<T> {
+        let look = self.store.take(seat, who, ticket);
         if let Look::Took(_) = look {
             self.full.wake_one();
+            if ticket.is_some() && !self.has_senders() {
+                self.wake_receivers(); // (perhaps nothing is left now)
+            }
         }
         look
     }
 
     /// Takes a value, or finds that there is none. It may be that nothing comes.
     #[inline]
-    pub(super) fn take(&self, seat: &Seat<T>, who: u64, waits: bool) -> Look<T> {
-        match self.look(seat, who, waits) {
-            Look::Nothing => self.look_again(seat, who, waits),
+    pub(super) fn take(&self, seat: &Seat<T>, who: u64, ticket: Option<&Ticket>) -> Look<T> {
+        match self.look(seat, who, ticket) {
+            Look::Nothing => self.look_again(seat, who, ticket),
             look => look,
         }
     }
 
     /// The same after a look that found nothing.
     #[cold]
-    fn look_again(&self, seat: &Seat<T>, who: u64, waits: bool) -> Look<T> {
+    fn look_again(&self, seat: &Seat<T>, who: u64, ticket: Option<&Ticket>) -> Look<T> {
         let jobs = self.jobs.0.load();
-        if self.has_senders() || jobs % BEGUN != 0 {
+        if self.may_come() || jobs % BEGUN != 0 {
             return Look::Nothing;
         }
-        match self.look(seat, who, waits) {
+        match self.look(seat, who, ticket) {
             Look::Nothing if self.jobs.0.load() == jobs => Look::Over,
             look => look,
         }
@@ -164,17 +180,17 @@ impl<T> Shared<T> {
 
     /// The same for a job, which is open if it returns a value. It counts as open during the look: so nobody else finds that
     /// nothing comes, while this value may come back.
-    pub(super) fn take_job(&self, seat: &Seat<T>, who: u64, waits: bool) -> Look<T> {
-        let has_senders = self.has_senders();
+    pub(super) fn take_job(&self, seat: &Seat<T>, who: u64, ticket: Option<&Ticket>) -> Look<T> {
+        let may_come = self.may_come();
         let before = self.jobs.0.begin();
-        let look = self.look(seat, who, waits);
+        let look = self.look(seat, who, ticket);
         if let Look::Took(_) = look {
             return look;
         }
         let during = self.end_job();
         let is_alone = before % BEGUN == 0 && during == before.wrapping_add(BEGUN + 1);
         match look {
-            Look::Nothing if !has_senders && is_alone => Look::Over,
+            Look::Nothing if !may_come && is_alone => Look::Over,
             look => look,
         }
     }
@@ -183,27 +199,27 @@ impl<T> Shared<T> {
     pub(super) fn end_job(&self) -> usize {
         let jobs = self.jobs.0.end();
         if jobs % BEGUN == 1 && !self.has_senders() {
-            self.empty.wake_all();
+            self.wake_receivers();
         }
         jobs
     }
 
-    /// A receiver begins to wait. It matters to a meeting, and so do the two calls below.
-    pub(super) fn arrive(&self) {
-        if let Some(meeting) = self.store.meeting() {
-            meeting.arrive();
-        }
+    /// A receiver begins to wait. At a meeting it gets a ticket. Without one the two calls below do nothing.
+    pub(super) fn arrive(&self, is_task: bool) -> Option<Ticket> {
+        let meeting = self.store.meeting();
+        meeting.map(|it| it.arrive(is_task))
     }
 
     /// A receiver gives up, unless a value is left for it. Returns whether it did.
-    pub(super) fn leave(&self) -> bool {
-        self.store.meeting().is_none_or(Meeting::leave)
+    pub(super) fn give_up(&self, ticket: Option<&Ticket>) -> bool {
+        let meeting = self.store.meeting().zip(ticket);
+        meeting.is_none_or(|(meeting, ticket)| meeting.give_up(ticket))
     }
 
     /// A receiver goes.
-    pub(super) fn abandon(&self) {
-        if let Some(meeting) = self.store.meeting() {
-            meeting.abandon();
+    pub(super) fn abandon(&self, ticket: Option<&Ticket>) {
+        if let Some((meeting, ticket)) = self.store.meeting().zip(ticket) {
+            meeting.abandon(ticket);
         }
     }
 

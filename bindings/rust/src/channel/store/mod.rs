@@ -5,7 +5,7 @@ mod meeting;
 mod segment;
 
 pub(super) use chain::Seat;
-pub(super) use meeting::{Meeting, Offer};
+pub(super) use meeting::{Meeting, Ticket};
 
 use super::audit::{Ledger, GIVEN_BACK};
 use chain::Chain;
@@ -132,12 +132,12 @@ impl<T> Store<T> {
         }
     }
 
-    /// Takes the first value that nobody else takes. Whether this receiver waits makes a difference to a meeting.
+    /// Takes the first value that nobody else takes. At a meeting a receiver that waits has a ticket.
     #[inline]
-    pub(super) fn take(&self, seat: &Seat<T>, who: u64, waits: bool) -> Look<T> {
+    pub(super) fn take(&self, seat: &Seat<T>, who: u64, ticket: Option<&Ticket>) -> Look<T> {
         match self {
             Store::Chain(chain) => chain.take(seat, who),
-            Store::Meeting(meeting) => meeting.take(who, waits),
+            Store::Meeting(meeting) => meeting.take(who, ticket),
         }
     }
 
