@@ -119,6 +119,11 @@ fn what_was_left_for_a_future_that_is_dropped_goes_to_the_next_receiver() {
     drop(third);
     assert_eq!(sender.try_send(4), Err(TrySendError::Full(4)));
     assert_eq!((receiver.len(), receiver.recv()), (1, Ok(3)));
+
+    let mut fourth = receiver.recv_async();
+    assert!(poll(&mut fourth, &flags[0]).is_pending());
+    drop(fourth);
+    assert_eq!(sender.try_send(5), Err(TrySendError::Full(5)));
 }
 
 #[test]

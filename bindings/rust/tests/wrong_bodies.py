@@ -59,9 +59,9 @@ BODIES = [
     ("a close wakes no receiver", "shared", "        self.wake_receivers();\n        was_open", "        was_open", CALLS + "a_close_wakes"),
     ("a close wakes no sender", "shared", "        self.full.wake_all();\n        self.wake_receivers();\n        was_open", "        self.wake_receivers();\n        was_open", CALLS + "a_close_wakes"),
     ("a sender that is woken by a close looks for room alone", "parcel", "if shared.is_full() && !shared.is_closed() => {", "if shared.is_full() => {", CALLS + "a_close_wakes"),
-    ("a close is not told to the lane", "store/chain", "        lane.state.close()\n", "        lane.state == State::Open\n", CALLS + "after_a_close"),
-    ("a close does not stop the puts that need no care", "store/chain", "        lane.plain = 0;\n        lane.state", "        lane.state", CALLS + "a_close_loses"),
-    ("a job does not come back after a close", "store/mod", "|| (self == State::Closed && who == GIVEN_BACK)", "|| (self == State::Left && who == GIVEN_BACK)", CALLS + "a_job_comes"),
+    ("a close is not told to the lane", "store/chain", "        self.status.advance(to)\n", "        self.state() == State::Open\n", CALLS + "after_a_close"),
+    ("a close does not stop the puts that need no care", "store/chain", "        lane.plain = 0;\n        self.status", "        lane.plain += 0;\n        self.status", CALLS + "a_close_loses"),
+    ("a job does not come back after a close", "store/mod", "            State::Closed => who == GIVEN_BACK,", "            State::Closed => who == GIVEN_BACK - 1,", CALLS + "a_job_comes"),
     ("a weak end makes an end of nothing", "shared", "(there > 0)", "(there < 9)", CALLS + "a_weak_end"),
     ("a drain goes on", "receiver", "            left: self.len(),", "            left: usize::MAX,", CALLS + "a_drain"),
     ("a chain is dropped by a call in a call", "store/segment", "        while let Some(mut segment) = next.and_then(Arc::into_inner) {\n            next = segment.next.take();\n            panics.contain(|| drop(segment));\n        }\n", "        drop(next.take());\n", DROPS),
@@ -71,7 +71,7 @@ BODIES = [
     ("what is left counts as emptied", "../ffi/slots", "        self.slots.filled.store(self.filled, Relaxed);\n", "", TEST + "what_is_left"),
     ("a sender is not written down", "store/segment", "            self.log.push(who);\n        }\n        self.filler", "        }\n        self.filler", JOBS + "an_account"),
     ("a taker is not written down", "store/segment", "                    self.log.push(who);\n", "", JOBS + "an_account"),
-    ("a value is kept though nobody waits", "store/meeting", "        let bell = if who == GIVEN_BACK {", "        let bell = if who != GIVEN_BACK + 1 {", MEETING + "nothing_is_sent"),
+    ("a value is kept though nobody waits", "store/meeting", "        let bell = if who == GIVEN_BACK {", "        let bell = if who < GIVEN_BACK {", MEETING + "nothing_is_sent"),
     ("who gave up counts as waiting", "store/meeting", "        table.waiting.remove(&ticket.number);\n        !table", "        !table", MEETING + "nothing_is_sent"),
     ("a sender is not told that its value was taken", "store/meeting", "        ring(bell);\n        self.count", "        self.count", MEETING + "tasks_meet"),
     ("a future that is dropped leaves its offer", "future", "            drop(parcel.take_back(shared));", "            drop(parcel);", MEETING + "tasks_meet"),
@@ -79,7 +79,7 @@ BODIES = [
     ("a receiver takes what is left for another", "store/meeting", "let left = ticket.and_then(|it| table.take_left(it));", "let left = table.left.pop_first().map(|it| it.1);", MEETING + "what_is_left"),
     ("it is the end though something is left for another", "shared", " || !self.store.meeting().is_none_or(Meeting::is_settled)", "", MEETING + "what_is_left"),
     ("the last value wakes nobody", "shared", "                self.wake_receivers(); // (perhaps nothing is left now)\n", "", MEETING + "what_is_left"),
-    ("a closed meeting goes on", "store/meeting", "        let is_open = self.state == State::Open;\n", "        let is_open = self.state != State::Left;\n", MEETING + "an_end_gives"),
+    ("a closed meeting goes on", "store/meeting", "table.take_free(self.is_open())", "table.take_free(true)", MEETING + "an_end_gives"),
 ]
 
 

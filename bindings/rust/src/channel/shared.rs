@@ -1,14 +1,12 @@
 //! What all ends of a channel share.
-use super::store::{Look, Meeting, Plan, Refused, Seat, Store, Ticket};
+use super::store::{Look, Meeting, Plan, Refused, Seat, State, Store, Ticket};
 use super::system::{Line, Waiters};
-use std::sync::atomic::{AtomicBool, AtomicU64, AtomicUsize, Ordering::SeqCst};
+use std::sync::atomic::{AtomicU64, AtomicUsize, Ordering::SeqCst};
 
 pub(super) struct Shared<T> {
     pub(super) store: Store<T>,
     pub(super) senders: Ends,
     pub(super) receivers: Ends,
-    /// Whether an end closed it.
-    is_shut: AtomicBool,
     jobs: Line<Jobs>,
     /// Receivers that wait for a value.
     pub(super) empty: Waiters,
@@ -75,7 +73,6 @@ impl<T> Shared<T> {
             store: Store::new(plan),
             senders: Ends::default(),
             receivers: Ends::default(),
-            is_shut: AtomicBool::new(false),
             jobs: Line(Jobs(AtomicUsize::new(0))),
             empty: Waiters::new(),
             full: Waiters::new(),
@@ -92,7 +89,7 @@ impl<T> Shared<T> {
     /// The last one drops what is left, and lets all senders look.
     pub(super) fn drop_receiver(&self) {
         if self.receivers.remove() {
-            self.store.close();
+            self.store.close(State::Left);
             self.full.wake_all();
             self.store.end();
         }
@@ -100,8 +97,7 @@ impl<T> Shared<T> {
 
     /// Lets no sender put a value after this. Returns whether one could before.
     pub(super) fn close(&self) -> bool {
-        let was_open = self.store.close() && self.senders.count() != 0;
-        self.is_shut.store(true, SeqCst);
+        let was_open = self.store.close(State::Closed) && self.senders.count() != 0;
         self.full.wake_all();
         self.wake_receivers();
         was_open
@@ -109,11 +105,11 @@ impl<T> Shared<T> {
 
     /// Whether no sender can put a value.
     pub(super) fn is_closed(&self) -> bool {
-        self.receivers.count() == 0 || !self.has_senders()
+        !self.has_senders()
     }
 
     fn has_senders(&self) -> bool {
-        self.senders.count() != 0 && !self.is_shut.load(SeqCst)
+        self.senders.count() != 0 && self.store.state() == State::Open
     }
 
     /// Whether something may come that no job gives back.
@@ -224,7 +220,7 @@ impl<T> Shared<T> {
     }
 
     pub(super) fn len(&self) -> usize {
-        if self.receivers.count() == 0 {
+        if self.store.state() == State::Left {
             return 0;
         }
         self.store.len()

@@ -5,7 +5,7 @@
 //! that was put before has a taker then. If a segment is over and has none after it, that moment is the load of the next one. If
 //! no more values were put than taken, it is the load of how many were put, since the other number was loaded before.
 use super::segment::{Place, Segment, Writer};
-use super::{Look, Plan, Refused, State, SEATS};
+use super::{Look, Plan, Refused, State, Status, SEATS};
 use crate::channel::audit::GIVEN_BACK;
 use crate::channel::system::{lock, Line};
 use std::mem;
@@ -15,6 +15,7 @@ use std::sync::{Arc, Mutex, MutexGuard, TryLockError};
 
 pub(crate) struct Chain<T> {
     plan: Plan<T>,
+    status: Status,
     lane: Mutex<Lane<T>>,
     /// How many values were put. It is stored after the value can be taken, and before its put returns. (It stands apart,
     /// since receivers read it again and again.)
@@ -31,7 +32,6 @@ struct Lane<T> {
     writer: Option<Writer<T>>,
     /// The last segment, if it is full.
     full: Option<Arc<Segment<T>>>,
-    state: State,
     /// While fewer values were put, a put needs only a slot: there is a further one, no bound, no audit, and it is open.
     plain: u64,
 }
@@ -64,10 +64,10 @@ impl<T> Chain<T> {
     pub(crate) fn new(plan: Plan<T>) -> Chain<T> {
         Chain {
             plan,
+            status: Status::open(),
             lane: Mutex::new(Lane {
                 writer: None,
                 full: None,
-                state: State::Open,
                 plain: 0,
             }),
             put: Line(AtomicU64::new(0)),
@@ -112,7 +112,7 @@ impl<T> Chain<T> {
         who: u64,
     ) -> Result<(), Refused<T>> {
         let put = self.put.0.load(Relaxed);
-        if !lane.state.admits(who) {
+        if !self.status.admits(who) {
             return Err(Refused::Closed(value));
         }
         if self.is_full(put, who) {
@@ -144,7 +144,7 @@ impl<T> Chain<T> {
             Some(full) => full.follow_with(segment),
             None => *lock(&self.head) = Some(segment),
         }
-        if lane.state == State::Open && self.plan.bound.is_none() && self.plan.audit.is_none() {
+        if self.state() == State::Open && self.plan.bound.is_none() && self.plan.audit.is_none() {
             lane.plain = put + cells as u64 - 1;
         }
     }
@@ -241,16 +241,19 @@ impl<T> Chain<T> {
         (0..).map_while(seat).for_each(|it| work(&it));
     }
 
-    pub(crate) fn close(&self) -> bool {
+    pub(crate) fn state(&self) -> State {
+        self.status.state()
+    }
+
+    pub(crate) fn close(&self, to: State) -> bool {
         let mut lane = lock(&self.lane);
         lane.plain = 0;
-        lane.state.close()
+        self.status.advance(to)
     }
 
     pub(crate) fn end(&self) {
         let (full, written) = {
             let mut lane = lock(&self.lane);
-            (lane.state, lane.plain) = (State::Left, 0);
             (lane.full.take(), lane.writer.take().map(Writer::end))
         };
         let head = lock(&self.head).take();

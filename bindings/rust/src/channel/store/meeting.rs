@@ -3,7 +3,7 @@
 //! A sender that finds a receiver waiting *leaves* the value for it, and nobody else gets that. Else it *offers* the value,
 //! waits until a receiver takes it, and takes it back if it gives up. A receiver that waits gives up only if nothing is left
 //! for it. A future may go all the same: then the next receiver gets what was left for it, and so what a job gives back.
-use super::{Look, Refused, State};
+use super::{Look, Refused, State, Status};
 use crate::channel::audit::{Ledger, GIVEN_BACK};
 use crate::channel::system::{lock, Panics, Waiters};
 use std::collections::{BTreeMap, VecDeque};
@@ -11,6 +11,7 @@ use std::mem;
 use std::sync::{Arc, Mutex};
 
 pub(crate) struct Meeting<T> {
+    status: Status,
     table: Mutex<Table<T>>,
     audit: Option<Arc<Ledger<T>>>,
 }
@@ -20,7 +21,6 @@ type Sent<T> = (T, u64);
 
 /// All is by the numbers of tickets.
 struct Table<T> {
-    state: State,
     /// The number of the next ticket.
     next: u64,
     /// Values whose senders wait.
@@ -78,12 +78,11 @@ impl<T> Table<T> {
     }
 
     /// Takes a value that anybody may take, and where its sender waits, if it does.
-    fn take_free(&mut self) -> Option<(Sent<T>, Option<Arc<Waiters>>)> {
+    fn take_free(&mut self, is_open: bool) -> Option<(Sent<T>, Option<Arc<Waiters>>)> {
         if let Some(sent) = self.spare.pop_front() {
             return Some((sent, None));
         }
         // (after a close the senders take back what they offer)
-        let is_open = self.state == State::Open;
         let (_, (sent, bell)) = is_open.then(|| self.offers.pop_first()).flatten()?;
         Some((sent, Some(bell)))
     }
@@ -92,7 +91,6 @@ impl<T> Table<T> {
 impl<T> Meeting<T> {
     pub(crate) fn new(audit: Option<Arc<Ledger<T>>>) -> Meeting<T> {
         let table = Mutex::new(Table {
-            state: State::Open,
             next: 0,
             offers: BTreeMap::new(),
             waiting: BTreeMap::new(),
@@ -100,7 +98,12 @@ impl<T> Meeting<T> {
             left_for_tasks: 0,
             spare: VecDeque::new(),
         });
-        Meeting { table, audit }
+        let status = Status::open();
+        Meeting {
+            status,
+            table,
+            audit,
+        }
     }
 
     /// What is left for a receiver that waits does not count, since it has it.
@@ -111,7 +114,7 @@ impl<T> Meeting<T> {
     /// Leaves a value for a receiver, if one waits. What a job gives back is kept for the next one.
     pub(crate) fn put(&self, value: T, who: u64) -> Result<(), Refused<T>> {
         let mut table = lock(&self.table);
-        if !table.state.admits(who) {
+        if !self.status.admits(who) {
             return Err(Refused::Closed(value));
         }
         let bell = if who == GIVEN_BACK {
@@ -129,20 +132,16 @@ impl<T> Meeting<T> {
     pub(crate) fn offer(&self, value: T, who: u64) -> Ticket {
         let mut table = lock(&self.table);
         let ticket = table.ticket(false);
-        let is_open = table.state == State::Open;
         let sent = (value, who);
-        let bell = match if is_open {
+        let left = if self.is_open() {
             table.leave(sent)
         } else {
             Err(sent)
-        } {
-            Ok(bell) => Some(bell),
-            Err(sent) => {
-                let offer = (sent, Arc::clone(&ticket.bell));
-                table.offers.insert(ticket.number, offer);
-                None
-            }
         };
+        let bell = left.map_err(|sent| {
+            let offer = (sent, Arc::clone(&ticket.bell));
+            table.offers.insert(ticket.number, offer);
+        });
         drop(table);
         ring(bell);
         ticket
@@ -151,7 +150,7 @@ impl<T> Meeting<T> {
     /// What became of an offer, if it is decided.
     pub(crate) fn outcome(&self, offer: &Ticket) -> Option<Result<(), Refused<T>>> {
         let mut table = lock(&self.table);
-        if table.state == State::Open && table.offers.contains_key(&offer.number) {
+        if self.is_open() && table.offers.contains_key(&offer.number) {
             return None;
         }
         let back = table.offers.remove(&offer.number);
@@ -168,7 +167,9 @@ impl<T> Meeting<T> {
     pub(crate) fn take(&self, who: u64, ticket: Option<&Ticket>) -> Look<T> {
         let mut table = lock(&self.table);
         let left = ticket.and_then(|it| table.take_left(it));
-        let taken = left.map(|it| (it, None)).or_else(|| table.take_free());
+        let taken = left
+            .map(|it| (it, None))
+            .or_else(|| table.take_free(self.is_open()));
         let Some(((value, from), bell)) = taken else {
             return Look::Nothing;
         };
@@ -227,9 +228,17 @@ impl<T> Meeting<T> {
         ring(bells);
     }
 
-    pub(crate) fn close(&self) -> bool {
-        let mut table = lock(&self.table);
-        let was_open = table.state.close();
+    pub(crate) fn state(&self) -> State {
+        self.status.state()
+    }
+
+    fn is_open(&self) -> bool {
+        self.state() == State::Open
+    }
+
+    pub(crate) fn close(&self, to: State) -> bool {
+        let table = lock(&self.table);
+        let was_open = self.status.advance(to);
         let bells = table.offers.values().map(|it| Arc::clone(&it.1));
         let bells: Vec<_> = bells.collect();
         drop(table);
@@ -238,10 +247,7 @@ impl<T> Meeting<T> {
     }
 
     pub(crate) fn end(&self) {
-        let mut table = lock(&self.table);
-        table.state = State::Left;
-        let spare = mem::take(&mut table.spare);
-        drop(table);
+        let spare = mem::take(&mut lock(&self.table).spare);
         let mut panics = Panics::default();
         panics.drop_each(spare.into_iter().map(|(value, from)| {
             self.count(from, None);

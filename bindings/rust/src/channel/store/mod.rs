@@ -9,6 +9,7 @@ pub(super) use meeting::{Meeting, Ticket};
 
 use super::audit::{Ledger, GIVEN_BACK};
 use chain::Chain;
+use std::sync::atomic::{AtomicU8, Ordering::SeqCst};
 use std::sync::Arc;
 
 /// So many seats, each for one receiver. It is the most consumers that a mailbox may have.
@@ -45,7 +46,7 @@ pub(super) enum Look<T> {
 
 /// Who may still put values.
 #[derive(Clone, Copy, PartialEq)]
-enum State {
+pub(super) enum State {
     Open,
     /// No sender. What a job gives back comes in.
     Closed,
@@ -53,19 +54,35 @@ enum State {
     Left,
 }
 
-impl State {
-    /// Goes from open to closed. Returns false if it was not open.
-    fn close(&mut self) -> bool {
-        let was_open = *self == State::Open;
-        if was_open {
-            *self = State::Closed;
-        }
-        was_open
+/// The state of a store. It changes under the lock under which values are put. So nobody sees one call before a change that
+/// another one saw after it.
+struct Status(AtomicU8);
+
+impl Status {
+    fn open() -> Status {
+        Status(AtomicU8::new(State::Open as u8))
     }
 
-    /// Whether it takes a value of this sender, or job.
-    fn admits(self, who: u64) -> bool {
-        self == State::Open || (self == State::Closed && who == GIVEN_BACK)
+    fn state(&self) -> State {
+        match self.0.load(SeqCst) {
+            0 => State::Open,
+            1 => State::Closed,
+            _ => State::Left,
+        }
+    }
+
+    /// Goes on to this state, or stays in a later one. Returns whether it was open.
+    fn advance(&self, to: State) -> bool {
+        self.0.fetch_max(to as u8, SeqCst) == State::Open as u8
+    }
+
+    /// Whether a value of this sender, or job, comes in.
+    fn admits(&self, who: u64) -> bool {
+        match self.state() {
+            State::Open => true,
+            State::Closed => who == GIVEN_BACK,
+            State::Left => false,
+        }
     }
 }
 
@@ -149,15 +166,22 @@ impl<T> Store<T> {
         }
     }
 
-    /// Lets no sender put a value after this. Returns false if that was so before.
-    pub(super) fn close(&self) -> bool {
+    pub(super) fn state(&self) -> State {
         match self {
-            Store::Chain(chain) => chain.close(),
-            Store::Meeting(meeting) => meeting.close(),
+            Store::Chain(chain) => chain.state(),
+            Store::Meeting(meeting) => meeting.state(),
         }
     }
 
-    /// Ends it: nobody puts or takes a value after this, and what is left is dropped.
+    /// Goes on to this state, after which it takes fewer values. Returns whether it was open.
+    pub(super) fn close(&self, to: State) -> bool {
+        match self {
+            Store::Chain(chain) => chain.close(to),
+            Store::Meeting(meeting) => meeting.close(to),
+        }
+    }
+
+    /// Drops what is left, after all receivers are gone.
     pub(super) fn end(&self) {
         match self {
             Store::Chain(chain) => chain.end(),
