@@ -24,6 +24,8 @@ CARGO = ["cargo", "test", "--offline", "--quiet", "--lib", "--bins", "--tests"]
 TIME = 600  # (seconds, after which a client's tests are taken to sleep for ever)
 THREADS = "32"  # (many tests only sleep)
 MAIN = '[package]\nname = "{name}"\nversion = "{version}"\nedition = "2021"\n[dependencies]\n'
+# What the tests of clients need besides, in Debian's packages.
+NEEDED = ["librust-rand-xorshift-dev", "librust-scoped-tls-dev", "librust-serde-json-dev", "librust-tempfile-dev"]
 # (threadpool uses the channel of std)
 POOL = [
     ("src/lib.rs", r"std::sync::mpsc::\{channel, Receiver", "crossbeam_channel::{unbounded as channel, Receiver"),
@@ -65,7 +67,7 @@ CLIENTS = [
 
 def fetch(folder):
     """Unpacks the packages of all clients, and those that they need, into the folder."""
-    names = [it.package() for it in CLIENTS]
+    names = [*(it.package() for it in CLIENTS), *NEEDED]
     listed = subprocess.run(["apt-get", "install", "-s", "--no-install-recommends", *names], check=True, text=True, capture_output=True)
     os.makedirs(folder, exist_ok=True)
     subprocess.run(["apt-get", "download", "-qq", *re.findall(r"^Inst (\S+)", listed.stdout, re.M)], cwd=folder, check=True)

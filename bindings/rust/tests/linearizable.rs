@@ -122,7 +122,7 @@ fn first_wrong<C: Channel>(
 
 fn histories() -> usize {
     let count = std::env::var("HISTORIES").ok();
-    count.map_or(500, |it| it.parse().expect("HISTORIES is a number"))
+    count.map_or(1000, |it| it.parse().expect("HISTORIES is a number"))
 }
 
 /// Histories of the channel with this bound, and segments of several sizes. (There are none with bound 0.)
