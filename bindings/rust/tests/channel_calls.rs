@@ -20,7 +20,7 @@ fn small<T>() -> (Sender<T>, Receiver<T>) {
 #[test]
 fn after_a_close_nothing_is_sent_and_all_that_is_left_is_received() {
     let (sender, receiver) = small();
-    (0..5).for_each(|it| sender.send(it).unwrap());
+    (0..4).for_each(|it| sender.send(it).unwrap());
     assert!(!receiver.is_closed());
     assert!(sender.close() && !sender.close() && !receiver.close());
     assert!(sender.is_closed() && receiver.is_closed());
@@ -29,7 +29,7 @@ fn after_a_close_nothing_is_sent_and_all_that_is_left_is_received() {
         sender.clone().try_send(6),
         Err(TrySendError::Disconnected(6))
     );
-    assert!(receiver.iter().eq(0..5));
+    assert!(receiver.iter().eq(0..4));
     assert_eq!(receiver.try_recv(), Err(TryRecvError::Disconnected));
 }
 

@@ -60,7 +60,7 @@ BODIES = [
     ("a close wakes no sender", "shared", "        self.full.wake_all();\n        self.wake_receivers();\n        was_open", "        self.wake_receivers();\n        was_open", CALLS + "a_close_wakes"),
     ("a sender that is woken by a close looks for room alone", "parcel", "if shared.is_full() && !shared.is_closed() => {", "if shared.is_full() => {", CALLS + "a_close_wakes"),
     ("a close is not told to the lane", "store/chain", "        self.status.advance(to)\n", "        self.state() == State::Open\n", CALLS + "after_a_close"),
-    ("a close does not stop the puts that need no care", "store/chain", "        lane.plain = 0;\n        self.status", "        lane.plain += 0;\n        self.status", CALLS + "a_close_loses"),
+    ("a close does not stop the puts that need no care", "store/chain", "        lane.plain = 0;\n        self.status", "        lane.plain += 0;\n        self.status", CALLS + "after_a_close"),
     ("a job does not come back after a close", "store/mod", "            State::Closed => who == GIVEN_BACK,", "            State::Closed => who == GIVEN_BACK - 1,", CALLS + "a_job_comes"),
     ("a weak end makes an end of nothing", "shared", "(there > 0)", "(there < 9)", CALLS + "a_weak_end"),
     ("a drain goes on", "receiver", "            left: self.len(),", "            left: usize::MAX,", CALLS + "a_drain"),

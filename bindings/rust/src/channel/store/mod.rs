@@ -132,7 +132,7 @@ impl<T> Store<T> {
         }
     }
 
-    /// How many values wait, at one moment of this call. A value whose put or take is under way may count or not.
+    /// How many values wait, at one moment of this call. A value whose take is under way may count.
     pub(super) fn len(&self) -> usize {
         match self {
             Store::Chain(chain) => chain.len(),
