@@ -1,17 +1,26 @@
 //! Tests the channel for long: `cargo run --release --example soak -- WHAT SECONDS VALUES`. WHAT is one of these:
 //!
 //! - `ends`: values go through channels of many setups, while ends are cloned and dropped at random, calls give up after some
-//!   time, and workers panic. No value is lost or done twice, a sender's come in order unless given back, and audits agree.
+//!   time, futures are dropped, and workers and wakers panic. No value is lost or done twice. All come in one order, unless
+//!   given back: what was sent after the send of another had returned is not received before it. Audits agree.
 //! - `idle`: 64 receivers sleep, and take next to no processor time.
 //! - `memory`: values go by an idle sender and an idle receiver, with and without an audit. Memory does not grow.
 //! - `full`: a send that gets no memory returns its value, and all others are received. It needs a limit: `ulimit -v 200000`.
-use hazbultra::channel::{unbounded, Builder, Receiver, RecvError, SendError, Sender};
+use hazbultra::channel::{unbounded, Builder, Receiver, RecvError, RecvTimeoutError};
+use hazbultra::channel::{SendError, SendTimeoutError, Sender, TrySendError};
+use run::{poll, run};
+use std::cmp::max;
 use std::collections::BTreeMap;
+use std::future::Future;
 use std::panic::{catch_unwind, resume_unwind, AssertUnwindSafe};
 use std::sync::atomic::{AtomicU64, Ordering::Relaxed};
-use std::sync::{Mutex, MutexGuard};
+use std::sync::{Arc, Mutex, MutexGuard};
+use std::task::{Poll, Wake};
 use std::time::{Duration, Instant};
 use std::{env, fs, mem, thread};
+
+#[path = "../tests/run/mod.rs"]
+mod run;
 
 /// How many threads send through a channel. As many receive.
 const THREADS: u64 = 4;
@@ -23,55 +32,120 @@ struct Value {
     sender: u64,
     /// How many values this sender sent before.
     place: u64,
-    /// Whether a worker panicked with the value. Then the value may come later than the sender's next ones.
+    /// Whether a worker panicked with the value. Then the value may come later than others.
     came_back: bool,
+}
+
+/// A call that sent or received a value, and when it began and ended.
+#[derive(Clone, Copy, PartialEq, Eq, PartialOrd, Ord)]
+struct Passage {
+    value: (u64, u64),
+    began: Instant,
+    ended: Instant,
+    came_back: bool,
+}
+
+impl Passage {
+    fn new(value: Value, began: Instant) -> Passage {
+        Passage {
+            value: (value.sender, value.place),
+            began,
+            ended: Instant::now(),
+            came_back: value.came_back,
+        }
+    }
 }
 
 /// A source of numbers that are random enough (xorshift).
 struct Dice(u64);
 
 impl Dice {
-    fn one_of(&mut self, sides: u64) -> bool {
+    fn under(&mut self, sides: u64) -> u64 {
         self.0 ^= self.0 << 13;
         self.0 ^= self.0 >> 7;
         self.0 ^= self.0 << 17;
-        self.0 % sides == 0
+        self.0 % sides
+    }
+
+    fn one_of(&mut self, sides: u64) -> bool {
+        self.under(sides) == 0
     }
 }
 
-/// How many values each end sent or took, by its number. `values` has each value that was received and not given back.
+/// How many values each end sent or took, by its number. `passages` has first the sends, and then the receives. If a value
+/// was given back it has only the last receive.
 #[derive(Default)]
 struct Tally {
     sent: BTreeMap<u64, u64>,
     taken: BTreeMap<u64, u64>,
     given_back: u64,
-    values: Vec<(u64, u64)>,
+    passages: [Vec<Passage>; 2],
 }
 
 fn open(tally: &Mutex<Tally>) -> MutexGuard<'_, Tally> {
     tally.lock().expect("no other thread failed")
 }
 
+/// A waker that panics.
+struct Panicking;
+
+impl Wake for Panicking {
+    fn wake(self: Arc<Self>) {
+        resume_unwind(Box::new("a waker"));
+    }
+}
+
+/// Polls a future once, with a waker that panics, and drops it.
+fn poll_and_drop<F: Future + Unpin>(mut future: F) -> Option<F::Output> {
+    match poll(&mut future, &Arc::new(Panicking)) {
+        Poll::Ready(result) => Some(result),
+        Poll::Pending => None,
+    }
+}
+
+/// Sends a value in one of several ways. Returns whether it was sent.
+fn try_one_way(sender: &Sender<Value>, value: Value, dice: &mut Dice) -> bool {
+    // (with bound 0 a future that is dropped may have given its value)
+    let may_drop = sender.capacity() != Some(0);
+    let sent = match dice.under(20) {
+        0 if may_drop => poll_and_drop(sender.send_async(value)).map(|it| it.is_ok()),
+        1 => Some(run(sender.send_async(value)).is_ok()),
+        2 => match sender.try_send(value) {
+            Err(TrySendError::Full(_)) => None,
+            sent => Some(sent.is_ok()),
+        },
+        _ => match sender.send_timeout(value, Duration::from_micros(50)) {
+            Err(SendTimeoutError::Timeout(_)) => None,
+            sent => Some(sent.is_ok()),
+        },
+    };
+    assert_ne!(sent, Some(false), "the receivers are there");
+    sent.is_some()
+}
+
 fn send(mut sender: Sender<Value>, share: u64, mut dice: Dice, tally: &Mutex<Tally>) {
-    let mut place = 0;
+    let (mut place, mut passages) = (0, Vec::new());
     for _ in 0..share {
         if dice.one_of(500) && place > 0 {
-            let next = sender.clone();
+            let next = sender.downgrade().upgrade().expect("a sender is there");
             let old = mem::replace(&mut sender, next);
             open(tally).sent.insert(old.number(), mem::take(&mut place));
         }
-        let mut value = Value {
+        let value = Value {
             sender: sender.number(),
             place,
             came_back: false,
         };
-        while let Err(why) = sender.send_timeout(value, Duration::from_micros(50)) {
-            assert!(why.is_timeout(), "the receivers are there");
-            value = why.into_inner();
+        let mut began = Instant::now();
+        while !try_one_way(&sender, value, &mut dice) {
+            began = Instant::now();
         }
+        passages.push(Passage::new(value, began));
         place += 1;
     }
-    open(tally).sent.insert(sender.number(), place);
+    let mut tally = open(tally);
+    tally.sent.insert(sender.number(), place);
+    tally.passages[0].extend(passages);
 }
 
 /// Takes a job, if there is one, as a worker that panics then. Returns whether there was one.
@@ -85,38 +159,44 @@ fn panic_over_one(receiver: &Receiver<Value>) -> bool {
     catch_unwind(AssertUnwindSafe(work)).is_err()
 }
 
+/// Receives a value in one of several ways. It is `None` if there was none in time.
+fn receive_one(receiver: &Receiver<Value>, dice: &mut Dice) -> Option<Result<Value, RecvError>> {
+    let micros = match dice.under(20) {
+        0 => return poll_and_drop(receiver.recv_async()),
+        1 => return Some(run(receiver.recv_async())),
+        2..=8 => 20,
+        _ => 60_000_000,
+    };
+    match receiver.recv_timeout(Duration::from_micros(micros)) {
+        Ok(value) => Some(Ok(value)),
+        Err(RecvTimeoutError::Disconnected) => Some(Err(RecvError)),
+        Err(RecvTimeoutError::Timeout) => {
+            assert_eq!(micros, 20, "a value, or the end, came in a minute");
+            None
+        }
+    }
+}
+
 fn receive(mut receiver: Receiver<Value>, mut dice: Dice, tally: &Mutex<Tally>) {
-    let (mut expected, mut values) = (BTreeMap::new(), Vec::new());
-    let (mut count, mut given_back) = (0, 0);
+    let (mut count, mut given_back, mut passages) = (0, 0, Vec::new());
     loop {
         if dice.one_of(500) && count > 0 {
             let next = receiver.clone();
             let old = mem::replace(&mut receiver, next);
-            open(tally)
-                .taken
-                .insert(old.number(), mem::take(&mut count));
+            let count = mem::take(&mut count);
+            open(tally).taken.insert(old.number(), count);
         }
         if dice.one_of(1000) && panic_over_one(&receiver) {
             (count, given_back) = (count + 1, given_back + 1);
         }
-        let micros = if dice.one_of(3) { 20 } else { 60_000_000 };
-        let value = match receiver.recv_timeout(Duration::from_micros(micros)) {
-            Ok(value) => value,
-            Err(why) if why.is_timeout() && micros == 20 => continue,
-            Err(why) => {
-                assert!(
-                    why.is_disconnected(),
-                    "a value, or the end, came in a minute"
-                );
-                break;
+        let began = Instant::now();
+        match receive_one(&receiver, &mut dice) {
+            None => {}
+            Some(Ok(value)) => {
+                count += 1;
+                passages.push(Passage::new(value, began));
             }
-        };
-        count += 1;
-        values.push((value.sender, value.place));
-        if !value.came_back {
-            // (`insert` returns the old entry: one past the place of the last value from this sender)
-            let earliest = expected.insert(value.sender, value.place + 1).unwrap_or(0);
-            assert!(value.place >= earliest, "the order of each sender");
+            Some(Err(RecvError)) => break,
         }
     }
     let mut tally = open(tally);
@@ -124,39 +204,66 @@ fn receive(mut receiver: Receiver<Value>, mut dice: Dice, tally: &Mutex<Tally>) 
         tally.taken.insert(receiver.number(), count);
     }
     tally.given_back += given_back;
-    tally.values.extend(values);
+    tally.passages[1].extend(passages);
+}
+
+/// Checks that each value comes once. If its send began after that of another had ended, its receive may not end before the
+/// other one begins.
+fn check_passages([mut sends, mut receives]: [Vec<Passage>; 2]) {
+    sends.sort_unstable();
+    receives.sort_unstable();
+    let values = |of: &[Passage]| of.iter().map(|it| it.value).collect::<Vec<_>>();
+    assert!(values(&sends) == values(&receives), "each value comes once");
+    let both = sends.into_iter().zip(receives);
+    let mut begun: Vec<_> = both.filter(|(_, it)| !it.came_back).collect();
+    let mut ended = begun.clone();
+    begun.sort_unstable_by_key(|(send, _)| send.began);
+    ended.sort_unstable_by_key(|(send, _)| send.ended);
+    let mut ended = ended.into_iter().peekable();
+    let mut latest = None;
+    for (send, receive) in begun {
+        while let Some((_, earlier)) = ended.next_if(|(it, _)| it.ended < send.began) {
+            latest = max(latest, Some(earlier.began));
+        }
+        assert!(latest.is_none_or(|it| it <= receive.ended), "one order");
+    }
 }
 
 /// One channel, from its making to its end. Returns how many values went through.
 fn round(number: u64, share: u64) -> u64 {
-    // (with very small segments the channel is slow)
-    let share = if number % 4 < 2 { share / 50 } else { share };
+    let bounds = [None, Some(10), None, Some(0), None, Some(1), None];
+    let bound = bounds[usize::try_from(number % 7).unwrap_or(0)];
+    // (with very small segments, or little room, the channel is slow)
+    let is_slow = number % 4 < 2 || bound.is_some();
+    let share = if is_slow { share / 50 } else { share };
     let mut builder = Builder::new();
     if let Some(cells) = [1, 3, 64].get(usize::try_from(number % 4).unwrap_or(0)) {
         builder = builder.cells(*cells);
     }
-    if number % 3 == 0 {
-        builder = builder.bound(10);
+    if let Some(bound) = bound {
+        builder = builder.bound(bound);
     }
     let (sender, receiver, audit) = builder.audited();
     let tally = Mutex::default();
     thread::scope(|scope| {
-        for thread in 1..=THREADS {
+        let start = |thread: u64| {
             let (sender, receiver, tally) = (sender.clone(), receiver.clone(), &tally);
             let dice = move |side| Dice(number * 1000 + thread * 10 + side);
-            scope.spawn(move || send(sender, share, dice(1), tally));
             scope.spawn(move || receive(receiver, dice(2), tally));
+            scope.spawn(move || send(sender, share, dice(1), tally))
+        };
+        let senders: Vec<_> = (1..=THREADS).map(start).collect();
+        drop(receiver);
+        if number % 3 == 0 {
+            for thread in senders {
+                thread.join().expect("no thread failed");
+            }
+            sender.close();
         }
-        drop((sender, receiver));
+        drop(sender);
     });
     let mut tally = tally.into_inner().expect("no thread failed");
-    tally.values.sort_unstable();
-    let sent = tally.sent.iter();
-    let all = sent.flat_map(|(sender, count)| (0..*count).map(move |place| (*sender, place)));
-    assert!(
-        tally.values.iter().copied().eq(all),
-        "each value comes once"
-    );
+    check_passages(mem::take(&mut tally.passages));
     let totals = audit.totals();
     assert_eq!((totals.sent, totals.taken), (tally.sent, tally.taken));
     assert_eq!(
@@ -182,7 +289,7 @@ fn ends(seconds: u64, share: u64) -> String {
     };
     thread::scope(|scope| (0..AT_A_TIME).for_each(|_| drop(scope.spawn(work))));
     let [rounds, count] = [rounds, count].map(AtomicU64::into_inner);
-    format!("{count} values in {rounds} channels: each came once, in order, and each audit agrees")
+    format!("{count} values in {rounds} channels: each came once, all in one order, and each audit agrees")
 }
 
 /// The number at this place, from 0 on, of a file of the kernel.

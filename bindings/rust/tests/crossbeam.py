@@ -15,12 +15,11 @@ import tempfile
 CRATE = os.path.dirname(os.path.dirname(os.path.abspath(__file__)))
 REGISTRY = "/usr/share/cargo/registry"
 CELLS = ("1", "3", "64", "")
-FILES = "array list iter mpsc golang same_channel thread_locals".split()
+FILES = "array list zero iter mpsc golang same_channel thread_locals".split()
 # What this channel does not offer, and how a test that needs it is found.
 NEEDS = {
     "select": r"\bselect!|\bSelect\b",
     "after, tick or never": r"\b(after|tick|never)(::<[^>]*>)?\(",
-    "a channel of no capacity": r"\bbounded(::<[^>]*>)?\(0\)|\bsync_channel(::<[^;]*>)?\(0\)|\bmake(::<[^;]*>)?\(0\)|cap in 0\.\.",
 }
 # Tests that are left out by their names, with the reasons.
 OTHERS = {"array::panic_on_drop": "values that leak after a panic: here each is dropped"}
@@ -34,8 +33,8 @@ fn builder() -> Builder {
     }
 }
 pub fn unbounded<T>() -> (Sender<T>, Receiver<T>) { builder().build() }
+pub fn bounded<T>(bound: usize) -> (Sender<T>, Receiver<T>) { builder().bound(bound).build() }
 // (the tests of golang.rs make these two with each channel, and those that are kept do not use them)
-pub fn bounded<T>(bound: usize) -> (Sender<T>, Receiver<T>) { builder().bound(bound.max(1)).build() }
 pub fn never<T>() -> Receiver<T> { unbounded().1 }
 pub fn tick(_: std::time::Duration) -> Receiver<std::time::Instant> { unreachable!() }
 pub use tick as after;
